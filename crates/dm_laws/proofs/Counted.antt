@@ -1,26 +1,9 @@
 -- Messages are numbered by the counts of their senders, and a process that moves data remembers the number of its request.
-use Rattle.std.proofs.Common.{◌≡◌, ℕ, ◌+◌, ◌==◌, Bool, true, false, refl, ◌⊎◌, inl, inr}
-use Rattle.std.specs.Prelude.{⊤, if◌then◌else◌}
-use Rattle.std.specs.declared.option.Option.{Option}
-use Rattle.std.specs.declared.option.Option.TheVariants.{None, Some}
-use Rattle.dm_link.specs.declared.Pid.{Pid}
-use Rattle.dm_link.specs.Plain.{PlainLink}
-use Rattle.dm_message.specs.Ids.{id_of}
-use Rattle.dm_message.specs.Plain as what
-use Rattle.dm_message.specs.Plain.{PlainMessage, PlainWhat}
-use Rattle.dm_process.specs.Directions.{direction_numbered}
-use Rattle.dm_process.specs.declared.process.Direction.{Direction}
-use Rattle.dm_process.specs.declared.process.Direction.TheVariants as direction
-use Rattle.dm_onekernel.specs.declared.label.Reply.{Reply}
-use Rattle.dm_onekernel.specs.declared.label.Reply.TheVariants as reply
-use Rattle.dm_linktable.specs.Slots.{first_empty, link_at}
-use Rattle.dm_onekernel.specs.PlainProcess.{reg, PlainProcess, PlainStatus, Ready, Waiting, Moving}
+use Rattle.dm_laws.proofs.Names.{◌≡◌, ℕ, ◌+◌, ◌==◌, Bool, true, false, refl, ◌⊎◌, inl, inr, ⊤, if◌then◌else◌, Option, None, Some, Pid, PlainLink, id_of, PlainMessage, PlainWhat, direction_numbered, Direction, Reply, first_empty, link_at}
+use Rattle.dm_laws.proofs.Names.{reg, PlainProcess, PlainStatus, Ready, Waiting, Moving, Called, Replies, Sends, Waits, Outputs, Ends, CallNumber, Out, Make, Copy, Drop, Send, Receive, Move, call_number, first_failed, is_of_memory}
 use Rattle.dm_onekernel.specs.Calls as calls
-use Rattle.dm_onekernel.specs.Calls.{Called, Replies, Sends, Waits, Outputs, Ends, CallNumber, Exit, Out, Make, Copy, Drop, Send, Receive, Move, Unknown, call_number}
 use Rattle.dm_onekernel.specs.Pieces as pieces
 use Rattle.dm_onekernel.specs.Receiving as receiving
-use Rattle.dm_onekernel.specs.Refusals.{first_failed}
-use Rattle.dm_onekernel.specs.Service.{is_of_memory}
 
 -- the number of the request that a process waits for
 abbrev pub pending_of : PlainStatus → Option ℕ
@@ -35,9 +18,9 @@ IsSentSo pid p m q =
 
 -- the kinds that answer a piece's request
 abbrev pub is_piece : PlainWhat → Bool
-is_piece (what.Block bytes) = true
-is_piece what.Written = true
-is_piece what.Gone = true
+is_piece (PlainWhat.Block bytes) = true
+is_piece PlainWhat.Written = true
+is_piece PlainWhat.Gone = true
 is_piece w = false
 
 pub record Sent (pid : Pid) (p : PlainProcess) (m : PlainMessage) (q : PlainProcess) : Type 0 where
@@ -76,7 +59,7 @@ if-counts pid p false c d h k = k
 copies-counts : (pid : Pid) (p : PlainProcess) (l : Option PlainLink) → Counts pid p (calls.copies p l)
 copies-counts pid p None = (refl, refl)
 copies-counts pid p (Some l) =
-    if-counts pid p (calls.is_reply l.kind) (calls.refused reply.NotCopyable p) (calls.puts_link p l (first_empty p.links)) (refused-counts pid p reply.NotCopyable) (puts_link-counts pid p l (first_empty p.links))
+    if-counts pid p (calls.is_reply l.kind) (calls.refused Reply.NotCopyable p) (calls.puts_link p l (first_empty p.links)) (refused-counts pid p Reply.NotCopyable) (puts_link-counts pid p l (first_empty p.links))
 
 drops-counts : (pid : Pid) (p : PlainProcess) (l : Option PlainLink) → Counts pid p (calls.drops p l)
 drops-counts pid p None = (refl, refl)
@@ -88,13 +71,13 @@ sends-counts pid p (Some l) =
     unless_refused-counts pid p (first_failed (calls.send_refusals p)) (Sends (calls.message_over pid p l) (calls.after_send p)) (record { id = refl; sender = refl; count = refl; piece = refl; is = inl (refl, refl) })
 
 pub requests-sent : (pid : Pid) (p : PlainProcess) (dir : Direction) (owner : Pid) (base own left : ℕ) → Sent pid p (pieces.requests pid p dir owner base own left).message (pieces.requests pid p dir owner base own left).process
-requests-sent pid p direction.FromArea owner base own left = record { id = refl; sender = refl; count = refl; piece = refl; is = inr (refl, refl) }
-requests-sent pid p direction.IntoArea owner base own left = record { id = refl; sender = refl; count = refl; piece = refl; is = inr (refl, refl) }
+requests-sent pid p Direction.FromArea owner base own left = record { id = refl; sender = refl; count = refl; piece = refl; is = inr (refl, refl) }
+requests-sent pid p Direction.IntoArea owner base own left = record { id = refl; sender = refl; count = refl; piece = refl; is = inr (refl, refl) }
 
 moves_bytes-counts : (pid : Pid) (p : PlainProcess) (l : PlainLink) (dir : Direction) → Counts pid p (calls.moves_bytes pid p l dir)
 moves_bytes-counts pid p l dir =
     let r = pieces.requests pid p dir l.to (l.area.base + reg p.regs 3) (reg p.regs 4) (reg p.regs 5) in
-    if-counts pid p (reg p.regs 5 == 0) (calls.refused reply.Done p) (calls.begins r) (refused-counts pid p reply.Done)
+    if-counts pid p (reg p.regs 5 == 0) (calls.refused Reply.Done p) (calls.begins r) (refused-counts pid p Reply.Done)
     (requests-sent pid p dir l.to (l.area.base + reg p.regs 3) (reg p.regs 4) (reg p.regs 5))
 
 moves_over-counts : (pid : Pid) (p : PlainProcess) (l : PlainLink) (dir : Option Direction) → Counts pid p (calls.moves_over pid p l dir)
@@ -107,17 +90,16 @@ moves-counts pid p None = (refl, refl)
 moves-counts pid p (Some l) = moves_over-counts pid p l (direction_numbered (reg p.regs 2))
 
 does_call-counts : (pid : Pid) (p : PlainProcess) (c : CallNumber) → Counts pid p (calls.does_call pid p c)
-does_call-counts pid p Exit = tt
 does_call-counts pid p Out = (refl, refl)
 does_call-counts pid p Make = unless_refused-counts pid p (first_failed (calls.make_refusals p)) (calls.puts_link p (calls.own_link pid p) (first_empty p.links)) (puts_link-counts pid p (calls.own_link pid p) (first_empty p.links))
 does_call-counts pid p Copy = copies-counts pid p (link_at p.links (reg p.regs 1))
 does_call-counts pid p Drop = drops-counts pid p (link_at p.links (reg p.regs 1))
 does_call-counts pid p Send = sends-counts pid p (link_at p.links (reg p.regs 1))
 does_call-counts pid p Receive =
-    if-counts pid p (calls.is_outside p (reg p.regs 2) (reg p.regs 3)) (calls.refused reply.BadRange p) (Waits (record p { status = Waiting (reg p.regs 1) (reg p.regs 2) (reg p.regs 3) }))
-    (refused-counts pid p reply.BadRange) (waiting-counts pid p (reg p.regs 1) (reg p.regs 2) (reg p.regs 3))
+    if-counts pid p (calls.is_outside p (reg p.regs 2) (reg p.regs 3)) (calls.refused Reply.BadRange p) (Waits (record p { status = Waiting (reg p.regs 1) (reg p.regs 2) (reg p.regs 3) }))
+    (refused-counts pid p Reply.BadRange) (waiting-counts pid p (reg p.regs 1) (reg p.regs 2) (reg p.regs 3))
 does_call-counts pid p Move = moves-counts pid p (link_at p.links (reg p.regs 1))
-does_call-counts pid p Unknown = tt
+does_call-counts pid p _ = tt
 
 pub call-counts : (pid : Pid) (p : PlainProcess) (n : ℕ) → Counts pid p (calls.call pid p n)
 call-counts pid p n = does_call-counts pid p (call_number n)

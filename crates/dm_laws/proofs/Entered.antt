@@ -1,21 +1,6 @@
 -- A name is given to one message: what entered the bag is counted by its sender, and answers take the place of requests.
-use Rattle.std.proofs.Common.{◌≡◌, ℕ, ◌+◌, ◌≤◌, Bool, true, false, refl, nat_lt, nat_le, is_some, inl, inr, arith}
-use Rattle.std.specs.Prelude.{if◌then◌else◌}
-use Rattle.std.specs.declared.option.Option.{Option}
-use Rattle.std.specs.declared.option.Option.TheVariants.{None, Some}
-use Rattle.std.proofs.lemmas.Bool.{cases_Bool}
-use Rattle.std.proofs.lemmas.Bool.Decides.{nat_tests}
-use Rattle.dm_link.specs.declared.Pid.{Pid}
-use Rattle.dm_link.specs.Names.{pid_eq}
-use Rattle.dm_message.specs.declared.MsgId.{MsgId}
-use Rattle.dm_message.specs.Ids.{id_eq}
-use Rattle.dm_message.specs.Plain as what
-use Rattle.dm_message.specs.Plain.{PlainMessage, PlainWhat}
-use Rattle.dm_onekernel.specs.Boot.{switchboard, manager}
-use Rattle.dm_onekernel.specs.Kernel.{Life, Alive, Ended, OneKernel, with_process, with_sent}
-use Rattle.dm_onekernel.specs.Pieces.{answer_id, answer_to}
-use Rattle.dm_onekernel.specs.Service.{without_message}
-use Rattle.dm_laws.specs.Laws.{in_bag}
+use Rattle.dm_laws.proofs.Names.{◌≡◌, ℕ, ◌+◌, ◌≤◌, Bool, true, false, refl, nat_lt, nat_le, is_some, inl, inr, arith, if◌then◌else◌, Option, None, Some, cases_Bool, nat_tests, Pid, pid_eq, MsgId, id_eq, PlainMessage, PlainWhat, switchboard}
+use Rattle.dm_laws.proofs.Names.{manager, Life, Alive, Ended, OneKernel, with_process, with_sent, answer_id, answer_to, without_message, in_bag}
 use Rattle.dm_laws.proofs.Equal.{pid_eq-is, id_eq-is, id_eq-same, id_eq-swap}
 
 -- the life of a process counts number n
@@ -36,9 +21,9 @@ request_id i = record { from = i.from; n = i.n; answer = false }
 
 -- the kinds that an answer takes the place of
 abbrev pub asks : PlainWhat → Bool
-asks (what.Read base len) = true
-asks (what.Write base bytes) = true
-asks (what.Create image links) = true
+asks (PlainWhat.Read base len) = true
+asks (PlainWhat.Write base bytes) = true
+asks (PlainWhat.Create image links) = true
 asks w = false
 
 -- r counts receptions, e what entered

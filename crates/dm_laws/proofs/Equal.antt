@@ -1,10 +1,5 @@
 -- Tests for equality of names.
-use Rattle.std.proofs.Common.{◌≡◌, Bool, true, false, refl, arith}
-use Rattle.std.proofs.lemmas.Bool.Decides.{nat_tests}
-use Rattle.dm_link.specs.declared.Pid.{Pid}
-use Rattle.dm_link.specs.Names.{pid_eq}
-use Rattle.dm_message.specs.declared.MsgId.{MsgId}
-use Rattle.dm_message.specs.Ids.{id_eq, bool_eq}
+use Rattle.dm_laws.proofs.Names.{◌≡◌, Bool, true, false, refl, arith, nat_tests, Pid, pid_eq, MsgId, id_eq, bool_eq}
 
 pub pid_eq-same : (p : Pid) → pid_eq p p ≡ true
 pid_eq-same p = grind (arith, nat_tests)

@@ -1,12 +1,5 @@
 -- What only grows: lives go on or end, and counts rise.
-use Rattle.std.proofs.Common.{◌≡◌, ℕ, ◌≤◌, Bool, refl, ap, sym, subst, inl, inr, arith, length}
-use Rattle.std.specs.Prelude.{⊤, if◌then◌else◌}
-use Rattle.std.specs.declared.option.Option.{Option}
-use Rattle.std.specs.declared.option.Option.TheVariants.{None, Some}
-use Rattle.std.proofs.lemmas.Bool.{cases_Bool}
-use Rattle.dm_link.specs.declared.Pid.{Pid}
-use Rattle.dm_link.specs.Names.{pid_eq}
-use Rattle.dm_onekernel.specs.Kernel.{Life, Alive, Ended, OneKernel, with_process}
+use Rattle.dm_laws.proofs.Names.{◌≡◌, ℕ, ◌≤◌, Bool, refl, ap, sym, subst, inl, inr, arith, length, ⊤, if◌then◌else◌, Option, None, Some, cases_Bool, Pid, pid_eq, Life, Alive, Ended, OneKernel, with_process}
 use Rattle.dm_laws.proofs.Equal.{pid_eq-is}
 
 abbrev pub AliveGrows : ℕ → Option Life → Type 0

@@ -1,19 +1,6 @@
 -- A process that moves data has one message under its pending number: the request for its piece, or the answer.
-use Rattle.std.proofs.Common.{◌≡◌, ℕ, Bool, true, false, refl, ap, ◌∙◌, sym, subst, ◌⊎◌, inl, inr, arith}
-use Rattle.std.specs.Prelude.{if◌then◌else◌}
-use Rattle.std.specs.declared.option.Option.{Option}
-use Rattle.std.specs.declared.option.Option.TheVariants.{None, Some}
-use Rattle.std.proofs.lemmas.Bool.{cases_Bool, false≢true}
-use Rattle.std.proofs.lemmas.Bool.Decides.{nat_tests}
-use Rattle.dm_link.specs.declared.Pid.{Pid}
-use Rattle.dm_link.specs.Names.{pid_eq}
-use Rattle.dm_message.specs.declared.MsgId.{MsgId}
-use Rattle.dm_message.specs.Ids.{id_eq, id_of}
-use Rattle.dm_message.specs.Plain.{PlainMessage, PlainWhat}
-use Rattle.dm_onekernel.specs.PlainProcess.{PlainProcess}
-use Rattle.dm_onekernel.specs.Kernel.{Alive, Ended, OneKernel, with_process, with_sent}
-use Rattle.dm_onekernel.specs.Pieces.{answer_id, answer_to}
-use Rattle.dm_onekernel.specs.Service.{without_message, is_of_memory}
+use Rattle.dm_laws.proofs.Names.{◌≡◌, ℕ, Bool, true, false, refl, ap, ◌∙◌, sym, subst, ◌⊎◌, inl, inr, arith, if◌then◌else◌, Option, None, Some, cases_Bool, false≢true, nat_tests, Pid, pid_eq, MsgId, id_eq, id_of, PlainMessage, PlainWhat}
+use Rattle.dm_laws.proofs.Names.{PlainProcess, Alive, Ended, OneKernel, with_process, with_sent, answer_id, answer_to, without_message, is_of_memory}
 use Rattle.dm_laws.proofs.Equal.{pid_eq-is, id_eq-is, id_eq-same}
 use Rattle.dm_laws.proofs.Counted.{is_piece, pending_of}
 

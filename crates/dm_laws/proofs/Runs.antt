@@ -1,24 +1,7 @@
 -- What holds of every run of the kernel without machines.
-use Rattle.std.proofs.Common.{◌≡◌, ℕ, ◌+◌, ◌≤◌, List, [], ◌∷◌, refl, ap, ◌∙◌, sym, subst, ◌⊎◌, inl, inr, arith}
-use Rattle.std.specs.declared.option.Option.{Option}
-use Rattle.std.specs.declared.option.Option.TheVariants.{None, Some}
-use Rattle.dm_message.specs.declared.MsgId.{MsgId}
-use Rattle.dm_message.specs.Ids.{id_of}
-use Rattle.dm_message.specs.Plain.{PlainMessage}
-use Rattle.dm_onekernel.specs.declared.boot.Boot.{Boot}
-use Rattle.dm_onekernel.specs.declared.label.Label.{Label}
-use Rattle.dm_onekernel.specs.declared.label.Label.TheVariants as label
-use Rattle.dm_onekernel.specs.declared.label.Why.{Why}
-use Rattle.dm_onekernel.specs.Boot.{IsValid}
-use Rattle.dm_onekernel.specs.Options.{bind}
-use Rattle.dm_onekernel.specs.Service.{serves}
-use Rattle.dm_onekernel.specs.PlainProcess.{PlainProcess}
-use Rattle.dm_onekernel.specs.Kernel.{Life, Alive, Ended, OneKernel}
-use Rattle.dm_onekernel.specs.Pieces.{answer_id}
-use Rattle.dm_onekernel.specs.Start.{start}
+use Rattle.dm_laws.proofs.Names.{◌≡◌, ℕ, ◌+◌, ◌≤◌, List, [], ◌∷◌, refl, ap, ◌∙◌, sym, subst, ◌⊎◌, inl, inr, arith, Option, None, Some, MsgId, id_of, PlainMessage, Boot, Label, Why, IsValid, bind, serves, PlainProcess, Life, Alive, Ended}
+use Rattle.dm_laws.proofs.Names.{OneKernel, answer_id, start, replay, ReceivesOnce, EntersOnce, StaysOrLeaves, EndedStays, CountsOnlyRise, MoverHasOne, Leads, reception, receptions, entry, entries, entries_on, in_bag}
 use Rattle.dm_onekernel.specs.Step as kernel
-use Rattle.dm_onekernel.specs.Step.{replay}
-use Rattle.dm_laws.specs.Laws.{ReceivesOnce, EntersOnce, StaysOrLeaves, EndedStays, CountsOnlyRise, MoverHasOne, Leads, reception, receptions, entry, entries, entries_on, in_bag}
 use Rattle.dm_laws.proofs.Counted.{pending_of}
 use Rattle.dm_laws.proofs.Movers.{One}
 use Rattle.dm_laws.proofs.Grown.{Grown, Grown-same, Grown-trans, LifeGrows, AliveGrows}
@@ -29,23 +12,23 @@ use Rattle.dm_laws.proofs.Services.{after_serves}
 use Rattle.dm_laws.proofs.Servers.{after_took, after_dropped, after_gone, after_created, after_no_space}
 
 pub after_step : (r e : MsgId → ℕ) (s t : OneKernel) (l : Label) → kernel.step s l ≡ Some t → Sound r e s → After r e s l t
-after_step r e s t (label.Ran p k) is h = after_ran r e s t p k is h
-after_step r e s t (label.Call p n c) is h = let (x, next, rest) = bind-is (kernel.next s p) (kernel.replies s p n c) t is in after_replies r e s t p n c x (nexts s p x next) rest h
-after_step r e s t (label.Send p id) is h = let (x, next, rest) = bind-is (kernel.next s p) (kernel.sends s p id) t is in after_sends r e s t p id x (nexts s p x next) rest h
-after_step r e s t (label.Wait p) is h = let (x, next, rest) = bind-is (kernel.next s p) (kernel.waits s p) t is in after_waits r e s t p x (nexts s p x next) rest h
-after_step r e s t (label.Out p w) is h = let (x, next, rest) = bind-is (kernel.next s p) (kernel.outputs s p w) t is in after_outputs r e s t p w x (nexts s p x next) rest h
-after_step r e s t (label.End p y) is h = let (x, next, rest) = bind-is (kernel.next s p) (kernel.ends s p y) t is in after_ends r e s t p y x (nexts s p x next) rest h
-after_step r e s t (label.Receive p id) is h = let (x, c, rest) = bind-is (kernel.completing s p id) (kernel.receives s p id) t is in after_receives r e s t p id x (completing s p id x c) rest h
-after_step r e s t (label.Refuse p id d) is h = let (x, c, rest) = bind-is (kernel.completing s p id) (kernel.refuses s p d) t is in after_refuses r e s t p id d x (completing s p id x c) rest h
-after_step r e s t (label.Served id) is h =
+after_step r e s t (Label.Ran p k) is h = after_ran r e s t p k is h
+after_step r e s t (Label.Call p n c) is h = let (x, next, rest) = bind-is (kernel.next s p) (kernel.replies s p n c) t is in after_replies r e s t p n c x (nexts s p x next) rest h
+after_step r e s t (Label.Send p id) is h = let (x, next, rest) = bind-is (kernel.next s p) (kernel.sends s p id) t is in after_sends r e s t p id x (nexts s p x next) rest h
+after_step r e s t (Label.Wait p) is h = let (x, next, rest) = bind-is (kernel.next s p) (kernel.waits s p) t is in after_waits r e s t p x (nexts s p x next) rest h
+after_step r e s t (Label.Out p w) is h = let (x, next, rest) = bind-is (kernel.next s p) (kernel.outputs s p w) t is in after_outputs r e s t p w x (nexts s p x next) rest h
+after_step r e s t (Label.End p y) is h = let (x, next, rest) = bind-is (kernel.next s p) (kernel.ends s p y) t is in after_ends r e s t p y x (nexts s p x next) rest h
+after_step r e s t (Label.Receive p id) is h = let (x, c, rest) = bind-is (kernel.completing s p id) (kernel.receives s p id) t is in after_receives r e s t p id x (completing s p id x c) rest h
+after_step r e s t (Label.Refuse p id d) is h = let (x, c, rest) = bind-is (kernel.completing s p id) (kernel.refuses s p d) t is in after_refuses r e s t p id d x (completing s p id x c) rest h
+after_step r e s t (Label.Served id) is h =
     let (m, there, rest) = bind-is (s.bag id) (λ v. bind (kernel.alive (s.processes v.to)) (λ p. serves s id v p v.what)) t is in
     let (x, alive, last) = bind-is (kernel.alive (s.processes m.to)) (λ p. serves s id m p m.what) t rest in
     after_serves r e s t id m x m.what refl there (alive-is (s.processes m.to) x alive) last h
-after_step r e s t (label.Took id) is h = after_took r e s t id is h
-after_step r e s t (label.Dropped id) is h = after_dropped r e s t id is h
-after_step r e s t (label.Gone id) is h = after_gone r e s t id is h
-after_step r e s t (label.Created id child) is h = after_created r e s t id child is h
-after_step r e s t (label.NoSpace id a b) is h = after_no_space r e s t id a b is h
+after_step r e s t (Label.Took id) is h = after_took r e s t id is h
+after_step r e s t (Label.Dropped id) is h = after_dropped r e s t id is h
+after_step r e s t (Label.Gone id) is h = after_gone r e s t id is h
+after_step r e s t (Label.Created id child) is h = after_created r e s t id child is h
+after_step r e s t (Label.NoSpace id a b) is h = after_no_space r e s t id a b is h
 
 -- where a run comes to, and what it counts
 pub record Reached (r e : MsgId → ℕ) (s t : OneKernel) : Type 0 where

@@ -1,33 +1,11 @@
 -- What servers do keeps, and what becomes of messages for the ended and for kernels.
-use Rattle.std.proofs.Common.{◌≡◌, ℕ, ◌+◌, ◌*◌, ◌≤◌, ◌==◌, ◌&&◌, Bool, true, false, List, [], ◌∷◌, ◌++◌, refl, ap, ◌∙◌, sym, subst, nat_lt, is_some, arith, length}
-use Rattle.std.specs.Prelude.{if◌then◌else◌, slice_get}
-use Rattle.std.specs.declared.option.Option.{Option}
-use Rattle.std.specs.declared.option.Option.TheVariants.{None, Some}
-use Rattle.std.proofs.lemmas.Bool.{false≢true}
-use Rattle.std.proofs.lemmas.Bool.Decides.{nat_tests}
-use Rattle.dm_link.specs.declared.Pid.{Pid}
-use Rattle.dm_link.specs.Names.{pid_eq, pid_of}
-use Rattle.dm_link.specs.Plain.{PlainLink}
-use Rattle.dm_message.specs.declared.MsgId.{MsgId}
-use Rattle.dm_message.specs.Ids.{id_of}
-use Rattle.dm_message.specs.Plain as what
-use Rattle.dm_message.specs.Plain.{PlainMessage, PlainWhat}
-use Rattle.dm_onekernel.specs.declared.boot.BootImage.{BootImage}
-use Rattle.dm_onekernel.specs.declared.label.Label.{Label}
-use Rattle.dm_onekernel.specs.declared.label.Label.TheVariants as label
-use Rattle.dm_onekernel.specs.declared.label.Why.{Why}
-use Rattle.dm_onekernel.specs.Boot.{first_number, switchboard, manager}
-use Rattle.dm_onekernel.specs.Options.{bind}
-use Rattle.dm_onekernel.specs.PlainProcess.{PlainProcess}
-use Rattle.dm_onekernel.specs.Kernel.{Life, Alive, Ended, Pending, Switchboard, Manager, OneKernel, with_process, with_sent}
-use Rattle.dm_onekernel.specs.Pieces.{answer_id, answer_to}
+use Rattle.dm_laws.proofs.Names.{◌≡◌, ℕ, ◌+◌, ◌*◌, ◌≤◌, ◌==◌, ◌&&◌, Bool, true, false, List, [], ◌∷◌, ◌++◌, refl, ap, ◌∙◌, sym, subst, nat_lt, is_some, arith, length, if◌then◌else◌, slice_get, Option, None, Some, false≢true, nat_tests, Pid}
+use Rattle.dm_laws.proofs.Names.{pid_eq, pid_of, PlainLink, MsgId, id_of, PlainMessage, PlainWhat, BootImage, Label, Why, first_number, switchboard, manager, bind, PlainProcess, Life, Alive, Ended, Pending, Switchboard, Manager, OneKernel}
+use Rattle.dm_laws.proofs.Names.{with_process, with_sent, answer_id, answer_to, begun, without_message, is_of_memory, reception}
 use Rattle.dm_onekernel.specs.Switchboard as board
 use Rattle.dm_onekernel.specs.Manager as manage
-use Rattle.dm_onekernel.specs.Start.{begun}
 use Rattle.dm_onekernel.specs.Service as service
-use Rattle.dm_onekernel.specs.Service.{without_message, is_of_memory}
 use Rattle.dm_onekernel.specs.Step as step
-use Rattle.dm_laws.specs.Laws.{reception}
 use Rattle.dm_laws.proofs.Equal.{pid_eq-is, id_eq-same}
 use Rattle.dm_laws.proofs.Counted.{is_piece}
 use Rattle.dm_laws.proofs.Entered.{Made, asks, counts, is_counted}
@@ -47,22 +25,10 @@ board_request b body (l ∷ ls) = (refl, refl, refl, refl)
 
 pub board_takes : (b : Switchboard) (m : PlainMessage) (w : PlainWhat) (k : board.Took) → board.takes b m w ≡ Some k
     → (is_of_memory w ≡ false) × (is_piece w ≡ false) × ServerSends switchboard b.sent k.answer k.switchboard.sent
-board_takes b m (what.User code channel body links) k e =
+board_takes b m (PlainWhat.User code channel body links) k e =
     let f : board.takes_request b body links ≡ k = cc in
     (refl, refl, subst (λ (v : board.Took). ServerSends switchboard b.sent v.answer v.switchboard.sent) f (board_request b body links))
-board_takes b m what.Stop k e = cc
-board_takes b m what.Resume k e = cc
-board_takes b m what.Kill k e = cc
-board_takes b m (what.Read a c) k e = cc
-board_takes b m (what.Write a c) k e = cc
-board_takes b m (what.Block a) k e = cc
-board_takes b m what.Written k e = cc
-board_takes b m what.Gone k e = cc
-board_takes b m (what.Create a c) k e = cc
-board_takes b m (what.Created a) k e = cc
-board_takes b m what.NoRoom k e = cc
-board_takes b m (what.Move a) k e = cc
-board_takes b m (what.Moved a) k e = cc
+board_takes b m _ k e = cc
 
 -- the manager: its children and its count only rise
 pub record ManagerSends (g : Manager) (k : manage.Took) : Type 0 where
@@ -96,10 +62,10 @@ manager_requests g machines images (a ∷ b ∷ c ∷ d ∷ []) links =
 manager_requests g machines images (a ∷ b ∷ c ∷ d ∷ f ∷ fs) links = manager_bad g links
 
 -- what is done to a child is no data move
-control_is : (b c d : Bool) (w : PlainWhat) → (if b then Some what.Stop else if c then Some what.Resume else if d then Some what.Kill else None) ≡ Some w → (is_of_memory w ≡ false) × (is_piece w ≡ false)
-control_is true c d w e = let f : what.Stop ≡ w = cc in (sym (ap is_of_memory f), sym (ap is_piece f))
-control_is false true d w e = let f : what.Resume ≡ w = cc in (sym (ap is_of_memory f), sym (ap is_piece f))
-control_is false false true w e = let f : what.Kill ≡ w = cc in (sym (ap is_of_memory f), sym (ap is_piece f))
+control_is : (b c d : Bool) (w : PlainWhat) → (if b then Some PlainWhat.Stop else if c then Some PlainWhat.Resume else if d then Some PlainWhat.Kill else None) ≡ Some w → (is_of_memory w ≡ false) × (is_piece w ≡ false)
+control_is true c d w e = let f : PlainWhat.Stop ≡ w = cc in (sym (ap is_of_memory f), sym (ap is_piece f))
+control_is false true d w e = let f : PlainWhat.Resume ≡ w = cc in (sym (ap is_of_memory f), sym (ap is_piece f))
+control_is false false true w e = let f : PlainWhat.Kill ≡ w = cc in (sym (ap is_of_memory f), sym (ap is_piece f))
 control_is false false false w e = cc
 
 manager_controls_child : (g : Manager) (child : Pid) (o : Option PlainWhat) (links : List PlainLink) → ((w : PlainWhat) → o ≡ Some w → (is_of_memory w ≡ false) × (is_piece w ≡ false)) → ManagerSends g (manage.controls_child g child o links)
@@ -134,7 +100,7 @@ manager_no_room g n (Some r) k e =
 
 pub manager_takes : (g : Manager) (machines images : ℕ) (m : PlainMessage) (w : PlainWhat) (k : manage.Took) → manage.takes g machines images m w ≡ Some k
     → (is_of_memory w ≡ false) × (is_piece w ≡ false) × ManagerSends g k
-manager_takes g machines images m (what.User code channel body links) k e =
+manager_takes g machines images m (PlainWhat.User code channel body links) k e =
     let f : manage.takes_user g machines images code body links ≡ k = cc in (
       refl,
       refl,
@@ -142,19 +108,9 @@ manager_takes g machines images m (what.User code channel body links) k e =
           (manager_if g (code == 0) (manage.requests g machines images body links) (manage.controls g (manage.child_numbered g.children code) body links)
           (manager_requests g machines images body links) (manager_controls g (manage.child_numbered g.children code) body links)),
     )
-manager_takes g machines images m (what.Created child) k e = (refl, refl, manager_created g m.id.n child (manage.pending_numbered m.id.n g.pending) k e)
-manager_takes g machines images m what.NoRoom k e = (refl, refl, manager_no_room g m.id.n (manage.pending_numbered m.id.n g.pending) k e)
-manager_takes g machines images m what.Stop k e = cc
-manager_takes g machines images m what.Resume k e = cc
-manager_takes g machines images m what.Kill k e = cc
-manager_takes g machines images m (what.Read a c) k e = cc
-manager_takes g machines images m (what.Write a c) k e = cc
-manager_takes g machines images m (what.Block a) k e = cc
-manager_takes g machines images m what.Written k e = cc
-manager_takes g machines images m what.Gone k e = cc
-manager_takes g machines images m (what.Create a c) k e = cc
-manager_takes g machines images m (what.Move a) k e = cc
-manager_takes g machines images m (what.Moved a) k e = cc
+manager_takes g machines images m (PlainWhat.Created child) k e = (refl, refl, manager_created g m.id.n child (manage.pending_numbered m.id.n g.pending) k e)
+manager_takes g machines images m PlainWhat.NoRoom k e = (refl, refl, manager_no_room g m.id.n (manage.pending_numbered m.id.n g.pending) k e)
+manager_takes g machines images m _ k e = cc
 
 counts_at : (b c : Bool) (n x x' g g' : ℕ) (l l' : Option Life) → l' ≡ l → g ≤ g' → x ≤ x' → (if b then nat_lt n x else if c then nat_lt n g else is_counted n l) ≡ true → (if b then nat_lt n x' else if c then nat_lt n g' else is_counted n l') ≡ true
 counts_at true c n x x' g g' l l' e p q h = grind (arith, nat_tests)
@@ -175,13 +131,13 @@ counts_manager : (s t : OneKernel) (i : MsgId) → t.processes ≡ s.processes �
 counts_manager s t i p b le h = counts_manager_at s t i (ap (λ (f : Pid → Option Life). f i.from) p) (ap (λ (v : Switchboard). v.sent) b) le h
 
 after_board : (r e : MsgId → ℕ) (s : OneKernel) (id : MsgId) (k : board.Took) → IsUnawaited s id → ServerSends switchboard s.switchboard.sent k.answer k.switchboard.sent → Sound r e s
-    → (o : Option PlainMessage) → k.answer ≡ o → After r e s (label.Took id) (with_sent (record (without_message s id) { switchboard = k.switchboard }) o)
+    → (o : Option PlainMessage) → k.answer ≡ o → After r e s (Label.Took id) (with_sent (record (without_message s id) { switchboard = k.switchboard }) o)
 after_board r e s id k un sends h None is =
     let count : k.switchboard.sent ≡ s.switchboard.sent = subst (λ o. ServerSends switchboard s.switchboard.sent o k.switchboard.sent) is sends in
     let u = without_message s id in
     let t = record u { switchboard = k.switchboard } in
     let w : Serves u t = record { processes = λ p. refl; made = λ n. refl; bag = λ i. refl; grows = λ i f. counts_board u t i refl refl (omega (arith, count)) f } in
-    quiet r e s t (label.Took id) (λ i. refl) (stayed s id)
+    quiet r e s t (Label.Took id) (λ i. refl) (stayed s id)
     (record { lives = λ p. LifeGrows-same (s.processes p); switchboard = omega (arith, count); manager = omega arith; made = λ n. omega arith; children = omega arith })
     (served_on r e u t w (leaves r e s id un h))
 after_board r e s id k un sends h (Some m) is =
@@ -193,19 +149,19 @@ after_board r e s id k un sends h (Some m) is =
     let fresh : counts u m.id ≡ false = ap (counts u) name ∙ (let z : nat_lt s.switchboard.sent s.switchboard.sent ≡ false = grind (arith, nat_tests) in z) in
     let counted : counts t m.id ≡ true = ap (counts t) name ∙ (let z : nat_lt s.switchboard.sent k.switchboard.sent ≡ true = grind (arith, nat_tests) in z) in
     let after = server_sends r e u t m w fresh counted (ap (λ (v : MsgId). v.answer) name) memory piece (leaves r e s id un h) in
-    puts r e s t m (label.Took id) (λ i. refl) (was_none r e s (with_sent t (Some m)) m.id m (sent_at t m m.id (id_eq-same m.id)) after h) (stayed s id)
+    puts r e s t m (Label.Took id) (λ i. refl) (was_none r e s (with_sent t (Some m)) m.id m (sent_at t m m.id (id_eq-same m.id)) after h) (stayed s id)
     (record { lives = λ p. LifeGrows-same (s.processes p); switchboard = omega (arith, count); manager = omega arith; made = λ n. omega arith; children = omega arith })
     after
 
 after_manager : (r e : MsgId → ℕ) (s : OneKernel) (id : MsgId) (k : manage.Took) → IsUnawaited s id → ManagerSends s.manager k → Sound r e s
-    → (o : Option PlainMessage) → k.message ≡ o → After r e s (label.Took id) (with_sent (record (without_message s id) { manager = k.manager }) o)
+    → (o : Option PlainMessage) → k.message ≡ o → After r e s (Label.Took id) (with_sent (record (without_message s id) { manager = k.manager }) o)
 after_manager r e s id k un sends h None is =
     let count : k.manager.sent ≡ s.manager.sent = subst (λ o. ServerSends manager s.manager.sent o k.manager.sent) is sends.sends in
     let more = sends.children in
     let u = without_message s id in
     let t = record u { manager = k.manager } in
     let w : Serves u t = record { processes = λ p. refl; made = λ n. refl; bag = λ i. refl; grows = λ i f. counts_manager u t i refl refl (omega (arith, count)) f } in
-    quiet r e s t (label.Took id) (λ i. refl) (stayed s id)
+    quiet r e s t (Label.Took id) (λ i. refl) (stayed s id)
     (record { lives = λ p. LifeGrows-same (s.processes p); switchboard = omega arith; manager = omega (arith, count); made = λ n. omega arith; children = more })
     (served_on r e u t w (leaves r e s id un h))
 after_manager r e s id k un sends h (Some m) is =
@@ -218,7 +174,7 @@ after_manager r e s id k un sends h (Some m) is =
     let fresh : counts u m.id ≡ false = ap (counts u) name ∙ (let z : nat_lt s.manager.sent s.manager.sent ≡ false = grind (arith, nat_tests) in z) in
     let counted : counts t m.id ≡ true = ap (counts t) name ∙ (let z : nat_lt s.manager.sent k.manager.sent ≡ true = grind (arith, nat_tests) in z) in
     let after = server_sends r e u t m w fresh counted (ap (λ (v : MsgId). v.answer) name) memory piece (leaves r e s id un h) in
-    puts r e s t m (label.Took id) (λ i. refl) (was_none r e s (with_sent t (Some m)) m.id m (sent_at t m m.id (id_eq-same m.id)) after h) (stayed s id)
+    puts r e s t m (Label.Took id) (λ i. refl) (was_none r e s (with_sent t (Some m)) m.id m (sent_at t m m.id (id_eq-same m.id)) after h) (stayed s id)
     (record { lives = λ p. LifeGrows-same (s.processes p); switchboard = omega arith; manager = omega (arith, count); made = λ n. omega arith; children = more })
     after
 
@@ -226,20 +182,20 @@ after_manager r e s id k un sends h (Some m) is =
 takes_by : (r e : MsgId → ℕ) (s t : OneKernel) (id : MsgId) (m : PlainMessage) (b c : Bool) → s.bag id ≡ Some m
     → (if b then bind (board.takes s.switchboard m m.what) (λ k. Some (service.switchboard_took s id k))
     else if c then bind (manage.takes s.manager s.machines (length s.images) m m.what) (λ k. Some (service.manager_took s id k))
-    else None) ≡ Some t → Sound r e s → After r e s (label.Took id) t
+    else None) ≡ Some t → Sound r e s → After r e s (Label.Took id) t
 takes_by r e s t id m true c there is h =
     let (k, took, last) = bind-is (board.takes s.switchboard m m.what) (λ v. Some (service.switchboard_took s id v)) t is in
     let (memory, piece, sends) = board_takes s.switchboard m m.what k took in
     let f : service.switchboard_took s id k ≡ t = cc in
-    subst (After r e s (label.Took id)) f (after_board r e s id k (unawaited s id m there memory piece h.movers) sends h k.answer refl)
+    subst (After r e s (Label.Took id)) f (after_board r e s id k (unawaited s id m there memory piece h.movers) sends h k.answer refl)
 takes_by r e s t id m false true there is h =
     let (k, took, last) = bind-is (manage.takes s.manager s.machines (length s.images) m m.what) (λ v. Some (service.manager_took s id v)) t is in
     let (memory, piece, sends) = manager_takes s.manager s.machines (length s.images) m m.what k took in
     let f : service.manager_took s id k ≡ t = cc in
-    subst (After r e s (label.Took id)) f (after_manager r e s id k (unawaited s id m there memory piece h.movers) sends h k.message refl)
+    subst (After r e s (Label.Took id)) f (after_manager r e s id k (unawaited s id m there memory piece h.movers) sends h k.message refl)
 takes_by r e s t id m false false there is h = cc
 
-pub after_took : (r e : MsgId → ℕ) (s t : OneKernel) (id : MsgId) → step.step s (label.Took id) ≡ Some t → Sound r e s → After r e s (label.Took id) t
+pub after_took : (r e : MsgId → ℕ) (s t : OneKernel) (id : MsgId) → step.step s (Label.Took id) ≡ Some t → Sound r e s → After r e s (Label.Took id) t
 after_took r e s t id is h =
     let (m, there, rest) = bind-is (s.bag id) (service.takes s id) t is in
     takes_by r e s t id m (pid_eq m.to switchboard) (pid_eq m.to manager) there rest h
@@ -266,29 +222,18 @@ dropped_unawaited : (s : OneKernel) (id : MsgId) (m : PlainMessage) (y : Why) �
 dropped_unawaited s id m y there gone memory h = dropped_by s id m y (is_piece m.what) refl there gone memory h
 
 not_memory : (w : PlainWhat) → service.is_dropped w ≡ true → is_of_memory w ≡ false
-not_memory (what.User a b c d) e = refl
-not_memory what.Stop e = refl
-not_memory what.Resume e = refl
-not_memory what.Kill e = refl
-not_memory (what.Read a b) e = cc
-not_memory (what.Write a b) e = cc
-not_memory (what.Block a) e = refl
-not_memory what.Written e = refl
-not_memory what.Gone e = refl
-not_memory (what.Create a b) e = refl
-not_memory (what.Created a) e = refl
-not_memory what.NoRoom e = refl
-not_memory (what.Move a) e = refl
-not_memory (what.Moved a) e = refl
+not_memory (PlainWhat.Read a b) e = cc
+not_memory (PlainWhat.Write a b) e = cc
+not_memory _ e = refl
 
-pub after_dropped : (r e : MsgId → ℕ) (s t : OneKernel) (id : MsgId) → step.step s (label.Dropped id) ≡ Some t → Sound r e s → After r e s (label.Dropped id) t
+pub after_dropped : (r e : MsgId → ℕ) (s t : OneKernel) (id : MsgId) → step.step s (Label.Dropped id) ≡ Some t → Sound r e s → After r e s (Label.Dropped id) t
 after_dropped r e s t id is h =
     let (m, there, rest) = bind-is (s.bag id) (λ v. bind (step.ended (s.processes v.to)) (step.drops s id v)) t is in
     let (y, gone, last) = bind-is (step.ended (s.processes m.to)) (step.drops s id m) t rest in
     let k = when-is (service.is_dropped m.what) (without_message s id) t last in
     let un = dropped_unawaited s id m y there (ended-is (s.processes m.to) y gone) (not_memory m.what k.0) h.movers in
-    subst (After r e s (label.Dropped id)) k.1
-    (quiet r e s (without_message s id) (label.Dropped id) (λ i. refl) (stayed s id) (Grown-bag s (without_message s id) (λ q. refl) (λ n. refl) refl refl) (leaves r e s id un h))
+    subst (After r e s (Label.Dropped id)) k.1
+    (quiet r e s (without_message s id) (Label.Dropped id) (λ i. refl) (stayed s id) (Grown-bag s (without_message s id) (λ q. refl) (λ n. refl) refl refl) (leaves r e s id un h))
 
 -- an answer takes the place of a request, and no process changes
 answer_row : (r e : MsgId → ℕ) (s : OneKernel) (id : MsgId) (m : PlainMessage) (w : PlainWhat) (l : Label) → s.bag id ≡ Some m → asks m.what ≡ true → asks w ≡ false → is_of_memory w ≡ false → is_piece w ≡ is_of_memory m.what
@@ -303,48 +248,26 @@ answer_row r e s id m w l there asking answering memory piece none h =
     (stayed s id) (Grown-bag s t (λ q. refl) (λ n. refl) refl refl) after
 
 memory_asks : (w : PlainWhat) → is_of_memory w ≡ true → asks w ≡ true
-memory_asks (what.Read a b) e = refl
-memory_asks (what.Write a b) e = refl
-memory_asks (what.User a b c d) e = cc
-memory_asks what.Stop e = cc
-memory_asks what.Resume e = cc
-memory_asks what.Kill e = cc
-memory_asks (what.Block a) e = cc
-memory_asks what.Written e = cc
-memory_asks what.Gone e = cc
-memory_asks (what.Create a b) e = refl
-memory_asks (what.Created a) e = cc
-memory_asks what.NoRoom e = cc
-memory_asks (what.Move a) e = cc
-memory_asks (what.Moved a) e = cc
+memory_asks (PlainWhat.Read a b) e = refl
+memory_asks (PlainWhat.Write a b) e = refl
+memory_asks (PlainWhat.Create a b) e = refl
+memory_asks _ e = cc
 
-pub after_gone : (r e : MsgId → ℕ) (s t : OneKernel) (id : MsgId) → step.step s (label.Gone id) ≡ Some t → Sound r e s → After r e s (label.Gone id) t
+pub after_gone : (r e : MsgId → ℕ) (s t : OneKernel) (id : MsgId) → step.step s (Label.Gone id) ≡ Some t → Sound r e s → After r e s (Label.Gone id) t
 after_gone r e s t id is h =
     let (m, there, rest) = bind-is (s.bag id) (λ v. bind (step.ended (s.processes v.to)) (step.says_gone s id v)) t is in
     let (y, gone, last) = bind-is (step.ended (s.processes m.to)) (step.says_gone s id m) t rest in
-    let k = when-is (is_of_memory m.what) (with_sent (without_message s id) (Some (answer_to m what.Gone))) t last in
-    subst (After r e s (label.Gone id)) k.1 (answer_row r e s id m what.Gone (label.Gone id) there (memory_asks m.what k.0) refl refl (sym k.0) (λ i. refl) h)
+    let k = when-is (is_of_memory m.what) (with_sent (without_message s id) (Some (answer_to m PlainWhat.Gone))) t last in
+    subst (After r e s (Label.Gone id)) k.1 (answer_row r e s id m PlainWhat.Gone (Label.Gone id) there (memory_asks m.what k.0) refl refl (sym k.0) (λ i. refl) h)
 
 -- a kernel answers a request for a process
-no_room_row : (r e : MsgId → ℕ) (s t : OneKernel) (id : MsgId) (m : PlainMessage) (w : PlainWhat) (a b : ℕ) → m.what ≡ w → s.bag id ≡ Some m → service.has_no_room s id m w ≡ Some t → Sound r e s → After r e s (label.NoSpace id a b) t
-no_room_row r e s t id m (what.Create image links) a b w there is h =
-    let k = when-is _ (with_sent (without_message s id) (Some (answer_to m what.NoRoom))) t is in
-    subst (After r e s (label.NoSpace id a b)) k.1 (answer_row r e s id m what.NoRoom (label.NoSpace id a b) there (ap asks w) refl refl (sym (ap is_of_memory w)) (λ i. refl) h)
-no_room_row r e s t id m (what.User c d f g) a b w there is h = cc
-no_room_row r e s t id m what.Stop a b w there is h = cc
-no_room_row r e s t id m what.Resume a b w there is h = cc
-no_room_row r e s t id m what.Kill a b w there is h = cc
-no_room_row r e s t id m (what.Read c d) a b w there is h = cc
-no_room_row r e s t id m (what.Write c d) a b w there is h = cc
-no_room_row r e s t id m (what.Block c) a b w there is h = cc
-no_room_row r e s t id m what.Written a b w there is h = cc
-no_room_row r e s t id m what.Gone a b w there is h = cc
-no_room_row r e s t id m (what.Created c) a b w there is h = cc
-no_room_row r e s t id m what.NoRoom a b w there is h = cc
-no_room_row r e s t id m (what.Move c) a b w there is h = cc
-no_room_row r e s t id m (what.Moved c) a b w there is h = cc
+no_room_row : (r e : MsgId → ℕ) (s t : OneKernel) (id : MsgId) (m : PlainMessage) (w : PlainWhat) (a b : ℕ) → m.what ≡ w → s.bag id ≡ Some m → service.has_no_room s id m w ≡ Some t → Sound r e s → After r e s (Label.NoSpace id a b) t
+no_room_row r e s t id m (PlainWhat.Create image links) a b w there is h =
+    let k = when-is _ (with_sent (without_message s id) (Some (answer_to m PlainWhat.NoRoom))) t is in
+    subst (After r e s (Label.NoSpace id a b)) k.1 (answer_row r e s id m PlainWhat.NoRoom (Label.NoSpace id a b) there (ap asks w) refl refl (sym (ap is_of_memory w)) (λ i. refl) h)
+no_room_row r e s t id m _ a b w there is h = cc
 
-pub after_no_space : (r e : MsgId → ℕ) (s t : OneKernel) (id : MsgId) (a b : ℕ) → step.step s (label.NoSpace id a b) ≡ Some t → Sound r e s → After r e s (label.NoSpace id a b) t
+pub after_no_space : (r e : MsgId → ℕ) (s t : OneKernel) (id : MsgId) (a b : ℕ) → step.step s (Label.NoSpace id a b) ≡ Some t → Sound r e s → After r e s (Label.NoSpace id a b) t
 after_no_space r e s t id a b is h =
     let (m, there, rest) = bind-is (s.bag id) (λ v. service.has_no_room s id v v.what) t is in
     no_room_row r e s t id m m.what a b refl there rest h
@@ -358,10 +281,10 @@ next_is_new : (s : OneKernel) (home : ℕ) → Made s → s.processes (pid_of ho
 next_is_new s home h = none_below s (pid_of home (first_number + s.made home)) (s.processes (pid_of home (first_number + s.made home))) refl (h.most (pid_of home (first_number + s.made home))) refl
 
 created_row : (r e : MsgId → ℕ) (s t : OneKernel) (id : MsgId) (m : PlainMessage) (child : Pid) (links : List PlainLink) (image : BootImage) → s.bag id ≡ Some m → asks m.what ≡ true → is_of_memory m.what ≡ false
-    → service.creates_of s id m child links image ≡ Some t → Sound r e s → After r e s (label.Created id child) t
+    → service.creates_of s id m child links image ≡ Some t → Sound r e s → After r e s (Label.Created id child) t
 created_row r e s t id m child links image there asking memory is h =
     let u = service.with_child (without_message s id) child image links in
-    let k = when-is _ (with_sent u (Some (answer_to m (what.Created child)))) t is in
+    let k = when-is _ (with_sent u (Some (answer_to m (PlainWhat.Created child)))) t is in
     let both = k.0 in
     let name : pid_eq child (pid_of m.to.home (first_number + s.made m.to.home)) ≡ true = grind (arith, nat_tests) in
     let child_is : child ≡ pid_of m.to.home (first_number + s.made m.to.home) = pid_eq-is child (pid_of m.to.home (first_number + s.made m.to.home)) name in
@@ -373,13 +296,13 @@ created_row r e s t id m child links image there asking memory is h =
     let v = record (with_process s child (Alive y)) { made = made } in
     let same_home : made child.home ≡ s.made m.to.home + 1 = grind (arith, nat_tests) in
     let stands = born r e s child y made none refl (let n = num in grind (arith, nat_tests)) (let n = num in let q = same_home in grind (arith, nat_tests)) (λ n. grind (arith, nat_tests)) h in
-    let after_ = answers r e v id m (what.Created child) there asking refl refl (sym memory) stands in
-    let t_ = with_sent u (Some (answer_to m (what.Created child))) in
+    let after_ = answers r e v id m (PlainWhat.Created child) there asking refl refl (sym memory) stands in
+    let t_ = with_sent u (Some (answer_to m (PlainWhat.Created child))) in
     let name_ : m.id ≡ id = h.entered.named id m there in
-    let after : Sound r (λ i. e i + plus (answer_to m (what.Created child)).id i) t_ = subst (λ w. Sound r (λ i. e i + plus w i) t_) (sym (ap answer_id name_)) after_ in
-    subst (After r e s (label.Created id child)) k.1
-    (puts r e s u (answer_to m (what.Created child)) (label.Created id child) (λ i. refl)
-    (was_none r e s t_ (answer_to m (what.Created child)).id (answer_to m (what.Created child)) (sent_at u (answer_to m (what.Created child)) (answer_to m (what.Created child)).id (id_eq-same (answer_to m (what.Created child)).id)) after h)
+    let after : Sound r (λ i. e i + plus (answer_to m (PlainWhat.Created child)).id i) t_ = subst (λ w. Sound r (λ i. e i + plus w i) t_) (sym (ap answer_id name_)) after_ in
+    subst (After r e s (Label.Created id child)) k.1
+    (puts r e s u (answer_to m (PlainWhat.Created child)) (Label.Created id child) (λ i. refl)
+    (was_none r e s t_ (answer_to m (PlainWhat.Created child)).id (answer_to m (PlainWhat.Created child)) (sent_at u (answer_to m (PlainWhat.Created child)) (answer_to m (PlainWhat.Created child)).id (id_eq-same (answer_to m (PlainWhat.Created child)).id)) after h)
     (stayed s id)
     (record {
       lives = with_process-lives s child (Alive y) (subst (λ w. LifeGrows w (Some (Alive y))) (sym none) tt);
@@ -389,25 +312,13 @@ created_row r e s t id m child links image there asking memory is h =
       children = omega arith;
     }) after)
 
-creates_row : (r e : MsgId → ℕ) (s t : OneKernel) (id : MsgId) (m : PlainMessage) (child : Pid) (w : PlainWhat) → m.what ≡ w → s.bag id ≡ Some m → service.creates s id m child w ≡ Some t → Sound r e s → After r e s (label.Created id child) t
-creates_row r e s t id m child (what.Create image links) w there is h =
+creates_row : (r e : MsgId → ℕ) (s t : OneKernel) (id : MsgId) (m : PlainMessage) (child : Pid) (w : PlainWhat) → m.what ≡ w → s.bag id ≡ Some m → service.creates s id m child w ≡ Some t → Sound r e s → After r e s (Label.Created id child) t
+creates_row r e s t id m child (PlainWhat.Create image links) w there is h =
     let (i, found, rest) = bind-is (slice_get s.images image) (service.creates_of s id m child links) t is in
     created_row r e s t id m child links i there (ap asks w) (ap is_of_memory w) rest h
-creates_row r e s t id m child (what.User c d f g) w there is h = cc
-creates_row r e s t id m child what.Stop w there is h = cc
-creates_row r e s t id m child what.Resume w there is h = cc
-creates_row r e s t id m child what.Kill w there is h = cc
-creates_row r e s t id m child (what.Read c d) w there is h = cc
-creates_row r e s t id m child (what.Write c d) w there is h = cc
-creates_row r e s t id m child (what.Block c) w there is h = cc
-creates_row r e s t id m child what.Written w there is h = cc
-creates_row r e s t id m child what.Gone w there is h = cc
-creates_row r e s t id m child (what.Created c) w there is h = cc
-creates_row r e s t id m child what.NoRoom w there is h = cc
-creates_row r e s t id m child (what.Move c) w there is h = cc
-creates_row r e s t id m child (what.Moved c) w there is h = cc
+creates_row r e s t id m child _ w there is h = cc
 
-pub after_created : (r e : MsgId → ℕ) (s t : OneKernel) (id : MsgId) (child : Pid) → step.step s (label.Created id child) ≡ Some t → Sound r e s → After r e s (label.Created id child) t
+pub after_created : (r e : MsgId → ℕ) (s t : OneKernel) (id : MsgId) (child : Pid) → step.step s (Label.Created id child) ≡ Some t → Sound r e s → After r e s (Label.Created id child) t
 after_created r e s t id child is h =
     let (m, there, rest) = bind-is (s.bag id) (λ v. service.creates s id v child v.what) t is in
     creates_row r e s t id m child m.what refl there rest h

@@ -1,31 +1,9 @@
 -- What the steps of kernels and servers keep.
-use Rattle.std.proofs.Common.{◌≡◌, ℕ, ◌+◌, ◌-◌, ◌==◌, Bool, true, false, refl, ap, ◌∙◌, sym, subst, inl, inr, arith}
-use Rattle.std.specs.Prelude.{if◌then◌else◌, take, drop}
-use Rattle.std.specs.declared.option.Option.{Option}
-use Rattle.std.specs.declared.option.Option.TheVariants.{None, Some}
-use mathlib.Core.Path.{fun_ext}
-use Rattle.std.proofs.lemmas.Bool.{false≢true}
-use Rattle.dm_link.specs.declared.Pid.{Pid}
-use Rattle.dm_link.specs.Names.{pid_eq}
-use Rattle.dm_message.specs.declared.MsgId.{MsgId}
-use Rattle.dm_message.specs.Ids.{id_of}
-use Rattle.dm_message.specs.Plain as what
-use Rattle.dm_message.specs.Plain.{PlainMessage, PlainWhat}
-use Rattle.dm_process.specs.declared.process.Direction.{Direction}
-use Rattle.dm_process.specs.declared.process.Direction.TheVariants as direction
-use Rattle.dm_onekernel.specs.declared.label.Label.{Label}
-use Rattle.dm_onekernel.specs.declared.label.Label.TheVariants as label
-use Rattle.dm_onekernel.specs.declared.label.Reply.TheVariants as reply
-use Rattle.dm_onekernel.specs.declared.label.Why.TheVariants as why
-use Rattle.dm_onekernel.specs.Options.{bind}
-use Rattle.dm_onekernel.specs.PlainProcess.{PlainProcess, PlainStatus, Ready, Waiting, Moving}
-use Rattle.dm_onekernel.specs.Kernel.{Life, Alive, Ended, OneKernel, with_process, with_sent}
+use Rattle.dm_laws.proofs.Names.{◌≡◌, ℕ, ◌+◌, ◌-◌, ◌==◌, Bool, true, false, refl, ap, ◌∙◌, sym, subst, inl, inr, arith, if◌then◌else◌, take, drop, Option, None, Some, fun_ext, false≢true, Pid, pid_eq, MsgId, id_of, PlainMessage, PlainWhat}
+use Rattle.dm_laws.proofs.Names.{Direction, Label, bind, PlainProcess, PlainStatus, Ready, Waiting, Moving, Life, Alive, Ended, OneKernel, with_process, with_sent, answer_id, answer_to, without_message, is_of_memory, reception, Reply, Why}
 use Rattle.dm_onekernel.specs.Pieces as pieces
-use Rattle.dm_onekernel.specs.Pieces.{answer_id, answer_to}
 use Rattle.dm_onekernel.specs.Service as service
-use Rattle.dm_onekernel.specs.Service.{without_message, is_of_memory}
 use Rattle.dm_onekernel.specs.Step as step
-use Rattle.dm_laws.specs.Laws.{reception}
 use Rattle.dm_laws.proofs.Equal.{pid_eq-same, id_eq-same}
 use Rattle.dm_laws.proofs.Counted.{Sent, requests-sent, is_piece, pending_of}
 use Rattle.dm_laws.proofs.Entered.{asks}
@@ -63,11 +41,11 @@ LandsSo p x (pieces.Next m y) = Sent p x m y × (is_of_memory m.what ≡ true)
 LandsSo p x (pieces.Done c y) = (y.sent ≡ x.sent) × (pending_of y.status ≡ None)
 
 requests-memory : (p : Pid) (z : PlainProcess) (dir : Direction) (owner : Pid) (base own left : ℕ) → is_of_memory (pieces.requests p z dir owner base own left).message.what ≡ true
-requests-memory p z direction.FromArea owner base own left = refl
-requests-memory p z direction.IntoArea owner base own left = refl
+requests-memory p z Direction.FromArea owner base own left = refl
+requests-memory p z Direction.IntoArea owner base own left = refl
 
 goes_on-lands : (p : Pid) (x z : PlainProcess) (dir : Direction) (owner : Pid) (base own left : ℕ) (b : Bool) → z.sent ≡ x.sent → pending_of z.status ≡ pending_of x.status
-    → LandsSo p x (if b then pieces.done reply.Done z else pieces.next_request (pieces.requests p z dir owner base own left))
+    → LandsSo p x (if b then pieces.done Reply.Done z else pieces.next_request (pieces.requests p z dir owner base own left))
 goes_on-lands p x z dir owner base own left true sent pending = (sent, refl)
 goes_on-lands p x z dir owner base own left false sent pending =
     let q = pieces.requests p z dir owner base own left in
@@ -78,37 +56,37 @@ if_lands p x true k c h e = let f : k ≡ c = cc in subst (LandsSo p x) f h
 if_lands p x false k c h e = cc
 
 lands_what-is : (p : Pid) (x : PlainProcess) (dir : Direction) (owner : Pid) (base own left : ℕ) (w : PlainWhat) (c : pieces.Landed) → pieces.lands_what p x dir owner base own left w ≡ Some c → LandsSo p x c
-lands_what-is p x direction.FromArea owner base own left (what.Block bytes) c e =
-    if_lands p x _ (pieces.goes_on p (record x { memory = pieces.written_at x.memory own bytes }) direction.FromArea owner base own left (pieces.piece_of left)) c
-    (goes_on-lands p x (record x { memory = pieces.written_at x.memory own bytes }) direction.FromArea owner (base + pieces.piece_of left) (own + pieces.piece_of left) (left - pieces.piece_of left) (left - pieces.piece_of left == 0) refl refl) e
-lands_what-is p x direction.IntoArea owner base own left what.Written c e =
-    if_lands p x _ (pieces.goes_on p x direction.IntoArea owner base own left (pieces.piece_of left)) c (goes_on-lands p x x direction.IntoArea owner (base + pieces.piece_of left) (own + pieces.piece_of left) (left - pieces.piece_of left) (left - pieces.piece_of left == 0) refl refl) e
-lands_what-is p x direction.FromArea owner base own left what.Gone c e = let k : pieces.done reply.Gone x ≡ c = cc in subst (LandsSo p x) k (refl, refl)
-lands_what-is p x direction.IntoArea owner base own left what.Gone c e = let k : pieces.done reply.Gone x ≡ c = cc in subst (LandsSo p x) k (refl, refl)
-lands_what-is p x direction.FromArea owner base own left what.Written c e = cc
-lands_what-is p x direction.IntoArea owner base own left (what.Block bytes) c e = cc
-lands_what-is p x direction.FromArea owner base own left (what.User a b d f) c e = cc
-lands_what-is p x direction.FromArea owner base own left what.Stop c e = cc
-lands_what-is p x direction.FromArea owner base own left what.Resume c e = cc
-lands_what-is p x direction.FromArea owner base own left what.Kill c e = cc
-lands_what-is p x direction.FromArea owner base own left (what.Read a b) c e = cc
-lands_what-is p x direction.FromArea owner base own left (what.Write a b) c e = cc
-lands_what-is p x direction.FromArea owner base own left (what.Create a b) c e = cc
-lands_what-is p x direction.FromArea owner base own left (what.Created a) c e = cc
-lands_what-is p x direction.FromArea owner base own left what.NoRoom c e = cc
-lands_what-is p x direction.FromArea owner base own left (what.Move a) c e = cc
-lands_what-is p x direction.FromArea owner base own left (what.Moved a) c e = cc
-lands_what-is p x direction.IntoArea owner base own left (what.User a b d f) c e = cc
-lands_what-is p x direction.IntoArea owner base own left what.Stop c e = cc
-lands_what-is p x direction.IntoArea owner base own left what.Resume c e = cc
-lands_what-is p x direction.IntoArea owner base own left what.Kill c e = cc
-lands_what-is p x direction.IntoArea owner base own left (what.Read a b) c e = cc
-lands_what-is p x direction.IntoArea owner base own left (what.Write a b) c e = cc
-lands_what-is p x direction.IntoArea owner base own left (what.Create a b) c e = cc
-lands_what-is p x direction.IntoArea owner base own left (what.Created a) c e = cc
-lands_what-is p x direction.IntoArea owner base own left what.NoRoom c e = cc
-lands_what-is p x direction.IntoArea owner base own left (what.Move a) c e = cc
-lands_what-is p x direction.IntoArea owner base own left (what.Moved a) c e = cc
+lands_what-is p x Direction.FromArea owner base own left (PlainWhat.Block bytes) c e =
+    if_lands p x _ (pieces.goes_on p (record x { memory = pieces.written_at x.memory own bytes }) Direction.FromArea owner base own left (pieces.piece_of left)) c
+    (goes_on-lands p x (record x { memory = pieces.written_at x.memory own bytes }) Direction.FromArea owner (base + pieces.piece_of left) (own + pieces.piece_of left) (left - pieces.piece_of left) (left - pieces.piece_of left == 0) refl refl) e
+lands_what-is p x Direction.IntoArea owner base own left PlainWhat.Written c e =
+    if_lands p x _ (pieces.goes_on p x Direction.IntoArea owner base own left (pieces.piece_of left)) c (goes_on-lands p x x Direction.IntoArea owner (base + pieces.piece_of left) (own + pieces.piece_of left) (left - pieces.piece_of left) (left - pieces.piece_of left == 0) refl refl) e
+lands_what-is p x Direction.FromArea owner base own left PlainWhat.Gone c e = let k : pieces.done Reply.Gone x ≡ c = cc in subst (LandsSo p x) k (refl, refl)
+lands_what-is p x Direction.IntoArea owner base own left PlainWhat.Gone c e = let k : pieces.done Reply.Gone x ≡ c = cc in subst (LandsSo p x) k (refl, refl)
+lands_what-is p x Direction.FromArea owner base own left PlainWhat.Written c e = cc
+lands_what-is p x Direction.IntoArea owner base own left (PlainWhat.Block bytes) c e = cc
+lands_what-is p x Direction.FromArea owner base own left (PlainWhat.User a b d f) c e = cc
+lands_what-is p x Direction.FromArea owner base own left PlainWhat.Stop c e = cc
+lands_what-is p x Direction.FromArea owner base own left PlainWhat.Resume c e = cc
+lands_what-is p x Direction.FromArea owner base own left PlainWhat.Kill c e = cc
+lands_what-is p x Direction.FromArea owner base own left (PlainWhat.Read a b) c e = cc
+lands_what-is p x Direction.FromArea owner base own left (PlainWhat.Write a b) c e = cc
+lands_what-is p x Direction.FromArea owner base own left (PlainWhat.Create a b) c e = cc
+lands_what-is p x Direction.FromArea owner base own left (PlainWhat.Created a) c e = cc
+lands_what-is p x Direction.FromArea owner base own left PlainWhat.NoRoom c e = cc
+lands_what-is p x Direction.FromArea owner base own left (PlainWhat.Move a) c e = cc
+lands_what-is p x Direction.FromArea owner base own left (PlainWhat.Moved a) c e = cc
+lands_what-is p x Direction.IntoArea owner base own left (PlainWhat.User a b d f) c e = cc
+lands_what-is p x Direction.IntoArea owner base own left PlainWhat.Stop c e = cc
+lands_what-is p x Direction.IntoArea owner base own left PlainWhat.Resume c e = cc
+lands_what-is p x Direction.IntoArea owner base own left PlainWhat.Kill c e = cc
+lands_what-is p x Direction.IntoArea owner base own left (PlainWhat.Read a b) c e = cc
+lands_what-is p x Direction.IntoArea owner base own left (PlainWhat.Write a b) c e = cc
+lands_what-is p x Direction.IntoArea owner base own left (PlainWhat.Create a b) c e = cc
+lands_what-is p x Direction.IntoArea owner base own left (PlainWhat.Created a) c e = cc
+lands_what-is p x Direction.IntoArea owner base own left PlainWhat.NoRoom c e = cc
+lands_what-is p x Direction.IntoArea owner base own left (PlainWhat.Move a) c e = cc
+lands_what-is p x Direction.IntoArea owner base own left (PlainWhat.Moved a) c e = cc
 
 if_lands_what : (p : Pid) (x : PlainProcess) (b : Bool) (dir : Direction) (owner : Pid) (base own left : ℕ) (w : PlainWhat) (c : pieces.Landed) → (if b then pieces.lands_what p x dir owner base own left w else None) ≡ Some c → LandsSo p x c
 if_lands_what p x true dir owner base own left w c e = lands_what-is p x dir owner base own left w c e
@@ -173,49 +151,44 @@ if_some-is true x y e = cc
 if_some-is false x y e = cc
 
 lands_row : (r e : MsgId → ℕ) (s t : OneKernel) (id : MsgId) (m : PlainMessage) (x : PlainProcess) → s.bag id ≡ Some m → s.processes m.to ≡ Some (Alive x) → is_piece m.what ≡ true
-    → bind (pieces.lands m.to x m x.status) (λ c. Some (service.landed s id m c)) ≡ Some t → Sound r e s → After r e s (label.Served id) t
+    → bind (pieces.lands m.to x m x.status) (λ c. Some (service.landed s id m c)) ≡ Some t → Sound r e s → After r e s (Label.Served id) t
 lands_row r e s t id m x there is piece e_ h =
     let (c, lands, last) = bind-is (pieces.lands m.to x m x.status) (λ v. Some (service.landed s id m v)) t e_ in
     let k : service.landed s id m c ≡ t = cc in
-    subst (After r e s (label.Served id)) k (after_lands r e s id m x c (label.Served id) there is piece (lands-is m.to x m x.status c lands) (λ i. refl) h)
+    subst (After r e s (Label.Served id)) k (after_lands r e s id m x c (Label.Served id) there is piece (lands-is m.to x m x.status c lands) (λ i. refl) h)
 
 -- served: a row a kind
 pub after_serves : (r e : MsgId → ℕ) (s t : OneKernel) (id : MsgId) (m : PlainMessage) (x : PlainProcess) (w : PlainWhat) → m.what ≡ w → s.bag id ≡ Some m → s.processes m.to ≡ Some (Alive x)
-    → service.serves s id m x w ≡ Some t → Sound r e s → After r e s (label.Served id) t
-after_serves r e s t id m x what.Stop w there is e_ h =
+    → service.serves s id m x w ≡ Some t → Sound r e s → After r e s (Label.Served id) t
+after_serves r e s t id m x PlainWhat.Stop w there is e_ h =
     let y = record x { stopped = true } in
     let k : service.changed s id m y ≡ t = cc in
-    subst (After r e s (label.Served id)) k (takes_quiet r e s id m x y (label.Served id) (unawaited s id m there (ap is_of_memory w) (ap is_piece w) h.movers) is refl refl (λ i. refl) h)
-after_serves r e s t id m x what.Resume w there is e_ h =
+    subst (After r e s (Label.Served id)) k (takes_quiet r e s id m x y (Label.Served id) (unawaited s id m there (ap is_of_memory w) (ap is_piece w) h.movers) is refl refl (λ i. refl) h)
+after_serves r e s t id m x PlainWhat.Resume w there is e_ h =
     let y = record x { stopped = false } in
     let k : service.changed s id m y ≡ t = cc in
-    subst (After r e s (label.Served id)) k (takes_quiet r e s id m x y (label.Served id) (unawaited s id m there (ap is_of_memory w) (ap is_piece w) h.movers) is refl refl (λ i. refl) h)
-after_serves r e s t id m x what.Kill w there is e_ h =
+    subst (After r e s (Label.Served id)) k (takes_quiet r e s id m x y (Label.Served id) (unawaited s id m there (ap is_of_memory w) (ap is_piece w) h.movers) is refl refl (λ i. refl) h)
+after_serves r e s t id m x PlainWhat.Kill w there is e_ h =
     let u = without_message s id in
-    let v = with_process u m.to (Ended why.Killed) in
+    let v = with_process u m.to (Ended Why.Killed) in
     let k : v ≡ t = cc in
     let un = unawaited s id m there (ap is_of_memory w) (ap is_piece w) h.movers in
-    subst (After r e s (label.Served id)) k
-    (quiet r e s v (label.Served id) (λ i. refl) (stayed s id) (Grown-ended s v m.to x why.Killed is (λ q. refl) (λ n. refl) refl refl) (ending r e u m.to x why.Killed is (leaves r e s id un h)))
-after_serves r e s t id m x (what.Read base len) w there is e_ h =
+    subst (After r e s (Label.Served id)) k
+    (quiet r e s v (Label.Served id) (λ i. refl) (stayed s id) (Grown-ended s v m.to x Why.Killed is (λ q. refl) (λ n. refl) refl refl) (ending r e u m.to x Why.Killed is (leaves r e s id un h)))
+after_serves r e s t id m x (PlainWhat.Read base len) w there is e_ h =
     let (c, served, last) = bind-is (pieces.reads x m base len) (λ v. Some (service.answered s id m v)) t e_ in
-    let k = if_some-is _ (record { process = x; answer = answer_to m (what.Block (take len (drop base x.memory))) }) c served in
+    let k = if_some-is _ (record { process = x; answer = answer_to m (PlainWhat.Block (take len (drop base x.memory))) }) c served in
     let f : service.answered s id m c ≡ t = cc in
-    subst (After r e s (label.Served id)) (ap (service.answered s id m) k ∙ f)
-    (serves_piece r e s id m x x (what.Block (take len (drop base x.memory))) (label.Served id) there is refl refl (ap is_of_memory w) (ap asks w) refl refl refl (λ i. refl) h)
-after_serves r e s t id m x (what.Write base bytes) w there is e_ h =
+    subst (After r e s (Label.Served id)) (ap (service.answered s id m) k ∙ f)
+    (serves_piece r e s id m x x (PlainWhat.Block (take len (drop base x.memory))) (Label.Served id) there is refl refl (ap is_of_memory w) (ap asks w) refl refl refl (λ i. refl) h)
+after_serves r e s t id m x (PlainWhat.Write base bytes) w there is e_ h =
     let (c, served, last) = bind-is (pieces.writes x m base bytes) (λ v. Some (service.answered s id m v)) t e_ in
     let y = record x { memory = pieces.written_at x.memory base bytes } in
-    let k = if_some-is _ (record { process = y; answer = answer_to m what.Written }) c served in
+    let k = if_some-is _ (record { process = y; answer = answer_to m PlainWhat.Written }) c served in
     let f : service.answered s id m c ≡ t = cc in
-    subst (After r e s (label.Served id)) (ap (service.answered s id m) k ∙ f)
-    (serves_piece r e s id m x y what.Written (label.Served id) there is refl refl (ap is_of_memory w) (ap asks w) refl refl refl (λ i. refl) h)
-after_serves r e s t id m x (what.Block bytes) w there is e_ h = lands_row r e s t id m x there is (ap is_piece w) e_ h
-after_serves r e s t id m x what.Written w there is e_ h = lands_row r e s t id m x there is (ap is_piece w) e_ h
-after_serves r e s t id m x what.Gone w there is e_ h = lands_row r e s t id m x there is (ap is_piece w) e_ h
-after_serves r e s t id m x (what.User a b c d) w there is e_ h = cc
-after_serves r e s t id m x (what.Create a b) w there is e_ h = cc
-after_serves r e s t id m x (what.Created a) w there is e_ h = cc
-after_serves r e s t id m x what.NoRoom w there is e_ h = cc
-after_serves r e s t id m x (what.Move a) w there is e_ h = cc
-after_serves r e s t id m x (what.Moved a) w there is e_ h = cc
+    subst (After r e s (Label.Served id)) (ap (service.answered s id m) k ∙ f)
+    (serves_piece r e s id m x y PlainWhat.Written (Label.Served id) there is refl refl (ap is_of_memory w) (ap asks w) refl refl refl (λ i. refl) h)
+after_serves r e s t id m x (PlainWhat.Block bytes) w there is e_ h = lands_row r e s t id m x there is (ap is_piece w) e_ h
+after_serves r e s t id m x PlainWhat.Written w there is e_ h = lands_row r e s t id m x there is (ap is_piece w) e_ h
+after_serves r e s t id m x PlainWhat.Gone w there is e_ h = lands_row r e s t id m x there is (ap is_piece w) e_ h
+after_serves r e s t id m x _ w there is e_ h = cc

@@ -1,23 +1,6 @@
 -- What each way of changing the kernel without machines keeps.
-use Rattle.std.proofs.Common.{◌≡◌, ℕ, ◌+◌, ◌≤◌, Bool, true, false, refl, ap, ◌∙◌, sym, subst, nat_lt, nat_le, is_some, ◌⊎◌, inl, inr, arith}
-use Rattle.std.specs.Prelude.{if◌then◌else◌}
-use Rattle.std.specs.declared.option.Option.{Option}
-use Rattle.std.specs.declared.option.Option.TheVariants.{None, Some}
-use mathlib.Core.Path.{fun_ext}
-use Rattle.std.proofs.lemmas.Bool.{cases_Bool, false≢true}
-use Rattle.std.proofs.lemmas.Bool.Decides.{nat_tests}
-use Rattle.dm_link.specs.declared.Pid.{Pid}
-use Rattle.dm_link.specs.Names.{pid_eq}
-use Rattle.dm_message.specs.declared.MsgId.{MsgId}
-use Rattle.dm_message.specs.Ids.{id_eq, id_of}
-use Rattle.dm_message.specs.Plain.{PlainMessage, PlainWhat}
-use Rattle.dm_onekernel.specs.declared.label.Why.{Why}
-use Rattle.dm_onekernel.specs.Boot.{switchboard, manager}
-use Rattle.dm_onekernel.specs.PlainProcess.{PlainProcess}
-use Rattle.dm_onekernel.specs.Kernel.{Life, Alive, Ended, OneKernel, with_process, with_sent}
-use Rattle.dm_onekernel.specs.Pieces.{answer_id, answer_to}
-use Rattle.dm_onekernel.specs.Service.{without_message, is_of_memory}
-use Rattle.dm_laws.specs.Laws.{in_bag}
+use Rattle.dm_laws.proofs.Names.{◌≡◌, ℕ, ◌+◌, ◌≤◌, Bool, true, false, refl, ap, ◌∙◌, sym, subst, nat_lt, nat_le, is_some, ◌⊎◌, inl, inr, arith, if◌then◌else◌, Option, None, Some, fun_ext, cases_Bool, false≢true, nat_tests, Pid, pid_eq}
+use Rattle.dm_laws.proofs.Names.{MsgId, id_eq, id_of, PlainMessage, PlainWhat, Why, switchboard, manager, PlainProcess, Life, Alive, Ended, OneKernel, with_process, with_sent, answer_id, answer_to, without_message, is_of_memory, in_bag}
 use Rattle.dm_laws.proofs.Equal.{pid_eq-is, pid_eq-same, id_eq-is}
 use Rattle.dm_laws.proofs.Counted.{Sent, is_piece, pending_of}
 use Rattle.dm_laws.proofs.Entered.{Entered, Enters, Made, request_id, counts_grow, Grows, counts, is_counted, asks, Entered-process, Entered-out, Entered-received, Entered-own, Entered-answer}

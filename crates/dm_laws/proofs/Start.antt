@@ -1,20 +1,6 @@
 -- Where a run begins.
-use Rattle.std.proofs.Common.{◌≡◌, ℕ, ◌+◌, ◌==◌, Bool, true, List, [], ◌∷◌, ◌++◌, refl, ap, ◌∙◌, sym, nat_lt, nat_le, is_some, inl, inr, arith}
-use Rattle.std.specs.Prelude.{if◌then◌else◌, map, option_map, slice_get}
-use Rattle.std.specs.declared.option.Option.{Option}
-use Rattle.std.specs.declared.option.Option.TheVariants.{None, Some}
-use Rattle.std.proofs.lemmas.Bool.{cases_Bool, false≢true}
-use Rattle.std.proofs.lemmas.Bool.Decides.{nat_tests}
-use Rattle.dm_link.specs.declared.Pid.{Pid}
-use Rattle.dm_link.specs.Names.{pid_eq}
-use Rattle.dm_onekernel.specs.declared.boot.BootProcess.{BootProcess}
-use Rattle.dm_onekernel.specs.declared.boot.Boot.{Boot}
-use Rattle.dm_onekernel.specs.Boot.{IsValid, processes_are_valid, starting_at}
-use Rattle.dm_onekernel.specs.Start.{start, life_at, first_life, begun}
-use Rattle.dm_onekernel.specs.declared.boot.BootImage.{BootImage}
-use Rattle.dm_onekernel.specs.PlainProcess.{PlainProcess}
-use Rattle.dm_onekernel.specs.Kernel.{Alive}
-use Rattle.dm_link.specs.Plain.{plain_link}
+use Rattle.dm_laws.proofs.Names.{◌≡◌, ℕ, ◌+◌, ◌==◌, Bool, true, List, [], ◌∷◌, ◌++◌, refl, ap, ◌∙◌, sym, nat_lt, nat_le, is_some, inl, inr, arith, if◌then◌else◌, map, option_map, slice_get, Option, None, Some, cases_Bool, false≢true}
+use Rattle.dm_laws.proofs.Names.{nat_tests, Pid, pid_eq, BootProcess, Boot, IsValid, processes_are_valid, starting_at, start, life_at, first_life, begun, BootImage, PlainProcess, Alive, plain_link}
 use Rattle.dm_laws.proofs.Counted.{pending_of}
 use Rattle.dm_laws.proofs.Equal.{pid_eq-is}
 use Rattle.dm_laws.proofs.Entered.{Entered, Made}

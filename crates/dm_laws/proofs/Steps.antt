@@ -1,28 +1,10 @@
 -- What each step of the kernel without machines keeps.
-use Rattle.std.proofs.Common.{◌≡◌, ℕ, ◌+◌, ◌≤◌, ◌&&◌, Bool, true, false, refl, ap, ◌∙◌, sym, subst, is_some, is_none, ◌⊎◌, inl, inr, arith, length}
-use Rattle.std.specs.Prelude.{⊤, if◌then◌else◌}
-use Rattle.std.specs.declared.option.Option.{Option}
-use Rattle.std.specs.declared.option.Option.TheVariants.{None, Some}
-use Rattle.std.proofs.lemmas.Bool.{cases_Bool}
-use Rattle.dm_link.specs.declared.Pid.{Pid}
-use Rattle.dm_message.specs.declared.MsgId.{MsgId}
-use Rattle.dm_message.specs.Ids.{id_eq, id_of}
-use Rattle.dm_message.specs.Plain as what
-use Rattle.dm_message.specs.Plain.{PlainMessage, PlainWhat}
-use Rattle.dm_processor.specs.Instructions.{Row, instruction}
-use Rattle.dm_processor.specs.Instructions as row
-use Rattle.dm_onekernel.specs.declared.label.Label.{Label}
-use Rattle.dm_onekernel.specs.declared.label.Label.TheVariants as label
-use Rattle.dm_onekernel.specs.declared.label.Reply.{Reply}
-use Rattle.dm_onekernel.specs.declared.label.Why.{Why}
-use Rattle.dm_onekernel.specs.Options.{bind, when}
-use Rattle.dm_onekernel.specs.PlainProcess.{PlainProcess, PlainStatus, Ready, Waiting, Moving}
-use Rattle.dm_onekernel.specs.Kernel.{Life, Alive, Ended, Switchboard, Manager, OneKernel, with_process, with_sent}
+use Rattle.dm_laws.proofs.Names.{◌≡◌, ℕ, ◌+◌, ◌≤◌, ◌&&◌, Bool, true, false, refl, ap, ◌∙◌, sym, subst, is_some, is_none, ◌⊎◌, inl, inr, arith, length, ⊤, if◌then◌else◌, Option, None, Some, cases_Bool, Pid, MsgId, id_eq, id_of, PlainMessage}
+use Rattle.dm_laws.proofs.Names.{PlainWhat, Row, instruction, Label, Reply, Why, bind, when, PlainProcess, PlainStatus, Ready, Waiting, Moving, Life, Alive, Ended, Switchboard, Manager, OneKernel, with_process, with_sent, without_message}
+use Rattle.dm_laws.proofs.Names.{is_of_memory, reception, entry, in_bag}
 use Rattle.dm_onekernel.specs.Calls as calls
 use Rattle.dm_onekernel.specs.Receiving as receiving
-use Rattle.dm_onekernel.specs.Service.{without_message, is_of_memory}
 use Rattle.dm_onekernel.specs.Step as step
-use Rattle.dm_laws.specs.Laws.{reception, entry, in_bag}
 use Rattle.dm_laws.proofs.Equal.{id_eq-is, id_eq-same}
 use Rattle.dm_laws.proofs.Counted.{Sent, Counts, Completes, call-counts, completes-is, is_piece, pending_of}
 use Rattle.dm_laws.proofs.Movers.{unawaited, stayed, came, sent_at, sent_off}
@@ -161,11 +143,11 @@ NextCounts p x (step.Calls number called) = (y : PlainProcess) × (y.sent ≡ x.
 NextCounts p x (step.Faults fault) = ⊤
 
 next_row-counts : (p : Pid) (x : PlainProcess) (w : Row) (n : step.Next) → step.next_row p x w ≡ Some n → NextCounts p x n
-next_row-counts p x (row.Plain regs bytes) n e = cc
-next_row-counts p x (row.Calls number regs) n e =
+next_row-counts p x (Row.Plain regs bytes) n e = cc
+next_row-counts p x (Row.Calls number regs) n e =
     let k : step.Calls number (calls.call p (record x { regs = regs }) number) ≡ n = cc in
     subst (NextCounts p x) k (record x { regs = regs }, refl, refl, call-counts p (record x { regs = regs }) number)
-next_row-counts p x (row.Faults fault) n e = let k : step.Faults fault ≡ n = cc in subst (NextCounts p x) k tt
+next_row-counts p x (Row.Faults fault) n e = let k : step.Faults fault ≡ n = cc in subst (NextCounts p x) k tt
 
 pub record Nexts (s : OneKernel) (p : Pid) (n : step.Next) : Type 0 where
   pub x : PlainProcess
@@ -178,15 +160,15 @@ nexts s p n e =
     record { x = x; is = runs s p x is; counts = next_row-counts p x (instruction x.regs x.memory) n row_is }
 
 -- the rows of labels by processes
-pub after_ran : (r e : MsgId → ℕ) (s t : OneKernel) (p : Pid) (k : ℕ) → step.step s (label.Ran p k) ≡ Some t → Sound r e s → After r e s (label.Ran p k) t
+pub after_ran : (r e : MsgId → ℕ) (s t : OneKernel) (p : Pid) (k : ℕ) → step.step s (Label.Ran p k) ≡ Some t → Sound r e s → After r e s (Label.Ran p k) t
 after_ran r e s t p k is h =
     let (x, running, rest) = bind-is (step.running s p) (λ v. bind (step.plain_steps k (step.machine_of v)) (λ m. Some (step.goes_on s p (step.with_machine v m)))) t is in
     let (m, plain, last) = bind-is (step.plain_steps k (step.machine_of x)) (λ m. Some (step.goes_on s p (step.with_machine x m))) t rest in
     let w = runs s p x running in
     let u = step.goes_on s p (step.with_machine x m) in
     let eq : u ≡ t = cc in
-    subst (After r e s (label.Ran p k)) eq
-    (quiet r e s u (label.Ran p k) (λ i. refl) (λ i z f. f) (Grown-process s u p x (step.with_machine x m) w.alive (omega arith) (λ q. refl) (λ n. refl) refl refl)
+    subst (After r e s (Label.Ran p k)) eq
+    (quiet r e s u (Label.Ran p k) (λ i. refl) (λ i z f. f) (Grown-process s u p x (step.with_machine x m) w.alive (omega arith) (λ q. refl) (λ n. refl) refl refl)
     (goes r e s p x (step.with_machine x m) w.alive refl (inl refl) h))
 
 process_goes : (r e : MsgId → ℕ) (s : OneKernel) (p : Pid) (x y : PlainProcess) (l : Label) → s.processes p ≡ Some (Alive x) → y.sent ≡ x.sent → (pending_of y.status ≡ pending_of x.status) ⊎ (pending_of y.status ≡ None)
@@ -194,12 +176,12 @@ process_goes : (r e : MsgId → ℕ) (s : OneKernel) (p : Pid) (x y : PlainProce
 process_goes r e s p x y l is sent pending none h =
     quiet r e s (step.goes_on s p y) l none (λ i z f. f) (Grown-process s (step.goes_on s p y) p x y is (omega (arith, sent)) (λ q. refl) (λ n. refl) refl refl) (goes r e s p x y is sent pending h)
 
-pub after_replies : (r e : MsgId → ℕ) (s t : OneKernel) (p : Pid) (n : ℕ) (c : Reply) (next : step.Next) → Nexts s p next → step.replies s p n c next ≡ Some t → Sound r e s → After r e s (label.Call p n c) t
+pub after_replies : (r e : MsgId → ℕ) (s t : OneKernel) (p : Pid) (n : ℕ) (c : Reply) (next : step.Next) → Nexts s p next → step.replies s p n c next ≡ Some t → Sound r e s → After r e s (Label.Call p n c) t
 after_replies r e s t p n c (step.Calls number (calls.Replies reply y)) w is h =
     let (z, sent, pending, counted) = w.counts in
     let k = when-is _ (step.goes_on s p y) t is in
-    subst (After r e s (label.Call p n c)) k.1
-    (process_goes r e s p w.x y (label.Call p n c) w.is.alive (counted.0 ∙ sent) (inl (counted.1 ∙ pending)) (λ i. refl) h)
+    subst (After r e s (Label.Call p n c)) k.1
+    (process_goes r e s p w.x y (Label.Call p n c) w.is.alive (counted.0 ∙ sent) (inl (counted.1 ∙ pending)) (λ i. refl) h)
 after_replies r e s t p n c (step.Calls number (calls.Sends m y)) w is h = cc
 after_replies r e s t p n c (step.Calls number (calls.Waits y)) w is h = cc
 after_replies r e s t p n c (step.Calls number (calls.Outputs word y)) w is h = cc
@@ -228,34 +210,34 @@ process_sends r e s p x y m l is sent none h =
     puts r e s u m l none (was_none r e s (with_sent u (Some m)) m.id m (sent_at u m m.id (id_eq-same m.id)) after h) (λ i z f. f)
     (Grown-process s (with_sent u (Some m)) p x y is (omega (arith, count)) (λ q. refl) (λ n. refl) refl refl) after
 
-pub after_sends : (r e : MsgId → ℕ) (s t : OneKernel) (p : Pid) (id : MsgId) (next : step.Next) → Nexts s p next → step.sends s p id next ≡ Some t → Sound r e s → After r e s (label.Send p id) t
+pub after_sends : (r e : MsgId → ℕ) (s t : OneKernel) (p : Pid) (id : MsgId) (next : step.Next) → Nexts s p next → step.sends s p id next ≡ Some t → Sound r e s → After r e s (Label.Send p id) t
 after_sends r e s t p id (step.Calls number (calls.Sends m y)) w is h =
     let (z, sent, pending, counted) = w.counts in
     let k = when-is _ (with_sent (step.goes_on s p y) (Some m)) t is in
-    subst (After r e s (label.Send p id)) k.1
-    (process_sends r e s p w.x y m (label.Send p id) w.is.alive (Sent-from p w.x z m y sent pending counted) (λ i. refl) h)
+    subst (After r e s (Label.Send p id)) k.1
+    (process_sends r e s p w.x y m (Label.Send p id) w.is.alive (Sent-from p w.x z m y sent pending counted) (λ i. refl) h)
 after_sends r e s t p id (step.Calls number (calls.Replies reply y)) w is h = cc
 after_sends r e s t p id (step.Calls number (calls.Waits y)) w is h = cc
 after_sends r e s t p id (step.Calls number (calls.Outputs word y)) w is h = cc
 after_sends r e s t p id (step.Calls number (calls.Ends because)) w is h = cc
 after_sends r e s t p id (step.Faults fault) w is h = cc
 
-pub after_waits : (r e : MsgId → ℕ) (s t : OneKernel) (p : Pid) (next : step.Next) → Nexts s p next → step.waits s p next ≡ Some t → Sound r e s → After r e s (label.Wait p) t
+pub after_waits : (r e : MsgId → ℕ) (s t : OneKernel) (p : Pid) (next : step.Next) → Nexts s p next → step.waits s p next ≡ Some t → Sound r e s → After r e s (Label.Wait p) t
 after_waits r e s t p (step.Calls number (calls.Waits y)) w is h =
     let (z, sent, pending, counted) = w.counts in
     let k : step.goes_on s p y ≡ t = cc in
-    subst (After r e s (label.Wait p)) k (process_goes r e s p w.x y (label.Wait p) w.is.alive (counted.0 ∙ sent) (inr counted.1) (λ i. refl) h)
+    subst (After r e s (Label.Wait p)) k (process_goes r e s p w.x y (Label.Wait p) w.is.alive (counted.0 ∙ sent) (inr counted.1) (λ i. refl) h)
 after_waits r e s t p (step.Calls number (calls.Replies reply y)) w is h = cc
 after_waits r e s t p (step.Calls number (calls.Sends m y)) w is h = cc
 after_waits r e s t p (step.Calls number (calls.Outputs word y)) w is h = cc
 after_waits r e s t p (step.Calls number (calls.Ends because)) w is h = cc
 after_waits r e s t p (step.Faults fault) w is h = cc
 
-pub after_outputs : (r e : MsgId → ℕ) (s t : OneKernel) (p : Pid) (word : ℕ) (next : step.Next) → Nexts s p next → step.outputs s p word next ≡ Some t → Sound r e s → After r e s (label.Out p word) t
+pub after_outputs : (r e : MsgId → ℕ) (s t : OneKernel) (p : Pid) (word : ℕ) (next : step.Next) → Nexts s p next → step.outputs s p word next ≡ Some t → Sound r e s → After r e s (Label.Out p word) t
 after_outputs r e s t p word (step.Calls number (calls.Outputs put y)) w is h =
     let (z, sent, pending, counted) = w.counts in
     let k = when-is _ (step.goes_on s p y) t is in
-    subst (After r e s (label.Out p word)) k.1 (process_goes r e s p w.x y (label.Out p word) w.is.alive (counted.0 ∙ sent) (inl (counted.1 ∙ pending)) (λ i. refl) h)
+    subst (After r e s (Label.Out p word)) k.1 (process_goes r e s p w.x y (Label.Out p word) w.is.alive (counted.0 ∙ sent) (inl (counted.1 ∙ pending)) (λ i. refl) h)
 after_outputs r e s t p word (step.Calls number (calls.Replies reply y)) w is h = cc
 after_outputs r e s t p word (step.Calls number (calls.Sends m y)) w is h = cc
 after_outputs r e s t p word (step.Calls number (calls.Waits y)) w is h = cc
@@ -266,13 +248,13 @@ process_ends : (r e : MsgId → ℕ) (s : OneKernel) (p : Pid) (x : PlainProcess
 process_ends r e s p x y l is none h =
     quiet r e s (with_process s p (Ended y)) l none (λ i z f. f) (Grown-ended s (with_process s p (Ended y)) p x y is (λ q. refl) (λ n. refl) refl refl) (ending r e s p x y is h)
 
-pub after_ends : (r e : MsgId → ℕ) (s t : OneKernel) (p : Pid) (y : Why) (next : step.Next) → Nexts s p next → step.ends s p y next ≡ Some t → Sound r e s → After r e s (label.End p y) t
+pub after_ends : (r e : MsgId → ℕ) (s t : OneKernel) (p : Pid) (y : Why) (next : step.Next) → Nexts s p next → step.ends s p y next ≡ Some t → Sound r e s → After r e s (Label.End p y) t
 after_ends r e s t p y (step.Calls number (calls.Ends because)) w is h =
     let k = when-is _ (with_process s p (Ended y)) t is in
-    subst (After r e s (label.End p y)) k.1 (process_ends r e s p w.x y (label.End p y) w.is.alive (λ i. refl) h)
+    subst (After r e s (Label.End p y)) k.1 (process_ends r e s p w.x y (Label.End p y) w.is.alive (λ i. refl) h)
 after_ends r e s t p y (step.Faults fault) w is h =
     let k = when-is _ (with_process s p (Ended y)) t is in
-    subst (After r e s (label.End p y)) k.1 (process_ends r e s p w.x y (label.End p y) w.is.alive (λ i. refl) h)
+    subst (After r e s (Label.End p y)) k.1 (process_ends r e s p w.x y (Label.End p y) w.is.alive (λ i. refl) h)
 after_ends r e s t p y (step.Calls number (calls.Replies reply z)) w is h = cc
 after_ends r e s t p y (step.Calls number (calls.Sends m z)) w is h = cc
 after_ends r e s t p y (step.Calls number (calls.Waits z)) w is h = cc
@@ -297,21 +279,9 @@ if_some false x y e = cc
 
 completes_what-is : (p : Pid) (x : PlainProcess) (m : PlainMessage) (mask base size : ℕ) (w : PlainWhat) (c : receiving.Completed) → receiving.completes_what p x m mask base size w ≡ Some c
     → (is_of_memory w ≡ false) × (is_piece w ≡ false) × Completes x c
-completes_what-is p x m mask base size (what.User code channel body links) c e =
+completes_what-is p x m mask base size (PlainWhat.User code channel body links) c e =
     (refl, refl, subst (Completes x) (if_some _ (receiving.completes x base size code channel body links) c e) (completes-is x base size code channel body links))
-completes_what-is p x m mask base size what.Stop c e = cc
-completes_what-is p x m mask base size what.Resume c e = cc
-completes_what-is p x m mask base size what.Kill c e = cc
-completes_what-is p x m mask base size (what.Read a b) c e = cc
-completes_what-is p x m mask base size (what.Write a b) c e = cc
-completes_what-is p x m mask base size (what.Block a) c e = cc
-completes_what-is p x m mask base size what.Written c e = cc
-completes_what-is p x m mask base size what.Gone c e = cc
-completes_what-is p x m mask base size (what.Create a b) c e = cc
-completes_what-is p x m mask base size (what.Created a) c e = cc
-completes_what-is p x m mask base size what.NoRoom c e = cc
-completes_what-is p x m mask base size (what.Move a) c e = cc
-completes_what-is p x m mask base size (what.Moved a) c e = cc
+completes_what-is p x m mask base size _ c e = cc
 
 completes_status-is : (p : Pid) (x : PlainProcess) (m : PlainMessage) (st : PlainStatus) (c : receiving.Completed) → receiving.completes_status p x m st ≡ Some c → UserCompletes x m c
 completes_status-is p x m Ready c e = cc
@@ -329,7 +299,7 @@ completing s p id c e =
     let k = completes_with-is p x m x.stopped c last in
     record { x = x; alive = alive-is (s.processes p) x is; m = m; there = there; memory = k.0; piece = k.1; is = k.2 }
 
-pub after_receives : (r e : MsgId → ℕ) (s t : OneKernel) (p : Pid) (id : MsgId) (c : receiving.Completed) → Completing s p id c → step.receives s p id c ≡ Some t → Sound r e s → After r e s (label.Receive p id) t
+pub after_receives : (r e : MsgId → ℕ) (s t : OneKernel) (p : Pid) (id : MsgId) (c : receiving.Completed) → Completing s p id c → step.receives s p id c ≡ Some t → Sound r e s → After r e s (Label.Receive p id) t
 after_receives r e s t p id (receiving.Receives y) w is h =
     let u = without_message s id in
     let v = step.goes_on u p y in
@@ -337,17 +307,17 @@ after_receives r e s t p id (receiving.Receives y) w is h =
     let got = received r e s id (ap is_some w.there) un h in
     let on = goes (λ i. r i + (if id_eq i id then 1 else 0)) e u p w.x y w.alive w.is.0 (inr w.is.1) got in
     let k : v ≡ t = cc in
-    subst (After r e s (label.Receive p id)) k
+    subst (After r e s (Label.Receive p id)) k
     (record {
-      sound = Sound-same (λ i. r i + (if id_eq i id then 1 else 0)) e (λ i. r i + reception i (label.Receive p id)) (λ i. e i + entry i s v) v (λ i. refl)
+      sound = Sound-same (λ i. r i + (if id_eq i id then 1 else 0)) e (λ i. r i + reception i (Label.Receive p id)) (λ i. e i + entry i s v) v (λ i. refl)
           (λ i. let z : entry i s v ≡ 0 = entry_of (s.bag i) (v.bag i) (stayed s id i) in omega (arith, z)) on;
       grown = Grown-process s v p w.x y w.alive (let f = w.is.0 in omega (arith, f)) (λ q. refl) (λ n. refl) refl refl;
       only = λ i a b was there. let f : Some a ≡ Some b = sym was ∙ stayed s id i b there in cc;
     })
 after_receives r e s t p id (receiving.Refuses reply y) w is h = cc
 
-pub after_refuses : (r e : MsgId → ℕ) (s t : OneKernel) (p : Pid) (id : MsgId) (reply : Reply) (c : receiving.Completed) → Completing s p id c → step.refuses s p reply c ≡ Some t → Sound r e s → After r e s (label.Refuse p id reply) t
+pub after_refuses : (r e : MsgId → ℕ) (s t : OneKernel) (p : Pid) (id : MsgId) (reply : Reply) (c : receiving.Completed) → Completing s p id c → step.refuses s p reply c ≡ Some t → Sound r e s → After r e s (Label.Refuse p id reply) t
 after_refuses r e s t p id reply (receiving.Receives y) w is h = cc
 after_refuses r e s t p id reply (receiving.Refuses d y) w is h =
     let k = when-is _ (step.goes_on s p y) t is in
-    subst (After r e s (label.Refuse p id reply)) k.1 (process_goes r e s p w.x y (label.Refuse p id reply) w.alive w.is.0 (inr w.is.1) (λ i. refl) h)
+    subst (After r e s (Label.Refuse p id reply)) k.1 (process_goes r e s p w.x y (Label.Refuse p id reply) w.alive w.is.0 (inr w.is.1) (λ i. refl) h)

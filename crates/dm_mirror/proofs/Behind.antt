@@ -1,20 +1,7 @@
 -- A run of directives is a run of more of them, as far as it has come.
-use Rattle.std.proofs.Common.{◌≡◌, ℕ, zero, suc, Bool, true, false, List, [], ◌∷◌, ◌++◌, refl, ap, ◌∙◌, sym, subst}
-use Rattle.std.specs.Prelude.{if◌then◌else◌, option_map}
-use Rattle.std.specs.declared.option.Option.{Option}
-use Rattle.std.specs.declared.option.Option.TheVariants.{None, Some}
-use Rattle.dm_onekernel.specs.declared.boot.Boot.{Boot}
-use Rattle.dm_schedule.specs.declared.Step.{Step}
-use Rattle.dm_schedule.specs.declared.Directive.{Directive}
-use Rattle.dm_schedule.specs.declared.Directive.TheVariants as directive
-use Rattle.dm_line.specs.declared.line.Line.{Line}
-use Rattle.dm_schedule.specs.declared.Step.TheVariants as step
-use Rattle.dm_line.specs.declared.pass.Pass.{Pass}
-use Rattle.dm_line.specs.declared.pass.Pass.TheVariants as pass
-use Rattle.dm_line.specs.Todo.{Todo, Next, Two, all_of, begin_pass, below, following, in_pass, is_over, next, next_delivery, next_directive, next_pass, next_turn, or, pairs_of, pass_begun, settles, takes_turn}
-use Rattle.dm_rule.specs.Good.{next_step, undelivered, IsRun}
-use Rattle.dm_rule.specs.Point.{Point}
-use Rattle.dm_rule.specs.Quiet.{has_mail, is_quiet}
+use Rattle.dm_mirror.proofs.Names.{◌≡◌, ℕ, zero, suc, Bool, true, false, List, [], ◌∷◌, ◌++◌, refl, ap, ◌∙◌, if◌then◌else◌, option_map, Option, None, Some, Boot, Step, Directive, Line, Pass, Todo, Next, Two, begin_pass, below, following}
+use Rattle.dm_mirror.proofs.Names.{in_pass, is_over, next_delivery, next_directive, next_pass, next_turn, or, pairs_of, pass_begun, settles, takes_turn, undelivered, IsRun, Point, has_mail, is_quiet}
+use Rattle.dm_line.specs.Todo.{next}
 
 -- with more directives behind
 abbrev pub behind : List Directive → Todo → Todo
@@ -24,7 +11,7 @@ abbrev pub next_behind : List Directive → Next → Next
 next_behind more n = record { step = n.step; left = behind more n.left }
 
 turn_or_behind : (more : List Directive) (t : Todo) (m : ℕ) (ms : List ℕ) (b : Bool) (o p : Option Next) → p ≡ option_map (next_behind more) o
-    → (if b then next (step.Turn m) (record (behind more t) { pairs = []; machines = ms }) else p) ≡ option_map (next_behind more) (if b then next (step.Turn m) (record t { pairs = []; machines = ms }) else o)
+    → (if b then next (Step.Turn m) (record (behind more t) { pairs = []; machines = ms }) else p) ≡ option_map (next_behind more) (if b then next (Step.Turn m) (record t { pairs = []; machines = ms }) else o)
 turn_or_behind more t m ms true o p e = refl
 turn_or_behind more t m ms false o p e = e
 
@@ -53,18 +40,18 @@ settles_behind false more a b p q n e f is = or_behind more a b p q n e f is
 
 directive_behind : (machines : ℕ) (first : ℕ → ℕ → Option ℕ) (mail : ℕ → Bool) (quiet : Bool) (ds more : List Directive) (n : Next) → next_directive machines first mail quiet ds ≡ Some n → next_directive machines first mail quiet (ds ++ more) ≡ Some (next_behind more n)
 directive_behind machines first mail quiet [] more n e = cc
-directive_behind machines first mail quiet (directive.One s ∷ ds) more n e = ap (option_map (next_behind more)) e
-directive_behind machines first mail quiet (directive.Round ∷ ds) more n e = kept_behind more _ _ n (begin_behind machines first mail (pass.Round 0) ds more) e
-directive_behind machines first mail quiet (directive.Spin zero ∷ ds) more n e = directive_behind machines first mail quiet ds more n e
-directive_behind machines first mail quiet (directive.Spin (suc k) ∷ ds) more n e = kept_behind more _ _ n (begin_behind machines first mail (pass.Round k) ds more) e
-directive_behind machines first mail quiet (directive.Settle ∷ ds) more n e =
-    settles_behind quiet more (begin_pass machines first mail pass.Settle ds) (next_directive machines first mail quiet ds) (begin_pass machines first mail pass.Settle (ds ++ more)) (next_directive machines first mail quiet (ds ++ more)) n
-    (begin_behind machines first mail pass.Settle ds more) (directive_behind machines first mail quiet ds more n) e
+directive_behind machines first mail quiet (Directive.One s ∷ ds) more n e = ap (option_map (next_behind more)) e
+directive_behind machines first mail quiet (Directive.Round ∷ ds) more n e = kept_behind more _ _ n (begin_behind machines first mail (Pass.Round 0) ds more) e
+directive_behind machines first mail quiet (Directive.Spin zero ∷ ds) more n e = directive_behind machines first mail quiet ds more n e
+directive_behind machines first mail quiet (Directive.Spin (suc k) ∷ ds) more n e = kept_behind more _ _ n (begin_behind machines first mail (Pass.Round k) ds more) e
+directive_behind machines first mail quiet (Directive.Settle ∷ ds) more n e =
+    settles_behind quiet more (begin_pass machines first mail Pass.Settle ds) (next_directive machines first mail quiet ds) (begin_pass machines first mail Pass.Settle (ds ++ more)) (next_directive machines first mail quiet (ds ++ more)) n
+    (begin_behind machines first mail Pass.Settle ds more) (directive_behind machines first mail quiet ds more n) e
 
 later_behind : (machines : ℕ) (first : ℕ → ℕ → Option ℕ) (mail : ℕ → Bool) (quiet : Bool) (p : Pass) (ds more : List Directive) (n : Next) → next_pass machines first mail quiet p ds ≡ Some n → next_pass machines first mail quiet p (ds ++ more) ≡ Some (next_behind more n)
-later_behind machines first mail quiet (pass.Round zero) ds more n e = directive_behind machines first mail quiet ds more n e
-later_behind machines first mail quiet (pass.Round (suc k)) ds more n e = kept_behind more _ _ n (begin_behind machines first mail (pass.Round k) ds more) e
-later_behind machines first mail quiet pass.Settle ds more n e = directive_behind machines first mail quiet (directive.Settle ∷ ds) more n e
+later_behind machines first mail quiet (Pass.Round zero) ds more n e = directive_behind machines first mail quiet ds more n e
+later_behind machines first mail quiet (Pass.Round (suc k)) ds more n e = kept_behind more _ _ n (begin_behind machines first mail (Pass.Round k) ds more) e
+later_behind machines first mail quiet Pass.Settle ds more n e = directive_behind machines first mail quiet (Directive.Settle ∷ ds) more n e
 
 unless_behind : (over : Bool) (more : List Directive) (o p : Option Next) → p ≡ option_map (next_behind more) o → (if over then None else p) ≡ option_map (next_behind more) (if over then None else o)
 unless_behind true more o p e = refl

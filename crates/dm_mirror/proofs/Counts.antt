@@ -9,30 +9,10 @@ pub mod AtEnds
 pub mod Moves
 pub mod Start
 pub mod Waiting
-use Rattle.std.proofs.Common.{◌≡◌, inl, inr, ℕ, ◌+◌, ◌<◌, ◌≤◌, true, List, [], ◌∷◌, length, nat_le, refl, ap, ◌∙◌, sym, subst, arith}
-use Rattle.std.specs.declared.option.Option.TheVariants.{Some}
-use Rattle.std.proofs.lemmas.Bool.Decides.{nat_tests}
-use Rattle.dm_link.specs.declared.Pid.{Pid}
-use Rattle.dm_onekernel.specs.declared.boot.Boot.{Boot}
-use Rattle.dm_onekernel.specs.Boot.{IsValid}
-use Rattle.dm_onekernel.specs.Kernel.{OneKernel, Pending}
-use Rattle.dm_schedule.specs.declared.Step.{Step}
-use Rattle.dm_schedule.specs.declared.Step.TheVariants as step
-use Rattle.dm_line.specs.declared.line.Line.TheVariants as line
-use Rattle.dm_line.specs.declared.line.Stage.TheVariants as stage
-use Rattle.dm_rule.specs.Homes.{ascends}
-use Rattle.dm_rule.specs.Laws.{IsStep, Leads}
-use Rattle.dm_rule.specs.Parts.{Part, Says, Spelled, spelled}
-use Rattle.dm_rule.specs.Point.{Point, first_point, moved}
-use Rattle.dm_rule.specs.Rule.{group_of}
-use Rattle.dm_line.specs.Sets.{at_pid, at_record}
-use Rattle.dm_rule.specs.View.{View, actor, view_after}
-use Rattle.dm_rule.specs.View as view
-use Rattle.dm_rule.proofs.Groups.{GroupIs, group_is}
-use Rattle.dm_rule.proofs.States.{said, says_next}
-use Rattle.dm_rulelaws.proofs.Fits.Rises.{both}
-use Rattle.dm_rulelaws.proofs.Goes.Runs.{Both, RunGoes, RunStarts, both_group, both_start}
-use Rattle.dm_rulelaws.proofs.Runs.{Run}
+use Rattle.dm_mirror.proofs.Names.{◌≡◌, inl, inr, ℕ, ◌+◌, ◌<◌, ◌≤◌, true, List, [], ◌∷◌, length, nat_le, refl, ap, ◌∙◌, sym, subst, arith, Some, nat_tests, Pid, Boot, IsValid, OneKernel, Step, Line, Stage, Known, ascends, IsStep, Leads}
+use Rattle.dm_mirror.proofs.Names.{Part, Says, Spelled, spelled, Point, first_point, moved, group_of, at_pid, at_record, View, actor, view_after, GroupIs, group_is, said, says_next, both, Both, RunGoes, RunStarts, both_group, both_start}
+use Rattle.dm_mirror.proofs.Names.{Run}
+use Rattle.dm_onekernel.specs.Kernel.{Pending}
 use Rattle.dm_mirror.proofs.Counts.AtEnds.{BearEnds, Ends, PutsOne, Under, bear_ends, ends, ends_before, own_puts, under_more}
 use Rattle.dm_mirror.proofs.Counts.FewRouted.{CountsFew}
 use Rattle.dm_mirror.proofs.Counts.Moves.{MovesFew, moves_put, moves_restart, moves_still, puts_total}
@@ -81,7 +61,7 @@ own_rises n pt start end kernel grows same h puts within under moves =
       moves = moves_put n pt.view end.view (omega (arith, first, adds)) (h.moves ∙ same) moves;
     }
 
-restart_rises : (b : Boot) (n m : ℕ) (pt end : Point) (p : Pid) → Run b pt → Run b end → FrontRestarts pt m p → end.kernel ≡ pt.kernel → Grows pt.view end.view → end.view.moves ≡ at_pid pt.view.moves p (pt.view.moves p + 1) → end.view.known ≡ at_record pt.view.known m p view.Here
+restart_rises : (b : Boot) (n m : ℕ) (pt end : Point) (p : Pid) → Run b pt → Run b end → FrontRestarts pt m p → end.kernel ≡ pt.kernel → Grows pt.view end.view → end.view.moves ≡ at_pid pt.view.moves p (pt.view.moves p + 1) → end.view.known ≡ at_record pt.view.known m p Known.Here
     → Under (first_count + total pt.view n) pt.kernel → MovesFew n pt.view → Rises n end
 restart_rises b n m pt end p run after f kernel grows moves known under few =
     let more = total_grows pt.view end.view n grows in
@@ -92,31 +72,27 @@ restart_rises b n m pt end p run after f kernel grows moves known under few =
 
 -- behind the head
 abbrev begun : Point → Step → Point
-begun pt d = moved pt (line.Head d) pt.kernel
+begun pt d = moved pt (Line.Head d) pt.kernel
 
 head_moves : (pt : Point) (d : Step) → (begun pt d).view.moves ≡ pt.view.moves
-head_moves pt d = (line_still pt.view (line.Head d) refl).moves
+head_moves pt d = (line_still pt.view (Line.Head d) refl).moves
 
-head_known : (v : View) (d : Step) → (view_after v (line.Head d)).known ≡ v.known
-head_known v (step.Turn m) = refl
-head_known v (step.Tick m) = refl
-head_known v (step.Deliver a c k) = refl
-head_known v (step.Migrate p m) = refl
+head_known : (v : View) (d : Step) → (view_after v (Line.Head d)).known ≡ v.known
+head_known v (Step.Turn m) = refl
+head_known v _ = refl
 
-head_acting : (v : View) (d : Step) → (view_after v (line.Head d)).acting ≡ actor d
-head_acting v (step.Turn m) = refl
-head_acting v (step.Tick m) = refl
-head_acting v (step.Deliver a c k) = refl
-head_acting v (step.Migrate p m) = refl
+head_acting : (v : View) (d : Step) → (view_after v (Line.Head d)).acting ≡ actor d
+head_acting v (Step.Turn m) = refl
+head_acting v _ = refl
 
 -- what a machine says of a process that restarts
 record Restarted (u : View) (p : Pid) (end : Point) (kernel : OneKernel) : Type 0 where
   same : end.kernel ≡ kernel
-  view_is : end.view ≡ view_after u (line.Migration stage.Restarted p)
+  view_is : end.view ≡ view_after u (Line.Migration Stage.Restarted p)
 
-restarted : (start : Point) (p : Pid) (ps : List Part) (w : Spelled) → ps ≡ Says (line.Migration stage.Restarted p) ∷ [] → spelled start ps ≡ Some w → Restarted start.view p w.point start.kernel
+restarted : (start : Point) (p : Pid) (ps : List Part) (w : Spelled) → ps ≡ Says (Line.Migration Stage.Restarted p) ∷ [] → spelled start ps ≡ Some w → Restarted start.view p w.point start.kernel
 restarted start p ps w is e =
-    let l = line.Migration stage.Restarted p in
+    let l = Line.Migration Stage.Restarted p in
     let k = says_next start l [] w (ap (spelled start) (sym is) ∙ e) in
     let same : k.s ≡ start.kernel = (let i : Some start.kernel ≡ Some k.s = k.is in cc) in
     let end : moved start l k.s ≡ w.point = said (moved start l k.s) k.rest k.more ∙ k.point in
@@ -126,19 +102,19 @@ rises : (b : Boot) (pt : Point) (d : Step) (w : Spelled) (n : ℕ) (g : GroupIs 
 rises b pt d w n g (Pays paid) run after within under moves =
     let start = begun pt d in
     let e = ends g.parts (first_count + total pt.view n) start g.rest g.said paid under in
-    paid_rises n pt w.point within (subst (Ends (first_count + total pt.view n) pt) g.point (ends_before (first_count + total pt.view n) pt start g.rest.point (line_grows pt.view (line.Head d)) (line_still pt.view (line.Head d) refl) e)) moves
+    paid_rises n pt w.point within (subst (Ends (first_count + total pt.view n) pt) g.point (ends_before (first_count + total pt.view n) pt start g.rest.point (line_grows pt.view (Line.Head d)) (line_still pt.view (Line.Head d) refl) e)) moves
 rises b pt d w n g (Bears all own) run after within under moves =
     let start = begun pt d in
-    own_rises n pt start w.point refl (line_grows pt.view (line.Head d)) (head_moves pt d) (subst (BearEnds start) g.point (bear_ends g.parts start g.rest g.said all)) (subst (λ (q : Point). PutsOne start.view q.view) g.point (own_puts g.parts start g.rest g.said all own)) within under moves
+    own_rises n pt start w.point refl (line_grows pt.view (Line.Head d)) (head_moves pt d) (subst (BearEnds start) g.point (bear_ends g.parts start g.rest g.said all)) (subst (λ (q : Point). PutsOne start.view q.view) g.point (own_puts g.parts start g.rest g.said all own)) within under moves
 rises b pt d w n g (Restarts p front is) run after within under moves =
     let start = begun pt d in
-    let l = line.Migration stage.Restarted p in
+    let l = Line.Migration Stage.Restarted p in
     let r = restarted start p g.parts g.rest is g.said in
     let end : w.point.view ≡ view_after start.view l = ap (λ (q : Point). q.view) (sym g.point) ∙ r.view_is in
-    let grows : Grows pt.view w.point.view = subst (Grows pt.view) (sym end) (grows_on pt.view start.view (view_after start.view l) (line_grows pt.view (line.Head d)) (line_grows start.view l)) in
+    let grows : Grows pt.view w.point.view = subst (Grows pt.view) (sym end) (grows_on pt.view start.view (view_after start.view l) (line_grows pt.view (Line.Head d)) (line_grows start.view l)) in
     restart_rises b n (actor d) pt w.point p run after front (ap (λ (q : Point). q.kernel) (sym g.point) ∙ r.same) grows
     (ap (λ (v : View). v.moves) end ∙ ap (λ (f : Pid → ℕ). at_pid f p (f p + 1)) (head_moves pt d))
-    (ap (λ (v : View). v.known) end ∙ ap (λ (m : ℕ). at_record start.view.known m p view.Here) (head_acting pt.view d) ∙ ap (λ f. at_record f (actor d) p view.Here) (head_known pt.view d)) under moves
+    (ap (λ (v : View). v.known) end ∙ ap (λ (m : ℕ). at_record start.view.known m p Known.Here) (head_acting pt.view d) ∙ ap (λ f. at_record f (actor d) p Known.Here) (head_known pt.view d)) under moves
 
 -- each group
 few_group : (b : Boot) (pt : Point) (d : Step) (w : Spelled) (n : ℕ) → 0 < n → pt.kernel.machines ≡ n → IsStep n d → group_of b pt d ≡ Some w → Run b pt → Run b w.point → Few n pt → Few n w.point

@@ -16,49 +16,20 @@ pub mod Readable
 pub mod Sent
 pub mod Outs
 pub mod Keeps
-use Rattle.std.proofs.Common.{◌≡◌, ◌≢◌, ℕ, ◌+◌, ◌^◌, ◌<◌, ◌≤◌, ◌⊎◌, ◌==◌, nat_le, nat_lt, Bool, true, false, List, [], ◌∷◌, length, refl, ap, ◌∙◌, sym, subst, inl, inr, arith}
-use Rattle.std.specs.Prelude.{if◌then◌else◌, slice_get, option_map, Ok}
-use Rattle.std.specs.List.{All}
-use Rattle.std.specs.declared.option.Option.{Option}
-use Rattle.std.specs.declared.option.Option.TheVariants.{None, Some}
-use Rattle.std.proofs.lemmas.Bool.{cases_Bool}
-use Rattle.std.proofs.lemmas.Bool.Decides.{eqb_tells, nat_tests}
-use Rattle.std.proofs.lemmas.List.Elements.{All-drop}
-use Rattle.dm_message.specs.declared.Message.{Message}
-use Rattle.dm_message.specs.Lawful.{IsLawfulMessage}
-use Rattle.dm_packet.specs.declared.Packet.{Packet}
-use Rattle.dm_packet.specs.declared.Packet.TheVariants as packet
-use Rattle.dm_packet.specs.Packets.{packet_of, spelling}
+use Rattle.dm_mirror.proofs.Names.{◌≡◌, ◌≢◌, ℕ, ◌+◌, ◌^◌, ◌<◌, ◌≤◌, ◌⊎◌, ◌==◌, nat_le, nat_lt, Bool, true, false, List, [], ◌∷◌, length, refl, ap, ◌∙◌, sym, subst, inl, inr, arith, if◌then◌else◌, slice_get, option_map, Ok, All, Option}
+use Rattle.dm_mirror.proofs.Names.{None, Some, cases_Bool, eqb_tells, nat_tests, All-drop, Message, IsLawfulMessage, Packet, Step, Line, packet_of, spelling, Data, Ack, load_at, MayCome-stands, bytes_at, after_mark, Boot, IsValid, bind}
+use Rattle.dm_mirror.proofs.Names.{Part, Spelled, spelled, Point, moved, headed, kept_from, more, Run, Placed, MayAct, WorldState, acted, arrives, delivers, reads, world_step, MayDeliver, MayRead, CountsStand, History, StandsWith, line_of}
+use Rattle.dm_mirror.proofs.Names.{load_of, GoesOn, IsNet, arrives_net}
 use Rattle.dm_stream.specs.Packets as stream
-use Rattle.dm_stream.specs.Packets.{Load, Data, Ack, load_at}
-use Rattle.dm_stream.proofs.Follows.{MayCome-stands}
-use Rattle.dm_wire.specs.Sent.{bytes_at}
-use Rattle.dm_wire.specs.Wire.{after_mark}
-use Rattle.dm_onekernel.specs.declared.boot.Boot.{Boot}
-use Rattle.dm_onekernel.specs.Boot.{IsValid}
-use Rattle.dm_onekernel.specs.Options.{bind}
-use Rattle.dm_schedule.specs.declared.Step.TheVariants as step
-use Rattle.dm_line.specs.declared.line.Line.TheVariants as line
+use Rattle.dm_stream.specs.Packets.{Load}
 use Rattle.dm_line.specs.declared.line.Load.TheVariants as load
-use Rattle.dm_rule.specs.Parts as rule
-use Rattle.dm_rule.specs.Parts.{Part, Spelled, spelled}
-use Rattle.dm_rule.specs.Point.{Point, moved}
 use Rattle.dm_rule.specs.Rule as group
-use Rattle.dm_rule.specs.Rule.{headed, kept_from, more}
-use Rattle.dm_rulelaws.proofs.Runs.{Run}
-use Rattle.dm_places.specs.Placed.{Placed}
 use Rattle.dm_node.specs.Acts as node
 use Rattle.dm_node.specs.Out as out
-use Rattle.dm_node.specs.May.{MayAct}
-use Rattle.dm_world.specs.World.{WorldState, acted, arrives, delivers, reads, world_step}
-use Rattle.dm_world.specs.May.{MayDeliver, MayRead}
-use Rattle.dm_mirror.specs.Stands.{CountsStand, History, StandsWith, line_of, load_of}
-use Rattle.dm_mirror.specs.Run.{GoesOn}
 use Rattle.dm_mirror.proofs.Deliver.Ends.{PairIs, ends_of, stream_with}
 use Rattle.dm_mirror.proofs.Deliver.Moves.{back_pair, there_pair}
 use Rattle.dm_mirror.proofs.Deliver.Arrives.{begun, nothing_stands}
 use Rattle.dm_mirror.proofs.Deliver.Reads.{IsReadAs, ReadsAs, bytes_are, bytes_for, lines_are, load_is, reads_ack}
-use Rattle.dm_rule.proofs.Groups.{IsNet, arrives_net}
 use Rattle.dm_mirror.proofs.Deliver.Counts.{Same, arrives_sent, counts_on, net_same}
 use Rattle.dm_mirror.proofs.Deliver.Goes.{Comes, acked_comes, early_comes, old_comes, taken_comes}
 
@@ -76,8 +47,8 @@ module _ (b : Boot) (w : WorldState) (pt : Point) (l : Placed) (h : History) (a 
   data_comes : (n : ℕ) (m x : Message) → load_at (h.packets a c) k ≡ Some (Data n m) → (((w.nodes c).receivers a).count ≤ n → x ≡ m) → Does (Data n x) (group.data_comes a c (pt.view.pair a c) n)
   data_comes n m x e same =
       let taken : ℕ = (pt.view.pair a c).taken in
-      let old : List Part = rule.Says (line.Old a c n) ∷ rule.Transmits c a (load.Ack taken) ∷ [] in
-      let early : List Part = rule.Says (line.Early a c n) ∷ rule.Transmits c a (load.Ack taken) ∷ [] in
+      let old : List Part = Part.Says (Line.Old a c n) ∷ Part.Transmits c a (load.Ack taken) ∷ [] in
+      let early : List Part = Part.Says (Line.Early a c n) ∷ Part.Transmits c a (load.Ack taken) ∷ [] in
       let next : List Part = group.takes_on a c n (kept_from (pt.view.pair a c).kept (n + 1) 8) in
       elim (cases_Bool (nat_lt n taken)) [
         | inl less ↦
@@ -98,10 +69,10 @@ module _ (b : Boot) (w : WorldState) (pt : Point) (l : Placed) (h : History) (a 
       ]
 
   -- the directive's group, from what its parts say
-  due_by : (ps : List Part) (z : Spelled) → group.arrives a c (pt.view.pair a c) (pt.view.pair c a) (slice_get (pt.view.pair a c).wire k) ≡ ps → spelled (begun pt a c k) ps ≡ Some z → group.group_of b pt (step.Deliver a c k) ≡ Some (headed (line.Head (step.Deliver a c k)) z)
+  due_by : (ps : List Part) (z : Spelled) → group.arrives a c (pt.view.pair a c) (pt.view.pair c a) (slice_get (pt.view.pair a c).wire k) ≡ ps → spelled (begun pt a c k) ps ≡ Some z → group.group_of b pt (Step.Deliver a c k) ≡ Some (headed (Line.Head (Step.Deliver a c k)) z)
   due_by ps z e f =
-      ap (λ (qs : List Part). bind (spelled (begun pt a c k) qs) (λ y. Some (headed (line.Head (step.Deliver a c k)) y))) e
-      ∙ ap (λ (o : Option Spelled). bind o (λ y. Some (headed (line.Head (step.Deliver a c k)) y))) f
+      ap (λ (qs : List Part). bind (spelled (begun pt a c k) qs) (λ y. Some (headed (Line.Head (Step.Deliver a c k)) y))) e
+      ∙ ap (λ (o : Option Spelled). bind o (λ y. Some (headed (Line.Head (Step.Deliver a c k)) y))) f
 
   same_of : (ps : List Part) (z : Spelled) → group.arrives a c (pt.view.pair a c) (pt.view.pair c a) (slice_get (pt.view.pair a c).wire k) ≡ ps → spelled (begun pt a c k) ps ≡ Some z → Same pt z.point
   same_of ps z e f =
@@ -109,24 +80,24 @@ module _ (b : Boot) (w : WorldState) (pt : Point) (l : Placed) (h : History) (a 
       let k = net_same ps (begun pt a c k) z net f in
       record { kernel = k.kernel; count = k.count }
 
-  goes_by : (carried : Load Message) (ps : List Part) → world_step b w (step.Deliver a c k) ≡ arrives (record w { wires = after_mark w.wires a c k }) (step.Deliver a c k) a c carried
-      → group.arrives a c (pt.view.pair a c) (pt.view.pair c a) (slice_get (pt.view.pair a c).wire k) ≡ ps → Does carried ps → GoesOn b w pt (step.Deliver a c k)
+  goes_by : (carried : Load Message) (ps : List Part) → world_step b w (Step.Deliver a c k) ≡ arrives (record w { wires = after_mark w.wires a c k }) (Step.Deliver a c k) a c carried
+      → group.arrives a c (pt.view.pair a c) (pt.view.pair c a) (slice_get (pt.view.pair a c).wire k) ≡ ps → Does carried ps → GoesOn b w pt (Step.Deliver a c k)
   goes_by carried ps happens parts f = record {
-    said = acted (record w { wires = after_mark w.wires a c k }) (step.Deliver a c k) c (node.arrives (w.nodes c) a carried);
+    said = acted (record w { wires = after_mark w.wires a c k }) (Step.Deliver a c k) c (node.arrives (w.nodes c) a carried);
     happens = happens;
-    group = headed (line.Head (step.Deliver a c k)) f.end;
+    group = headed (Line.Head (Step.Deliver a c k)) f.end;
     due = due_by ps f.end parts f.spells;
-    lines = λ i. line.Head (step.Deliver a c k) ∷ f.lines i;
-    stands = ((l, f.history, f.stands), counts_on w (acted (record w { wires = after_mark w.wires a c k }) (step.Deliver a c k) c (node.arrives (w.nodes c) a carried)).state pt f.end.point c (node.arrives (w.nodes c) a carried).state refl (arrives_sent (w.nodes c) a carried) (same_of ps f.end parts f.spells) counted);
+    lines = λ i. Line.Head (Step.Deliver a c k) ∷ f.lines i;
+    stands = ((l, f.history, f.stands), counts_on w (acted (record w { wires = after_mark w.wires a c k }) (Step.Deliver a c k) c (node.arrives (w.nodes c) a carried)).state pt f.end.point c (node.arrives (w.nodes c) a carried).state refl (arrives_sent (w.nodes c) a carried) (same_of ps f.end parts f.spells) counted);
   }
 
   -- what is read of the packet arrives
   read_is : (p : stream.Packet Message) (carried : Load Message) (x : Packet) → slice_get (h.packets a c) k ≡ Some p → p.load ≡ carried → packet_of (spelling (out.packet_of a c carried)) ≡ Ok x
-      → world_step b w (step.Deliver a c k) ≡ reads (record w { wires = after_mark w.wires a c k }) (step.Deliver a c k) a c (Ok x)
+      → world_step b w (Step.Deliver a c k) ≡ reads (record w { wires = after_mark w.wires a c k }) (Step.Deliver a c k) a c (Ok x)
   read_is p carried x is loads read =
       let put : bytes_at (w.wires a c) k ≡ Some (spelling (out.packet_of a c carried)) =
       bytes_are b l a c (ends_of w h a c) (w.wires a c) (pt.view.pair a c) k there ∙ ap (option_map (bytes_for a c)) is ∙ ap (λ (z : Load Message). Some (spelling (out.packet_of a c z))) loads in
-      ap (delivers w (step.Deliver a c k) a c k) put ∙ ap (reads (record w { wires = after_mark w.wires a c k }) (step.Deliver a c k) a c) read
+      ap (delivers w (Step.Deliver a c k) a c k) put ∙ ap (reads (record w { wires = after_mark w.wires a c k }) (Step.Deliver a c k) a c) read
 
   said_is : (p : stream.Packet Message) → slice_get (h.packets a c) k ≡ Some p → slice_get (pt.view.pair a c).wire k ≡ Some (line_of p)
   said_is p is = lines_are b l a c (ends_of w h a c) (w.wires a c) (pt.view.pair a c) k there ∙ ap (option_map line_of) is
@@ -138,31 +109,31 @@ module _ (b : Boot) (w : WorldState) (pt : Point) (l : Placed) (h : History) (a 
       omega (arith, (MayCome-stands v back.stream).ack k n e, back.stream.in_order.gone_given, back.stream.counted.given, back.stream.counted.allowed, back.stream.counted.small)
 
   -- the packet, by what it carries
-  goes_with : (p : stream.Packet Message) (carried : Load Message) → a < 16 → c < 16 → slice_get (h.packets a c) k ≡ Some p → p.load ≡ carried → ReadsAs w h a c k → GoesOn b w pt (step.Deliver a c k)
+  goes_with : (p : stream.Packet Message) (carried : Load Message) → a < 16 → c < 16 → slice_get (h.packets a c) k ≡ Some p → p.load ≡ carried → ReadsAs w h a c k → GoesOn b w pt (Step.Deliver a c k)
   goes_with p (Data n m) low_a low_c is loads readable =
       let e : load_at (h.packets a c) k ≡ Some (Data n m) = load_is (h.packets a c) k (Some p) is ∙ ap Some loads in
       let x : IsReadAs w a c n m = readable n m e in
-      goes_by (Data n x.message) (group.data_comes a c (pt.view.pair a c) n) (read_is p (Data n m) (packet.Data a c n x.message) is loads x.read) (ap (group.arrives a c (pt.view.pair a c) (pt.view.pair c a)) (said_is p is) ∙ ap (λ (z : Load Message). group.comes a c (pt.view.pair a c) (pt.view.pair c a) (load_of z)) loads) (data_comes n m x.message e x.same)
+      goes_by (Data n x.message) (group.data_comes a c (pt.view.pair a c) n) (read_is p (Data n m) (Packet.Data a c n x.message) is loads x.read) (ap (group.arrives a c (pt.view.pair a c) (pt.view.pair c a)) (said_is p is) ∙ ap (λ (z : Load Message). group.comes a c (pt.view.pair a c) (pt.view.pair c a) (load_of z)) loads) (data_comes n m x.message e x.same)
   goes_with p (Ack n) low_a low_c is loads readable =
       let e : load_at (h.packets a c) k ≡ Some (Ack n) = load_is (h.packets a c) k (Some p) is ∙ ap Some loads in
-      goes_by (Ack n) (rule.Says (line.Acked a c n) ∷ group.repeats c a (group.let_go (pt.view.pair c a) (more n (pt.view.pair c a).acked))) (read_is p (Ack n) (packet.Ack a c n) is loads (reads_ack a c n low_a low_c apart (small_ack n e))) (ap (group.arrives a c (pt.view.pair a c) (pt.view.pair c a)) (said_is p is) ∙ ap (λ (z : Load Message). group.comes a c (pt.view.pair a c) (pt.view.pair c a) (load_of z)) loads) (acked_comes b w pt l h a c k s a_in c_in apart n e)
+      goes_by (Ack n) (Part.Says (Line.Acked a c n) ∷ group.repeats c a (group.let_go (pt.view.pair c a) (more n (pt.view.pair c a).acked))) (read_is p (Ack n) (Packet.Ack a c n) is loads (reads_ack a c n low_a low_c apart (small_ack n e))) (ap (group.arrives a c (pt.view.pair a c) (pt.view.pair c a)) (said_is p is) ∙ ap (λ (z : Load Message). group.comes a c (pt.view.pair a c) (pt.view.pair c a) (load_of z)) loads) (acked_comes b w pt l h a c k s a_in c_in apart n e)
 
   -- there is no such packet
-  goes_none : slice_get (h.packets a c) k ≡ None → GoesOn b w pt (step.Deliver a c k)
+  goes_none : slice_get (h.packets a c) k ≡ None → GoesOn b w pt (Step.Deliver a c k)
   goes_none is =
       let none : slice_get (pt.view.pair a c).wire k ≡ None = lines_are b l a c (ends_of w h a c) (w.wires a c) (pt.view.pair a c) k there ∙ ap (option_map line_of) is in
       let no_bytes : bytes_at (w.wires a c) k ≡ None = bytes_are b l a c (ends_of w h a c) (w.wires a c) (pt.view.pair a c) k there ∙ ap (option_map (bytes_for a c)) is in
-      let z : Spelled = record { lines = line.Nothing ∷ []; point = moved (begun pt a c k) line.Nothing pt.kernel } in
+      let z : Spelled = record { lines = Line.Nothing ∷ []; point = moved (begun pt a c k) Line.Nothing pt.kernel } in
       record {
-        said = record { state = record w { groups = w.groups + 1 }; lines = line.Head (step.Deliver a c k) ∷ line.Nothing ∷ [] };
-        happens = ap (delivers w (step.Deliver a c k) a c k) no_bytes;
-        group = headed (line.Head (step.Deliver a c k)) z;
-        due = due_by (rule.Says line.Nothing ∷ []) z (ap (group.arrives a c (pt.view.pair a c) (pt.view.pair c a)) none) refl;
+        said = record { state = record w { groups = w.groups + 1 }; lines = Line.Head (Step.Deliver a c k) ∷ Line.Nothing ∷ [] };
+        happens = ap (delivers w (Step.Deliver a c k) a c k) no_bytes;
+        group = headed (Line.Head (Step.Deliver a c k)) z;
+        due = due_by (Part.Says Line.Nothing ∷ []) z (ap (group.arrives a c (pt.view.pair a c) (pt.view.pair c a)) none) refl;
         lines = refl;
         stands = ((l, h, nothing_stands b w pt l h a c s a_in c_in apart k none), counted);
       }
 
-  goes_of : (o : Option (stream.Packet Message)) → slice_get (h.packets a c) k ≡ o → a < 16 → c < 16 → ReadsAs w h a c k → GoesOn b w pt (step.Deliver a c k)
+  goes_of : (o : Option (stream.Packet Message)) → slice_get (h.packets a c) k ≡ o → a < 16 → c < 16 → ReadsAs w h a c k → GoesOn b w pt (Step.Deliver a c k)
   goes_of None is low_a low_c readable = goes_none is
   goes_of (Some p) is low_a low_c readable = goes_with p p.load low_a low_c is refl readable
 
@@ -171,16 +142,13 @@ few b m n valid are lt = let most : nat_le (length b.machines) 16 ≡ true = val
 
 -- a delivery
 pub deliver_goes : (b : Boot) (w : WorldState) (pt : Point) (l : Placed) (h : History) (a c k : ℕ) → IsValid b → Run b pt → StandsWith b w pt l h → CountsStand w pt → a < pt.kernel.machines → c < pt.kernel.machines → a ≢ c
-    → pt.kernel.machines ≡ length b.machines → ReadsAs w h a c k → GoesOn b w pt (step.Deliver a c k)
+    → pt.kernel.machines ≡ length b.machines → ReadsAs w h a c k → GoesOn b w pt (Step.Deliver a c k)
 deliver_goes b w pt l h a c k valid run s counted a_in c_in apart machines_are readable =
     goes_of b w pt l h a c k s counted a_in c_in apart (slice_get (h.packets a c) k) refl (few b a pt.kernel.machines valid machines_are a_in) (few b c pt.kernel.machines valid machines_are c_in) readable
 
 -- what waits on a machine's streams to itself, and to machines that there aren't, could be put into packets: nothing does
 abbrev pub OthersLawful : WorldState → Point → ℕ → Type 0
 OthersLawful w pt m = (y : ℕ) → y < 16 → (y ≡ m) ⊎ (pt.kernel.machines ≤ y) → All IsLawfulMessage ((w.nodes m).senders y).unacked
-
-pub others_lawful : (w : WorldState) (pt : Point) (m : ℕ) → MayAct (w.nodes m) → OthersLawful w pt m
-others_lawful w pt m h y small any = h.unacked y small
 
 -- a machine may act
 pub may_act : (b : Boot) (w : WorldState) (pt : Point) (l : Placed) (h : History) (m : ℕ) → IsValid b → StandsWith b w pt l h → m < pt.kernel.machines → pt.kernel.machines ≡ length b.machines → OthersLawful w pt m → MayAct (w.nodes m)
@@ -218,7 +186,7 @@ module _ (b : Boot) (w : WorldState) (pt : Point) (l : Placed) (h : History) (a 
       let e : load_at (h.packets a c) k ≡ Some (Data n m) = load_is (h.packets a c) k (Some p) is ∙ ap Some loads in
       let x : IsReadAs w a c n m = readable n m e in
       let come = MayCome-stands (stream_with (ends_of w h a c)) (there_pair b w pt l h a c s a_in c_in apart).stream in
-      may_read p (Data n m) (packet.Data a c n x.message) is loads x.read (
+      may_read p (Data n m) (Packet.Data a c n x.message) is loads x.read (
         refl,
         (
           record {
@@ -232,7 +200,7 @@ module _ (b : Boot) (w : WorldState) (pt : Point) (l : Placed) (h : History) (a 
   may_with p (Ack n) low_a low_c is loads acts readable =
       let e : load_at (h.packets a c) k ≡ Some (Ack n) = load_is (h.packets a c) k (Some p) is ∙ ap Some loads in
       let come = MayCome-stands (stream_with (ends_of w h c a)) (back_pair b w pt l h a c s a_in c_in apart).stream in
-      may_read p (Ack n) (packet.Ack a c n) is loads (reads_ack a c n low_a low_c apart (small_ack b w pt l h a c k s counted a_in c_in apart n e)) (
+      may_read p (Ack n) (Packet.Ack a c n) is loads (reads_ack a c n low_a low_c apart (small_ack b w pt l h a c k s counted a_in c_in apart n e)) (
         refl,
         (
           record {

@@ -1,26 +1,10 @@
 -- Where everything stands at the end is what the printed lines say.
-use Rattle.std.proofs.Common.{◌≡◌, ℕ, ◌+◌, ◌<◌, List, [], ◌∷◌, ◌++◌, length, ap, ◌∙◌, sym, arith}
-use Rattle.std.proofs.lemmas.Bool.Decides.{nat_tests}
-use Rattle.dm_link.specs.Names.{pid_of}
-use Rattle.dm_onekernel.specs.declared.boot.Boot.{Boot}
-use Rattle.dm_onekernel.specs.Boot.{IsValid, first_number}
-use Rattle.dm_schedule.specs.declared.Step.{Step}
-use Rattle.dm_line.specs.declared.end_line.EndLine.{EndLine}
-use Rattle.dm_line.specs.declared.end_line.EndLine.TheVariants as end
-use Rattle.dm_line.specs.Ends.{each_machine, list_line}
-use Rattle.dm_rule.specs.Ends.{first_with, has}
+use Rattle.dm_mirror.proofs.Names.{◌≡◌, ℕ, ◌+◌, ◌<◌, List, [], ◌∷◌, ◌++◌, length, ap, ◌∙◌, sym, arith, nat_tests, pid_of, Boot, IsValid, first_number, Step, EndLine, each_machine, list_line, first_with, Leads, Point, first_point, pair_home}
+use Rattle.dm_mirror.proofs.Names.{Run, Placed, WorldState, History, StandsWith, MadeStands, EndIsSaid}
+use Rattle.dm_rule.specs.Ends.{has}
 use Rattle.dm_rule.specs.Ends as rule
-use Rattle.dm_rule.specs.Laws.{Leads}
-use Rattle.dm_rule.specs.Point.{Point, first_point}
 use Rattle.dm_rule.specs.Spots as spots
-use Rattle.dm_rule.proofs.Pairs.{pair_home}
-use Rattle.dm_rulelaws.proofs.Runs.{Run}
-use Rattle.dm_places.specs.Placed.{Placed}
-use Rattle.dm_world.specs.World.{WorldState}
 use Rattle.dm_world.specs.Ends as world
-use Rattle.dm_mirror.specs.Stands.{History, StandsWith}
-use Rattle.dm_mirror.specs.Made.{MadeStands}
-use Rattle.dm_mirror.specs.Laws.{EndIsSaid}
 use Rattle.dm_mirror.proofs.End.Lists.{homes_same, machines_same, names_are}
 use Rattle.dm_mirror.proofs.End.Processes.{IsOfHome, holding_said, no_server, process_said, queue_said}
 use Rattle.dm_mirror.proofs.Made.{made_always}
@@ -56,28 +40,28 @@ servers_there b w pt l h f =
     ap world.server_lines ((f.stands.nodes 0 f.some).kernel.servers) ∙ servers_said pt l f.stands.mirrors
 
 inboxes_said : (b : Boot) (w : WorldState) (pt : Point) (l : Placed) (h : History) → Final b w pt l h
-    → each_machine (λ m. list_line (end.Inbox m) (world.names_of (w.nodes m).kernel.inbox)) pt.kernel.machines ≡ rule.inbox_lines pt
+    → each_machine (λ m. list_line (EndLine.Inbox m) (world.names_of (w.nodes m).kernel.inbox)) pt.kernel.machines ≡ rule.inbox_lines pt
 inboxes_said b w pt l h f =
-    machines_same (λ m. list_line (end.Inbox m) (world.names_of (w.nodes m).kernel.inbox)) (λ m. list_line (end.Inbox m) (pt.view.inbox m)) pt.kernel.machines
-    (λ m below. ap (list_line (end.Inbox m)) (names_are l.bag (pt.view.inbox m) (w.nodes m).kernel.inbox (λ i x there. (f.stands.mirrors.places.message i x there).id) ((f.stands.nodes m below).kernel.inbox)))
+    machines_same (λ m. list_line (EndLine.Inbox m) (world.names_of (w.nodes m).kernel.inbox)) (λ m. list_line (EndLine.Inbox m) (pt.view.inbox m)) pt.kernel.machines
+    (λ m below. ap (list_line (EndLine.Inbox m)) (names_are l.bag (pt.view.inbox m) (w.nodes m).kernel.inbox (λ i x there. (f.stands.mirrors.places.message i x there).id) ((f.stands.nodes m below).kernel.inbox)))
 
 streams_said : (b : Boot) (w : WorldState) (pt : Point) (l : Placed) (h : History) → Final b w pt l h
     → each_machine (λ a. each_machine (λ c. world.stream_line w a c) pt.kernel.machines) pt.kernel.machines ≡ rule.stream_lines pt
 streams_said b w pt l h f =
-    machines_same (λ a. each_machine (λ c. world.stream_line w a c) pt.kernel.machines) (λ a. each_machine (λ c. list_line (end.Stream a c) (spots.untaken (pt.view.pair a c))) pt.kernel.machines) pt.kernel.machines
-    (λ a from. machines_same (λ c. world.stream_line w a c) (λ c. list_line (end.Stream a c) (spots.untaken (pt.view.pair a c))) pt.kernel.machines
+    machines_same (λ a. each_machine (λ c. world.stream_line w a c) pt.kernel.machines) (λ a. each_machine (λ c. list_line (EndLine.Stream a c) (spots.untaken (pt.view.pair a c))) pt.kernel.machines) pt.kernel.machines
+    (λ a from. machines_same (λ c. world.stream_line w a c) (λ c. list_line (EndLine.Stream a c) (spots.untaken (pt.view.pair a c))) pt.kernel.machines
     (λ c to. stream_said b pt l w h a c (pair_home pt.view a f.run.based.phased.pairs) (λ apart. f.stands.pairs a c from to apart)))
 
 holdings_said : (b : Boot) (w : WorldState) (pt : Point) (l : Placed) (h : History) → Final b w pt l h
     → each_machine (λ m. world.homes_with w (world.held_line w m) pt.kernel.machines) pt.kernel.machines ≡ rule.holding_lines pt
 holdings_said b w pt l h f =
-    machines_same (λ m. world.homes_with w (world.held_line w m) pt.kernel.machines) (λ m. rule.each_process pt (λ p. list_line (end.Holding m p) (pt.view.held m p))) pt.kernel.machines
-    (λ m below. homes_same w pt (world.held_line w m) (λ p. list_line (end.Holding m p) (pt.view.held m p)) pt.kernel.machines (λ k less. made_same b w pt l h k less f)
+    machines_same (λ m. world.homes_with w (world.held_line w m) pt.kernel.machines) (λ m. rule.each_process pt (λ p. list_line (EndLine.Holding m p) (pt.view.held m p))) pt.kernel.machines
+    (λ m below. homes_same w pt (world.held_line w m) (λ p. list_line (EndLine.Holding m p) (pt.view.held m p)) pt.kernel.machines (λ k less. made_same b w pt l h k less f)
     (λ home n less fewer. holding_said b w pt l h (pid_of home (first_number + n)) m (of_home b w pt l h home n less f) below))
 
 -- all lines, part by part
 abbrev ending : List EndLine → List EndLine → List EndLine → List EndLine → List EndLine → List EndLine → ℕ → List EndLine
-ending ps ss qs hs is ts groups = end.Final ∷ ps ++ ss ++ qs ++ hs ++ is ++ ts ++ end.Groups groups ∷ []
+ending ps ss qs hs is ts groups = EndLine.Final ∷ ps ++ ss ++ qs ++ hs ++ is ++ ts ++ EndLine.Groups groups ∷ []
 
 end_same : (b : Boot) (w : WorldState) (pt : Point) (l : Placed) (h : History) → Final b w pt l h → world.end_lines pt.kernel.machines w ≡ rule.end_lines pt
 end_same b w pt l h f =
@@ -86,7 +70,7 @@ end_same b w pt l h f =
     let ss = rule.server_lines pt in
     let qs = world.homes_with w (world.queue_of n w) n in
     let hs = each_machine (λ m. world.homes_with w (world.held_line w m) n) n in
-    let is = each_machine (λ m. list_line (end.Inbox m) (world.names_of (w.nodes m).kernel.inbox)) n in
+    let is = each_machine (λ m. list_line (EndLine.Inbox m) (world.names_of (w.nodes m).kernel.inbox)) n in
     let ts = each_machine (λ a. each_machine (λ c. world.stream_line w a c) n) n in
     ap (λ (ls : List EndLine). ending ls (world.server_lines (w.nodes 0).kernel.servers) qs hs is ts w.groups) (processes_said b w pt l h f)
     ∙ (ap (λ (ls : List EndLine). ending ps ls qs hs is ts w.groups) (servers_there b w pt l h f)

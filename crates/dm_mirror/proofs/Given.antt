@@ -1,32 +1,8 @@
 -- What the laws rest on.
-use Rattle.std.proofs.Common.{◌≡◌, ℕ, ◌<◌, ◌≤◌, true, List, length, refl, ap, ◌∙◌, sym, subst, inl, nat_le, arith}
-use Rattle.std.specs.Prelude.{option_map}
-use Rattle.std.specs.declared.option.Option.{Option}
-use Rattle.std.specs.declared.option.Option.TheVariants.{None, Some}
-use Rattle.std.proofs.lemmas.Bool.Decides.{nat_tests}
-use Rattle.std.proofs.lemmas.List.{length-map}
-use Rattle.dm_link.specs.declared.Pid.{Pid}
-use Rattle.dm_link.specs.Lawful.{IsMachine}
-use Rattle.dm_link.specs.Plain.{plain_link}
-use Rattle.dm_onekernel.specs.declared.boot.Boot.{Boot}
-use Rattle.dm_onekernel.specs.Boot.{IsValid, slots_of}
-use Rattle.dm_onekernel.specs.Kernel.{Life, Alive, Ended}
-use Rattle.dm_onekernel.specs.Plain.{plain_process}
-use Rattle.dm_onekernel.specs.PlainProcess.{PlainProcess}
+use Rattle.dm_mirror.proofs.Names.{◌≡◌, ℕ, ◌<◌, ◌≤◌, true, List, length, refl, ap, ◌∙◌, sym, subst, inl, nat_le, arith, option_map, Some, nat_tests, length-map, Pid, IsMachine, plain_link, Boot, IsValid, slots_of, Alive, plain_process}
+use Rattle.dm_mirror.proofs.Names.{PlainProcess, Step, Leads, Point, first_point, run_always, run_group, run_start, format_always, tables_always, Placed, MayStep, AreWhole, WorldState, EndIsSaid, EndMay, RunGoesOn, StepsStand, Steps}
+use Rattle.dm_mirror.proofs.Names.{History, Stands, StandsWith, RanGoesOn, alive-is}
 use Rattle.dm_onekernel.specs.Step as kernel
-use Rattle.dm_schedule.specs.declared.Step.{Step}
-use Rattle.dm_schedule.specs.declared.Step.TheVariants as step
-use Rattle.dm_rule.specs.Laws.{Leads}
-use Rattle.dm_rule.specs.Point.{Point, first_point}
-use Rattle.dm_rulelaws.proofs.RunsAlways.{run_always, run_group, run_start}
-use Rattle.dm_rulelaws.proofs.Tables.Always.{format_always, tables_always}
-use Rattle.dm_places.specs.Placed.{Placed}
-use Rattle.dm_world.specs.May.{MayStep}
-use Rattle.dm_world.specs.Whole.{AreWhole}
-use Rattle.dm_world.specs.World.{WorldState}
-use Rattle.dm_mirror.specs.Laws.{EndIsSaid, EndMay, RunGoesOn, StepsStand}
-use Rattle.dm_mirror.specs.Run.{Steps}
-use Rattle.dm_mirror.specs.Stands.{History, Stands, StandsWith}
 use Rattle.dm_mirror.proofs.Come.All.{Around}
 use Rattle.dm_mirror.proofs.Counts.{counts_few}
 use Rattle.dm_mirror.proofs.Deliver.{OthersLawful, deliver_goes, may_deliver}
@@ -34,7 +10,6 @@ use Rattle.dm_mirror.proofs.Deliver.Readable.{reads_as}
 use Rattle.dm_mirror.proofs.End.May.{FewAlways, end_may_by}
 use Rattle.dm_mirror.proofs.Ending.{end_is_said_by}
 use Rattle.dm_mirror.proofs.Follow.Asks.{asks_turn}
-use Rattle.dm_mirror.specs.Ran.{RanGoesOn}
 use Rattle.dm_mirror.proofs.Going.{run_goes_on_by}
 use Rattle.dm_mirror.proofs.Single.{ran_goes_on_by}
 use Rattle.dm_mirror.proofs.Machines.{machines_are}
@@ -52,21 +27,16 @@ TablesAlways = (b : Boot) (es : List Step) (pt : Point) (p : Pid) (x : PlainProc
 below : (b : Boot) (es : List Step) (pt : Point) (m : ℕ) → Leads b (first_point b) es pt → m < length b.machines → m < pt.kernel.machines
 below b es pt m leads lt = subst (λ (n : ℕ). m < n) (sym (machines_are b es pt leads)) lt
 
-alive_life : (o : Option Life) (x : PlainProcess) → kernel.alive o ≡ Some x → o ≡ Some (Alive x)
-alive_life None x e = cc
-alive_life (Some (Alive y)) x e = let f : y ≡ x = cc in ap (λ (z : PlainProcess). Some (Alive z)) f
-alive_life (Some (Ended because)) x e = cc
-
 -- what a turn has around it
 around_of : TablesAlways → (b : Boot) (es : List Step) (w : WorldState) (pt : Point) (l : Placed) (h : History) → IsValid b → Leads b (first_point b) es pt → StandsWith b w pt l h → Around b pt l
 around_of tables b es w pt l h valid leads st = record {
   nodes = λ n lt. ((w.nodes n).kernel, (st.nodes n lt).kernel);
   tables = λ p x there.
       let alive : kernel.alive (pt.kernel.processes p) ≡ Some (plain_process x) = st.mirrors.plain.processes p ∙ ap (option_map plain_process) there in
-      sym (length-map x.table (option_map plain_link)) ∙ tables b es pt p (plain_process x) valid leads (alive_life (pt.kernel.processes p) (plain_process x) alive);
+      sym (length-map x.table (option_map plain_link)) ∙ tables b es pt p (plain_process x) valid leads (alive-is (pt.kernel.processes p) (plain_process x) alive);
 }
 
-turn_stands : TablesAlways → (b : Boot) (es : List Step) (w : WorldState) (pt : Point) (m : ℕ) → IsValid b → Leads b (first_point b) es pt → Stands b w pt → m < length b.machines → MayStep b w (step.Turn m) → AreWhole w (step.Turn m) → Steps b w pt (step.Turn m)
+turn_stands : TablesAlways → (b : Boot) (es : List Step) (w : WorldState) (pt : Point) (m : ℕ) → IsValid b → Leads b (first_point b) es pt → Stands b w pt → m < length b.machines → MayStep b w (Step.Turn m) → AreWhole w (Step.Turn m) → Steps b w pt (Step.Turn m)
 turn_stands tables b es w pt m valid leads ((l, h, st), sent) lt may whole =
     let both = run_always b es pt valid leads in
     let within = below b es pt m leads lt in
@@ -95,7 +65,7 @@ few b m valid lt = let most : nat_le (length b.machines) 16 ≡ true = valid.few
 some : (m n : ℕ) → m < n → 0 < n
 some m n lt = omega (arith, lt)
 
-move_stands : (b : Boot) (es : List Step) (w : WorldState) (pt : Point) (p : Pid) (m : ℕ) → IsValid b → Leads b (first_point b) es pt → Stands b w pt → m < length b.machines → MayStep b w (step.Migrate p m) → Steps b w pt (step.Migrate p m)
+move_stands : (b : Boot) (es : List Step) (w : WorldState) (pt : Point) (p : Pid) (m : ℕ) → IsValid b → Leads b (first_point b) es pt → Stands b w pt → m < length b.machines → MayStep b w (Step.Migrate p m) → Steps b w pt (Step.Migrate p m)
 move_stands b es w pt p m valid leads ((l, h, st), sent) lt may =
     let both = run_always b es pt valid leads in
     let first = below b es pt 0 leads (some m (length b.machines) lt) in
@@ -113,14 +83,14 @@ move_stands b es w pt p m valid leads ((l, h, st), sent) lt may =
     }))
 
 steps_stand_by : FewAlways → TablesAlways → StepsStand
-steps_stand_by fews tables b es w pt (step.Turn m) valid leads stands able readable lt =
+steps_stand_by fews tables b es w pt (Step.Turn m) valid leads stands able readable lt =
     let both = run_always b es pt valid leads in
     let counts = fews b es pt valid leads stands.0.2.counts in
     let may = may_step_turn b es w pt m valid leads both.run both.own counts stands able lt in
     (may, λ whole. turn_stands tables b es w pt m valid leads stands lt may whole)
-steps_stand_by fews tables b es w pt (step.Tick m) valid leads ((l, h, s), sent) able readable lt =
+steps_stand_by fews tables b es w pt (Step.Tick m) valid leads ((l, h, s), sent) able readable lt =
     (may_step_tick b w m able lt, λ whole. inl (tick_goes b w pt l h m s sent (below b es pt m leads lt)))
-steps_stand_by fews tables b es w pt (step.Deliver a c k) valid leads ((l, h, s), sent) able readable (a_lt, c_lt, apart) =
+steps_stand_by fews tables b es w pt (Step.Deliver a c k) valid leads ((l, h, s), sent) able readable (a_lt, c_lt, apart) =
     let run = (run_always b es pt valid leads).run in
     let machines = machines_are b es pt leads in
     let a_in = below b es pt a leads a_lt in
@@ -130,7 +100,7 @@ steps_stand_by fews tables b es w pt (step.Deliver a c k) valid leads ((l, h, s)
       (a_lt, c_lt, apart, may_deliver b w pt l h a c k valid run s sent a_in c_in apart machines others reads),
       (λ whole. inl (deliver_goes b w pt l h a c k valid run s sent a_in c_in apart machines reads)),
     )
-steps_stand_by fews tables b es w pt (step.Migrate p m) valid leads stands able readable lt =
+steps_stand_by fews tables b es w pt (Step.Migrate p m) valid leads stands able readable lt =
     let counts = fews b es pt valid leads stands.0.2.counts in
     let may = may_step_migrate b es w pt p m valid leads counts stands able lt in
     (may, λ whole. move_stands b es w pt p m valid leads stands lt may)

@@ -1,27 +1,10 @@
 -- A message is given to the stream of a pair, and goes out at once or waits.
-use Rattle.std.proofs.Common.{◌≡◌, ◌≢◌, ℕ, ◌+◌, ◌<◌, ◌≤◌, ◌==◌, ◌&&◌, Bool, true, false, [], ◌∷◌, ◌++◌, length, refl, ap, ◌∙◌, sym, subst, arith}
-use Rattle.std.specs.Prelude.{if◌then◌else◌}
-use Rattle.std.specs.declared.option.Option.TheVariants.{Some}
-use Rattle.std.proofs.lemmas.Bool.{eqb-true}
-use Rattle.std.proofs.lemmas.Bool.Decides.{nat_tests}
-use Rattle.std.proofs.lemmas.List.{length-append}
-use Rattle.dm_link.specs.declared.Pid.{Pid}
-use Rattle.dm_message.specs.declared.Message.{Message}
-use Rattle.dm_message.specs.declared.kind.MessageKind.{MessageKind}
-use Rattle.dm_message.specs.Lawful.{IsLawfulMessage}
-use Rattle.dm_stream.specs.Packets as stream
-use Rattle.dm_stream.specs.Sending.{Sending, due, given_count, with_given, with_sent}
-use Rattle.dm_stream.specs.Receiving.{Receiving}
-use Rattle.dm_stream.specs.Stream.{Stream, is_worn}
-use Rattle.dm_onekernel.specs.declared.boot.Boot.{Boot}
-use Rattle.dm_node.specs.State.{NodeState, with_sender}
+use Rattle.dm_mirror.proofs.Names.{◌≡◌, ◌≢◌, ℕ, ◌+◌, ◌<◌, ◌≤◌, ◌==◌, ◌&&◌, Bool, true, false, [], ◌∷◌, ◌++◌, length, refl, ap, ◌∙◌, sym, subst, arith, if◌then◌else◌, Some, eqb-true, nat_tests, length-append, Pid, Message, MessageKind}
+use Rattle.dm_mirror.proofs.Names.{IsLawfulMessage, Sending, due, given_count, with_given, with_sent, Receiving, Stream, Boot, NodeState, with_sender, at_machine, at_pair, Pair, View, after_packet, after_put, routed_on, Point, Placed}
+use Rattle.dm_mirror.proofs.Names.{WorldState, History, NodeStands, PairStands, StandsWith, stream_of}
+use Rattle.dm_stream.specs.Packets.{Load}
+use Rattle.dm_stream.specs.Stream.{is_worn}
 use Rattle.dm_line.specs.declared.line.Load.TheVariants as load
-use Rattle.dm_line.specs.Sets.{at_machine, at_pair}
-use Rattle.dm_rule.specs.View.{Pair, View, after_packet, after_put, routed_on}
-use Rattle.dm_rule.specs.Point.{Point}
-use Rattle.dm_places.specs.Placed.{Placed}
-use Rattle.dm_world.specs.World.{WorldState}
-use Rattle.dm_mirror.specs.Stands.{History, NodeStands, PairStands, StandsWith, stream_of}
 use Rattle.dm_mirror.proofs.Streams.{Joined, given_length, is_given, joined, pair_stands, put_back, went_out}
 use Rattle.dm_mirror.proofs.Stays.{apart_is, at_here, at_again, at_other, both_false, node_same, nodes_are, pair_here, pair_other, pairs_are}
 use Rattle.dm_mirror.proofs.Route.Core.{CoreStands}
@@ -136,7 +119,7 @@ abbrev pub node_went : WorldState → ℕ → ℕ → Message → NodeState
 node_went w m c x = with_sender (node_gave w m c x) c (with_sent ((node_gave w m c x).senders c))
 
 pub stands_went : (b : Boot) (pt : Point) (l : Placed) (w : WorldState) (h : History) (m c n : ℕ) (x : Message) → m ≢ c → m < pt.kernel.machines → c < pt.kernel.machines → due (with_given ((w.nodes m).senders c) x) ≡ Some (n, x)
-    → StandsWith b (world_gave w m c x) pt l h → StandsWith b (world_put (world_gave w m c x) m c (at_machine w.nodes m (node_went w m c x)) (stream.Data n x)) (point_put pt m c (stream.Data n x)) l (with_put h m c (stream.Data n x))
+    → StandsWith b (world_gave w m c x) pt l h → StandsWith b (world_put (world_gave w m c x) m c (at_machine w.nodes m (node_went w m c x)) (Load.Data n x)) (point_put pt m c (Load.Data n x)) l (with_put h m c (Load.Data n x))
 stands_went b pt l w h m c n x apart small less out st =
     let u : WorldState = world_gave w m c x in
     let g : NodeState = node_gave w m c x in
@@ -145,11 +128,11 @@ stands_went b pt l w h m c n x apart small less out st =
     let pair : PairStands b pt l u h m c = st.pairs m c small less apart in
     let senders : Senders u m c (at_machine u.nodes m (node_went w m c x)) (with_sent ((u.nodes m).senders c)) =
     one_sender u m c (node_went w m c x) (with_sent ((u.nodes m).senders c)) (λ i. at_machine (sym is i).senders c (with_sent ((sym is i).senders c))) (λ i. (sym is i).receivers) in
-    let goes : StandsWith b (world_put u m c (at_machine u.nodes m (node_went w m c x)) (stream.Data n x)) (point_put pt m c (stream.Data n x)) l (with_put h m c (stream.Data n x)) =
-    stands_put b pt l u h m c (at_machine u.nodes m (node_went w m c x)) (with_sent ((u.nodes m).senders c)) (stream.Data n x) apart senders (λ z e. at_other u.nodes m _ z e)
+    let goes : StandsWith b (world_put u m c (at_machine u.nodes m (node_went w m c x)) (Load.Data n x)) (point_put pt m c (Load.Data n x)) l (with_put h m c (Load.Data n x)) =
+    stands_put b pt l u h m c (at_machine u.nodes m (node_went w m c x)) (with_sent ((u.nodes m).senders c)) (Load.Data n x) apart senders (λ z e. at_other u.nodes m _ z e)
     (λ d. same_records u m (node_went w m c x) d (m == d) refl (λ i. (sym is i).kernel.records))
-    (subst (λ (z : NodeState). NodeStands b (point_put pt m c (stream.Data n x)) l m z) (sym (at_here u.nodes m (node_went w m c x)))
-    (node_streams b (point_put pt m c (stream.Data n x)) l m g (node_went w m c x).senders (w.nodes m).receivers (node_same b pt l (after_packet pt.view m c (load.Data n)) m g refl (ids_same pt.view.pair m c _ refl m m) (subst (λ (z : NodeState). NodeStands b pt l m z) is (st.nodes m small)))))
+    (subst (λ (z : NodeState). NodeStands b (point_put pt m c (Load.Data n x)) l m z) (sym (at_here u.nodes m (node_went w m c x)))
+    (node_streams b (point_put pt m c (Load.Data n x)) l m g (node_went w m c x).senders (w.nodes m).receivers (node_same b pt l (after_packet pt.view m c (load.Data n)) m g refl (ids_same pt.view.pair m c _ refl m m) (subst (λ (z : NodeState). NodeStands b pt l m z) is (st.nodes m small)))))
     (went_out b l.bag m c (stream_of u h m c) (u.wires m c) (pt.view.pair m c) n x (ap due given ∙ out) (joined b pt l u h m c pair))
     (put_back b l.bag c m (stream_of u h c m) (u.wires c m) (pt.view.pair c m) n x (joined b pt l u h c m (st.pairs c m less small (λ e. apart (sym e))))) st in
-    subst (λ (f : ℕ → NodeState). StandsWith b (world_put u m c f (stream.Data n x)) (point_put pt m c (stream.Data n x)) l (with_put h m c (stream.Data n x))) (at_again w.nodes m g (node_went w m c x)) goes
+    subst (λ (f : ℕ → NodeState). StandsWith b (world_put u m c f (Load.Data n x)) (point_put pt m c (Load.Data n x)) l (with_put h m c (Load.Data n x))) (at_again w.nodes m g (node_went w m c x)) goes

@@ -1,31 +1,8 @@
 -- A run of the world begins, and goes on directive by directive.
-use Rattle.std.proofs.Common.{◌≡◌, ℕ, List, [], ◌∷◌, ◌++◌, length, refl, ap, ◌∙◌, sym, subst, append_assoc, arith}
-use Rattle.std.specs.declared.option.Option.TheVariants.{Some}
-use Rattle.std.proofs.lemmas.List.{append-nil}
-use Rattle.std.proofs.lemmas.List.Elements.{All-nil}
-use Rattle.dm_onekernel.specs.declared.boot.Boot.{Boot}
-use Rattle.dm_onekernel.specs.Boot.{IsValid}
-use Rattle.dm_onekernel.specs.Start.{start}
-use Rattle.dm_onekernel.specs.Step.{replay}
-use Rattle.dm_laws.proofs.Runs.{received_once}
-use Rattle.dm_schedule.specs.declared.Step.{Step}
-use Rattle.dm_schedule.specs.declared.Directive.{Directive}
-use Rattle.dm_line.specs.declared.line.Line.{Line}
-use Rattle.dm_line.specs.Todo.{Todo, Next, all_of}
-use Rattle.dm_rule.specs.Good.{next_step, IsKept, IsRun}
-use Rattle.dm_rule.specs.Laws.{IsStep, Leads}
-use Rattle.dm_rule.specs.Parts.{Spelled}
-use Rattle.dm_rule.specs.Point.{Point, first_point, labels}
-use Rattle.dm_rule.specs.Rule.{group_of}
-use Rattle.dm_rule.proofs.Groups.{stands_once_always}
-use Rattle.dm_rulelaws.proofs.RunLabels.{group_replay, labels-append, replay-append}
-use Rattle.dm_world.specs.World.{WorldState}
+use Rattle.dm_mirror.proofs.Names.{◌≡◌, ℕ, List, [], ◌∷◌, ◌++◌, length, refl, ap, ◌∙◌, sym, subst, append_assoc, arith, Some, append-nil, All-nil, Boot, IsValid, start, replay, received_once, Step, Directive, Line, Todo, Next, all_of}
+use Rattle.dm_mirror.proofs.Names.{next_step, IsKept, IsRun, IsStep, Leads, Spelled, Point, first_point, labels, group_of, stands_once_always, group_replay, labels-append, replay-append, WorldState, IsTwo, joined, GoesOn, RunStands}
+use Rattle.dm_mirror.proofs.Names.{StepsStand, RunBegins, RunGoesOn, AreReadBack, gave, MayStep}
 use Rattle.dm_world.specs.Next as world
-use Rattle.dm_mirror.specs.Todo.{IsTwo}
-use Rattle.dm_mirror.specs.Run.{joined, GoesOn, RunStands}
-use Rattle.dm_mirror.specs.Laws.{StepsStand, RunBegins, RunGoesOn}
-use Rattle.dm_world.specs.Readable.{AreReadBack, gave}
-use Rattle.dm_world.specs.May.{MayStep}
 use Rattle.dm_mirror.proofs.Deliver.Keeps.{first_readable}
 use Rattle.dm_mirror.proofs.May.{acts_start, acts_step}
 use Rattle.dm_mirror.proofs.Next.{NextFits, machines_stay, next_fits, next_is_said}

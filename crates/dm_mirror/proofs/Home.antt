@@ -1,27 +1,7 @@
 -- A message that is routed to its own machine comes into the inbox at once.
-use Rattle.std.proofs.Common.{◌≡◌, ◌≢◌, ℕ, ◌+◌, ◌<◌, ◌==◌, ◌&&◌, Bool, true, false, List, [], ◌∷◌, ◌++◌, length, refl, ap, ◌∙◌, sym, subst, arith}
-use Rattle.std.specs.Prelude.{if◌then◌else◌}
-use Rattle.std.specs.declared.option.Option.{Option}
-use Rattle.std.specs.declared.option.Option.TheVariants.{Some}
-use Rattle.std.proofs.lemmas.Bool.{eqb-true, eq-eqb}
-use Rattle.std.proofs.lemmas.Bool.Decides.{nat_tests}
-use Rattle.std.proofs.lemmas.List.{length-append, map-append}
-use Rattle.std.proofs.lemmas.List.Elements.{All-push}
-use Rattle.dm_link.specs.declared.Pid.{Pid}
-use Rattle.dm_message.specs.declared.Message.{Message}
-use Rattle.dm_message.specs.declared.MsgId.{MsgId}
-use Rattle.dm_message.specs.declared.kind.MessageKind.{MessageKind}
-use Rattle.dm_message.specs.Lawful.{IsLawfulMessage}
-use Rattle.dm_onekernel.specs.declared.boot.Boot.{Boot}
-use Rattle.dm_kernel.specs.Lawful.{IsLawfulState}
-use Rattle.dm_kernel.specs.State.{KernelState}
-use Rattle.dm_node.specs.State.{NodeState, with_message}
-use Rattle.dm_line.specs.Sets.{at_machine}
-use Rattle.dm_rule.specs.View.{Pair, View, after_put, routed_on}
-use Rattle.dm_rule.specs.Point.{Point}
-use Rattle.dm_places.specs.Placed.{Placed}
-use Rattle.dm_world.specs.World.{WorldState}
-use Rattle.dm_mirror.specs.Stands.{AreMessages, History, NodeStands}
+use Rattle.dm_mirror.proofs.Names.{◌≡◌, ◌≢◌, ℕ, ◌+◌, ◌<◌, ◌==◌, ◌&&◌, Bool, true, false, List, [], ◌∷◌, ◌++◌, length, refl, ap, ◌∙◌, sym, subst, arith, if◌then◌else◌, Option, Some, eqb-true, eq-eqb, nat_tests, length-append, map-append}
+use Rattle.dm_mirror.proofs.Names.{All-push, Pid, Message, MsgId, MessageKind, IsLawfulMessage, Boot, IsLawfulState, KernelState, NodeState, with_message, at_machine, Pair, View, after_put, routed_on, Point, Placed, WorldState, AreMessages}
+use Rattle.dm_mirror.proofs.Names.{History, NodeStands}
 use Rattle.dm_mirror.proofs.Route.Core.{CoreStands}
 use Rattle.dm_mirror.proofs.Streams.{pair_stays}
 use Rattle.dm_mirror.proofs.Stays.{at_here, at_other, kernel_box, nodes_are, pair_here, pair_other}

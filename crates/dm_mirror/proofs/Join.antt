@@ -1,20 +1,6 @@
 -- The world after what a turn says, before the messages that it sends are routed.
-use Rattle.std.proofs.Common.{◌≡◌, ◌≢◌, ℕ, ◌<◌, ◌≤◌, ◌==◌, Bool, true, false, length, refl, ap, ◌∙◌, sym, subst, inl, inr}
-use Rattle.std.specs.Prelude.{if◌then◌else◌}
-use Rattle.std.proofs.lemmas.Bool.Decides.{eqb_tells}
-use Rattle.dm_onekernel.specs.declared.boot.Boot.{Boot}
-use Rattle.dm_rule.specs.Point.{Point}
-use Rattle.dm_line.specs.Sets.{at_machine}
-use Rattle.dm_rule.specs.Spots.{Untaken}
-use Rattle.dm_rule.specs.View.{Pair}
-use Rattle.dm_places.specs.Placed.{Placed, Mirrors}
-use Rattle.dm_kernel.specs.Lawful.{IsLawfulState}
-use Rattle.dm_kernel.specs.State.{KernelState}
-use Rattle.dm_node.specs.State.{NodeState}
-use Rattle.dm_world.specs.World.{WorldState}
-use Rattle.dm_mirror.specs.Own.{AllOwnStand}
-use Rattle.dm_mirror.specs.Stands.{KernelStands, NodeStands, History, StandsWith}
-use Rattle.dm_mirror.specs.Tokens.{AllRecords, TokensStand}
+use Rattle.dm_mirror.proofs.Names.{◌≡◌, ◌≢◌, ℕ, ◌<◌, ◌≤◌, ◌==◌, Bool, true, false, length, refl, ap, ◌∙◌, sym, subst, inl, inr, if◌then◌else◌, eqb_tells, Boot, Point, at_machine, Untaken, Pair, Placed, Mirrors, IsLawfulState, KernelState}
+use Rattle.dm_mirror.proofs.Names.{NodeState, WorldState, AllOwnStand, KernelStands, NodeStands, History, StandsWith, AllRecords, TokensStand}
 use Rattle.dm_mirror.proofs.Turning.{Elsewhere}
 use Rattle.dm_mirror.proofs.Others.{MadeHere, apart_tells, kernel_stays, pair_stays}
 

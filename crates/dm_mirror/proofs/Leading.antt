@@ -1,19 +1,6 @@
 -- Good groups are those of the rule, directive by directive.
-use Rattle.std.proofs.Common.{◌≡◌, ℕ, List, [], ◌∷◌, ◌++◌, length, refl, ap, ◌∙◌, sym, subst}
-use Rattle.std.specs.declared.option.Option.TheVariants.{Some}
-use Rattle.std.proofs.lemmas.List.Elements.{All-nil}
-use Rattle.dm_onekernel.specs.declared.boot.Boot.{Boot}
-use Rattle.dm_schedule.specs.declared.Step.{Step}
-use Rattle.dm_line.specs.declared.line.Line.{Line}
-use Rattle.dm_line.specs.Todo.{Todo, all_of}
-use Rattle.dm_rule.specs.Good.{next_step, undelivered, IsRun}
-use Rattle.dm_rule.specs.Laws.{IsStep}
-use Rattle.dm_rule.specs.Point.{Point, first_point}
-use Rattle.dm_rule.specs.Quiet.{has_mail, is_quiet}
-use Rattle.dm_rulelaws.specs.Order.{LeadsBy}
-use Rattle.dm_mirror.specs.Todo.{IsTwo, IsTodo}
-use Rattle.dm_mirror.specs.Run.{joined}
-use Rattle.dm_mirror.specs.Laws.{GoodLeads}
+use Rattle.dm_mirror.proofs.Names.{◌≡◌, ℕ, List, [], ◌∷◌, ◌++◌, length, refl, ap, ◌∙◌, sym, subst, All-nil, Boot, Step, Line, Todo, all_of, next_step, undelivered, IsRun, IsStep, Point, first_point, has_mail, is_quiet, LeadsBy, IsTwo}
+use Rattle.dm_mirror.proofs.Names.{IsTodo, joined, GoodLeads}
 use Rattle.dm_mirror.proofs.Machines.{machines_group}
 use Rattle.dm_mirror.proofs.Next.{next_fits}
 

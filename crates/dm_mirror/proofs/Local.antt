@@ -1,35 +1,14 @@
 -- A directive acts on one machine.
-use Rattle.std.proofs.Common.{◌≡◌, ℕ, zero, suc, ◌+◌, ◌==◌, ◌&&◌, Bool, true, false, List, [], ◌∷◌, map, refl, ap, ◌∙◌, sym, subst, arith}
-use Rattle.std.specs.Prelude.{⊤, if◌then◌else◌}
-use Rattle.std.specs.declared.option.Option.{Option}
-use Rattle.std.specs.declared.option.Option.TheVariants.{None, Some}
-use Rattle.std.specs.declared.result.Result.{Result}
-use Rattle.std.specs.declared.result.Result.TheVariants.{Ok, Err}
-use Rattle.std.proofs.lemmas.Bool.Decides.{nat_tests}
-use Rattle.std.proofs.lemmas.List.{append-nil}
-use Rattle.std.proofs.lemmas.List.Elements.{All-nil}
-use Rattle.dm_message.specs.declared.Message.{Message}
-use Rattle.dm_packet.specs.declared.Packet.{Packet}
-use Rattle.dm_packet.specs.declared.Packet.TheVariants as packet
-use Rattle.dm_packet.specs.declared.Bad.{Bad}
-use Rattle.dm_packet.specs.Packets.{packet_of}
-use Rattle.dm_wire.specs.Sent.{Sent, bytes_at, marked}
-use Rattle.dm_wire.specs.Wire.{after_mark}
-use Rattle.dm_stream.specs.Packets.{Load, Data, Ack}
-use Rattle.dm_onekernel.specs.declared.boot.Boot.{Boot}
-use Rattle.dm_schedule.specs.declared.Step.{Step}
-use Rattle.dm_schedule.specs.declared.Step.TheVariants as step
-use Rattle.dm_line.specs.declared.line.Line.TheVariants as line
-use Rattle.dm_kernel.specs.State.{KernelState, Turned}
+use Rattle.dm_mirror.proofs.Names.{◌≡◌, ℕ, zero, suc, ◌+◌, ◌==◌, ◌&&◌, Bool, true, false, List, [], ◌∷◌, map, refl, ap, ◌∙◌, sym, subst, arith, ⊤, if◌then◌else◌, Option, None, Some, Result, Err, nat_tests, append-nil, All-nil, Message}
+use Rattle.dm_mirror.proofs.Names.{Packet, Line, Bad, packet_of, Sent, bytes_at, after_mark, Data, Ack, Boot, Step, KernelState, Turned, Pid, NodeState, here, Acted, Acts, Goes, Worn, StaysAt, asks_move_stays, WorldState, Said, acted}
+use Rattle.dm_mirror.proofs.Names.{arrives, reads, delivers, world_step, IsFresh, PutsFrom, marked_by, ActsLocally, SamePacket, unnumbered, DoesSame, ReadsLocally, NothingComes}
+use Rattle.std.specs.declared.result.Result.TheVariants.{Ok}
+use Rattle.dm_wire.specs.Sent.{marked}
+use Rattle.dm_stream.specs.Packets.{Load}
 use Rattle.dm_kernel.specs.Turn as kernel
 use Rattle.dm_kernel.specs.Asking as asking
-use Rattle.dm_link.specs.declared.Pid.{Pid}
-use Rattle.dm_node.specs.State.{NodeState, here}
-use Rattle.dm_node.specs.Out.{Acted, Acts, Goes, Worn}
 use Rattle.dm_node.specs.Acts as machine
-use Rattle.dm_node.proofs.Here.{StaysAt, asks_move_stays}
-use Rattle.dm_world.specs.World.{WorldState, Said, Says, acted, turned, arrives, reads, delivers, world_step}
-use Rattle.dm_mirror.specs.Local.{IsFresh, PutsFrom, marked_by, ActsLocally, SamePacket, unnumbered, DoesSame, ReadsLocally, NothingComes}
+use Rattle.dm_world.specs.World.{Says, turned}
 use Rattle.dm_mirror.proofs.LocalLines.{acted_unnumbered, acted_exact, marked_long}
 use Rattle.dm_mirror.proofs.Outs.{IsFrom, ActsFrom, acts_from, tick_from, arrives_from, packets_to, all_fresh, spoken_off, spoken_on}
 
@@ -73,18 +52,18 @@ turns_from : (n : NodeState) (m : ℕ) (o : Option Turned) → here n ≡ m → 
 turns_from n m None is stays = tt
 turns_from n m (Some t) is stays = acts_from m t.parts (record n { kernel = t.state }) (stays t refl ∙ is)
 
-turn_is : KernelStays → (b : Boot) (w : WorldState) (m : ℕ) (s : Said) → here (w.nodes m) ≡ m → world_step b w (step.Turn m) ≡ Some (Says s) → Turns (step.Turn m) m w (machine.turn b (w.nodes m)) s
+turn_is : KernelStays → (b : Boot) (w : WorldState) (m : ℕ) (s : Said) → here (w.nodes m) ≡ m → world_step b w (Step.Turn m) ≡ Some (Says s) → Turns (Step.Turn m) m w (machine.turn b (w.nodes m)) s
 turn_is stays b w m s is happens =
-    turned_is (step.Turn m) m w (machine.turn b (w.nodes m)) s (turns_from (w.nodes m) m (kernel.turn b (w.nodes m).kernel) is (λ t e. stays b (w.nodes m).kernel t e)) happens
+    turned_is (Step.Turn m) m w (machine.turn b (w.nodes m)) s (turns_from (w.nodes m) m (kernel.turn b (w.nodes m).kernel) is (λ t e. stays b (w.nodes m).kernel t e)) happens
 
 -- the machine with the manager has it tell a process to move
 asks_here : (o : Option Turned) (h : ℕ) → StaysAt h o → (t : Turned) → o ≡ Some t → t.state.here ≡ h
 asks_here o h stays t e = subst (StaysAt h) e stays
 
-asks_is : (w : WorldState) (p : Pid) (m : ℕ) (s : Said) → here (w.nodes 0) ≡ 0 → turned w (step.Migrate p m) 0 (machine.asks_move (w.nodes 0) p m) ≡ Some (Says s) → Turns (step.Migrate p m) 0 w (machine.asks_move (w.nodes 0) p m) s
+asks_is : (w : WorldState) (p : Pid) (m : ℕ) (s : Said) → here (w.nodes 0) ≡ 0 → turned w (Step.Migrate p m) 0 (machine.asks_move (w.nodes 0) p m) ≡ Some (Says s) → Turns (Step.Migrate p m) 0 w (machine.asks_move (w.nodes 0) p m) s
 asks_is w p m s is happens =
     let k = (w.nodes 0).kernel in
-    turned_is (step.Migrate p m) 0 w (machine.asks_move (w.nodes 0) p m) s
+    turned_is (Step.Migrate p m) 0 w (machine.asks_move (w.nodes 0) p m) s
     (turns_from (w.nodes 0) 0 (asking.asks_move k p m) is (asks_here (asking.asks_move k p m) k.here (asks_move_stays k p m))) happens
 
 -- a delivery: what comes of the packet that some bytes spell
@@ -94,8 +73,8 @@ record Comes (w : WorldState) (e : Step) (a c : ℕ) (r : Result Packet Bad) (s 
   said : s ≡ acted w e c (machine.arrives (w.nodes c) a load)
 
 comes : (w : WorldState) (e : Step) (a c : ℕ) (r : Result Packet Bad) (s : Said) → reads w e a c r ≡ Some (Says s) → Comes w e a c r s
-comes w e a c (Ok (packet.Data from to k m)) s is = record { load = Data k m; is = λ u. refl; said = says_same s (acted w e c (machine.arrives (w.nodes c) a (Data k m))) (sym is) }
-comes w e a c (Ok (packet.Ack from to k)) s is = record { load = Ack k; is = λ u. refl; said = says_same s (acted w e c (machine.arrives (w.nodes c) a (Ack k))) (sym is) }
+comes w e a c (Ok (Packet.Data from to k m)) s is = record { load = Data k m; is = λ u. refl; said = says_same s (acted w e c (machine.arrives (w.nodes c) a (Data k m))) (sym is) }
+comes w e a c (Ok (Packet.Ack from to k)) s is = record { load = Ack k; is = λ u. refl; said = says_same s (acted w e c (machine.arrives (w.nodes c) a (Ack k))) (sym is) }
 comes w e a c (Err bad) s is = cc
 
 -- where no such packet is to be delivered, there is none to mark
@@ -114,7 +93,7 @@ mark_by wires a c k x y false e none = refl
 mark_none : (wires : ℕ → ℕ → List Sent) (a c k x y : ℕ) → bytes_at (wires a c) k ≡ None → after_mark wires a c k x y ≡ wires x y
 mark_none wires a c k x y none = mark_by wires a c k x y ((a == x) && (c == y)) refl none
 
-nothing_puts : (w : WorldState) (a c k : ℕ) → bytes_at (w.wires a c) k ≡ None → PutsFrom c (λ y. []) (marked_by (step.Deliver a c k) w) (record w { groups = w.groups + 1 })
+nothing_puts : (w : WorldState) (a c k : ℕ) → bytes_at (w.wires a c) k ≡ None → PutsFrom c (λ y. []) (marked_by (Step.Deliver a c k) w) (record w { groups = w.groups + 1 })
 nothing_puts w a c k none = record {
   nodes = λ n apart. refl;
   others = λ x y apart. sym (mark_none w.wires a c k x y none);
@@ -124,15 +103,15 @@ nothing_puts w a c k none = record {
 }
 
 pub nothing_comes : NothingComes
-nothing_comes b w a c k none = ap (delivers w (step.Deliver a c k) a c k) none
+nothing_comes b w a c k none = ap (delivers w (Step.Deliver a c k) a c k) none
 
 -- the same machine does the same
 delivers_same : (b : Boot) (w u : WorldState) (a c k : ℕ) (s : Said) (o : Option (List ℕ)) → bytes_at (w.wires a c) k ≡ o → bytes_at (u.wires a c) k ≡ o → here (w.nodes c) ≡ c → u.nodes c ≡ w.nodes c
-    → delivers w (step.Deliver a c k) a c k o ≡ Some (Says s) → DoesSame b w u (step.Deliver a c k) s
+    → delivers w (Step.Deliver a c k) a c k o ≡ Some (Says s) → DoesSame b w u (Step.Deliver a c k) s
 delivers_same b w u a c k s None here_is there_is is node happens =
-    let e = step.Deliver a c k in
-    let x : Said = record { state = record w { groups = w.groups + 1 }; lines = line.Head e ∷ line.Nothing ∷ [] } in
-    let y : Said = record { state = record u { groups = u.groups + 1 }; lines = line.Head e ∷ line.Nothing ∷ [] } in
+    let e = Step.Deliver a c k in
+    let x : Said = record { state = record w { groups = w.groups + 1 }; lines = Line.Head e ∷ Line.Nothing ∷ [] } in
+    let y : Said = record { state = record u { groups = u.groups + 1 }; lines = Line.Head e ∷ Line.Nothing ∷ [] } in
     let same : s ≡ x = says_same s x (sym happens) in
     record {
       said = y;
@@ -145,7 +124,7 @@ delivers_same b w u a c k s None here_is there_is is node happens =
       exact = λ long. ap (λ (z : Said). z.lines) (sym same);
     }
 delivers_same b w u a c k s (Some bytes) here_is there_is is node happens =
-    let e = step.Deliver a c k in
+    let e = Step.Deliver a c k in
     let x = marked_by e w in
     let y = marked_by e u in
     let p = comes x e a c (packet_of bytes) s happens in
@@ -163,9 +142,9 @@ delivers_same b w u a c k s (Some bytes) here_is there_is is node happens =
       exact = λ long. acted_exact x y e c d from (marked_long c e w u long) ∙ ap (λ (z : Said). z.lines) (sym p.said);
     }
 
-turn_same : KernelStays → (b : Boot) (w u : WorldState) (m : ℕ) (s : Said) → here (w.nodes m) ≡ m → u.nodes m ≡ w.nodes m → world_step b w (step.Turn m) ≡ Some (Says s) → DoesSame b w u (step.Turn m) s
+turn_same : KernelStays → (b : Boot) (w u : WorldState) (m : ℕ) (s : Said) → here (w.nodes m) ≡ m → u.nodes m ≡ w.nodes m → world_step b w (Step.Turn m) ≡ Some (Says s) → DoesSame b w u (Step.Turn m) s
 turn_same stays b w u m s is node happens =
-    let e = step.Turn m in
+    let e = Step.Turn m in
     let t = turn_is stays b w m s is happens in
     let d = t.acted_ in
     record {
@@ -179,9 +158,9 @@ turn_same stays b w u m s is node happens =
       exact = λ long. acted_exact w u e m d t.from long ∙ ap (λ (z : Said). z.lines) (sym t.said);
     }
 
-tick_same : (b : Boot) (w u : WorldState) (m : ℕ) (s : Said) → here (w.nodes m) ≡ m → u.nodes m ≡ w.nodes m → world_step b w (step.Tick m) ≡ Some (Says s) → DoesSame b w u (step.Tick m) s
+tick_same : (b : Boot) (w u : WorldState) (m : ℕ) (s : Said) → here (w.nodes m) ≡ m → u.nodes m ≡ w.nodes m → world_step b w (Step.Tick m) ≡ Some (Says s) → DoesSame b w u (Step.Tick m) s
 tick_same b w u m s is node happens =
-    let e = step.Tick m in
+    let e = Step.Tick m in
     let d = machine.tick (w.nodes m) in
     let from = tick_from m (w.nodes m) is in
     let said : s ≡ acted w e m d = says_same s (acted w e m d) (sym happens) in
@@ -196,9 +175,9 @@ tick_same b w u m s is node happens =
       exact = λ long. acted_exact w u e m d from long ∙ ap (λ (z : Said). z.lines) (sym said);
     }
 
-migrate_same : (b : Boot) (w u : WorldState) (p : Pid) (m : ℕ) (s : Said) → here (w.nodes 0) ≡ 0 → u.nodes 0 ≡ w.nodes 0 → world_step b w (step.Migrate p m) ≡ Some (Says s) → DoesSame b w u (step.Migrate p m) s
+migrate_same : (b : Boot) (w u : WorldState) (p : Pid) (m : ℕ) (s : Said) → here (w.nodes 0) ≡ 0 → u.nodes 0 ≡ w.nodes 0 → world_step b w (Step.Migrate p m) ≡ Some (Says s) → DoesSame b w u (Step.Migrate p m) s
 migrate_same b w u p m s is node happens =
-    let e = step.Migrate p m in
+    let e = Step.Migrate p m in
     let t = asks_is w p m s is happens in
     let d = t.acted_ in
     record {
@@ -213,17 +192,15 @@ migrate_same b w u p m s is node happens =
     }
 
 pub reads_locally : KernelStays → ReadsLocally
-reads_locally stays b w u (step.Turn m) s is node same happens = turn_same stays b w u m s is node happens
-reads_locally stays b w u (step.Tick m) s is node same happens = tick_same b w u m s is node happens
-reads_locally stays b w u (step.Deliver a c k) s is node same happens = delivers_same b w u a c k s (bytes_at (w.wires a c) k) refl same is node happens
-reads_locally stays b w u (step.Migrate p m) s is node same happens = migrate_same b w u p m s is node happens
+reads_locally stays b w u (Step.Turn m) s is node same happens = turn_same stays b w u m s is node happens
+reads_locally stays b w u (Step.Tick m) s is node same happens = tick_same b w u m s is node happens
+reads_locally stays b w u (Step.Deliver a c k) s is node same happens = delivers_same b w u a c k s (bytes_at (w.wires a c) k) refl same is node happens
+reads_locally stays b w u (Step.Migrate p m) s is node same happens = migrate_same b w u p m s is node happens
 
 -- a world does what it does
 same_packet : (e : Step) (w : WorldState) → SamePacket e w w
-same_packet (step.Turn m) w = tt
-same_packet (step.Tick m) w = tt
-same_packet (step.Deliver a c k) w = refl
-same_packet (step.Migrate p m) w = tt
+same_packet (Step.Deliver a c k) w = refl
+same_packet _ w = tt
 
 pub acts_locally : KernelStays → ActsLocally
 acts_locally stays b w e s is happens =

@@ -1,32 +1,9 @@
 -- Wherever the rule leads, the processes are those that each home made, numbered from the first number on.
-use Rattle.std.proofs.Common.{◌≡◌, ◌≢◌, inl, inr, ℕ, ◌+◌, ◌<◌, ◌≤◌, ◌==◌, Bool, true, false, List, [], ◌∷◌, refl, ap, ◌∙◌, sym, subst, is_some, arith}
-use Rattle.std.specs.declared.option.Option.{Option}
-use Rattle.std.specs.declared.option.Option.TheVariants.{None, Some}
-use Rattle.std.proofs.lemmas.Bool.{false≢true}
-use Rattle.std.proofs.lemmas.Bool.Decides.{nat_tests}
-use Rattle.dm_link.specs.declared.Pid.{Pid}
-use Rattle.dm_link.specs.Names.{pid_of, pid_eq}
-use Rattle.dm_onekernel.specs.declared.boot.Boot.{Boot}
-use Rattle.dm_onekernel.specs.declared.boot.BootProcess.{BootProcess}
-use Rattle.dm_onekernel.specs.declared.label.Label.{Label}
-use Rattle.dm_onekernel.specs.Boot.{IsValid, first_number, process_named}
-use Rattle.dm_onekernel.specs.Kernel.{Life, Alive, OneKernel}
-use Rattle.dm_onekernel.specs.declared.boot.BootImage.{BootImage}
-use Rattle.dm_link.specs.Plain.{plain_link}
-use Rattle.std.specs.Prelude.{map, slice_get}
-use Rattle.dm_onekernel.specs.Options.{bind}
-use Rattle.dm_onekernel.specs.Start.{begun, start, first_life}
+use Rattle.dm_mirror.proofs.Names.{◌≡◌, ◌≢◌, inl, inr, ℕ, ◌+◌, ◌<◌, ◌≤◌, ◌==◌, Bool, true, false, List, [], ◌∷◌, refl, ap, ◌∙◌, sym, subst, is_some, arith, Option, None, Some, false≢true, nat_tests, Pid, pid_of, pid_eq, Boot, BootProcess}
+use Rattle.dm_mirror.proofs.Names.{Label, IsValid, first_number, process_named, Life, Alive, OneKernel, BootImage, plain_link, map, slice_get, bind, start, first_life, replay, pid_eq-is, bind-is, Step, Leads, Spelled, Point, first_point}
+use Rattle.dm_mirror.proofs.Names.{labels, group_of, group_replay, MadeStands}
+use Rattle.dm_onekernel.specs.Start.{begun}
 use Rattle.dm_onekernel.specs.Step as kernel
-use Rattle.dm_onekernel.specs.Step.{replay}
-use Rattle.dm_laws.proofs.Equal.{pid_eq-is}
-use Rattle.dm_laws.proofs.Steps.{bind-is}
-use Rattle.dm_schedule.specs.declared.Step.{Step}
-use Rattle.dm_rule.specs.Laws.{Leads}
-use Rattle.dm_rule.specs.Parts.{Spelled}
-use Rattle.dm_rule.specs.Point.{Point, first_point, labels}
-use Rattle.dm_rule.specs.Rule.{group_of}
-use Rattle.dm_rulelaws.proofs.RunLabels.{group_replay}
-use Rattle.dm_mirror.specs.Made.{MadeStands}
 use Rattle.dm_mirror.proofs.Numbering.{life_named, named_all, named_is}
 use Rattle.dm_mirror.proofs.Raises.{Stays}
 use Rattle.dm_mirror.proofs.RaisesMade.{Makes, step_makes}

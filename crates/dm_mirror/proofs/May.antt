@@ -6,57 +6,17 @@ pub mod Own
 pub mod OwnKernel
 pub mod OwnRows
 pub mod Turns
-use Rattle.std.proofs.Common.{◌≡◌, ℕ, ◌+◌, ◌^◌, ◌<◌, ◌≤◌, ◌==◌, Bool, true, false, List, [], ◌∷◌, length, refl, ap, sym, subst, arith}
-use Rattle.std.specs.Prelude.{if◌then◌else◌, IsSome}
-use Rattle.std.specs.List.{All}
-use Rattle.std.specs.declared.option.Option.{Option}
-use Rattle.std.specs.declared.option.Option.TheVariants.{None, Some}
-use Rattle.std.specs.declared.result.Result.{Result}
-use Rattle.std.specs.declared.result.Result.TheVariants.{Ok, Err}
-use Rattle.std.proofs.lemmas.Bool.Decides.{nat_tests}
-use Rattle.std.proofs.lemmas.List.Elements.{All-nil}
-use Rattle.dm_message.specs.declared.Message.{Message}
-use Rattle.dm_message.specs.Lawful.{IsLawfulMessage}
-use Rattle.dm_packet.specs.declared.Packet.{Packet}
-use Rattle.dm_packet.specs.declared.Packet.TheVariants as packet
-use Rattle.dm_packet.specs.declared.Bad.{Bad}
-use Rattle.dm_packet.specs.Packets.{packet_of}
-use Rattle.dm_stream.specs.Packets.{Load, Data, Ack}
-use Rattle.dm_wire.specs.Sent.{bytes_at}
-use Rattle.dm_wire.specs.Wire.{after_mark}
-use Rattle.dm_onekernel.specs.declared.boot.Boot.{Boot}
-use Rattle.dm_onekernel.specs.Boot.{IsValid}
-use Rattle.dm_schedule.specs.declared.Step.{Step}
-use Rattle.dm_schedule.specs.declared.Step.TheVariants as step
-use Rattle.dm_line.specs.declared.line.Line.TheVariants as line
-use Rattle.dm_rule.specs.Laws.{Leads}
-use Rattle.dm_rule.specs.Point.{Point, first_point}
-use Rattle.dm_rulelaws.proofs.Own.Told.{OwnTold}
-use Rattle.dm_rulelaws.proofs.Runs.{Run}
-use Rattle.dm_places.specs.Placed.{Placed}
-use Rattle.dm_kernel.specs.Lawful.{IsLawfulState}
-use Rattle.dm_kernel.specs.State.{KernelState, Turned, own_id}
+use Rattle.dm_mirror.proofs.Names.{◌≡◌, ℕ, ◌+◌, ◌^◌, ◌<◌, ◌≤◌, ◌==◌, Bool, true, false, List, [], ◌∷◌, length, refl, ap, sym, subst, arith, if◌then◌else◌, IsSome, All, Option, None, Some, Result, Err, nat_tests, All-nil, Message}
+use Rattle.dm_mirror.proofs.Names.{IsLawfulMessage, Packet, Line, Bad, packet_of, Data, Ack, bytes_at, after_mark, Boot, IsValid, Step, Leads, Point, first_point, OwnTold, Run, Placed, IsLawfulState, KernelState, Turned, asks_manager}
+use Rattle.dm_mirror.proofs.Names.{asks_move, told_to_move, Servers, MoveNo, moves_child, Pid, opened_may, asked_lawful, turn_lawful, Acted, Acts, Goes, Worn, NodeState, MayAct, MayArrive, MayAskMove, MayAfter, arrives_may, turn_may, Said}
+use Rattle.dm_mirror.proofs.Names.{WorldState, acted, arrives, delivers, first_world, reads, world_step, MayDeliver, MayRead, MayStep, AllMayAct, MadeStands, CountsStand, History, Stands, StandsWith, servers_at}
+use Rattle.std.specs.declared.result.Result.TheVariants.{Ok}
+use Rattle.dm_stream.specs.Packets.{Load}
+use Rattle.dm_kernel.specs.State.{own_id}
 use Rattle.dm_kernel.specs.Turn as kernel
-use Rattle.dm_kernel.specs.Asking.{asks_manager, asks_move, told_to_move}
-use Rattle.dm_kernel.specs.declared.kernel.Servers.{Servers}
-use Rattle.dm_procman.specs.declared.moving.MoveNo.{MoveNo}
-use Rattle.dm_procman.specs.declared.moving.MoveNo.TheVariants as no
-use Rattle.dm_procman.specs.Moving.{moves_child}
-use Rattle.dm_link.specs.declared.Pid.{Pid}
-use Rattle.dm_kernel.proofs.LawfulStart.{opened_may}
-use Rattle.dm_kernel.proofs.LawfulTurns.{asked_lawful, turn_lawful}
 use Rattle.dm_node.specs.Acts as node
-use Rattle.dm_node.specs.Out.{Acted, Acts, Goes, Worn}
-use Rattle.dm_node.specs.State.{NodeState}
-use Rattle.dm_node.specs.May.{MayAct, MayArrive, MayAskMove, MayTurn}
-use Rattle.dm_node.proofs.Staying.{MayAfter, arrives_may, turn_may}
-use Rattle.dm_world.specs.World.{Said, Says, WorldState, acted, arrives, delivers, first_world, reads, turned, world_step}
-use Rattle.dm_world.specs.May.{MayDeliver, MayRead, MayStep}
-use Rattle.dm_mirror.specs.Able.{AllMayAct}
-use Rattle.dm_mirror.specs.Made.{MadeStands}
-use Rattle.dm_mirror.specs.Stands.{CountsStand, History, Stands, StandsWith, servers_at}
-use Rattle.dm_rulelaws.proofs.Goes.Runs.{RunGoes, RunStarts}
-use Rattle.dm_mirror.proofs.Counts.{counts_few}
+use Rattle.dm_node.specs.May.{MayTurn}
+use Rattle.dm_world.specs.World.{Says, turned}
 use Rattle.dm_mirror.proofs.Counts.FewRouted.{CountsFew}
 use Rattle.dm_mirror.proofs.Machines.{few_machines, machines_are, some_machine}
 use Rattle.dm_mirror.proofs.Made.{made_always}
@@ -77,10 +37,6 @@ stand_of b w pt l h m run told made counts st sent within = record {
   sent = sent m within;
 }
 
--- no count is too great where the world stands
-pub counts_of : RunStarts → RunGoes → (b : Boot) (es : List Step) (w : WorldState) (pt : Point) → IsValid b → Leads b (first_point b) es pt → Run b pt → Stands b w pt → CountsFew pt
-counts_of starts goes b es w pt valid leads run ((l, h, st), sent) = counts_few starts goes b es pt valid leads run st.counts
-
 -- a turn
 pub may_turn : (b : Boot) (es : List Step) (w : WorldState) (pt : Point) (m : ℕ) → IsValid b → Leads b (first_point b) es pt → Run b pt → OwnTold pt → CountsFew pt → Stands b w pt → AllMayAct b w → m < length b.machines → MayTurn b (w.nodes m) × IsLawfulState (w.nodes m).kernel
 may_turn b es w pt m valid leads run told counts ((l, h, st), sent) acts lt =
@@ -95,14 +51,14 @@ may_turn b es w pt m valid leads run told counts ((l, h, st), sent) acts lt =
       node.lawful,
     )
 
-pub may_step_turn : (b : Boot) (es : List Step) (w : WorldState) (pt : Point) (m : ℕ) → IsValid b → Leads b (first_point b) es pt → Run b pt → OwnTold pt → CountsFew pt → Stands b w pt → AllMayAct b w → m < length b.machines → MayStep b w (step.Turn m)
+pub may_step_turn : (b : Boot) (es : List Step) (w : WorldState) (pt : Point) (m : ℕ) → IsValid b → Leads b (first_point b) es pt → Run b pt → OwnTold pt → CountsFew pt → Stands b w pt → AllMayAct b w → m < length b.machines → MayStep b w (Step.Turn m)
 may_step_turn b es w pt m valid leads run told counts stands acts lt = let k = may_turn b es w pt m valid leads run told counts stands acts lt in (lt, k.0, k.1)
 
 -- a process is to move: the machine with the servers can send one more message
 servers_are : (v w : Option Servers) → v ≡ w → IsSome w → IsSome v
 servers_are v w e h = subst (λ (o : Option Servers). IsSome o) (sym e) h
 
-pub may_step_migrate : (b : Boot) (es : List Step) (w : WorldState) (pt : Point) (p : Pid) (m : ℕ) → IsValid b → Leads b (first_point b) es pt → CountsFew pt → Stands b w pt → AllMayAct b w → m < length b.machines → MayStep b w (step.Migrate p m)
+pub may_step_migrate : (b : Boot) (es : List Step) (w : WorldState) (pt : Point) (p : Pid) (m : ℕ) → IsValid b → Leads b (first_point b) es pt → CountsFew pt → Stands b w pt → AllMayAct b w → m < length b.machines → MayStep b w (Step.Migrate p m)
 may_step_migrate b es w pt p m valid leads counts ((l, h, st), sent) acts lt =
     let are = machines_are b es pt leads in
     let some = some_machine b valid in
@@ -120,7 +76,7 @@ may_step_migrate b es w pt p m valid leads counts ((l, h, st), sent) acts lt =
     )
 
 -- a tick
-pub may_step_tick : (b : Boot) (w : WorldState) (m : ℕ) → AllMayAct b w → m < length b.machines → MayStep b w (step.Tick m)
+pub may_step_tick : (b : Boot) (w : WorldState) (m : ℕ) → AllMayAct b w → m < length b.machines → MayStep b w (Step.Tick m)
 may_step_tick b w m acts lt = (lt, acts.each m lt)
 
 -- what waits on any stream of a machine can be put into packets, on those that lead nowhere too
@@ -162,28 +118,28 @@ abbrev here_in : ℕ → Option Turned → ℕ
 here_in n None = n
 here_in n (Some t) = t.state.here
 
-turn_stays : (b : Boot) (w : WorldState) (m : ℕ) (o : Option Turned) (s : Said) → KernelsStay → IsValid b → kernel.turn b (w.nodes m).kernel ≡ o → turned w (step.Turn m) m (node.turns (w.nodes m) o) ≡ Some (Says s)
+turn_stays : (b : Boot) (w : WorldState) (m : ℕ) (o : Option Turned) (s : Said) → KernelsStay → IsValid b → kernel.turn b (w.nodes m).kernel ≡ o → turned w (Step.Turn m) m (node.turns (w.nodes m) o) ≡ Some (Says s)
     → MayTurn b (w.nodes m) → IsLawfulState (w.nodes m).kernel → AllMayAct b w → AllMayAct b s.state
 turn_stays b w m None s stays valid e is may lawful acts = cc
 turn_stays b w m (Some t) s stays valid e is may lawful acts =
     let fit = turn_lawful b (w.nodes m).kernel t valid.images may.kernel lawful e in
-    turned_may b w (step.Turn m) m (node.acts (record (w.nodes m) { kernel = t.state }) t.parts) s is (turn_may (w.nodes m) t (stays b (w.nodes m).kernel t e) fit.parts.each may.acts) acts
+    turned_may b w (Step.Turn m) m (node.acts (record (w.nodes m) { kernel = t.state }) t.parts) s is (turn_may (w.nodes m) t (stays b (w.nodes m).kernel t e) fit.parts.each may.acts) acts
 
 -- and where it asks a process to move
 told_here : (s : KernelState) (p : Pid) (r : Result Message MoveNo) (t : Turned) → told_to_move s p r ≡ Some t → t.state.here ≡ s.here
 told_here s p (Ok m) t e = sym (ap (λ (o : Option Turned). here_in s.here o) e)
-told_here s p (Err no.Unknown) t e = sym (ap (λ (o : Option Turned). here_in s.here o) e)
-told_here s p (Err no.Pinned) t e = sym (ap (λ (o : Option Turned). here_in s.here o) e)
+told_here s p (Err MoveNo.Unknown) t e = sym (ap (λ (o : Option Turned). here_in s.here o) e)
+told_here s p (Err MoveNo.Pinned) t e = sym (ap (λ (o : Option Turned). here_in s.here o) e)
 
 manager_here : (s : KernelState) (p : Pid) (m : ℕ) (o : Option Servers) (t : Turned) → asks_manager s p m o ≡ Some t → t.state.here ≡ s.here
 manager_here s p m None t e = cc
 manager_here s p m (Some v) t e = told_here s p (moves_child v.manager.children p m (own_id s)) t e
 
-ask_stays : (b : Boot) (w : WorldState) (p : Pid) (m : ℕ) (o : Option Turned) (s : Said) → asks_move (w.nodes 0).kernel p m ≡ o → turned w (step.Migrate p m) 0 (node.turns (w.nodes 0) o) ≡ Some (Says s) → m < 16 → MayAskMove (w.nodes 0) → IsLawfulState (w.nodes 0).kernel → AllMayAct b w → AllMayAct b s.state
+ask_stays : (b : Boot) (w : WorldState) (p : Pid) (m : ℕ) (o : Option Turned) (s : Said) → asks_move (w.nodes 0).kernel p m ≡ o → turned w (Step.Migrate p m) 0 (node.turns (w.nodes 0) o) ≡ Some (Says s) → m < 16 → MayAskMove (w.nodes 0) → IsLawfulState (w.nodes 0).kernel → AllMayAct b w → AllMayAct b s.state
 ask_stays b w p m None s e is to may lawful acts = cc
 ask_stays b w p m (Some t) s e is to may lawful acts =
     let fit = asked_lawful (w.nodes 0).kernel p m t may.kernel.here (omega (arith, to)) lawful e in
-    turned_may b w (step.Migrate p m) 0 (node.acts (record (w.nodes 0) { kernel = t.state }) t.parts) s is (turn_may (w.nodes 0) t (manager_here (w.nodes 0).kernel p m (w.nodes 0).kernel.servers t e) fit.parts.each may.acts) acts
+    turned_may b w (Step.Migrate p m) 0 (node.acts (record (w.nodes 0) { kernel = t.state }) t.parts) s is (turn_may (w.nodes 0) t (manager_here (w.nodes 0).kernel p m (w.nodes 0).kernel.servers t e) fit.parts.each may.acts) acts
 
 arrived_may : (b : Boot) (w u : WorldState) (e : Step) (a c : ℕ) (l : Load Message) (s : Said) → u.nodes ≡ w.nodes → arrives u e a c l ≡ Some (Says s) → MayArrive (w.nodes c) a l → AllMayAct b w → AllMayAct b s.state
 arrived_may b w u e a c l s same is may acts =
@@ -193,21 +149,21 @@ arrived_may b w u e a c l s same is may acts =
     (record { each = λ i lt. subst (λ (ns : ℕ → NodeState). MayAct (ns i)) (sym same) (acts.each i lt) })
 
 read_may : (b : Boot) (w u : WorldState) (e : Step) (a c : ℕ) (r : Result Packet Bad) (s : Said) → u.nodes ≡ w.nodes → reads u e a c r ≡ Some (Says s) → MayRead w a c r → AllMayAct b w → AllMayAct b s.state
-read_may b w u e a c (Ok (packet.Data from to k m)) s same is may acts = arrived_may b w u e a c (Data k m) s same is (subst (λ f. MayArrive (w.nodes c) f (Data k m)) may.0 may.1.0) acts
-read_may b w u e a c (Ok (packet.Ack from to k)) s same is may acts = arrived_may b w u e a c (Ack k) s same is (subst (λ f. MayArrive (w.nodes c) f (Ack k)) may.0 may.1.0) acts
+read_may b w u e a c (Ok (Packet.Data from to k m)) s same is may acts = arrived_may b w u e a c (Data k m) s same is (subst (λ f. MayArrive (w.nodes c) f (Data k m)) may.0 may.1.0) acts
+read_may b w u e a c (Ok (Packet.Ack from to k)) s same is may acts = arrived_may b w u e a c (Ack k) s same is (subst (λ f. MayArrive (w.nodes c) f (Ack k)) may.0 may.1.0) acts
 read_may b w u e a c (Err bad) s same is may acts = absurd may
 
 delivered_may : (b : Boot) (w : WorldState) (e : Step) (a c k : ℕ) (o : Option (List ℕ)) (s : Said) → delivers w e a c k o ≡ Some (Says s) → MayDeliver w a c o → AllMayAct b w → AllMayAct b s.state
 delivered_may b w e a c k None s is may acts =
-    let f : record { state = record w { groups = w.groups + 1 }; lines = line.Head e ∷ line.Nothing ∷ [] } ≡ s = cc in
+    let f : record { state = record w { groups = w.groups + 1 }; lines = Line.Head e ∷ Line.Nothing ∷ [] } ≡ s = cc in
     subst (λ (v : Said). AllMayAct b v.state) f (record { each = acts.each })
 delivered_may b w e a c k (Some bytes) s is may acts = read_may b w (record w { wires = after_mark w.wires a c k }) e a c (packet_of bytes) s refl is may acts
 
 pub acts_step : KernelsStay → (b : Boot) (w : WorldState) (e : Step) (s : Said) → IsValid b → MayStep b w e → world_step b w e ≡ Some (Says s) → AllMayAct b w → AllMayAct b s.state
-acts_step stays b w (step.Turn m) s valid may is acts = turn_stays b w m (kernel.turn b (w.nodes m).kernel) s stays valid refl is may.1 may.2 acts
-acts_step stays b w (step.Tick m) s valid may is acts = acted_may b w (step.Tick m) m (node.tick (w.nodes m)) s (let f : acted w (step.Tick m) m (node.tick (w.nodes m)) ≡ s = cc in f) may.1 acts
-acts_step stays b w (step.Deliver a c k) s valid may is acts = delivered_may b w (step.Deliver a c k) a c k (bytes_at (w.wires a c) k) s is may.3 acts
-acts_step stays b w (step.Migrate p m) s valid may is acts =
+acts_step stays b w (Step.Turn m) s valid may is acts = turn_stays b w m (kernel.turn b (w.nodes m).kernel) s stays valid refl is may.1 may.2 acts
+acts_step stays b w (Step.Tick m) s valid may is acts = acted_may b w (Step.Tick m) m (node.tick (w.nodes m)) s (let f : acted w (Step.Tick m) m (node.tick (w.nodes m)) ≡ s = cc in f) may.1 acts
+acts_step stays b w (Step.Deliver a c k) s valid may is acts = delivered_may b w (Step.Deliver a c k) a c k (bytes_at (w.wires a c) k) s is may.3 acts
+acts_step stays b w (Step.Migrate p m) s valid may is acts =
     let few = few_machines b valid in
     let lt = may.0 in
     ask_stays b w p m (asks_move (w.nodes 0).kernel p m) s refl is (omega (arith, lt, few)) may.1 may.2 acts

@@ -1,35 +1,12 @@
 -- Which directive comes next is what the printed lines say; it is for the machines that there are.
-use Rattle.std.proofs.Common.{◌≡◌, ◌≢◌, ℕ, zero, suc, ◌+◌, ◌<◌, ◌≤◌, ◌==◌, Bool, true, false, List, [], ◌∷◌, map, length, refl, ap, ◌∙◌, sym, subst, arith}
-use Rattle.std.specs.Prelude.{⊤, if◌then◌else◌}
-use Rattle.std.specs.List.{All}
-use Rattle.std.specs.declared.option.Option.{Option}
-use Rattle.std.specs.declared.option.Option.TheVariants.{None, Some}
-use Rattle.std.proofs.lemmas.Bool.Decides.{nat_tests}
-use Rattle.std.proofs.lemmas.List.Elements.{All-nil, All-cons, All-head, All-tail, All-append, All-push}
-use Rattle.dm_message.specs.declared.Message.{Message}
+use Rattle.dm_mirror.proofs.Names.{◌≡◌, ◌≢◌, ℕ, zero, suc, ◌+◌, ◌<◌, ◌≤◌, ◌==◌, Bool, true, false, List, [], ◌∷◌, map, length, refl, ap, ◌∙◌, sym, subst, arith, ⊤, if◌then◌else◌, All, Option, None, Some, nat_tests, All-nil, All-cons}
+use Rattle.dm_mirror.proofs.Names.{All-head, All-tail, All-append, All-push, Message, Boot, IsValid, Step, Directive, Pass, Two, Todo, Next, below, pairs_with, pairs_of, pass_begun, here_or_later, next_delivery, takes_turn, next_turn}
+use Rattle.dm_mirror.proofs.Names.{in_pass, or, begin_pass, settles, next_directive, next_pass, is_over, following, first_undelivered, IsStep, Leads, Point, first_point, has_mail, is_quiet, based_always, Placed, WorldState, first_unseen}
+use Rattle.dm_mirror.proofs.Names.{History, PairStands, Stands, bytes_of, line_of, IsTwo, IsDirective, IsTodo, NextIsSaid}
 use Rattle.dm_stream.specs.Packets as stream
-use Rattle.dm_onekernel.specs.declared.boot.Boot.{Boot}
-use Rattle.dm_onekernel.specs.Boot.{IsValid}
-use Rattle.dm_schedule.specs.declared.Step.{Step}
-use Rattle.dm_schedule.specs.declared.Directive.{Directive}
-use Rattle.dm_schedule.specs.declared.Directive.TheVariants as directive
-use Rattle.dm_schedule.specs.declared.Step.TheVariants as step
-use Rattle.dm_line.specs.declared.pass.Pass.{Pass}
-use Rattle.dm_line.specs.declared.pass.Pass.TheVariants as pass
-use Rattle.dm_line.specs.Todo.{Two, Todo, Next, next, below, pairs_with, pairs_of, pass_begun, here_or_later, next_delivery, takes_turn, next_turn, in_pass, or, begin_pass, settles, next_directive, next_pass, is_over, following}
-use Rattle.dm_rule.specs.Good.{first_undelivered}
+use Rattle.dm_line.specs.Todo.{next}
 use Rattle.dm_rule.specs.Good as rule
-use Rattle.dm_rule.specs.Laws.{IsStep, Leads}
-use Rattle.dm_rule.specs.Point.{Point, first_point}
-use Rattle.dm_rule.specs.Quiet.{has_mail, is_quiet}
-use Rattle.dm_rulelaws.proofs.Based.Always.{based_always}
-use Rattle.dm_places.specs.Placed.{Placed}
-use Rattle.dm_world.specs.World.{WorldState}
-use Rattle.dm_world.specs.Next.{first_unseen}
 use Rattle.dm_world.specs.Next as world
-use Rattle.dm_mirror.specs.Stands.{History, PairStands, Stands, bytes_of, line_of}
-use Rattle.dm_mirror.specs.Todo.{IsTwo, IsDirective, IsTodo}
-use Rattle.dm_mirror.specs.Laws.{NextIsSaid}
 use Rattle.dm_mirror.proofs.QuietSaid.{mail_same, quiet_same}
 
 -- there are as many machines wherever the rule leads
@@ -96,14 +73,14 @@ abbrev SameMail : ℕ → (ℕ → Bool) → (ℕ → Bool) → Type 0
 SameMail machines f g = (m : ℕ) → m < machines → f m ≡ g m
 
 takes_same : (machines : ℕ) (p : Pass) (f g : ℕ → Bool) → SameMail machines f g → SameMail machines (takes_turn p f) (takes_turn p g)
-takes_same machines (pass.Round k) f g same m h = refl
-takes_same machines pass.Settle f g same m h = same m h
+takes_same machines (Pass.Round k) f g same m h = refl
+takes_same machines Pass.Settle f g same m h = same m h
 
 turn_same : (machines : ℕ) (f g : ℕ → Bool) (t : Todo) (ms : List ℕ) → SameMail machines f g → All (IsBelow machines) ms → next_turn f t ms ≡ next_turn g t ms
 turn_same machines f g t [] same fit = refl
 turn_same machines f g t (m ∷ ms) same fit =
-    ap (λ (b : Bool). if b then next (step.Turn m) (record t { pairs = []; machines = ms }) else next_turn f t ms) (same m (All-head (IsBelow machines) m ms fit))
-    ∙ ap (λ (o : Option Next). if g m then next (step.Turn m) (record t { pairs = []; machines = ms }) else o) (turn_same machines f g t ms same (All-tail (IsBelow machines) m ms fit))
+    ap (λ (b : Bool). if b then next (Step.Turn m) (record t { pairs = []; machines = ms }) else next_turn f t ms) (same m (All-head (IsBelow machines) m ms fit))
+    ∙ ap (λ (o : Option Next). if g m then next (Step.Turn m) (record t { pairs = []; machines = ms }) else o) (turn_same machines f g t ms same (All-tail (IsBelow machines) m ms fit))
 
 in_same : (machines : ℕ) (f g : ℕ → Bool) (t : Todo) (d : Option (Step × List Two)) → SameMail machines f g → All (IsBelow machines) t.machines → in_pass f t d ≡ in_pass g t d
 in_same machines f g t None same fit = turn_same machines (takes_turn t.pass f) (takes_turn t.pass g) t t.machines (takes_same machines t.pass f g same) fit
@@ -119,21 +96,21 @@ begin_same machines f g mail mail' p ds first same =
 directive_same : (machines : ℕ) (f g : ℕ → ℕ → Option ℕ) (mail mail' : ℕ → Bool) (quiet : Bool) (ds : List Directive) → Agrees machines f g → SameMail machines mail mail'
     → next_directive machines f mail quiet ds ≡ next_directive machines g mail' quiet ds
 directive_same machines f g mail mail' quiet [] first same = refl
-directive_same machines f g mail mail' quiet (directive.One s ∷ ds) first same = refl
-directive_same machines f g mail mail' quiet (directive.Round ∷ ds) first same = begin_same machines f g mail mail' (pass.Round 0) ds first same
-directive_same machines f g mail mail' quiet (directive.Spin zero ∷ ds) first same = directive_same machines f g mail mail' quiet ds first same
-directive_same machines f g mail mail' quiet (directive.Spin (suc n) ∷ ds) first same = begin_same machines f g mail mail' (pass.Round n) ds first same
-directive_same machines f g mail mail' quiet (directive.Settle ∷ ds) first same =
-    ap (λ (o : Option Next). settles quiet o (next_directive machines f mail quiet ds)) (begin_same machines f g mail mail' pass.Settle ds first same)
-    ∙ ap (settles quiet (begin_pass machines g mail' pass.Settle ds)) (directive_same machines f g mail mail' quiet ds first same)
+directive_same machines f g mail mail' quiet (Directive.One s ∷ ds) first same = refl
+directive_same machines f g mail mail' quiet (Directive.Round ∷ ds) first same = begin_same machines f g mail mail' (Pass.Round 0) ds first same
+directive_same machines f g mail mail' quiet (Directive.Spin zero ∷ ds) first same = directive_same machines f g mail mail' quiet ds first same
+directive_same machines f g mail mail' quiet (Directive.Spin (suc n) ∷ ds) first same = begin_same machines f g mail mail' (Pass.Round n) ds first same
+directive_same machines f g mail mail' quiet (Directive.Settle ∷ ds) first same =
+    ap (λ (o : Option Next). settles quiet o (next_directive machines f mail quiet ds)) (begin_same machines f g mail mail' Pass.Settle ds first same)
+    ∙ ap (settles quiet (begin_pass machines g mail' Pass.Settle ds)) (directive_same machines f g mail mail' quiet ds first same)
 
 later_same : (machines : ℕ) (f g : ℕ → ℕ → Option ℕ) (mail mail' : ℕ → Bool) (quiet : Bool) (p : Pass) (ds : List Directive) → Agrees machines f g → SameMail machines mail mail'
     → next_pass machines f mail quiet p ds ≡ next_pass machines g mail' quiet p ds
-later_same machines f g mail mail' quiet (pass.Round zero) ds first same = directive_same machines f g mail mail' quiet ds first same
-later_same machines f g mail mail' quiet (pass.Round (suc k)) ds first same = begin_same machines f g mail mail' (pass.Round k) ds first same
-later_same machines f g mail mail' quiet pass.Settle ds first same =
-    ap (λ (o : Option Next). settles quiet o (next_directive machines f mail quiet ds)) (begin_same machines f g mail mail' pass.Settle ds first same)
-    ∙ ap (settles quiet (begin_pass machines g mail' pass.Settle ds)) (directive_same machines f g mail mail' quiet ds first same)
+later_same machines f g mail mail' quiet (Pass.Round zero) ds first same = directive_same machines f g mail mail' quiet ds first same
+later_same machines f g mail mail' quiet (Pass.Round (suc k)) ds first same = begin_same machines f g mail mail' (Pass.Round k) ds first same
+later_same machines f g mail mail' quiet Pass.Settle ds first same =
+    ap (λ (o : Option Next). settles quiet o (next_directive machines f mail quiet ds)) (begin_same machines f g mail mail' Pass.Settle ds first same)
+    ∙ ap (settles quiet (begin_pass machines g mail' Pass.Settle ds)) (directive_same machines f g mail mail' quiet ds first same)
 
 following_same : (machines : ℕ) (f g : ℕ → ℕ → Option ℕ) (mail mail' : ℕ → Bool) (quiet : Bool) (t : Todo) → Agrees machines f g → SameMail machines mail mail' → All (IsTwo machines) t.pairs → All (IsBelow machines) t.machines
     → following machines f mail quiet t ≡ following machines g mail' quiet t
@@ -170,7 +147,7 @@ or_fits machines None y h k = k
 or_fits machines (Some n) y h k = h
 
 turn_or_later : (machines : ℕ) (t : Todo) (m : ℕ) (ms : List ℕ) (b : Bool) (o : Option Next) → IsTodo machines t → All (IsBelow machines) (m ∷ ms) → Fits machines o
-    → Fits machines (if b then next (step.Turn m) (record t { pairs = []; machines = ms }) else o)
+    → Fits machines (if b then next (Step.Turn m) (record t { pairs = []; machines = ms }) else o)
 turn_or_later machines t m ms true o h fit later =
     record { step = All-head (IsBelow machines) m ms fit; left = record { pairs = All-nil (IsTwo machines); machines_ = All-tail (IsBelow machines) m ms fit; directives = h.directives } }
 turn_or_later machines t m ms false o h fit later = later
@@ -195,20 +172,20 @@ settles_fit machines false x y h k = or_fits machines x y h k
 
 directive_fits : (machines : ℕ) (first : ℕ → ℕ → Option ℕ) (mail : ℕ → Bool) (quiet : Bool) (ds : List Directive) → All (IsDirective machines) ds → Fits machines (next_directive machines first mail quiet ds)
 directive_fits machines first mail quiet [] h = tt
-directive_fits machines first mail quiet (directive.One s ∷ ds) h =
-    record { step = All-head (IsDirective machines) (directive.One s) ds h; left = record { pairs = All-nil (IsTwo machines); machines_ = All-nil (IsBelow machines); directives = All-tail (IsDirective machines) (directive.One s) ds h } }
-directive_fits machines first mail quiet (directive.Round ∷ ds) h = begun_fits machines first mail (pass.Round 0) ds (All-tail (IsDirective machines) directive.Round ds h)
-directive_fits machines first mail quiet (directive.Spin zero ∷ ds) h = directive_fits machines first mail quiet ds (All-tail (IsDirective machines) (directive.Spin 0) ds h)
-directive_fits machines first mail quiet (directive.Spin (suc n) ∷ ds) h = begun_fits machines first mail (pass.Round n) ds (All-tail (IsDirective machines) (directive.Spin (suc n)) ds h)
-directive_fits machines first mail quiet (directive.Settle ∷ ds) h =
-    let rest = All-tail (IsDirective machines) directive.Settle ds h in
-    settles_fit machines quiet (begin_pass machines first mail pass.Settle ds) (next_directive machines first mail quiet ds) (begun_fits machines first mail pass.Settle ds rest) (directive_fits machines first mail quiet ds rest)
+directive_fits machines first mail quiet (Directive.One s ∷ ds) h =
+    record { step = All-head (IsDirective machines) (Directive.One s) ds h; left = record { pairs = All-nil (IsTwo machines); machines_ = All-nil (IsBelow machines); directives = All-tail (IsDirective machines) (Directive.One s) ds h } }
+directive_fits machines first mail quiet (Directive.Round ∷ ds) h = begun_fits machines first mail (Pass.Round 0) ds (All-tail (IsDirective machines) Directive.Round ds h)
+directive_fits machines first mail quiet (Directive.Spin zero ∷ ds) h = directive_fits machines first mail quiet ds (All-tail (IsDirective machines) (Directive.Spin 0) ds h)
+directive_fits machines first mail quiet (Directive.Spin (suc n) ∷ ds) h = begun_fits machines first mail (Pass.Round n) ds (All-tail (IsDirective machines) (Directive.Spin (suc n)) ds h)
+directive_fits machines first mail quiet (Directive.Settle ∷ ds) h =
+    let rest = All-tail (IsDirective machines) Directive.Settle ds h in
+    settles_fit machines quiet (begin_pass machines first mail Pass.Settle ds) (next_directive machines first mail quiet ds) (begun_fits machines first mail Pass.Settle ds rest) (directive_fits machines first mail quiet ds rest)
 
 later_fits : (machines : ℕ) (first : ℕ → ℕ → Option ℕ) (mail : ℕ → Bool) (quiet : Bool) (p : Pass) (ds : List Directive) → All (IsDirective machines) ds → Fits machines (next_pass machines first mail quiet p ds)
-later_fits machines first mail quiet (pass.Round zero) ds h = directive_fits machines first mail quiet ds h
-later_fits machines first mail quiet (pass.Round (suc k)) ds h = begun_fits machines first mail (pass.Round k) ds h
-later_fits machines first mail quiet pass.Settle ds h =
-    settles_fit machines quiet (begin_pass machines first mail pass.Settle ds) (next_directive machines first mail quiet ds) (begun_fits machines first mail pass.Settle ds h) (directive_fits machines first mail quiet ds h)
+later_fits machines first mail quiet (Pass.Round zero) ds h = directive_fits machines first mail quiet ds h
+later_fits machines first mail quiet (Pass.Round (suc k)) ds h = begun_fits machines first mail (Pass.Round k) ds h
+later_fits machines first mail quiet Pass.Settle ds h =
+    settles_fit machines quiet (begin_pass machines first mail Pass.Settle ds) (next_directive machines first mail quiet ds) (begun_fits machines first mail Pass.Settle ds h) (directive_fits machines first mail quiet ds h)
 
 unless_fits : (machines : ℕ) (over : Bool) (o : Option Next) → Fits machines o → Fits machines (if over then None else o)
 unless_fits machines true o h = tt

@@ -1,24 +1,7 @@
 -- How a boot file numbers its processes: those of each home from the first number on, in the order of the file.
-use Rattle.std.proofs.Common.{◌≡◌, ◌≢◌, inl, inr, ℕ, ◌+◌, ◌<◌, ◌≤◌, ◌==◌, Bool, true, false, List, [], ◌∷◌, ◌++◌, length, refl, ap, ◌∙◌, sym, subst, is_some, nat_le, nat_lt, arith}
-use Rattle.std.specs.Prelude.{◌&&◌, if◌then◌else◌, slice_get}
-use Rattle.std.specs.declared.option.Option.{Option}
-use Rattle.std.specs.declared.option.Option.TheVariants.{None, Some}
-use Rattle.std.proofs.lemmas.Bool.{cases_Bool, false≢true}
-use Rattle.std.proofs.lemmas.Bool.Decides.{nat_tests}
-use Rattle.dm_link.specs.declared.Pid.{Pid}
-use Rattle.dm_link.specs.Names.{pid_of, pid_eq}
-use Rattle.dm_process.specs.declared.process.Process.{Process}
-use Rattle.dm_onekernel.specs.declared.boot.BootImage.{BootImage}
-use Rattle.dm_onekernel.specs.declared.boot.BootProcess.{BootProcess}
-use Rattle.dm_onekernel.specs.declared.boot.Boot.{Boot}
-use Rattle.dm_onekernel.specs.Boot.{starting_at, slots_of, links_are_valid, processes_are_valid, process_is_valid, process_named}
-use Rattle.dm_onekernel.specs.Kernel.{Life}
-use Rattle.dm_onekernel.specs.Options.{bind}
-use Rattle.dm_onekernel.specs.Start.{first_life, life_at}
-use Rattle.dm_places.specs.PlacedStart.{started, started_at}
-use Rattle.dm_laws.proofs.Equal.{pid_eq-is}
-use Rattle.dm_rulelaws.proofs.Fits.Rises.{both}
-use Rattle.dm_rulelaws.proofs.Fits.Start.{get_some}
+use Rattle.dm_mirror.proofs.Names.{◌≡◌, ◌≢◌, inl, inr, ℕ, ◌+◌, ◌<◌, ◌≤◌, ◌==◌, Bool, true, false, List, [], ◌∷◌, ◌++◌, length, refl, ap, ◌∙◌, sym, subst, is_some, nat_le, nat_lt, arith, ◌&&◌, if◌then◌else◌, slice_get, Option, None, Some}
+use Rattle.dm_mirror.proofs.Names.{cases_Bool, false≢true, nat_tests, Pid, pid_of, pid_eq, Process, BootImage, BootProcess, Boot, starting_at, slots_of, links_are_valid, processes_are_valid, process_is_valid, process_named, Life, bind}
+use Rattle.dm_mirror.proofs.Names.{first_life, life_at, started, started_at, pid_eq-is, both, get_some}
 
 -- the processes of a list by name
 life_if : (b : Boot) (p : BootProcess) (c : Bool) (o : Option BootProcess) (x : Option Life) → x ≡ bind o (first_life b) → (if c then first_life b p else x) ≡ bind (if c then Some p else o) (first_life b)

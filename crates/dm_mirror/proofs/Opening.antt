@@ -1,22 +1,9 @@
 -- What a machine has as the boot file has it, field by field.
-use Rattle.std.proofs.Common.{◌≡◌, ℕ, ◌+◌, ◌==◌, Bool, true, false, List, [], ◌∷◌, ◌++◌, refl, ap, ◌∙◌, sym, subst, append_assoc, arith}
-use Rattle.std.specs.Prelude.{if◌then◌else◌, slice_get}
-use Rattle.std.specs.declared.option.Option.{Option}
-use Rattle.std.specs.declared.option.Option.TheVariants.{None, Some}
-use Rattle.std.proofs.lemmas.List.{append-nil}
-use Rattle.dm_link.specs.declared.Pid.{Pid}
-use Rattle.dm_link.specs.Names.{pid_eq}
-use Rattle.dm_process.specs.declared.process.Process.{Process}
+use Rattle.dm_mirror.proofs.Names.{◌≡◌, ℕ, ◌+◌, ◌==◌, Bool, true, false, List, [], ◌∷◌, ◌++◌, refl, ap, ◌∙◌, sym, subst, append_assoc, arith, if◌then◌else◌, slice_get, Option, None, Some, append-nil, Pid, pid_eq, Process, BootImage}
+use Rattle.dm_mirror.proofs.Names.{BootProcess, Boot, starting_at, blocks_at, blocks_of_image, processes_are_valid, process_named, pid_eq-is, started, ring_at, KernelState, child_of, with_all, with_child}
 use Rattle.dm_records.specs.declared.record.Record.TheVariants.{Here}
-use Rattle.dm_onekernel.specs.declared.boot.BootImage.{BootImage}
-use Rattle.dm_onekernel.specs.declared.boot.BootProcess.{BootProcess}
-use Rattle.dm_onekernel.specs.declared.boot.Boot.{Boot}
-use Rattle.dm_onekernel.specs.Boot.{starting_at, blocks_at, blocks_of_image, processes_are_valid, process_named}
-use Rattle.dm_laws.proofs.Equal.{pid_eq-is}
-use Rattle.dm_places.specs.PlacedStart.{started}
-use Rattle.dm_rule.specs.View.{ring_at}
-use Rattle.dm_kernel.specs.State.{KernelState, Known}
-use Rattle.dm_kernel.specs.Begun.{begins, child_of, with_all, with_child}
+use Rattle.dm_kernel.specs.State.{Known}
+use Rattle.dm_kernel.specs.Begun.{begins}
 use Rattle.dm_mirror.proofs.Numbering.{listed, none_again, one_if}
 
 -- what machine m knows of a process that the file may name

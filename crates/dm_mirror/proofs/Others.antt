@@ -1,38 +1,13 @@
 -- A turn on one machine leaves the kernels of the others as they stand, and each pair.
-use Rattle.std.proofs.Common.{◌≡◌, ◌≢◌, ℕ, zero, suc, ◌+◌, ◌≤◌, ◌==◌, Bool, true, false, not, List, [], ◌∷◌, map, refl, ap, ◌∙◌, sym, subst, is_some, inl, inr, arith}
-use Rattle.std.specs.Prelude.{if◌then◌else◌, drop, take, slice_get}
-use Rattle.std.specs.declared.option.Option.{Option}
-use Rattle.std.specs.declared.option.Option.TheVariants.{None, Some}
-use Rattle.std.proofs.lemmas.Bool.Decides.{eqb_tells}
-use Rattle.dm_link.specs.declared.Pid.{Pid}
-use Rattle.dm_link.specs.Names.{pid_of}
-use Rattle.dm_message.specs.declared.Message.{Message}
-use Rattle.dm_message.specs.declared.MsgId.{MsgId}
-use Rattle.dm_records.specs.declared.record.Record.TheVariants as record_
-use Rattle.dm_process.specs.declared.process.Process.{Process}
-use Rattle.dm_stream.specs.Receiving.{Receiving, kept_under}
-use Rattle.dm_stream.specs.Sending.{Sending}
+use Rattle.dm_mirror.proofs.Names.{◌≡◌, ◌≢◌, ℕ, zero, suc, ◌+◌, ◌≤◌, ◌==◌, Bool, true, not, List, [], ◌∷◌, map, refl, ap, ◌∙◌, sym, subst, is_some, inl, inr, arith, if◌then◌else◌, drop, take, slice_get, Option, None, Some, eqb_tells, Pid}
+use Rattle.dm_mirror.proofs.Names.{pid_of, Message, MsgId, Record, Process, Receiving, kept_under, Sending, Boot, first_number, id_eq-same, Point, Room, and, blocks_of, has, takes_room, taken_at, taken_by, taken_of_home, Queue, Held, Inbox}
+use Rattle.dm_mirror.proofs.Names.{Untaken, times, standing, Pair, Placed, KernelState, room_of, WorldState, AreMessages, HereStands, KnownStands, RoomStands, servers_at, KernelStands, History, PairStands}
 use Rattle.dm_stream.specs.Order as order
-use Rattle.dm_onekernel.specs.declared.boot.Boot.{Boot}
-use Rattle.dm_onekernel.specs.Boot.{first_number}
 use Rattle.dm_onekernel.specs.Step as kernel
-use Rattle.dm_laws.proofs.Equal.{id_eq-same}
-use Rattle.dm_rule.specs.Point.{Point}
-use Rattle.dm_rule.specs.Rule.{Room, and, blocks_of, has, takes_room, taken_at, taken_by, taken_of_home}
-use Rattle.dm_rule.specs.Spots.{Queue, Held, Inbox, Untaken, times, standing}
-use Rattle.dm_rule.specs.View.{Pair}
 use Rattle.dm_rule.specs.View as view
-use Rattle.dm_places.specs.Placed.{Placed}
 use Rattle.dm_kernel.specs.State as machine
-use Rattle.dm_kernel.specs.State.{KernelState}
-use Rattle.dm_kernel.specs.Begun.{room_of}
-use Rattle.dm_world.specs.World.{WorldState}
-use Rattle.dm_mirror.specs.Stands.{AreMessages, HereStands, KnownStands, RoomStands, servers_at, KernelStands, History, PairStands}
 use Rattle.dm_mirror.proofs.Turning.{Elsewhere, has_process}
-
--- tests of two numbers that differ
-pub apart_tells : (a c : ℕ) → a ≢ c → (a == c) ≡ false
-apart_tells a c h = elim (eqb_tells a c) [ inl e ↦ absurd (h e.1) | inr e ↦ e.0 ]
+pub use Rattle.dm_rule.proofs.QuietTests.{eq_not as apart_tells}
 
 -- the messages of a list stay
 messages_same : (f g : MsgId → Option Message) (ids : List MsgId) → ((i : MsgId) → 1 ≤ times i ids → g i ≡ f i) → map g ids ≡ map f ids
@@ -53,11 +28,11 @@ module _ (pt next : Point) (l placed : Placed) (p : Pid) (ids js : List MsgId) (
   pub known_same : (k : view.Known) (r : Option machine.Known) → (has_process k ≡ true → placed.processes p ≡ l.processes p) → (k ≡ view.Ended → next.kernel.processes p ≡ pt.kernel.processes p)
       → KnownStands pt l p ids js k r → KnownStands next placed p ids js k r
   known_same view.Unknown None process ended h = tt
-  known_same view.Here (Some (record_.Here x)) process ended h = here_stays x (process refl) h
-  known_same (view.Frozen to) (Some (record_.Frozen d)) process ended h = record { to = h.to; asker = h.asker; here = here_stays d.process (process refl) h.here; held = messages_stay l.bag placed.bag js d.held held h.held; whole = h.whole }
-  known_same (view.Incoming from) (Some (record_.Incoming a)) process ended h = record { process = h.process; there = process refl ∙ h.there; whole = h.whole; pieces = h.pieces; held = messages_stay l.bag placed.bag js a.held held h.held }
-  known_same (view.Forward at_ moves) (Some (record_.Forward to n)) process ended h = h
-  known_same view.Ended (Some (record_.Ended y)) process ended h = ap kernel.ended (ended refl) ∙ h
+  known_same view.Here (Some (Record.Here x)) process ended h = here_stays x (process refl) h
+  known_same (view.Frozen to) (Some (Record.Frozen d)) process ended h = record { to = h.to; asker = h.asker; here = here_stays d.process (process refl) h.here; held = messages_stay l.bag placed.bag js d.held held h.held; whole = h.whole }
+  known_same (view.Incoming from) (Some (Record.Incoming a)) process ended h = record { process = h.process; there = process refl ∙ h.there; whole = h.whole; pieces = h.pieces; held = messages_stay l.bag placed.bag js a.held held h.held }
+  known_same (view.Forward at_ moves) (Some (Record.Forward to n)) process ended h = h
+  known_same view.Ended (Some (Record.Ended y)) process ended h = ap kernel.ended (ended refl) ∙ h
   known_same k r process ended h = h
 
 -- what a process takes of a machine's room
@@ -76,12 +51,10 @@ taken_none : (pt next : Point) (n : ℕ) (p : Pid) (k : view.Known) → pt.view.
 taken_none pt next n p k e known z = none_taken next n p k (known ∙ e) z ∙ sym (none_taken pt n p k e z)
 
 taken_stays : (pt next : Point) (n : ℕ) (p : Pid) (k : view.Known) → pt.view.known n p ≡ k → next.view.known n p ≡ pt.view.known n p → (has_process k ≡ true → next.kernel.processes p ≡ pt.kernel.processes p) → taken_by next n p ≡ taken_by pt n p
-taken_stays pt next n p view.Unknown e known life = taken_none pt next n p view.Unknown e known refl
 taken_stays pt next n p view.Here e known life = taken_life pt next n p known (life refl)
 taken_stays pt next n p (view.Frozen to) e known life = taken_life pt next n p known (life refl)
 taken_stays pt next n p (view.Incoming from) e known life = taken_life pt next n p known (life refl)
-taken_stays pt next n p (view.Forward at_ moves) e known life = taken_none pt next n p (view.Forward at_ moves) e known refl
-taken_stays pt next n p view.Ended e known life = taken_none pt next n p view.Ended e known refl
+taken_stays pt next n p any_ e known life = taken_none pt next n p any_ e known refl
 
 -- processes that are made now are known to no other machine
 pub record MadeHere (m n : ℕ) (pt next : Point) : Type 0 where

@@ -1,42 +1,23 @@
 -- What a machine sends goes from it, and what that puts on the wires.
-use Rattle.std.proofs.Common.{◌≡◌, ◌≢◌, ℕ, zero, suc, ◌==◌, ◌&&◌, Bool, true, false, List, [], ◌∷◌, ◌++◌, refl, ap, ◌∙◌, sym, subst, append_assoc, arith}
-use Rattle.std.specs.Prelude.{⊤, if◌then◌else◌}
-use Rattle.std.specs.List.{All}
-use Rattle.std.specs.declared.option.Option.{Option}
-use Rattle.std.specs.declared.option.Option.TheVariants.{None, Some}
-use Rattle.std.proofs.lemmas.Bool.Decides.{nat_tests}
-use Rattle.std.proofs.lemmas.List.{append-nil}
-use Rattle.std.proofs.lemmas.List.Elements.{All-nil, All-cons, All-append}
-use Rattle.dm_message.specs.declared.Message.{Message}
-use Rattle.dm_packet.specs.declared.Packet.{Packet}
-use Rattle.dm_packet.specs.declared.Packet.TheVariants as packet
-use Rattle.dm_packet.specs.Packets.{spelling}
-use Rattle.dm_wire.specs.Sent.{Sent, just_put}
+use Rattle.dm_mirror.proofs.Names.{◌≡◌, ◌≢◌, ℕ, zero, suc, ◌==◌, ◌&&◌, Bool, true, false, List, [], ◌∷◌, ◌++◌, refl, ap, ◌∙◌, sym, subst, append_assoc, arith, ⊤, if◌then◌else◌, All, Option, None, Some, nat_tests, append-nil, All-nil}
+use Rattle.dm_mirror.proofs.Names.{All-cons, All-append, Message, Packet, Line, spelling, Sent, Data, Ack, Sending, window, due, outstanding, with_given, with_sent, with_acked, arrival, after_arrival, next, after_next, Arrived, Old, Early}
+use Rattle.dm_mirror.proofs.Names.{NodeState, here, with_sender, with_message, with_receiver, Out, Sends, Acted, Acts, Goes, Worn, behind, then_, acts, routes, routes_home, routes_away, gives, sends, sends_due, put_line, is_worn}
+use Rattle.dm_mirror.proofs.Names.{none_waits, count_out, again, first_out, all_out, acknowledges, before, takes_next, takes_kept, then_acknowledges, comes_in, lets_next, lets_go, with_packet, spoken, IsFresh}
+use Rattle.dm_wire.specs.Sent.{just_put}
 use Rattle.dm_wire.specs.Wire.{after_put}
-use Rattle.dm_stream.specs.Packets.{Load, Data, Ack}
-use Rattle.dm_stream.specs.Sending.{Sending, window, due, outstanding, with_given, with_sent, with_acked}
-use Rattle.dm_stream.specs.Receiving.{arrival, after_arrival, next, after_next}
-use Rattle.dm_stream.specs.declared.receiver.Arrived.{Arrived}
-use Rattle.dm_stream.specs.declared.receiver.Arrived.TheVariants.{Taken, Old, Early}
-use Rattle.dm_line.specs.declared.line.Line.TheVariants as line
+use Rattle.dm_stream.specs.Packets.{Load}
+use Rattle.dm_stream.specs.declared.receiver.Arrived.TheVariants.{Taken}
 use Rattle.dm_kernel.specs.declared.part.Part.{Part}
-use Rattle.dm_kernel.specs.declared.part.Part.TheVariants as part
-use Rattle.dm_node.specs.State.{NodeState, here, with_sender, with_message, with_receiver}
-use Rattle.dm_node.specs.declared.out.Out.{Out}
-use Rattle.dm_node.specs.declared.out.Out.TheVariants.{Says, Sends}
-use Rattle.dm_node.specs.Out.{Acted, Acts, Goes, Worn, behind, then_}
+use Rattle.dm_node.specs.declared.out.Out.TheVariants.{Says}
 use Rattle.dm_node.specs.Acts as node
-use Rattle.dm_node.specs.Acts.{acts, routes, routes_home, routes_away, gives, sends, sends_due, put_line, is_worn, none_waits, count_out, again, first_out, all_out, acknowledges, before, takes_next, takes_kept, then_acknowledges, comes_in, lets_next, lets_go}
-use Rattle.dm_node.specs.Wired.{with_packet, spoken}
-use Rattle.dm_mirror.specs.Local.{IsFresh}
 
 abbrev pub from_of : Packet → ℕ
-from_of (packet.Data from to k m) = from
-from_of (packet.Ack from to k) = from
+from_of (Packet.Data from to k m) = from
+from_of (Packet.Ack from to k) = from
 
 abbrev to_of : Packet → ℕ
-to_of (packet.Data from to k m) = to
-to_of (packet.Ack from to k) = to
+to_of (Packet.Data from to k m) = to
+to_of (Packet.Ack from to k) = to
 
 -- all packets go from machine m
 abbrev pub AreFrom : ℕ → List Out → Type 0
@@ -92,8 +73,8 @@ routes_from n m = routes_by n m (m.to.at == here n)
 
 pub acts_from : (m : ℕ) (ps : List Part) (n : NodeState) → here n ≡ m → ActsFrom m (acts n ps)
 acts_from m [] n is = record { here = is; outs = tt }
-acts_from m (part.Says l ∷ ps) n is = behind_from m (Says l ∷ []) (acts n ps) tt (acts_from m ps n is)
-acts_from m (part.Routes x ∷ ps) n is = then_from m (routes n x) (λ after. acts after ps) (subst (λ (k : ℕ). ActsFrom k (routes n x)) is (routes_from n x)) (λ after same. acts_from m ps after same)
+acts_from m (Part.Says l ∷ ps) n is = behind_from m (Says l ∷ []) (acts n ps) tt (acts_from m ps n is)
+acts_from m (Part.Routes x ∷ ps) n is = then_from m (routes n x) (λ after. acts after ps) (subst (λ (k : ℕ). ActsFrom k (routes n x)) is (routes_from n x)) (λ after same. acts_from m ps after same)
 
 -- a tick
 again_from : (n : NodeState) (b : ℕ) (o : Option (ℕ × Message)) → AreFrom (here n) (again n b o)
@@ -125,7 +106,7 @@ next_from : (m : ℕ) (n : NodeState) (a : ℕ) (o : Option Message) (go : NodeS
 next_from m n a None go is k = record { here = is; outs = tt }
 next_from m n a (Some x) go is k =
     let after = with_message (with_receiver n a (after_next (n.receivers a))) x in
-    before_from m (Says (line.Taken a (here n) (n.receivers a).count) ∷ []) (go after) tt (k after is)
+    before_from m (Says (Line.Taken a (here n) (n.receivers a).count) ∷ []) (go after) tt (k after is)
 
 kept_from : (m k : ℕ) (n : NodeState) (a : ℕ) → here n ≡ m → IsFrom m (takes_kept k n a)
 unfolding takes_kept
@@ -133,7 +114,7 @@ kept_from m zero n a is = record { here = is; outs = tt }
 kept_from m (suc k) n a is = next_from m n a (next (n.receivers a)) (λ x. takes_kept k x a) is (λ x same. kept_from m k x a same)
 
 comes_from : (m : ℕ) (n : NodeState) (a k : ℕ) (what : Arrived Message) → here n ≡ m → IsFrom m (comes_in n a k what)
-comes_from m n a k (Taken x) is = before_from m (Says (line.Taken a (here n) k) ∷ []) (takes_kept window (with_message n x) a) tt (kept_from m window (with_message n x) a is)
+comes_from m n a k (Taken x) is = before_from m (Says (Line.Taken a (here n) k) ∷ []) (takes_kept window (with_message n x) a) tt (kept_from m window (with_message n x) a is)
 comes_from m n a k Old is = record { here = is; outs = tt }
 comes_from m n a k Early is = record { here = is; outs = tt }
 
@@ -158,7 +139,7 @@ arrives_from m n a (Data k x) is =
     acknowledged_from m (comes_in after a k what) a (comes_from m after a k what is)
 arrives_from m n a (Ack k) is =
     let after = with_sender n a (with_acked (n.senders a) k) in
-    before_from m (Says (line.Acked a (here n) k) ∷ []) (lets_go window after a) tt (go_from m window after a is)
+    before_from m (Says (Line.Acked a (here n) k) ∷ []) (lets_go window after a) tt (go_from m window after a is)
 
 -- the packets for machine c, as they are put on the wire
 abbrev pub packets_to : ℕ → List Out → List Sent
@@ -191,12 +172,12 @@ put_on packets a b bytes y =
     ap (λ (c : Bool). if c && (b == y) then packets a y ++ just_put bytes ∷ [] else packets a y) e ∙ put_by packets a b bytes y (b == y)
 
 packet_off : (wires : ℕ → ℕ → List Sent) (p : Packet) (x y : ℕ) → x ≢ from_of p → with_packet wires p x y ≡ wires x y
-packet_off wires (packet.Data a b k m) x y apart = put_off wires a b (spelling (packet.Data a b k m)) x y apart
-packet_off wires (packet.Ack a b k) x y apart = put_off wires a b (spelling (packet.Ack a b k)) x y apart
+packet_off wires (Packet.Data a b k m) x y apart = put_off wires a b (spelling (Packet.Data a b k m)) x y apart
+packet_off wires (Packet.Ack a b k) x y apart = put_off wires a b (spelling (Packet.Ack a b k)) x y apart
 
 packet_on : (wires : ℕ → ℕ → List Sent) (p : Packet) (y : ℕ) → with_packet wires p (from_of p) y ≡ wires (from_of p) y ++ (if to_of p == y then just_put (spelling p) ∷ [] else [])
-packet_on wires (packet.Data a b k m) y = put_on wires a b (spelling (packet.Data a b k m)) y
-packet_on wires (packet.Ack a b k) y = put_on wires a b (spelling (packet.Ack a b k)) y
+packet_on wires (Packet.Data a b k m) y = put_on wires a b (spelling (Packet.Data a b k m)) y
+packet_on wires (Packet.Ack a b k) y = put_on wires a b (spelling (Packet.Ack a b k)) y
 
 -- the wires behind what a machine gives
 pub spoken_off : (m : ℕ) (outs : List Out) (wires : ℕ → ℕ → List Sent) (x y : ℕ) → AreFrom m outs → x ≢ m → (spoken wires outs).wires x y ≡ wires x y

@@ -1,43 +1,15 @@
 -- Where a turn raises a count, it routes a message.
-use Rattle.std.proofs.Common.{◌≡◌, ◌⊎◌, inl, inr, ℕ, ◌+◌, ◌==◌, Bool, true, false, List, [], ◌∷◌, length, refl, ap, ◌∙◌, sym, subst, arith}
-use Rattle.std.specs.Prelude.{⊤, if◌then◌else◌, slice_get}
-use Rattle.std.specs.declared.option.Option.{Option}
-use Rattle.std.specs.declared.option.Option.TheVariants.{None, Some}
-use Rattle.dm_link.specs.declared.Pid.{Pid}
-use Rattle.dm_link.specs.Names.{pid_eq, pid_of}
-use Rattle.dm_message.specs.declared.MsgId.{MsgId}
-use Rattle.dm_message.specs.Plain as what
-use Rattle.dm_message.specs.Plain.{PlainMessage, PlainWhat}
-use Rattle.dm_processor.specs.Instructions.{instruction}
-use Rattle.dm_onekernel.specs.declared.boot.Boot.{Boot}
-use Rattle.dm_onekernel.specs.declared.boot.BootImage.{BootImage}
-use Rattle.dm_onekernel.specs.declared.label.Label.{Label}
-use Rattle.dm_onekernel.specs.declared.label.Label.TheVariants as label
-use Rattle.dm_onekernel.specs.declared.label.Why.TheVariants as why
-use Rattle.dm_onekernel.specs.Boot.{first_number, switchboard, manager}
-use Rattle.dm_onekernel.specs.Options.{bind}
-use Rattle.dm_onekernel.specs.PlainProcess.{PlainProcess, PlainStatus, Ready, Waiting, Moving}
-use Rattle.dm_onekernel.specs.Kernel.{Alive, OneKernel}
+use Rattle.dm_mirror.proofs.Names.{◌≡◌, ◌⊎◌, inl, inr, ℕ, ◌+◌, ◌==◌, Bool, true, false, List, [], ◌∷◌, length, refl, ap, ◌∙◌, sym, subst, arith, ⊤, if◌then◌else◌, slice_get, Option, None, Some, Pid, pid_eq, pid_of, MsgId, Why, PlainMessage}
+use Rattle.dm_mirror.proofs.Names.{PlainWhat, instruction, Boot, BootImage, Label, first_number, switchboard, manager, bind, PlainProcess, PlainStatus, Ready, Waiting, Moving, Alive, OneKernel, answer_id, alive-is, Line, Point, label_of}
+use Rattle.dm_mirror.proofs.Names.{kernel_after, Part, Says, Routes, Again, Owns, Transmits, IsNetLine, IsNet, Addresses, Sender, is_told_back, forwards_on, plain_kind, MessageKind}
 use Rattle.dm_onekernel.specs.Calls as calls
 use Rattle.dm_onekernel.specs.Pieces as pieces
-use Rattle.dm_onekernel.specs.Pieces.{answer_id}
 use Rattle.dm_onekernel.specs.Receiving as receiving
 use Rattle.dm_onekernel.specs.Switchboard as board
 use Rattle.dm_onekernel.specs.Manager as manage
 use Rattle.dm_onekernel.specs.Step as kernel
-use Rattle.dm_laws.proofs.Steps.{alive-is}
-use Rattle.dm_line.specs.declared.line.Line.{Line}
-use Rattle.dm_line.specs.declared.line.Line.TheVariants as line
-use Rattle.dm_rule.specs.Point.{Point, label_of, kernel_after}
-use Rattle.dm_rule.specs.Parts.{Part, Says, Routes, Again, Owns, Transmits}
 use Rattle.dm_rule.specs.Rule as rule
 use Rattle.dm_rule.specs.View as view
-use Rattle.dm_rule.proofs.Groups.{IsNetLine, IsNet}
-use Rattle.dm_rule.specs.Addresses.{Addresses, Sender, is_told_back}
-use Rattle.dm_rule.specs.Migrating.{forwards_on}
-use Rattle.dm_message.specs.Kinds.{plain_kind}
-use Rattle.dm_message.specs.declared.kind.MessageKind.{MessageKind}
-use Rattle.dm_message.specs.declared.kind.MessageKind.TheVariants as kind
 use Rattle.dm_mirror.proofs.Counts.Still.{is_free}
 use Rattle.dm_mirror.proofs.Raises.{Within, ran_raises, call_raises, send_raises, wait_raises, out_raises, end_raises, receive_raises, refuse_raises}
 use Rattle.dm_mirror.proofs.RaisesServed.{landed_raise, served_raise, sent_raise, dropped_raises, gone_raises, no_space_raises, served_raises}
@@ -83,7 +55,7 @@ called_paid s p n queue (calls.Ends because) = (refl, λ t e. inl ((end_raises s
 stops_paid : (s : OneKernel) (p : Pid) (queue : List MsgId) (o : Option kernel.Next) → Paid s (rule.stops p queue o)
 stops_paid s p queue None = tt
 stops_paid s p queue (Some (kernel.Calls n c)) = called_paid s p n queue c
-stops_paid s p queue (Some (kernel.Faults fault)) = (refl, λ t e. inl ((end_raises s t p (why.Fault fault) e).within, drops_paid queue t))
+stops_paid s p queue (Some (kernel.Faults fault)) = (refl, λ t e. inl ((end_raises s t p (Why.Fault fault) e).within, drops_paid queue t))
 
 unless_paid : (s : OneKernel) (c : Bool) (ps : List Part) → Paid s ps → Paid s (if c then [] else ps)
 unless_paid s true ps h = tt
@@ -127,7 +99,7 @@ round_paid b pt m None = (refl, λ t e. inl (line_within pt.kernel t None refl e
 round_paid b pt m (Some p) = served_paid b pt m p (kernel.alive (pt.kernel.processes p))
 
 -- a kernel makes a process, or has no room
-created_paid : (s : OneKernel) (i : MsgId) (child : Pid) (slots blocks : ℕ) (c : Bool) (j : MsgId) → Paid s ((if c then rule.says (label.Created i child) else rule.says (label.NoSpace i slots blocks)) ∷ Routes j ∷ [])
+created_paid : (s : OneKernel) (i : MsgId) (child : Pid) (slots blocks : ℕ) (c : Bool) (j : MsgId) → Paid s ((if c then rule.says (Label.Created i child) else rule.says (Label.NoSpace i slots blocks)) ∷ Routes j ∷ [])
 created_paid s i child slots blocks true j = (refl, λ t e. inr ((created_makes s t i child e).counts, (j, refl)))
 created_paid s i child slots blocks false j = (refl, λ t e. inl ((no_space_raises s t i slots blocks e).within, tt))
 
@@ -136,26 +108,14 @@ creates_paid pt m i r None = tt
 creates_paid pt m i r (Some image) = created_paid pt.kernel i (pid_of m (first_number + pt.kernel.made m)) r.slots r.blocks (rule.has_room r image.blocks) (answer_id i)
 
 kernel_paid : (b : Boot) (pt : Point) (m : ℕ) (i : MsgId) (w : PlainWhat) → PaidIf pt.kernel (rule.kernel_handles b pt m i w)
-kernel_paid b pt m i (what.Create image links) = creates_paid pt m i (rule.free_room b pt m) (slice_get b.images image)
-kernel_paid b pt m i (what.User z1 z2 z3 z4) = tt
-kernel_paid b pt m i what.Stop = tt
-kernel_paid b pt m i what.Resume = tt
-kernel_paid b pt m i what.Kill = tt
-kernel_paid b pt m i (what.Read z1 z2) = tt
-kernel_paid b pt m i (what.Write z1 z2) = tt
-kernel_paid b pt m i (what.Block z1) = tt
-kernel_paid b pt m i what.Written = tt
-kernel_paid b pt m i what.Gone = tt
-kernel_paid b pt m i (what.Created z1) = tt
-kernel_paid b pt m i what.NoRoom = tt
-kernel_paid b pt m i (what.Move z1) = tt
-kernel_paid b pt m i (what.Moved z1) = tt
+kernel_paid b pt m i (PlainWhat.Create image links) = creates_paid pt m i (rule.free_room b pt m) (slice_get b.images image)
+kernel_paid b pt m i _ = tt
 
 -- a server takes a message
-took_paid : (s : OneKernel) (i : MsgId) (m : PlainMessage) (o : Option PlainMessage) → s.bag i ≡ Some m → took_raise s m ≡ sent_raise o → Paid s (rule.says (label.Took i) ∷ rule.routes o)
+took_paid : (s : OneKernel) (i : MsgId) (m : PlainMessage) (o : Option PlainMessage) → s.bag i ≡ Some m → took_raise s m ≡ sent_raise o → Paid s (rule.says (Label.Took i) ∷ rule.routes o)
 took_paid s i m o there is = (refl, λ t e. by o is t (within t e))
   where
-    within : (t : OneKernel) → kernel.step s (label.Took i) ≡ Some t → Within (took_raise s m) s t
+    within : (t : OneKernel) → kernel.step s (Label.Took i) ≡ Some t → Within (took_raise s m) s t
     within t e =
         let k = took_raises s t i e in
         let f : Some k.m ≡ Some m = sym k.there ∙ there in
@@ -175,7 +135,7 @@ manager_paid s i m None there is = tt
 manager_paid s i m (Some k) there is = took_paid s i m k.message there is
 
 -- a message for a living process's kernel
-serves_paid : (s : OneKernel) (i : MsgId) (m : PlainMessage) (x : PlainProcess) (t : OneKernel) → s.bag i ≡ Some m → kernel.alive (s.processes m.to) ≡ Some x → kernel.step s (label.Served i) ≡ Some t → Within (served_raise m x m.what) s t
+serves_paid : (s : OneKernel) (i : MsgId) (m : PlainMessage) (x : PlainProcess) (t : OneKernel) → s.bag i ≡ Some m → kernel.alive (s.processes m.to) ≡ Some x → kernel.step s (Label.Served i) ≡ Some t → Within (served_raise m x m.what) s t
 serves_paid s i m x t there alive e =
     let k = served_raises s t i e in
     let f : Some k.m ≡ Some m = sym k.there ∙ there in
@@ -184,49 +144,39 @@ serves_paid s i m x t there alive e =
     let h : k.x ≡ x = cc in
     subst (λ (v : PlainProcess). Within (served_raise m v m.what) s t) h (subst (λ (v : PlainMessage). Within (served_raise v k.x v.what) s t) g k.raises.within)
 
-lands_paid : (s : OneKernel) (i : MsgId) (o : Option pieces.Landed) → ((t : OneKernel) → kernel.step s (label.Served i) ≡ Some t → Within (landed_raise o) s t) → PaidIf s (rule.lands i o)
+lands_paid : (s : OneKernel) (i : MsgId) (o : Option pieces.Landed) → ((t : OneKernel) → kernel.step s (Label.Served i) ≡ Some t → Within (landed_raise o) s t) → PaidIf s (rule.lands i o)
 lands_paid s i None h = tt
 lands_paid s i (Some (pieces.Next request x)) h = (refl, λ t e. inr (h t e, (request.id, refl)))
 lands_paid s i (Some (pieces.Done reply x)) h = (refl, λ t e. inl (h t e, tt))
 
 here_paid : (pt : Point) (m : ℕ) (i : MsgId) (msg : PlainMessage) (x : PlainProcess) (w : PlainWhat) → msg.what ≡ w → pt.kernel.bag i ≡ Some msg → kernel.alive (pt.kernel.processes msg.to) ≡ Some x → PaidIf pt.kernel (rule.here_handles pt m i msg x w)
-here_paid pt m i msg x (what.User code channel body links) w there alive = (refl, λ t e. inl (line_within pt.kernel t None refl e, tt))
-here_paid pt m i msg x what.Stop w there alive = (refl, λ t e. inl (subst (λ v. Within (served_raise msg x v) pt.kernel t) w (serves_paid pt.kernel i msg x t there alive e), tt))
-here_paid pt m i msg x what.Resume w there alive = (refl, λ t e. inl (subst (λ v. Within (served_raise msg x v) pt.kernel t) w (serves_paid pt.kernel i msg x t there alive e), tt))
-here_paid pt m i msg x what.Kill w there alive = (refl, λ t e. inl (subst (λ v. Within (served_raise msg x v) pt.kernel t) w (serves_paid pt.kernel i msg x t there alive e), drops_paid (pt.view.queue m msg.to) t))
-here_paid pt m i msg x (what.Read base len) w there alive = (refl, λ t e. inl (subst (λ v. Within (served_raise msg x v) pt.kernel t) w (serves_paid pt.kernel i msg x t there alive e), tt))
-here_paid pt m i msg x (what.Write base bytes) w there alive = (refl, λ t e. inl (subst (λ v. Within (served_raise msg x v) pt.kernel t) w (serves_paid pt.kernel i msg x t there alive e), tt))
-here_paid pt m i msg x (what.Block bytes) w there alive = lands_paid pt.kernel i (pieces.lands msg.to x msg x.status) (λ t e. subst (λ v. Within (served_raise msg x v) pt.kernel t) w (serves_paid pt.kernel i msg x t there alive e))
-here_paid pt m i msg x what.Written w there alive = lands_paid pt.kernel i (pieces.lands msg.to x msg x.status) (λ t e. subst (λ v. Within (served_raise msg x v) pt.kernel t) w (serves_paid pt.kernel i msg x t there alive e))
-here_paid pt m i msg x what.Gone w there alive = lands_paid pt.kernel i (pieces.lands msg.to x msg x.status) (λ t e. subst (λ v. Within (served_raise msg x v) pt.kernel t) w (serves_paid pt.kernel i msg x t there alive e))
-here_paid pt m i msg x (what.Create image links) w there alive = tt
-here_paid pt m i msg x (what.Created pid) w there alive = tt
-here_paid pt m i msg x what.NoRoom w there alive = tt
-here_paid pt m i msg x (what.Move machine) w there alive = tt
-here_paid pt m i msg x (what.Moved outcome) w there alive = tt
+here_paid pt m i msg x (PlainWhat.User code channel body links) w there alive = (refl, λ t e. inl (line_within pt.kernel t None refl e, tt))
+here_paid pt m i msg x PlainWhat.Stop w there alive = (refl, λ t e. inl (subst (λ v. Within (served_raise msg x v) pt.kernel t) w (serves_paid pt.kernel i msg x t there alive e), tt))
+here_paid pt m i msg x PlainWhat.Resume w there alive = (refl, λ t e. inl (subst (λ v. Within (served_raise msg x v) pt.kernel t) w (serves_paid pt.kernel i msg x t there alive e), tt))
+here_paid pt m i msg x PlainWhat.Kill w there alive = (refl, λ t e. inl (subst (λ v. Within (served_raise msg x v) pt.kernel t) w (serves_paid pt.kernel i msg x t there alive e), drops_paid (pt.view.queue m msg.to) t))
+here_paid pt m i msg x (PlainWhat.Read base len) w there alive = (refl, λ t e. inl (subst (λ v. Within (served_raise msg x v) pt.kernel t) w (serves_paid pt.kernel i msg x t there alive e), tt))
+here_paid pt m i msg x (PlainWhat.Write base bytes) w there alive = (refl, λ t e. inl (subst (λ v. Within (served_raise msg x v) pt.kernel t) w (serves_paid pt.kernel i msg x t there alive e), tt))
+here_paid pt m i msg x (PlainWhat.Block bytes) w there alive = lands_paid pt.kernel i (pieces.lands msg.to x msg x.status) (λ t e. subst (λ v. Within (served_raise msg x v) pt.kernel t) w (serves_paid pt.kernel i msg x t there alive e))
+here_paid pt m i msg x PlainWhat.Written w there alive = lands_paid pt.kernel i (pieces.lands msg.to x msg x.status) (λ t e. subst (λ v. Within (served_raise msg x v) pt.kernel t) w (serves_paid pt.kernel i msg x t there alive e))
+here_paid pt m i msg x PlainWhat.Gone w there alive = lands_paid pt.kernel i (pieces.lands msg.to x msg x.status) (λ t e. subst (λ v. Within (served_raise msg x v) pt.kernel t) w (serves_paid pt.kernel i msg x t there alive e))
+here_paid pt m i msg x _ w there alive = tt
 
 -- or an ended one's
 ended_paid : (s : OneKernel) (i : MsgId) (w : PlainWhat) → PaidIf s (rule.ended_handles i w)
-ended_paid s i (what.Read base len) = (refl, λ t e. inl ((gone_raises s t i e).within, tt))
-ended_paid s i (what.Write base bytes) = (refl, λ t e. inl ((gone_raises s t i e).within, tt))
-ended_paid s i (what.User code channel body links) = (refl, λ t e. inl ((dropped_raises s t i e).within, tt))
-ended_paid s i what.Stop = (refl, λ t e. inl ((dropped_raises s t i e).within, tt))
-ended_paid s i what.Resume = (refl, λ t e. inl ((dropped_raises s t i e).within, tt))
-ended_paid s i what.Kill = (refl, λ t e. inl ((dropped_raises s t i e).within, tt))
-ended_paid s i (what.Block bytes) = (refl, λ t e. inl ((dropped_raises s t i e).within, tt))
-ended_paid s i what.Written = (refl, λ t e. inl ((dropped_raises s t i e).within, tt))
-ended_paid s i what.Gone = (refl, λ t e. inl ((dropped_raises s t i e).within, tt))
-ended_paid s i (what.Create image links) = tt
-ended_paid s i (what.Created pid) = tt
-ended_paid s i what.NoRoom = tt
-ended_paid s i (what.Move machine) = tt
-ended_paid s i (what.Moved outcome) = tt
+ended_paid s i (PlainWhat.Read base len) = (refl, λ t e. inl ((gone_raises s t i e).within, tt))
+ended_paid s i (PlainWhat.Write base bytes) = (refl, λ t e. inl ((gone_raises s t i e).within, tt))
+ended_paid s i (PlainWhat.Create image links) = tt
+ended_paid s i (PlainWhat.Created pid) = tt
+ended_paid s i PlainWhat.NoRoom = tt
+ended_paid s i (PlainWhat.Move machine) = tt
+ended_paid s i (PlainWhat.Moved outcome) = tt
+ended_paid s i _ = (refl, λ t e. inl ((dropped_raises s t i e).within, tt))
 
 alive_paid : (pt : Point) (m : ℕ) (i : MsgId) (msg : PlainMessage) (o : Option PlainProcess) → kernel.alive (pt.kernel.processes msg.to) ≡ o → pt.kernel.bag i ≡ Some msg → PaidIf pt.kernel (bind o (λ x. rule.here_handles pt m i msg x msg.what))
 alive_paid pt m i msg None e there = tt
 alive_paid pt m i msg (Some x) e there = here_paid pt m i msg x msg.what refl there e
 
-told_paid : (s : OneKernel) (a : Addresses) (i : MsgId) (c : Bool) (sender : Pid) → Paid s (if c then Owns kind.Update sender (a (Sender i)).at ∷ [] else [])
+told_paid : (s : OneKernel) (a : Addresses) (i : MsgId) (c : Bool) (sender : Pid) → Paid s (if c then Owns MessageKind.Update sender (a (Sender i)).at ∷ [] else [])
 told_paid s a i true sender = tt
 told_paid s a i false sender = tt
 
@@ -236,10 +186,9 @@ forwards_paid s a i k sender to = (refl, λ t e. inl (line_within s t None refl 
 process_paid : (pt : Point) (m : ℕ) (i : MsgId) (msg : PlainMessage) (k : view.Known) → pt.kernel.bag i ≡ Some msg → PaidIf pt.kernel (rule.process_handles pt m i msg k)
 process_paid pt m i msg view.Unknown there = tt
 process_paid pt m i msg view.Here there = alive_paid pt m i msg (kernel.alive (pt.kernel.processes msg.to)) refl there
-process_paid pt m i msg (view.Frozen to) there = (refl, λ t e. inl (line_within pt.kernel t None refl e, tt))
-process_paid pt m i msg (view.Incoming from) there = (refl, λ t e. inl (line_within pt.kernel t None refl e, tt))
 process_paid pt m i msg (view.Forward at moves) there = forwards_paid pt.kernel pt.addresses i (plain_kind msg.what) msg.sender at
 process_paid pt m i msg view.Ended there = ended_paid pt.kernel i msg.what
+process_paid pt m i msg _ there = (refl, λ t e. inl (line_within pt.kernel t None refl e, tt))
 
 handles_paid : (b : Boot) (pt : Point) (m : ℕ) (i : MsgId) (msg : PlainMessage) (c d e : Bool) → pid_eq msg.to switchboard ≡ d → pt.kernel.bag i ≡ Some msg
     → PaidIf pt.kernel (if c then rule.kernel_handles b pt m i msg.what
@@ -277,56 +226,22 @@ mute_paid (Transmits a c l ∷ ps) s h = mute_paid ps s h
 
 -- deliveries and ticks are no steps
 net_label : (l : Line) → IsNetLine l → label_of l ≡ None
-net_label (line.Taken a c n) is = refl
-net_label (line.Old a c n) is = refl
-net_label (line.Early a c n) is = refl
-net_label (line.Acked a c n) is = refl
-net_label line.Nothing is = refl
-net_label (line.Resent n c) is = refl
-net_label (line.Head d) is = absurd is
-net_label (line.Idle n) is = absurd is
-net_label (line.Label l) is = absurd is
-net_label (line.Put a c i k q) is = absurd is
-net_label (line.Packet a c k l) is = absurd is
-net_label (line.Queued i) is = absurd is
-net_label (line.Held i) is = absurd is
-net_label (line.Forwarded i n) is = absurd is
-net_label (line.Updated i n) is = absurd is
-net_label (line.Migration s p) is = absurd is
-net_label (line.SentOn p n) is = absurd is
-net_label (line.Lacks p f c) is = absurd is
-net_label (line.Stays p) is = absurd is
-net_label (line.Here i) is = absurd is
-net_label (line.NoMove i) is = absurd is
-net_label (line.Proto i) is = absurd is
-net_label (line.NoChild p) is = absurd is
-net_label (line.Pinned p) is = absurd is
+net_label (Line.Taken a c n) is = refl
+net_label (Line.Old a c n) is = refl
+net_label (Line.Early a c n) is = refl
+net_label (Line.Acked a c n) is = refl
+net_label Line.Nothing is = refl
+net_label (Line.Resent n c) is = refl
+net_label _ is = absurd is
 
 net_free : (l : Line) → IsNetLine l → is_free l ≡ true
-net_free (line.Taken a c n) is = refl
-net_free (line.Old a c n) is = refl
-net_free (line.Early a c n) is = refl
-net_free (line.Acked a c n) is = refl
-net_free line.Nothing is = refl
-net_free (line.Resent n c) is = refl
-net_free (line.Head d) is = absurd is
-net_free (line.Idle n) is = absurd is
-net_free (line.Label l) is = absurd is
-net_free (line.Put a c i k q) is = absurd is
-net_free (line.Packet a c k l) is = absurd is
-net_free (line.Queued i) is = absurd is
-net_free (line.Held i) is = absurd is
-net_free (line.Forwarded i n) is = absurd is
-net_free (line.Updated i n) is = absurd is
-net_free (line.Migration s p) is = absurd is
-net_free (line.SentOn p n) is = absurd is
-net_free (line.Lacks p f c) is = absurd is
-net_free (line.Stays p) is = absurd is
-net_free (line.Here i) is = absurd is
-net_free (line.NoMove i) is = absurd is
-net_free (line.Proto i) is = absurd is
-net_free (line.NoChild p) is = absurd is
-net_free (line.Pinned p) is = absurd is
+net_free (Line.Taken a c n) is = refl
+net_free (Line.Old a c n) is = refl
+net_free (Line.Early a c n) is = refl
+net_free (Line.Acked a c n) is = refl
+net_free Line.Nothing is = refl
+net_free (Line.Resent n c) is = refl
+net_free _ is = absurd is
 
 pub net_paid : (ps : List Part) (s : OneKernel) → IsNet ps → Paid s ps
 net_paid [] s is = tt

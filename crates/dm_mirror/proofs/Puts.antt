@@ -1,39 +1,14 @@
 -- A packet goes on the wire of a pair: the world has it, and so have the lines.
-use Rattle.std.proofs.Common.{◌≡◌, ◌≢◌, ℕ, ◌+◌, ◌≤◌, ◌==◌, ◌&&◌, Bool, true, false, List, [], ◌∷◌, ◌++◌, length, refl, ap, ◌∙◌, sym, subst}
-use Rattle.std.specs.Prelude.{if◌then◌else◌}
-use Rattle.std.specs.declared.option.Option.{Option}
-use Rattle.std.specs.declared.option.Option.TheVariants.{Some}
-use Rattle.std.proofs.lemmas.Bool.{eqb-true, eq-eqb}
-use Rattle.std.proofs.lemmas.List.{length-map}
-use Rattle.dm_message.specs.declared.Message.{Message}
+use Rattle.dm_mirror.proofs.Names.{◌≡◌, ◌≢◌, ℕ, ◌+◌, ◌≤◌, ◌==◌, ◌&&◌, Bool, true, false, List, [], ◌∷◌, ◌++◌, length, refl, ap, ◌∙◌, sym, subst, if◌then◌else◌, Option, Some, eqb-true, eq-eqb, length-map, Message, Sending, Stream, spelling}
+use Rattle.dm_mirror.proofs.Names.{Boot, bind, NodeState, Out, Sends, Spoken, spoken, says, with_packet, Line, at_machine, at_pair, Load, Spot, Queue, Untaken, standing, times, About, Pair, View, after_packet, begins, pair_keeps, MsgId}
+use Rattle.dm_mirror.proofs.Names.{Part, Spelled, lines_of, spelled, Point, after, two_of, Placed, WorldState, History, NodeStands, PairStands, StandsWith, load_of, stream_of}
 use Rattle.dm_stream.specs.Packets as stream
-use Rattle.dm_stream.specs.Sending.{Sending}
-use Rattle.dm_stream.specs.Stream.{Stream}
-use Rattle.dm_packet.specs.Packets.{spelling}
 use Rattle.dm_wire.specs.Sent as wire
 use Rattle.dm_wire.specs.Wire.{after_put}
-use Rattle.dm_onekernel.specs.declared.boot.Boot.{Boot}
-use Rattle.dm_onekernel.specs.Options.{bind}
-use Rattle.dm_node.specs.State.{NodeState}
-use Rattle.dm_node.specs.declared.out.Out.{Out}
-use Rattle.dm_node.specs.declared.out.Out.TheVariants.{Says, Sends}
+use Rattle.dm_node.specs.declared.out.Out.TheVariants.{Says}
 use Rattle.dm_node.specs.Out.{packet_of}
-use Rattle.dm_node.specs.Wired.{Spoken, spoken, says, with_packet, packet_line}
-use Rattle.dm_line.specs.declared.line.Line.{Line}
-use Rattle.dm_line.specs.declared.line.Line.TheVariants as line
-use Rattle.dm_line.specs.declared.line.Load.TheVariants as load
-use Rattle.dm_line.specs.Sets.{at_machine, at_pair}
-use Rattle.dm_line.specs.declared.line.Load.{Load}
-use Rattle.dm_rule.specs.Spots.{Spot, Queue, Held, Inbox, Untaken, standing, times}
-use Rattle.dm_rule.specs.View.{About, Pair, View, after_packet, begins}
-use Rattle.dm_rule.proofs.Lines.{pair_keeps}
-use Rattle.dm_message.specs.declared.MsgId.{MsgId}
-use Rattle.dm_rule.specs.Parts.{Part, Spelled, behind, lines_of, spelled}
-use Rattle.dm_rule.specs.Point.{Point, after}
-use Rattle.dm_rule.proofs.Pairs.Stand.{two_of}
-use Rattle.dm_places.specs.Placed.{Placed}
-use Rattle.dm_world.specs.World.{WorldState}
-use Rattle.dm_mirror.specs.Stands.{History, NodeStands, PairStands, StandsWith, load_of, stream_of}
+use Rattle.dm_node.specs.Wired.{packet_line}
+use Rattle.dm_rule.specs.Parts.{behind}
 use Rattle.dm_mirror.proofs.Streams.{Joined, pair_stands, pair_stays, with_back, with_bytes, with_line}
 use Rattle.dm_mirror.proofs.Stays.{apart_is, at_here, at_other, both_false, mirrors_same, node_same, nodes_are, pair_here, pair_other, pairs_are, swapped, tokens_same}
 
@@ -67,9 +42,9 @@ wire_other : (wires : ℕ → ℕ → List wire.Sent) (a c : ℕ) (l : stream.Lo
 wire_other wires a c l x y e = wires_put wires a c l x y ∙ ap (λ (t : Bool). if t then wires x y ++ wire.just_put (spelling (packet_of a c l)) ∷ [] else wires x y) e
 
 -- the line is the same
-pub line_put : (wires : ℕ → ℕ → List wire.Sent) (a c k : ℕ) (l : stream.Load Message) → length (wires a c) ≡ k → packet_line wires (packet_of a c l) ≡ line.Packet a c k (load_of l)
-line_put wires a c k (stream.Data n m) e = ap (λ (z : ℕ). line.Packet a c z (load.Data n)) e
-line_put wires a c k (stream.Ack n) e = ap (λ (z : ℕ). line.Packet a c z (load.Ack n)) e
+pub line_put : (wires : ℕ → ℕ → List wire.Sent) (a c k : ℕ) (l : stream.Load Message) → length (wires a c) ≡ k → packet_line wires (packet_of a c l) ≡ Line.Packet a c k (load_of l)
+line_put wires a c k (stream.Data n m) e = ap (λ (z : ℕ). Line.Packet a c z (Load.Data n)) e
+line_put wires a c k (stream.Ack n) e = ap (λ (z : ℕ). Line.Packet a c z (Load.Ack n)) e
 
 pub wire_length : (b : Boot) (pt : Point) (l : Placed) (w : WorldState) (h : History) (a c : ℕ) → PairStands b pt l w h a c → length (w.wires a c) ≡ length (pt.view.pair a c).wire
 wire_length b pt l w h a c s = ap length s.bytes ∙ length-map (h.packets a c) _ ∙ sym (ap length (sym s.packets) ∙ length-map (h.packets a c) _)
@@ -157,10 +132,8 @@ pairs_put b pt l w h m c nodes s ld apart senders there back =
 
 -- a packet moves no message
 pub put_standing : (v : View) (a c : ℕ) (ld : Load) (i : MsgId) (z : Spot) → standing (after_packet v a c ld) i z ≡ standing v i z
-put_standing v a c ld i (Queue m p) = refl
-put_standing v a c ld i (Held m p) = refl
-put_standing v a c ld i (Inbox m) = refl
 put_standing v a c ld i (Untaken d e) = ap (times i) (pair_keeps v.pair a c (with_line (v.pair a c) ld) refl d e)
+put_standing v a c ld i _ = refl
 
 -- the world stands for the point behind the packet
 pub stands_put : (b : Boot) (pt : Point) (l : Placed) (w : WorldState) (h : History) (m c : ℕ) (nodes : ℕ → NodeState) (s : Sending Message) (ld : stream.Load Message) → m ≢ c → Senders w m c nodes s
@@ -182,9 +155,7 @@ stands_put b pt l w h m c nodes s ld apart senders others records here there bac
 
 begins_standing : (v : View) (m : ℕ) (a : About) (i : MsgId) (z : Spot) → standing (begins v m a) i z ≡ standing v i z
 begins_standing v m a i (Queue n p) = refl
-begins_standing v m a i (Held n p) = refl
-begins_standing v m a i (Inbox n) = refl
-begins_standing v m a i (Untaken c d) = refl
+begins_standing v m a i _ = refl
 
 -- behind the head of a directive the world stands
 pub stands_begins : (b : Boot) (w : WorldState) (pt : Point) (l : Placed) (h : History) (m : ℕ) (a : About) → StandsWith b w pt l h → StandsWith b (record w { groups = w.groups + 1 }) (record pt { view = begins pt.view m a }) l h

@@ -1,56 +1,23 @@
 -- The line of a message that is routed, as the machine says it and as the rule has it.
-use Rattle.std.proofs.Common.{◌≡◌, ℕ, ◌==◌, Bool, true, false, is_some, List, [], ◌∷◌, length, refl, ap, ◌∙◌, sym, subst}
-use Rattle.std.specs.Prelude.{if◌then◌else◌}
-use Rattle.std.specs.declared.option.Option.{Option}
-use Rattle.std.specs.declared.option.Option.TheVariants.{None, Some}
-use Rattle.dm_message.specs.declared.Message.{Message}
-use Rattle.dm_message.specs.declared.What.{What}
-use Rattle.dm_message.specs.declared.What.TheVariants as what
-use Rattle.dm_message.specs.Kinds.{IsKindOfPlain, kind_of, plain_kind}
-use Rattle.dm_message.specs.Plain.{PlainMessage, PlainWhat, plain_message, plain_what, with_what}
-use Rattle.dm_onekernel.specs.Options.{bind}
-use Rattle.dm_line.specs.declared.line.Line.{Line}
-use Rattle.dm_line.specs.declared.line.Line.TheVariants as line
-use Rattle.dm_line.specs.declared.line.Load.TheVariants as load
-use Rattle.dm_rule.specs.Addresses.{Receiver}
-use Rattle.dm_rule.specs.Parts.{goes_out, lines_of, packet_line, puts}
-use Rattle.dm_rule.specs.Point.{Point, after, moved}
-use Rattle.dm_rule.specs.View.{Told, own_id}
-use Rattle.dm_link.specs.declared.Pid.{Pid}
-use Rattle.dm_message.specs.declared.MsgId.{MsgId}
-use Rattle.dm_message.specs.declared.kind.MessageKind.{MessageKind}
-use Rattle.dm_places.specs.Placed.{Placed, Mirrors}
-use Rattle.dm_mirror.specs.Tokens.{AllRecords}
+use Rattle.dm_mirror.proofs.Names.{◌≡◌, ℕ, ◌==◌, Bool, true, false, is_some, List, [], ◌∷◌, length, refl, ap, ◌∙◌, sym, subst, if◌then◌else◌, Option, None, Some, Message, What, Load, IsKindOfPlain, kind_of, plain_kind, PlainMessage}
+use Rattle.dm_mirror.proofs.Names.{PlainWhat, plain_message, plain_what, with_what, bind, Line, Receiver, goes_out, lines_of, packet_line, puts, Point, after, moved, Told, own_id, Pid, MsgId, MessageKind, Placed, Mirrors, AllRecords}
 use Rattle.dm_mirror.proofs.Turning.{Route, First, On, Own, MayPut, message_of, rule_part_of}
 
 -- the kind of a message is that of its plain meaning
 kind_plain : (w : What) → IsKindOfPlain w (plain_what w)
-kind_plain (what.User code channel body links) = refl
-kind_plain what.Stop = refl
-kind_plain what.Resume = refl
-kind_plain what.Kill = refl
-kind_plain (what.Read base len) = refl
-kind_plain (what.Write base bytes) = refl
-kind_plain (what.Block bytes) = refl
-kind_plain what.Written = refl
-kind_plain what.Gone = refl
-kind_plain (what.Create image links) = refl
-kind_plain (what.Created pid) = refl
-kind_plain what.NoRoom = refl
-kind_plain (what.Move machine) = refl
-kind_plain (what.Moved outcome) = refl
-kind_plain (what.Migrate machine) = tt
-kind_plain (what.Update about) = tt
-kind_plain (what.Ask pid blocks moves size asker) = tt
-kind_plain (what.Refuse pid slots blocks) = tt
-kind_plain (what.PullState pid chunk) = tt
-kind_plain (what.State pid chunk last bytes) = tt
-kind_plain (what.PullBlock pid block) = tt
-kind_plain (what.Memory pid block bytes) = tt
-kind_plain (what.AllTaken pid) = tt
-kind_plain (what.Restart pid) = tt
-kind_plain (what.CallOff pid) = tt
-kind_plain (what.Bury pid) = tt
+kind_plain (What.Migrate machine) = tt
+kind_plain (What.Update about) = tt
+kind_plain (What.Ask pid blocks moves size asker) = tt
+kind_plain (What.Refuse pid slots blocks) = tt
+kind_plain (What.PullState pid chunk) = tt
+kind_plain (What.State pid chunk last bytes) = tt
+kind_plain (What.PullBlock pid block) = tt
+kind_plain (What.Memory pid block bytes) = tt
+kind_plain (What.AllTaken pid) = tt
+kind_plain (What.Restart pid) = tt
+kind_plain (What.CallOff pid) = tt
+kind_plain (What.Bury pid) = tt
+kind_plain _ = refl
 
 -- a message of the bag, without places
 pub record IsPlain (o : Option PlainMessage) (x : Message) : Type 0 where
@@ -81,10 +48,10 @@ plain_of pt l x mirrors there plain =
 
 -- the packet that goes with it
 abbrev pub packet_with : Point → ℕ → ℕ → Line
-packet_with pt m c = packet_line pt.view m c (load.Data (length (pt.view.pair m c).ids))
+packet_with pt m c = packet_line pt.view m c (Load.Data (length (pt.view.pair m c).ids))
 
 abbrev pub line_put : ℕ → ℕ → Message → Line
-line_put m c x = line.Put m c x.id (kind_of x.what) x.to.pid
+line_put m c x = Line.Put m c x.id (kind_of x.what) x.to.pid
 
 abbrev pub lines_put : Point → ℕ → ℕ → Message → Bool → Bool → List Line
 lines_put pt m c x home out = line_put m c x ∷ (if home then [] else if out then packet_with pt m c ∷ [] else [])
@@ -105,7 +72,7 @@ put_leads pt m c x false true = refl
 puts_are : (pt : Point) (m c : ℕ) (x : Message) (id : MsgId) (k : MessageKind) (q : Pid) (at_ : ℕ) (home out : Bool) → pt.view.acting ≡ m → at_ ≡ c → id ≡ x.id → k ≡ kind_of x.what → q ≡ x.to.pid → (m == c) ≡ home → goes_out (pt.view.pair m c) ≡ out
     → puts pt.view at_ id k q ≡ lines_put pt m c x home out
 puts_are pt m c x id k q at_ home out acting place name kind to same goes =
-    (λ i. line.Put (acting i) (place i) (name i) (kind i) (to i) ∷ (if acting i == place i then [] else if goes_out (pt.view.pair (acting i) (place i)) then packet_with pt (acting i) (place i) ∷ [] else []))
+    (λ i. Line.Put (acting i) (place i) (name i) (kind i) (to i) ∷ (if acting i == place i then [] else if goes_out (pt.view.pair (acting i) (place i)) then packet_with pt (acting i) (place i) ∷ [] else []))
     ∙ (λ i. line_put m c x ∷ (if same i then [] else if goes i then packet_with pt m c ∷ [] else []))
 
 pub part_is : (pt : Point) (l : Placed) (records : AllRecords) (m : ℕ) (r : Route) (home out : Bool) → Mirrors pt.kernel pt.view pt.addresses l → pt.view.acting ≡ m → MayPut pt l records r → (m == (message_of r).to.at) ≡ home → goes_out (pt.view.pair m (message_of r).to.at) ≡ out

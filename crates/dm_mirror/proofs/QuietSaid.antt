@@ -1,28 +1,10 @@
 -- Whether anything is on its way, and whether a machine has mail, is what the printed lines say.
-use Rattle.std.proofs.Common.{◌≡◌, ◌≢◌, ℕ, suc, ◌-◌, ◌<◌, ◌≤◌, ◌==◌, ◌&&◌, Bool, true, false, not, List, [], ◌∷◌, map, drop, length, nat_lt, length-drop, refl, ap, ◌∙◌, sym, subst, arith}
-use Rattle.std.specs.Prelude.{◌||◌, ◌↔◌}
-use Rattle.std.specs.declared.option.Option.TheVariants.{Some}
-use Rattle.std.proofs.lemmas.Bool.Decides.{nat_tests}
-use Rattle.std.proofs.lemmas.List.{length-map}
-use Rattle.dm_message.specs.declared.Message.{Message}
-use Rattle.dm_message.specs.declared.MsgId.{MsgId}
-use Rattle.dm_onekernel.specs.declared.boot.Boot.{Boot}
-use Rattle.dm_onekernel.specs.Boot.{IsValid}
-use Rattle.dm_schedule.specs.declared.Step.{Step}
-use Rattle.dm_line.specs.Each.{all_below}
-use Rattle.dm_line.proofs.Below.{all_same}
-use Rattle.dm_rule.specs.Laws.{Leads}
-use Rattle.dm_rule.specs.Pairs.{HomeStands}
-use Rattle.dm_rule.specs.Point.{Point, first_point}
-use Rattle.dm_rule.specs.Quiet.{IsQuiet, has_mail, is_quiet, pair_is_quiet}
-use Rattle.dm_rule.specs.View.{Pair}
-use Rattle.dm_rule.proofs.Pairs.{pairs_stand_always}
-use Rattle.dm_rule.proofs.QuietTests.{passes_quiet, quiet_passes}
-use Rattle.dm_places.specs.Placed.{Placed}
-use Rattle.dm_world.specs.World.{WorldState}
+use Rattle.dm_mirror.proofs.Names.{◌≡◌, ◌≢◌, ℕ, suc, ◌-◌, ◌<◌, ◌≤◌, ◌==◌, ◌&&◌, Bool, true, false, not, List, map, length, nat_lt, refl, ap, ◌∙◌, sym, subst, arith, ◌||◌, Some, nat_tests, length-map, Message, MsgId, Boot, IsValid, Step}
+use Rattle.dm_mirror.proofs.Names.{all_below, all_same, Leads, HomeStands, Point, first_point, has_mail, is_quiet, pair_is_quiet, Pair, pairs_stand_always, passes_quiet, quiet_passes, Placed, WorldState, MailIsSaid, QuietIsSaid, History}
+use Rattle.dm_mirror.proofs.Names.{PairStands, Stands, StandsWith}
+use Rattle.std.proofs.Common.{length-drop}
 use Rattle.dm_world.specs.Next as world
-use Rattle.dm_mirror.specs.Laws.{MailIsSaid, QuietIsSaid}
-use Rattle.dm_mirror.specs.Stands.{AreMessages, History, PairStands, Stands, StandsWith, id_of}
+use Rattle.dm_mirror.specs.Stands.{id_of}
 use Rattle.dm_mirror.proofs.Machines.{machines_are}
 
 -- as many messages as names

@@ -1,23 +1,9 @@
 -- How much a step of the kernel without machines raises its counts, and which processes there are behind it: what processes say.
-use Rattle.std.proofs.Common.{◌≡◌, ℕ, ◌+◌, ◌≤◌, Bool, true, false, refl, ap, ◌∙◌, sym, subst, is_some, arith, length}
-use Rattle.std.specs.Prelude.{if◌then◌else◌}
-use Rattle.std.specs.declared.option.Option.{Option}
-use Rattle.std.specs.declared.option.Option.TheVariants.{None, Some}
-use Rattle.dm_link.specs.declared.Pid.{Pid}
-use Rattle.dm_link.specs.Names.{pid_eq}
-use Rattle.dm_message.specs.declared.MsgId.{MsgId}
-use Rattle.dm_onekernel.specs.declared.label.Label.TheVariants as label
-use Rattle.dm_onekernel.specs.declared.label.Reply.{Reply}
-use Rattle.dm_onekernel.specs.declared.label.Why.{Why}
-use Rattle.dm_onekernel.specs.Options.{bind}
-use Rattle.dm_onekernel.specs.PlainProcess.{PlainProcess, PlainStatus, Ready, Waiting, Moving}
-use Rattle.dm_onekernel.specs.Kernel.{Life, Alive, Ended, Switchboard, Manager, OneKernel, with_process, with_sent}
-use Rattle.dm_onekernel.specs.Calls as calls
+use Rattle.dm_mirror.proofs.Names.{◌≡◌, ℕ, ◌+◌, ◌≤◌, Bool, true, false, refl, ap, ◌∙◌, sym, subst, is_some, arith, length, if◌then◌else◌, Option, None, Some, Pid, pid_eq, MsgId, Label, Called, Reply, Why, bind, PlainProcess, PlainStatus}
+use Rattle.dm_mirror.proofs.Names.{Ready, Waiting, Moving, Life, Alive, Switchboard, Manager, OneKernel, with_process, without_message, pid_eq-is, bind-is, when-is, Nexts, nexts, alive-is, Completing, completing}
+use Rattle.dm_onekernel.specs.Kernel.{Ended, with_sent}
 use Rattle.dm_onekernel.specs.Receiving as receiving
-use Rattle.dm_onekernel.specs.Service.{without_message}
 use Rattle.dm_onekernel.specs.Step as step
-use Rattle.dm_laws.proofs.Equal.{pid_eq-is}
-use Rattle.dm_laws.proofs.Steps.{bind-is, when-is, Nexts, nexts, alive-is, Completing, completing}
 
 -- how many messages a process has sent
 abbrev pub sent_of : Option Life → ℕ
@@ -111,80 +97,80 @@ runs_alive s p x e =
     let (y, is, ready) = bind-is (step.alive (s.processes p)) (λ v. step.if_ready v v.status) x e in
     alive-is (s.processes p) x (is ∙ ap Some (ready_is y y.status x ready))
 
-pub ran_raises : (s t : OneKernel) (p : Pid) (k : ℕ) → step.step s (label.Ran p k) ≡ Some t → Raises 0 s t
+pub ran_raises : (s t : OneKernel) (p : Pid) (k : ℕ) → step.step s (Label.Ran p k) ≡ Some t → Raises 0 s t
 ran_raises s t p k is =
     let (x, running, rest) = bind-is (step.running s p) (λ v. bind (step.plain_steps k (step.machine_of v)) (λ m. Some (step.goes_on s p (step.with_machine v m)))) t is in
     let (m, plain, last) = bind-is (step.plain_steps k (step.machine_of x)) (λ m. Some (step.goes_on s p (step.with_machine x m))) t rest in
     goes_raises s t p x (step.with_machine x m) (let e : step.goes_on s p (step.with_machine x m) ≡ t = cc in e) (runs_alive s p x running) refl
 
 replies_raise : (s t : OneKernel) (p : Pid) (n : ℕ) (c : Reply) (next : step.Next) → Nexts s p next → step.replies s p n c next ≡ Some t → Raises 0 s t
-replies_raise s t p n c (step.Calls number (calls.Replies reply y)) w is =
+replies_raise s t p n c (step.Calls number (Called.Replies reply y)) w is =
     let (z, sent, pending, counted) = w.counts in
     let k = when-is _ (step.goes_on s p y) t is in
     goes_raises s t p w.x y k.1 w.is.alive (counted.0 ∙ sent)
-replies_raise s t p n c (step.Calls number (calls.Sends m y)) w is = cc
-replies_raise s t p n c (step.Calls number (calls.Waits y)) w is = cc
-replies_raise s t p n c (step.Calls number (calls.Outputs word y)) w is = cc
-replies_raise s t p n c (step.Calls number (calls.Ends because)) w is = cc
+replies_raise s t p n c (step.Calls number (Called.Sends m y)) w is = cc
+replies_raise s t p n c (step.Calls number (Called.Waits y)) w is = cc
+replies_raise s t p n c (step.Calls number (Called.Outputs word y)) w is = cc
+replies_raise s t p n c (step.Calls number (Called.Ends because)) w is = cc
 replies_raise s t p n c (step.Faults fault) w is = cc
 
 sends_raise : (s t : OneKernel) (p : Pid) (id : MsgId) (next : step.Next) → Nexts s p next → step.sends s p id next ≡ Some t → Raises 1 s t
-sends_raise s t p id (step.Calls number (calls.Sends m y)) w is =
+sends_raise s t p id (step.Calls number (Called.Sends m y)) w is =
     let (z, sent, pending, counted) = w.counts in
     let k = when-is _ (with_sent (step.goes_on s p y) (Some m)) t is in
     let count = counted.count in
     subst (Raises 1 s) k.1 (set_raises s (with_sent (step.goes_on s p y) (Some m)) p w.x (Alive y) 1 w.is.alive (omega (arith, count, sent)) (λ q. refl) (λ h. refl) refl refl refl)
-sends_raise s t p id (step.Calls number (calls.Replies reply y)) w is = cc
-sends_raise s t p id (step.Calls number (calls.Waits y)) w is = cc
-sends_raise s t p id (step.Calls number (calls.Outputs word y)) w is = cc
-sends_raise s t p id (step.Calls number (calls.Ends because)) w is = cc
+sends_raise s t p id (step.Calls number (Called.Replies reply y)) w is = cc
+sends_raise s t p id (step.Calls number (Called.Waits y)) w is = cc
+sends_raise s t p id (step.Calls number (Called.Outputs word y)) w is = cc
+sends_raise s t p id (step.Calls number (Called.Ends because)) w is = cc
 sends_raise s t p id (step.Faults fault) w is = cc
 
 waits_raise : (s t : OneKernel) (p : Pid) (next : step.Next) → Nexts s p next → step.waits s p next ≡ Some t → Raises 0 s t
-waits_raise s t p (step.Calls number (calls.Waits y)) w is =
+waits_raise s t p (step.Calls number (Called.Waits y)) w is =
     let (z, sent, pending, counted) = w.counts in
     goes_raises s t p w.x y (let e : step.goes_on s p y ≡ t = cc in e) w.is.alive (counted.0 ∙ sent)
-waits_raise s t p (step.Calls number (calls.Replies reply y)) w is = cc
-waits_raise s t p (step.Calls number (calls.Sends m y)) w is = cc
-waits_raise s t p (step.Calls number (calls.Outputs word y)) w is = cc
-waits_raise s t p (step.Calls number (calls.Ends because)) w is = cc
+waits_raise s t p (step.Calls number (Called.Replies reply y)) w is = cc
+waits_raise s t p (step.Calls number (Called.Sends m y)) w is = cc
+waits_raise s t p (step.Calls number (Called.Outputs word y)) w is = cc
+waits_raise s t p (step.Calls number (Called.Ends because)) w is = cc
 waits_raise s t p (step.Faults fault) w is = cc
 
 outputs_raise : (s t : OneKernel) (p : Pid) (word : ℕ) (next : step.Next) → Nexts s p next → step.outputs s p word next ≡ Some t → Raises 0 s t
-outputs_raise s t p word (step.Calls number (calls.Outputs put y)) w is =
+outputs_raise s t p word (step.Calls number (Called.Outputs put y)) w is =
     let (z, sent, pending, counted) = w.counts in
     let k = when-is _ (step.goes_on s p y) t is in
     goes_raises s t p w.x y k.1 w.is.alive (counted.0 ∙ sent)
-outputs_raise s t p word (step.Calls number (calls.Replies reply y)) w is = cc
-outputs_raise s t p word (step.Calls number (calls.Sends m y)) w is = cc
-outputs_raise s t p word (step.Calls number (calls.Waits y)) w is = cc
-outputs_raise s t p word (step.Calls number (calls.Ends because)) w is = cc
+outputs_raise s t p word (step.Calls number (Called.Replies reply y)) w is = cc
+outputs_raise s t p word (step.Calls number (Called.Sends m y)) w is = cc
+outputs_raise s t p word (step.Calls number (Called.Waits y)) w is = cc
+outputs_raise s t p word (step.Calls number (Called.Ends because)) w is = cc
 outputs_raise s t p word (step.Faults fault) w is = cc
 
 pub end_raises_of : (s t : OneKernel) (p : Pid) (x : PlainProcess) (y : Why) → with_process s p (Ended y) ≡ t → s.processes p ≡ Some (Alive x) → Raises 0 s t
 end_raises_of s t p x y e is = subst (Raises 0 s) e (set_raises s (with_process s p (Ended y)) p x (Ended y) 0 is (omega arith) (λ q. refl) (λ h. refl) refl refl refl)
 
 ends_raise : (s t : OneKernel) (p : Pid) (y : Why) (next : step.Next) → Nexts s p next → step.ends s p y next ≡ Some t → Raises 0 s t
-ends_raise s t p y (step.Calls number (calls.Ends because)) w is = let k = when-is _ (with_process s p (Ended y)) t is in end_raises_of s t p w.x y k.1 w.is.alive
+ends_raise s t p y (step.Calls number (Called.Ends because)) w is = let k = when-is _ (with_process s p (Ended y)) t is in end_raises_of s t p w.x y k.1 w.is.alive
 ends_raise s t p y (step.Faults fault) w is = let k = when-is _ (with_process s p (Ended y)) t is in end_raises_of s t p w.x y k.1 w.is.alive
-ends_raise s t p y (step.Calls number (calls.Replies reply z)) w is = cc
-ends_raise s t p y (step.Calls number (calls.Sends m z)) w is = cc
-ends_raise s t p y (step.Calls number (calls.Waits z)) w is = cc
-ends_raise s t p y (step.Calls number (calls.Outputs word z)) w is = cc
+ends_raise s t p y (step.Calls number (Called.Replies reply z)) w is = cc
+ends_raise s t p y (step.Calls number (Called.Sends m z)) w is = cc
+ends_raise s t p y (step.Calls number (Called.Waits z)) w is = cc
+ends_raise s t p y (step.Calls number (Called.Outputs word z)) w is = cc
 
-pub call_raises : (s t : OneKernel) (p : Pid) (n : ℕ) (c : Reply) → step.step s (label.Call p n c) ≡ Some t → Raises 0 s t
+pub call_raises : (s t : OneKernel) (p : Pid) (n : ℕ) (c : Reply) → step.step s (Label.Call p n c) ≡ Some t → Raises 0 s t
 call_raises s t p n c is = let (x, next, rest) = bind-is (step.next s p) (step.replies s p n c) t is in replies_raise s t p n c x (nexts s p x next) rest
 
-pub send_raises : (s t : OneKernel) (p : Pid) (id : MsgId) → step.step s (label.Send p id) ≡ Some t → Raises 1 s t
+pub send_raises : (s t : OneKernel) (p : Pid) (id : MsgId) → step.step s (Label.Send p id) ≡ Some t → Raises 1 s t
 send_raises s t p id is = let (x, next, rest) = bind-is (step.next s p) (step.sends s p id) t is in sends_raise s t p id x (nexts s p x next) rest
 
-pub wait_raises : (s t : OneKernel) (p : Pid) → step.step s (label.Wait p) ≡ Some t → Raises 0 s t
+pub wait_raises : (s t : OneKernel) (p : Pid) → step.step s (Label.Wait p) ≡ Some t → Raises 0 s t
 wait_raises s t p is = let (x, next, rest) = bind-is (step.next s p) (step.waits s p) t is in waits_raise s t p x (nexts s p x next) rest
 
-pub out_raises : (s t : OneKernel) (p : Pid) (w : ℕ) → step.step s (label.Out p w) ≡ Some t → Raises 0 s t
+pub out_raises : (s t : OneKernel) (p : Pid) (w : ℕ) → step.step s (Label.Out p w) ≡ Some t → Raises 0 s t
 out_raises s t p w is = let (x, next, rest) = bind-is (step.next s p) (step.outputs s p w) t is in outputs_raise s t p w x (nexts s p x next) rest
 
-pub end_raises : (s t : OneKernel) (p : Pid) (y : Why) → step.step s (label.End p y) ≡ Some t → Raises 0 s t
+pub end_raises : (s t : OneKernel) (p : Pid) (y : Why) → step.step s (Label.End p y) ≡ Some t → Raises 0 s t
 end_raises s t p y is = let (x, next, rest) = bind-is (step.next s p) (step.ends s p y) t is in ends_raise s t p y x (nexts s p x next) rest
 
 -- a receive that ends
@@ -200,8 +186,8 @@ refuses_raise : (s t : OneKernel) (p : Pid) (id : MsgId) (reply : Reply) (c : re
 refuses_raise s t p id reply (receiving.Receives y) w is = cc
 refuses_raise s t p id reply (receiving.Refuses d y) w is = let k = when-is _ (step.goes_on s p y) t is in goes_raises s t p w.x y k.1 w.alive w.is.0
 
-pub receive_raises : (s t : OneKernel) (p : Pid) (id : MsgId) → step.step s (label.Receive p id) ≡ Some t → Raises 0 s t
+pub receive_raises : (s t : OneKernel) (p : Pid) (id : MsgId) → step.step s (Label.Receive p id) ≡ Some t → Raises 0 s t
 receive_raises s t p id is = let (x, c, rest) = bind-is (step.completing s p id) (step.receives s p id) t is in receives_raise s t p id x (completing s p id x c) rest
 
-pub refuse_raises : (s t : OneKernel) (p : Pid) (id : MsgId) (d : Reply) → step.step s (label.Refuse p id d) ≡ Some t → Raises 0 s t
+pub refuse_raises : (s t : OneKernel) (p : Pid) (id : MsgId) (d : Reply) → step.step s (Label.Refuse p id d) ≡ Some t → Raises 0 s t
 refuse_raises s t p id d is = let (x, c, rest) = bind-is (step.completing s p id) (step.refuses s p d) t is in refuses_raise s t p id d x (completing s p id x c) rest

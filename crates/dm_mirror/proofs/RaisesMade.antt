@@ -1,31 +1,13 @@
 -- How much a step raises counts: what the manager says, and a process that is made.
-use Rattle.std.proofs.Common.{◌≡◌, ◌≢◌, ◌⊎◌, inl, inr, ℕ, ◌+◌, ◌*◌, ◌<◌, ◌≤◌, ◌==◌, ◌&&◌, Bool, true, false, List, [], ◌∷◌, ◌++◌, refl, ap, ◌∙◌, sym, subst, is_some, nat_lt, arith, length}
-use Rattle.std.specs.Prelude.{if◌then◌else◌, slice_get}
-use Rattle.std.specs.declared.option.Option.{Option}
-use Rattle.std.specs.declared.option.Option.TheVariants.{None, Some}
-use Rattle.std.proofs.lemmas.Bool.Decides.{nat_tests}
-use Rattle.dm_link.specs.declared.Pid.{Pid}
-use Rattle.dm_link.specs.Names.{pid_eq, pid_of}
-use Rattle.dm_link.specs.Plain.{PlainLink}
-use Rattle.dm_message.specs.declared.MsgId.{MsgId}
-use Rattle.dm_message.specs.Plain as what
-use Rattle.dm_message.specs.Plain.{PlainMessage, PlainWhat}
-use Rattle.dm_onekernel.specs.declared.boot.BootImage.{BootImage}
-use Rattle.dm_onekernel.specs.declared.label.Label.{Label}
-use Rattle.dm_onekernel.specs.declared.label.Label.TheVariants as label
-use Rattle.dm_onekernel.specs.Boot.{first_number, switchboard, manager}
-use Rattle.dm_onekernel.specs.Options.{bind}
-use Rattle.dm_onekernel.specs.Kernel.{Life, Alive, Manager, Pending, OneKernel, with_sent}
-use Rattle.dm_onekernel.specs.Pieces.{answer_to}
+use Rattle.dm_mirror.proofs.Names.{◌≡◌, ◌≢◌, ◌⊎◌, inl, inr, ℕ, ◌+◌, ◌*◌, ◌<◌, ◌≤◌, ◌==◌, ◌&&◌, Bool, true, false, List, [], ◌∷◌, ◌++◌, refl, ap, ◌∙◌, sym, subst, is_some, nat_lt, arith, length, if◌then◌else◌, slice_get, Option, None, Some}
+use Rattle.dm_mirror.proofs.Names.{nat_tests, Pid, pid_eq, pid_of, PlainLink, MsgId, PlainMessage, PlainWhat, BootImage, Label, first_number, switchboard, manager, bind, Life, Alive, Manager, OneKernel, answer_to, without_message}
+use Rattle.dm_mirror.proofs.Names.{pid_eq-is, pid_eq-same, bind-is, when-is, ServerSends, manager_takes}
+use Rattle.dm_onekernel.specs.Kernel.{Pending, with_sent}
 use Rattle.dm_onekernel.specs.Start.{begun}
 use Rattle.dm_onekernel.specs.Switchboard as board
 use Rattle.dm_onekernel.specs.Manager as manage
 use Rattle.dm_onekernel.specs.Service as service
-use Rattle.dm_onekernel.specs.Service.{without_message}
 use Rattle.dm_onekernel.specs.Step as step
-use Rattle.dm_laws.proofs.Equal.{pid_eq-is, pid_eq-same}
-use Rattle.dm_laws.proofs.Steps.{bind-is, when-is}
-use Rattle.dm_laws.proofs.Servers.{ServerSends, manager_takes}
 use Rattle.dm_mirror.proofs.Raises.{Within, Stays, Raises, sent_of, ran_raises, call_raises, send_raises, wait_raises, out_raises, end_raises, receive_raises, refuse_raises}
 use Rattle.dm_mirror.proofs.RaisesServed.{sent_raise, board_raises, dropped_raises, gone_raises, no_space_raises, served_raises}
 
@@ -89,23 +71,13 @@ paid_no_room g n (Some r) k e =
     subst (Paid g) f (paid_answers g h r.answer 1 [] refl (omega arith))
 
 paid_takes : (g : Manager) (machines images : ℕ) (m : PlainMessage) (w : PlainWhat) (k : manage.Took) → manage.takes g machines images m w ≡ Some k → Paid g k
-paid_takes g machines images m (what.User code channel body links) k e =
+paid_takes g machines images m (PlainWhat.User code channel body links) k e =
     let f : manage.takes_user g machines images code body links ≡ k = cc in
     subst (Paid g) f (paid_if g (code == 0) (manage.requests g machines images body links) (manage.controls g (manage.child_numbered g.children code) body links)
     (paid_requests g machines images body links) (paid_controls g (manage.child_numbered g.children code) body links))
-paid_takes g machines images m (what.Created child) k e = paid_created g m.id.n child (manage.pending_numbered m.id.n g.pending) k e
-paid_takes g machines images m what.NoRoom k e = paid_no_room g m.id.n (manage.pending_numbered m.id.n g.pending) k e
-paid_takes g machines images m what.Stop k e = cc
-paid_takes g machines images m what.Resume k e = cc
-paid_takes g machines images m what.Kill k e = cc
-paid_takes g machines images m (what.Read a c) k e = cc
-paid_takes g machines images m (what.Write a c) k e = cc
-paid_takes g machines images m (what.Block a) k e = cc
-paid_takes g machines images m what.Written k e = cc
-paid_takes g machines images m what.Gone k e = cc
-paid_takes g machines images m (what.Create a c) k e = cc
-paid_takes g machines images m (what.Move a) k e = cc
-paid_takes g machines images m (what.Moved a) k e = cc
+paid_takes g machines images m (PlainWhat.Created child) k e = paid_created g m.id.n child (manage.pending_numbered m.id.n g.pending) k e
+paid_takes g machines images m PlainWhat.NoRoom k e = paid_no_room g m.id.n (manage.pending_numbered m.id.n g.pending) k e
+paid_takes g machines images m _ k e = cc
 
 manager_sent : (n after : ℕ) (o : Option PlainMessage) → ServerSends manager n o after → after ≡ n + sent_raise o
 manager_sent n after None h = let e : after ≡ n = h in omega (arith, e)
@@ -162,7 +134,7 @@ pub record TookSo (s t : OneKernel) (id : MsgId) : Type 0 where
   pub there : s.bag id ≡ Some m
   pub raises : Raises (took_raise s m) s t
 
-pub took_raises : (s t : OneKernel) (id : MsgId) → step.step s (label.Took id) ≡ Some t → TookSo s t id
+pub took_raises : (s t : OneKernel) (id : MsgId) → step.step s (Label.Took id) ≡ Some t → TookSo s t id
 took_raises s t id is =
     let (m, there, rest) = bind-is (s.bag id) (service.takes s id) t is in
     record { m = m; there = there; raises = took_raises_of s t id m (pid_eq m.to switchboard) (pid_eq m.to manager) rest }
@@ -190,7 +162,7 @@ made_same : (s : OneKernel) (home h : ℕ) → h ≢ home → service.made_one s
 made_same s home h apart = grind (arith, nat_tests)
 
 makes : (s : OneKernel) (id : MsgId) (m : PlainMessage) (home : ℕ) (links : List PlainLink) (image : BootImage) → home < s.machines
-    → Makes s (with_sent (service.with_child (without_message s id) (pid_of home (first_number + s.made home)) image links) (Some (answer_to m (what.Created (pid_of home (first_number + s.made home))))))
+    → Makes s (with_sent (service.with_child (without_message s id) (pid_of home (first_number + s.made home)) image links) (Some (answer_to m (PlainWhat.Created (pid_of home (first_number + s.made home))))))
 makes s id m home links image within =
     let child = pid_of home (first_number + s.made home) in
     let life = Alive (begun s.format image links) in
@@ -214,49 +186,37 @@ makes s id m home links image within =
 
 created_of : (s t : OneKernel) (id : MsgId) (m : PlainMessage) (child : Pid) (links : List PlainLink) (image : BootImage) → service.creates_of s id m child links image ≡ Some t → Makes s t
 created_of s t id m child links image is =
-    let k = when-is _ (with_sent (service.with_child (without_message s id) child image links) (Some (answer_to m (what.Created child)))) t is in
+    let k = when-is _ (with_sent (service.with_child (without_message s id) child image links) (Some (answer_to m (PlainWhat.Created child)))) t is in
     let both = k.0 in
     let name : pid_eq child (pid_of m.to.home (first_number + s.made m.to.home)) ≡ true = grind (arith, nat_tests) in
     let within : m.to.home < s.machines = grind (arith, nat_tests) in
     let child_is : child ≡ pid_of m.to.home (first_number + s.made m.to.home) = pid_eq-is child (pid_of m.to.home (first_number + s.made m.to.home)) name in
-    subst (Makes s) (ap (λ (c : Pid). with_sent (service.with_child (without_message s id) c image links) (Some (answer_to m (what.Created c)))) (sym child_is) ∙ k.1) (makes s id m m.to.home links image within)
+    subst (Makes s) (ap (λ (c : Pid). with_sent (service.with_child (without_message s id) c image links) (Some (answer_to m (PlainWhat.Created c)))) (sym child_is) ∙ k.1) (makes s id m m.to.home links image within)
 
 creates_raises : (s t : OneKernel) (id : MsgId) (m : PlainMessage) (child : Pid) (w : PlainWhat) → service.creates s id m child w ≡ Some t → Makes s t
-creates_raises s t id m child (what.Create image links) is =
+creates_raises s t id m child (PlainWhat.Create image links) is =
     let (i, found, rest) = bind-is (slice_get s.images image) (service.creates_of s id m child links) t is in
     created_of s t id m child links i rest
-creates_raises s t id m child (what.User c d f g) is = cc
-creates_raises s t id m child what.Stop is = cc
-creates_raises s t id m child what.Resume is = cc
-creates_raises s t id m child what.Kill is = cc
-creates_raises s t id m child (what.Read c d) is = cc
-creates_raises s t id m child (what.Write c d) is = cc
-creates_raises s t id m child (what.Block c) is = cc
-creates_raises s t id m child what.Written is = cc
-creates_raises s t id m child what.Gone is = cc
-creates_raises s t id m child (what.Created c) is = cc
-creates_raises s t id m child what.NoRoom is = cc
-creates_raises s t id m child (what.Move c) is = cc
-creates_raises s t id m child (what.Moved c) is = cc
+creates_raises s t id m child _ is = cc
 
-pub created_makes : (s t : OneKernel) (id : MsgId) (child : Pid) → step.step s (label.Created id child) ≡ Some t → Makes s t
+pub created_makes : (s t : OneKernel) (id : MsgId) (child : Pid) → step.step s (Label.Created id child) ≡ Some t → Makes s t
 created_makes s t id child is =
     let (m, there, rest) = bind-is (s.bag id) (λ v. service.creates s id v child v.what) t is in
     creates_raises s t id m child m.what rest
 
 -- each label makes a process, or none
 pub step_makes : (s t : OneKernel) (l : Label) → step.step s l ≡ Some t → Stays s t ⊎ Makes s t
-step_makes s t (label.Ran p k) is = inl (ran_raises s t p k is).stays
-step_makes s t (label.Call p n c) is = inl (call_raises s t p n c is).stays
-step_makes s t (label.Send p id) is = inl (send_raises s t p id is).stays
-step_makes s t (label.Wait p) is = inl (wait_raises s t p is).stays
-step_makes s t (label.Out p w) is = inl (out_raises s t p w is).stays
-step_makes s t (label.End p y) is = inl (end_raises s t p y is).stays
-step_makes s t (label.Receive p id) is = inl (receive_raises s t p id is).stays
-step_makes s t (label.Refuse p id d) is = inl (refuse_raises s t p id d is).stays
-step_makes s t (label.Served id) is = inl (served_raises s t id is).raises.stays
-step_makes s t (label.Took id) is = inl (took_raises s t id is).raises.stays
-step_makes s t (label.Dropped id) is = inl (dropped_raises s t id is).stays
-step_makes s t (label.Gone id) is = inl (gone_raises s t id is).stays
-step_makes s t (label.Created id child) is = inr (created_makes s t id child is)
-step_makes s t (label.NoSpace id a b) is = inl (no_space_raises s t id a b is).stays
+step_makes s t (Label.Ran p k) is = inl (ran_raises s t p k is).stays
+step_makes s t (Label.Call p n c) is = inl (call_raises s t p n c is).stays
+step_makes s t (Label.Send p id) is = inl (send_raises s t p id is).stays
+step_makes s t (Label.Wait p) is = inl (wait_raises s t p is).stays
+step_makes s t (Label.Out p w) is = inl (out_raises s t p w is).stays
+step_makes s t (Label.End p y) is = inl (end_raises s t p y is).stays
+step_makes s t (Label.Receive p id) is = inl (receive_raises s t p id is).stays
+step_makes s t (Label.Refuse p id d) is = inl (refuse_raises s t p id d is).stays
+step_makes s t (Label.Served id) is = inl (served_raises s t id is).raises.stays
+step_makes s t (Label.Took id) is = inl (took_raises s t id is).raises.stays
+step_makes s t (Label.Dropped id) is = inl (dropped_raises s t id is).stays
+step_makes s t (Label.Gone id) is = inl (gone_raises s t id is).stays
+step_makes s t (Label.Created id child) is = inr (created_makes s t id child is)
+step_makes s t (Label.NoSpace id a b) is = inl (no_space_raises s t id a b is).stays

@@ -1,63 +1,36 @@
 -- How much a step raises counts: what kernels and servers say.
-use Rattle.std.proofs.Common.{◌≡◌, ℕ, ◌+◌, ◌≤◌, ◌==◌, List, [], ◌∷◌, ◌++◌, length, Bool, true, false, refl, ap, sym, subst, arith}
-use Rattle.std.specs.Prelude.{if◌then◌else◌, take, drop}
-use Rattle.std.specs.declared.option.Option.{Option}
-use Rattle.std.specs.declared.option.Option.TheVariants.{None, Some}
-use Rattle.dm_message.specs.declared.MsgId.{MsgId}
-use Rattle.dm_message.specs.Plain as what
-use Rattle.dm_message.specs.Plain.{PlainMessage, PlainWhat}
-use Rattle.dm_onekernel.specs.declared.label.Label.TheVariants as label
-use Rattle.dm_onekernel.specs.declared.label.Why.TheVariants as why
-use Rattle.dm_onekernel.specs.Boot.{is_general, switchboard}
-use Rattle.dm_onekernel.specs.Options.{bind}
-use Rattle.dm_onekernel.specs.PlainProcess.{PlainProcess}
-use Rattle.dm_onekernel.specs.Kernel.{Alive, Ended, NamedLink, Switchboard, OneKernel, with_process, with_sent}
+use Rattle.dm_mirror.proofs.Names.{◌≡◌, ℕ, ◌+◌, ◌≤◌, ◌==◌, List, [], ◌∷◌, ◌++◌, length, Bool, true, false, refl, ap, sym, subst, arith, if◌then◌else◌, take, drop, Option, None, Some, MsgId, Label, Why, PlainMessage, PlainWhat, is_general}
+use Rattle.dm_mirror.proofs.Names.{switchboard, bind, PlainProcess, Alive, NamedLink, Switchboard, OneKernel, with_process, answer_to, PlainLink, without_message, is_of_memory, is_dropped, bind-is, when-is, alive-is, LandsSo, lands-is}
+use Rattle.dm_mirror.proofs.Names.{ServerSends, board_takes, if_some-is}
+use Rattle.dm_onekernel.specs.Kernel.{Ended, with_sent}
 use Rattle.dm_onekernel.specs.Pieces as pieces
-use Rattle.dm_onekernel.specs.Pieces.{answer_to}
 use Rattle.dm_onekernel.specs.Switchboard as board
-use Rattle.dm_link.specs.Plain.{PlainLink}
 use Rattle.dm_onekernel.specs.Service as service
-use Rattle.dm_onekernel.specs.Service.{without_message, is_of_memory, is_dropped}
 use Rattle.dm_onekernel.specs.Step as step
-use Rattle.dm_laws.proofs.Steps.{bind-is, when-is, alive-is}
-use Rattle.dm_laws.proofs.Services.{LandsSo, lands-is}
-use Rattle.dm_laws.proofs.Servers.{ServerSends, board_takes}
 use Rattle.dm_mirror.proofs.Raises.{Raises, bag_raises, set_raises}
 
 -- messages that have nobody to take them
-pub dropped_raises : (s t : OneKernel) (id : MsgId) → step.step s (label.Dropped id) ≡ Some t → Raises 0 s t
+pub dropped_raises : (s t : OneKernel) (id : MsgId) → step.step s (Label.Dropped id) ≡ Some t → Raises 0 s t
 dropped_raises s t id is =
     let (m, there, rest) = bind-is (s.bag id) (λ v. bind (step.ended (s.processes v.to)) (step.drops s id v)) t is in
     let (y, gone, last) = bind-is (step.ended (s.processes m.to)) (step.drops s id m) t rest in
     let k = when-is (is_dropped m.what) (without_message s id) t last in
     subst (Raises 0 s) k.1 (bag_raises s (without_message s id) (λ p. refl) (λ h. refl) refl refl refl)
 
-pub gone_raises : (s t : OneKernel) (id : MsgId) → step.step s (label.Gone id) ≡ Some t → Raises 0 s t
+pub gone_raises : (s t : OneKernel) (id : MsgId) → step.step s (Label.Gone id) ≡ Some t → Raises 0 s t
 gone_raises s t id is =
     let (m, there, rest) = bind-is (s.bag id) (λ v. bind (step.ended (s.processes v.to)) (step.says_gone s id v)) t is in
     let (y, gone, last) = bind-is (step.ended (s.processes m.to)) (step.says_gone s id m) t rest in
-    let k = when-is (is_of_memory m.what) (with_sent (without_message s id) (Some (answer_to m what.Gone))) t last in
-    subst (Raises 0 s) k.1 (bag_raises s (with_sent (without_message s id) (Some (answer_to m what.Gone))) (λ p. refl) (λ h. refl) refl refl refl)
+    let k = when-is (is_of_memory m.what) (with_sent (without_message s id) (Some (answer_to m PlainWhat.Gone))) t last in
+    subst (Raises 0 s) k.1 (bag_raises s (with_sent (without_message s id) (Some (answer_to m PlainWhat.Gone))) (λ p. refl) (λ h. refl) refl refl refl)
 
 no_room_raises : (s t : OneKernel) (id : MsgId) (m : PlainMessage) (w : PlainWhat) → service.has_no_room s id m w ≡ Some t → Raises 0 s t
-no_room_raises s t id m (what.Create image links) is =
-    let k = when-is _ (with_sent (without_message s id) (Some (answer_to m what.NoRoom))) t is in
-    subst (Raises 0 s) k.1 (bag_raises s (with_sent (without_message s id) (Some (answer_to m what.NoRoom))) (λ p. refl) (λ h. refl) refl refl refl)
-no_room_raises s t id m (what.User c d f g) is = cc
-no_room_raises s t id m what.Stop is = cc
-no_room_raises s t id m what.Resume is = cc
-no_room_raises s t id m what.Kill is = cc
-no_room_raises s t id m (what.Read c d) is = cc
-no_room_raises s t id m (what.Write c d) is = cc
-no_room_raises s t id m (what.Block c) is = cc
-no_room_raises s t id m what.Written is = cc
-no_room_raises s t id m what.Gone is = cc
-no_room_raises s t id m (what.Created c) is = cc
-no_room_raises s t id m what.NoRoom is = cc
-no_room_raises s t id m (what.Move c) is = cc
-no_room_raises s t id m (what.Moved c) is = cc
+no_room_raises s t id m (PlainWhat.Create image links) is =
+    let k = when-is _ (with_sent (without_message s id) (Some (answer_to m PlainWhat.NoRoom))) t is in
+    subst (Raises 0 s) k.1 (bag_raises s (with_sent (without_message s id) (Some (answer_to m PlainWhat.NoRoom))) (λ p. refl) (λ h. refl) refl refl refl)
+no_room_raises s t id m _ is = cc
 
-pub no_space_raises : (s t : OneKernel) (id : MsgId) (a b : ℕ) → step.step s (label.NoSpace id a b) ≡ Some t → Raises 0 s t
+pub no_space_raises : (s t : OneKernel) (id : MsgId) (a b : ℕ) → step.step s (Label.NoSpace id a b) ≡ Some t → Raises 0 s t
 no_space_raises s t id a b is =
     let (m, there, rest) = bind-is (s.bag id) (λ v. service.has_no_room s id v v.what) t is in
     no_room_raises s t id m m.what rest
@@ -69,9 +42,9 @@ landed_raise (Some (pieces.Next request x)) = 1
 landed_raise (Some (pieces.Done reply x)) = 0
 
 abbrev pub served_raise : PlainMessage → PlainProcess → PlainWhat → ℕ
-served_raise m x (what.Block bytes) = landed_raise (pieces.lands m.to x m x.status)
-served_raise m x what.Written = landed_raise (pieces.lands m.to x m x.status)
-served_raise m x what.Gone = landed_raise (pieces.lands m.to x m x.status)
+served_raise m x (PlainWhat.Block bytes) = landed_raise (pieces.lands m.to x m x.status)
+served_raise m x PlainWhat.Written = landed_raise (pieces.lands m.to x m x.status)
+served_raise m x PlainWhat.Gone = landed_raise (pieces.lands m.to x m x.status)
 served_raise m x w = 0
 
 changed_raises : (s t : OneKernel) (id : MsgId) (m : PlainMessage) (x y : PlainProcess) → service.changed s id m y ≡ t → s.processes m.to ≡ Some (Alive x) → y.sent ≡ x.sent → Raises 0 s t
@@ -92,36 +65,27 @@ lands_raises s t id m x is e =
     let k : service.landed s id m c ≡ t = cc in
     subst (λ (o : Option pieces.Landed). Raises (landed_raise o) s t) (sym lands) (landed_raises s t id m x c k is (lands-is m.to x m x.status c lands))
 
-if_some-is : {A : Type 0} (b : Bool) (x y : A) → (if b then Some x else None) ≡ Some y → x ≡ y
-if_some-is true x y e = cc
-if_some-is false x y e = cc
-
 pub serves_raises : (s t : OneKernel) (id : MsgId) (m : PlainMessage) (x : PlainProcess) (w : PlainWhat) → s.processes m.to ≡ Some (Alive x) → service.serves s id m x w ≡ Some t → Raises (served_raise m x w) s t
-serves_raises s t id m x what.Stop is e = changed_raises s t id m x (record x { stopped = true }) (let k : service.changed s id m (record x { stopped = true }) ≡ t = cc in k) is refl
-serves_raises s t id m x what.Resume is e = changed_raises s t id m x (record x { stopped = false }) (let k : service.changed s id m (record x { stopped = false }) ≡ t = cc in k) is refl
-serves_raises s t id m x what.Kill is e =
-    let v = with_process (without_message s id) m.to (Ended why.Killed) in
+serves_raises s t id m x PlainWhat.Stop is e = changed_raises s t id m x (record x { stopped = true }) (let k : service.changed s id m (record x { stopped = true }) ≡ t = cc in k) is refl
+serves_raises s t id m x PlainWhat.Resume is e = changed_raises s t id m x (record x { stopped = false }) (let k : service.changed s id m (record x { stopped = false }) ≡ t = cc in k) is refl
+serves_raises s t id m x PlainWhat.Kill is e =
+    let v = with_process (without_message s id) m.to (Ended Why.Killed) in
     let k : v ≡ t = cc in
-    subst (Raises 0 s) k (set_raises s v m.to x (Ended why.Killed) 0 is (omega arith) (λ q. refl) (λ h. refl) refl refl refl)
-serves_raises s t id m x (what.Read base len) is e =
+    subst (Raises 0 s) k (set_raises s v m.to x (Ended Why.Killed) 0 is (omega arith) (λ q. refl) (λ h. refl) refl refl refl)
+serves_raises s t id m x (PlainWhat.Read base len) is e =
     let (c, served, last) = bind-is (pieces.reads x m base len) (λ v. Some (service.answered s id m v)) t e in
-    let k = if_some-is _ (record { process = x; answer = answer_to m (what.Block (take len (drop base x.memory))) }) c served in
+    let k = if_some-is _ (record { process = x; answer = answer_to m (PlainWhat.Block (take len (drop base x.memory))) }) c served in
     let f : service.answered s id m c ≡ t = cc in
     answered_raises s t id m x c f is (sym (ap (λ (v : pieces.Served). v.process.sent) k))
-serves_raises s t id m x (what.Write base bytes) is e =
+serves_raises s t id m x (PlainWhat.Write base bytes) is e =
     let (c, served, last) = bind-is (pieces.writes x m base bytes) (λ v. Some (service.answered s id m v)) t e in
-    let k = if_some-is _ (record { process = record x { memory = pieces.written_at x.memory base bytes }; answer = answer_to m what.Written }) c served in
+    let k = if_some-is _ (record { process = record x { memory = pieces.written_at x.memory base bytes }; answer = answer_to m PlainWhat.Written }) c served in
     let f : service.answered s id m c ≡ t = cc in
     answered_raises s t id m x c f is (sym (ap (λ (v : pieces.Served). v.process.sent) k))
-serves_raises s t id m x (what.Block bytes) is e = lands_raises s t id m x is e
-serves_raises s t id m x what.Written is e = lands_raises s t id m x is e
-serves_raises s t id m x what.Gone is e = lands_raises s t id m x is e
-serves_raises s t id m x (what.User a b c d) is e = cc
-serves_raises s t id m x (what.Create a b) is e = cc
-serves_raises s t id m x (what.Created a) is e = cc
-serves_raises s t id m x what.NoRoom is e = cc
-serves_raises s t id m x (what.Move a) is e = cc
-serves_raises s t id m x (what.Moved a) is e = cc
+serves_raises s t id m x (PlainWhat.Block bytes) is e = lands_raises s t id m x is e
+serves_raises s t id m x PlainWhat.Written is e = lands_raises s t id m x is e
+serves_raises s t id m x PlainWhat.Gone is e = lands_raises s t id m x is e
+serves_raises s t id m x _ is e = cc
 
 -- the message and the process of a label
 pub record ServedSo (s t : OneKernel) (id : MsgId) : Type 0 where
@@ -131,7 +95,7 @@ pub record ServedSo (s t : OneKernel) (id : MsgId) : Type 0 where
   pub alive : s.processes m.to ≡ Some (Alive x)
   pub raises : Raises (served_raise m x m.what) s t
 
-pub served_raises : (s t : OneKernel) (id : MsgId) → step.step s (label.Served id) ≡ Some t → ServedSo s t id
+pub served_raises : (s t : OneKernel) (id : MsgId) → step.step s (Label.Served id) ≡ Some t → ServedSo s t id
 served_raises s t id is =
     let (m, there, rest) = bind-is (s.bag id) (λ v. bind (step.alive (s.processes v.to)) (λ p. service.serves s id v p v.what)) t is in
     let (x, alive, last) = bind-is (step.alive (s.processes m.to)) (λ p. service.serves s id m p m.what) t rest in
@@ -182,22 +146,10 @@ names_requested b body [] = omega arith
 names_requested b body (l ∷ others) = names_asked b.names body others
 
 names_took : (b : Switchboard) (m : PlainMessage) (w : PlainWhat) (k : board.Took) → board.takes b m w ≡ Some k → length k.switchboard.names ≤ length b.names + sent_raise k.answer
-names_took b m (what.User code channel body links) k e =
+names_took b m (PlainWhat.User code channel body links) k e =
     let f : board.takes_request b body links ≡ k = cc in
     subst (λ (t : board.Took). length t.switchboard.names ≤ length b.names + sent_raise t.answer) f (names_requested b body links)
-names_took b m what.Stop k e = cc
-names_took b m what.Resume k e = cc
-names_took b m what.Kill k e = cc
-names_took b m (what.Read a c) k e = cc
-names_took b m (what.Write a c) k e = cc
-names_took b m (what.Block a) k e = cc
-names_took b m what.Written k e = cc
-names_took b m what.Gone k e = cc
-names_took b m (what.Create a c) k e = cc
-names_took b m (what.Created a) k e = cc
-names_took b m what.NoRoom k e = cc
-names_took b m (what.Move a) k e = cc
-names_took b m (what.Moved a) k e = cc
+names_took b m _ k e = cc
 
 board_raises_of : (s : OneKernel) (id : MsgId) (b : Switchboard) (o : Option PlainMessage) (k : ℕ) → b.sent ≡ s.switchboard.sent + k → length b.names ≤ length s.switchboard.names + k → Raises k s (with_sent (record (without_message s id) { switchboard = b }) o)
 board_raises_of s id b None k e n = record {

@@ -1,30 +1,12 @@
 -- Packets are read again, from the start on and after each directive.
-use Rattle.std.proofs.Common.{◌≡◌, ℕ, ◌+◌, List, [], ◌∷◌, refl, subst}
-use Rattle.std.specs.declared.option.Option.{Option}
-use Rattle.std.specs.declared.option.Option.TheVariants.{None, Some}
-use Rattle.std.specs.declared.result.Result.{Result}
-use Rattle.std.specs.declared.result.Result.TheVariants.{Ok, Err}
-use Rattle.dm_packet.specs.declared.Packet.{Packet}
-use Rattle.dm_packet.specs.declared.Packet.TheVariants as packet
-use Rattle.dm_packet.specs.declared.Bad.{Bad}
-use Rattle.dm_packet.specs.Packets.{packet_of}
-use Rattle.dm_stream.specs.Packets.{Data, Ack}
-use Rattle.dm_wire.specs.Sent.{bytes_at}
-use Rattle.dm_wire.specs.Wire.{after_mark}
-use Rattle.dm_onekernel.specs.declared.boot.Boot.{Boot}
-use Rattle.dm_schedule.specs.declared.Step.{Step}
-use Rattle.dm_schedule.specs.declared.Step.TheVariants as step
-use Rattle.dm_kernel.specs.State.{Turned}
+use Rattle.dm_mirror.proofs.Names.{◌≡◌, ℕ, ◌+◌, List, [], ◌∷◌, refl, subst, Option, None, Some, Result, Err, Packet, Line, Bad, packet_of, Data, Ack, bytes_at, after_mark, Boot, Step, Turned, Acts, Goes, Worn, StaysAt, asks_move_stays}
+use Rattle.dm_mirror.proofs.Names.{turn_stays, WorldState, Said, acted, delivers, reads, world_step, MayDeliver, MayRead, MayStep, AreReadBack, IsReadable, gave, gave_bytes, gave_read, gave_some}
+use Rattle.std.specs.declared.result.Result.TheVariants.{Ok}
 use Rattle.dm_kernel.specs.Asking as asking
 use Rattle.dm_kernel.specs.Turn as kernel
-use Rattle.dm_node.specs.Out.{Acts, Goes, Worn}
 use Rattle.dm_node.specs.Acts as node
 use Rattle.dm_node.specs.May as node_may
-use Rattle.dm_node.proofs.Here.{StaysAt, asks_move_stays, turn_stays}
-use Rattle.dm_line.specs.declared.line.Line.TheVariants as line
-use Rattle.dm_world.specs.World.{WorldState, Said, Says, acted, delivers, reads, turned, world_step}
-use Rattle.dm_world.specs.May.{MayDeliver, MayRead, MayStep}
-use Rattle.dm_world.specs.Readable.{AreReadBack, IsReadable, gave, gave_bytes, gave_read, gave_some}
+use Rattle.dm_world.specs.World.{Says, turned}
 use Rattle.dm_mirror.proofs.Deliver.Keeps.{arrival_readable, tick_readable, turn_readable}
 
 -- a turn, or what the manager tells a process
@@ -39,25 +21,25 @@ turn_is_readable w e m None s stays is again h = cc
 turn_is_readable w e m (Some t) s stays is again h = acts_readable w e m t (node.acts (record (w.nodes m) { kernel = t.state }) t.parts) s stays refl is again h
 
 -- a delivery
-read_readable : (w : WorldState) (a c k : ℕ) (r : Result Packet Bad) (s : Said) → MayRead w a c r → reads (record w { wires = after_mark w.wires a c k }) (step.Deliver a c k) a c r ≡ Some (Says s) → AreReadBack (gave_read w a c r) → IsReadable w → IsReadable s.state
-read_readable w a c k (Ok (packet.Data from to n m)) s may e again h =
-    let same : acted (record w { wires = after_mark w.wires a c k }) (step.Deliver a c k) c (node.arrives (w.nodes c) a (Data n m)) ≡ s = cc in
+read_readable : (w : WorldState) (a c k : ℕ) (r : Result Packet Bad) (s : Said) → MayRead w a c r → reads (record w { wires = after_mark w.wires a c k }) (Step.Deliver a c k) a c r ≡ Some (Says s) → AreReadBack (gave_read w a c r) → IsReadable w → IsReadable s.state
+read_readable w a c k (Ok (Packet.Data from to n m)) s may e again h =
+    let same : acted (record w { wires = after_mark w.wires a c k }) (Step.Deliver a c k) c (node.arrives (w.nodes c) a (Data n m)) ≡ s = cc in
     let fits = subst (λ (i : ℕ). node_may.MayArrive (w.nodes c) i (Data n m)) may.0 may.1.0 in
-    subst (λ (x : Said). IsReadable x.state) same (arrival_readable w (step.Deliver a c k) a c k (Data n m) fits.fits again h)
-read_readable w a c k (Ok (packet.Ack from to n)) s may e again h =
-    let same : acted (record w { wires = after_mark w.wires a c k }) (step.Deliver a c k) c (node.arrives (w.nodes c) a (Ack n)) ≡ s = cc in
+    subst (λ (x : Said). IsReadable x.state) same (arrival_readable w (Step.Deliver a c k) a c k (Data n m) fits.fits again h)
+read_readable w a c k (Ok (Packet.Ack from to n)) s may e again h =
+    let same : acted (record w { wires = after_mark w.wires a c k }) (Step.Deliver a c k) c (node.arrives (w.nodes c) a (Ack n)) ≡ s = cc in
     let fits = subst (λ (i : ℕ). node_may.MayArrive (w.nodes c) i (Ack n)) may.0 may.1.0 in
-    subst (λ (x : Said). IsReadable x.state) same (arrival_readable w (step.Deliver a c k) a c k (Ack n) fits.fits again h)
+    subst (λ (x : Said). IsReadable x.state) same (arrival_readable w (Step.Deliver a c k) a c k (Ack n) fits.fits again h)
 read_readable w a c k (Err bad) s may e again h = absurd may
 
-deliver_readable : (w : WorldState) (a c k : ℕ) (o : Option (List ℕ)) (s : Said) → MayDeliver w a c o → delivers w (step.Deliver a c k) a c k o ≡ Some (Says s) → AreReadBack (gave_bytes w a c o) → IsReadable w → IsReadable s.state
+deliver_readable : (w : WorldState) (a c k : ℕ) (o : Option (List ℕ)) (s : Said) → MayDeliver w a c o → delivers w (Step.Deliver a c k) a c k o ≡ Some (Says s) → AreReadBack (gave_bytes w a c o) → IsReadable w → IsReadable s.state
 deliver_readable w a c k None s may e again h =
-    let same : record { state = record w { groups = w.groups + 1 }; lines = line.Head (step.Deliver a c k) ∷ line.Nothing ∷ [] } ≡ s = cc in subst (λ (x : Said). IsReadable x.state) same (record { reads = h.reads; out = h.out })
+    let same : record { state = record w { groups = w.groups + 1 }; lines = Line.Head (Step.Deliver a c k) ∷ Line.Nothing ∷ [] } ≡ s = cc in subst (λ (x : Said). IsReadable x.state) same (record { reads = h.reads; out = h.out })
 deliver_readable w a c k (Some bytes) s may e again h = read_readable w a c k (packet_of bytes) s may e again h
 
 pub readable_step : (b : Boot) (w : WorldState) (e : Step) (s : Said) → MayStep b w e → world_step b w e ≡ Some (Says s) → AreReadBack (gave b w e) → IsReadable w → IsReadable s.state
-readable_step b w (step.Turn m) s may happens again h = turn_is_readable w (step.Turn m) m (kernel.turn b (w.nodes m).kernel) s (turn_stays b (w.nodes m).kernel) happens again h
-readable_step b w (step.Tick m) s may happens again h =
-    let same : acted w (step.Tick m) m (node.tick (w.nodes m)) ≡ s = cc in subst (λ (x : Said). IsReadable x.state) same (tick_readable w (step.Tick m) m again h)
-readable_step b w (step.Deliver a c k) s may happens again h = deliver_readable w a c k (bytes_at (w.wires a c) k) s may.3 happens again h
-readable_step b w (step.Migrate p m) s may happens again h = turn_is_readable w (step.Migrate p m) 0 (asking.asks_move (w.nodes 0).kernel p m) s (asks_move_stays (w.nodes 0).kernel p m) happens again h
+readable_step b w (Step.Turn m) s may happens again h = turn_is_readable w (Step.Turn m) m (kernel.turn b (w.nodes m).kernel) s (turn_stays b (w.nodes m).kernel) happens again h
+readable_step b w (Step.Tick m) s may happens again h =
+    let same : acted w (Step.Tick m) m (node.tick (w.nodes m)) ≡ s = cc in subst (λ (x : Said). IsReadable x.state) same (tick_readable w (Step.Tick m) m again h)
+readable_step b w (Step.Deliver a c k) s may happens again h = deliver_readable w a c k (bytes_at (w.wires a c) k) s may.3 happens again h
+readable_step b w (Step.Migrate p m) s may happens again h = turn_is_readable w (Step.Migrate p m) 0 (asking.asks_move (w.nodes 0).kernel p m) s (asks_move_stays (w.nodes 0).kernel p m) happens again h

@@ -1,13 +1,6 @@
 -- What the processes of the lines take of a machine's room: it stays where each of them takes the same, and changes with one
 -- that takes something else, or is made.
-use Rattle.std.proofs.Common.{◌≡◌, ◌≢◌, ℕ, zero, suc, ◌+◌, ◌<◌, ◌≤◌, refl, ap, ◌∙◌, sym, subst, inl, inr, arith, nat_le}
-use Rattle.std.proofs.lemmas.Bool.{cases_Bool}
-use Rattle.std.proofs.lemmas.Bool.Decides.{eqb_tells, nat_tests}
-use Rattle.dm_link.specs.declared.Pid.{Pid}
-use Rattle.dm_link.specs.Names.{pid_of}
-use Rattle.dm_onekernel.specs.Boot.{first_number}
-use Rattle.dm_rule.specs.Point.{Point}
-use Rattle.dm_rule.specs.Rule.{Room, and, taken_by, taken_of_home, taken_at}
+use Rattle.dm_mirror.proofs.Names.{◌≡◌, ◌≢◌, ℕ, zero, suc, ◌+◌, ◌<◌, ◌≤◌, refl, ap, ◌∙◌, sym, subst, inl, inr, arith, eqb_tells, Pid, pid_of, first_number, Point, Room, and, taken_by, taken_of_home, taken_at}
 
 -- a process of another home, or with another number
 home_apart : (home n : ℕ) (p : Pid) → home ≢ p.home → pid_of home n ≢ p
@@ -169,45 +162,3 @@ pub taken_made : (pt next : Point) (m home : ℕ) → next.kernel.machines ≡ p
     → ((q : Pid) → q ≢ pid_of home (first_number + pt.kernel.made home) → taken_by next m q ≡ taken_by pt m q)
     → taken_at next m next.kernel.machines ≡ and (taken_at pt m pt.kernel.machines) (taken_by next m (pid_of home (first_number + pt.kernel.made home)))
 taken_made pt next m home machines within one made others = ap (taken_at next m) machines ∙ made_homes pt next m home pt.kernel.machines within one made others
-
--- the processes of a home beyond those that it made take nothing
-abbrev pub no_room : Room
-no_room = record { slots = 0; blocks = 0 }
-
-and_none : (r s : Room) → s ≡ no_room → and r s ≡ r
-and_none r s e =
-    let a : r.slots + s.slots ≡ r.slots = ap (λ (t : Room). r.slots + t.slots) e ∙ (let z : r.slots + 0 ≡ r.slots = omega arith in z) in
-    let b : r.blocks + s.blocks ≡ r.blocks = ap (λ (t : Room). r.blocks + t.blocks) e ∙ (let z : r.blocks + 0 ≡ r.blocks = omega arith in z) in
-    λ i. record { slots = a i; blocks = b i }
-
-past_home : (pt : Point) (m home n all : ℕ) → n ≤ all → ((k : ℕ) → n ≤ k → taken_by pt m (pid_of home (first_number + k)) ≡ no_room) → taken_of_home pt m home all ≡ taken_of_home pt m home n
-past_home pt m home n zero le none = ap (taken_of_home pt m home) (let e : 0 ≡ n = omega (arith, le) in e)
-past_home pt m home n (suc k) le none =
-    elim (eqb_tells n (suc k)) [
-      | inl e ↦ ap (taken_of_home pt m home) (sym e.1)
-      | inr e ↦
-          let below : n ≤ k = (let f : n ≢ suc k = e.1 in omega (arith, f, le)) in
-          and_none (taken_of_home pt m home k) (taken_by pt m (pid_of home (first_number + k))) (none k below) ∙ past_home pt m home n k below none
-    ]
-
--- each process takes as much of machine n as before; those that other homes made are the same, and what home m hadn't made takes nothing
-pub taken_elsewhere : (pt next : Point) (n m : ℕ) → next.kernel.machines ≡ pt.kernel.machines → ((h : ℕ) → h ≢ m → next.kernel.made h ≡ pt.kernel.made h)
-    → ((p : Pid) → taken_by next n p ≡ taken_by pt n p) → ((k : ℕ) → next.kernel.made m ≤ k → taken_by next n (pid_of m (first_number + k)) ≡ no_room)
-    → ((k : ℕ) → pt.kernel.made m ≤ k → taken_by pt n (pid_of m (first_number + k)) ≡ no_room) → taken_at next n next.kernel.machines ≡ taken_at pt n pt.kernel.machines
-taken_elsewhere pt next n m machines made same after before =
-    ap (taken_at next n) machines
-    ∙ same_homes pt next n pt.kernel.machines (λ home low.
-    elim (eqb_tells home m) [
-      | inl e ↦ subst (λ (h : ℕ). taken_of_home next n h (next.kernel.made h) ≡ taken_of_home pt n h (pt.kernel.made h)) (sym e.1) there
-      | inr e ↦ same_made pt next n home (made home e.1) (λ k. same (pid_of home k))
-    ])
-  where
-    there : taken_of_home next n m (next.kernel.made m) ≡ taken_of_home pt n m (pt.kernel.made m)
-    there = elim (cases_Bool (nat_le (next.kernel.made m) (pt.kernel.made m))) [
-      | inl few ↦
-          sym (past_home next n m (next.kernel.made m) (pt.kernel.made m) (let le : next.kernel.made m ≤ pt.kernel.made m = grind (arith, nat_tests) in le) after)
-          ∙ same_home pt next n m (pt.kernel.made m) (λ k low. same (pid_of m (first_number + k)))
-      | inr many ↦
-          same_home pt next n m (next.kernel.made m) (λ k low. same (pid_of m (first_number + k)))
-          ∙ past_home pt n m (pt.kernel.made m) (next.kernel.made m) (let le : pt.kernel.made m ≤ next.kernel.made m = grind (arith, nat_tests) in le) before
-    ]

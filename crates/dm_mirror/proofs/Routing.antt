@@ -1,41 +1,16 @@
 -- A message that is routed: the machine and the rule do the same, or both stop where the pair is full.
-use Rattle.std.proofs.Common.{◌≡◌, ◌≢◌, ℕ, ◌+◌, ◌-◌, ◌<◌, ◌≤◌, ◌==◌, ◌&&◌, nat_lt, Bool, true, false, List, [], ◌∷◌, ◌++◌, length, refl, ap, ◌∙◌, sym, subst, arith, inl, inr}
-use Rattle.std.specs.Prelude.{if◌then◌else◌, slice_get}
-use Rattle.std.specs.declared.option.Option.{Option}
-use Rattle.std.specs.declared.option.Option.TheVariants.{None, Some}
-use Rattle.std.proofs.lemmas.Bool.{eqb-true}
-use Rattle.std.proofs.lemmas.Bool.Decides.{nat_tests}
-use Rattle.dm_message.specs.declared.Message.{Message}
-use Rattle.dm_message.specs.Kinds.{kind_of}
-use Rattle.dm_message.specs.Lawful.{IsLawfulMessage}
-use Rattle.dm_stream.specs.Packets as stream
-use Rattle.dm_stream.specs.Sending.{Sending, due, given_count, numbered, with_given}
-use Rattle.dm_onekernel.specs.declared.boot.Boot.{Boot}
-use Rattle.dm_node.specs.State.{NodeState, here}
-use Rattle.dm_node.specs.declared.out.Out.{Out}
-use Rattle.dm_node.specs.declared.out.Out.TheVariants.{Says, Sends}
-use Rattle.dm_node.specs.Out.{Acts, Goes, Worn, behind, packet_of}
-use Rattle.dm_node.specs.Acts.{gives, is_worn, none_waits, put_line, routes, routes_away, routes_home, sends_due}
-use Rattle.dm_line.specs.declared.line.Line.{Line}
-use Rattle.dm_line.specs.declared.line.Line.TheVariants as line
+use Rattle.dm_mirror.proofs.Names.{◌≡◌, ◌≢◌, ℕ, ◌+◌, ◌-◌, ◌<◌, ◌≤◌, ◌==◌, ◌&&◌, nat_lt, Bool, true, false, List, [], ◌∷◌, ◌++◌, length, refl, ap, ◌∙◌, sym, subst, arith, inl, inr, if◌then◌else◌, slice_get, Option, None, Some, eqb-true}
+use Rattle.dm_mirror.proofs.Names.{nat_tests, Message, kind_of, IsLawfulMessage, Sending, due, given_count, numbered, with_given, Boot, NodeState, here, Out, Sends, Acts, Goes, Worn, behind, gives, is_worn, none_waits, put_line, routes}
+use Rattle.dm_mirror.proofs.Names.{routes_away, routes_home, sends_due, Line, or, after_put, view_after, goes_out, Point, moved, at_machine, PairsFit, Sane, is_full, worn_in, Placed, WorldState, History, PairStands, StandsWith, AllRecords}
+use Rattle.dm_stream.specs.Packets.{Load}
+use Rattle.dm_node.specs.declared.out.Out.TheVariants.{Says}
+use Rattle.dm_node.specs.Out.{packet_of}
 use Rattle.dm_line.specs.declared.line.Load.TheVariants as load
-use Rattle.dm_line.specs.Todo.{or}
-use Rattle.dm_rule.specs.View.{after_put, view_after}
-use Rattle.dm_rule.specs.Parts.{goes_out}
 use Rattle.dm_rule.specs.Parts as rule
-use Rattle.dm_rule.specs.Point.{Point, moved}
-use Rattle.dm_line.specs.Sets.{at_machine}
-use Rattle.dm_rule.proofs.States.{PairsFit}
-use Rattle.dm_rule.proofs.Telling.{Sane}
-use Rattle.dm_rule.specs.Worn.{is_full, worn_in}
-use Rattle.dm_places.specs.Placed.{Placed}
-use Rattle.dm_world.specs.World.{WorldState}
-use Rattle.dm_mirror.specs.Stands.{History, PairStands, StandsWith}
 use Rattle.dm_mirror.proofs.Route.Goes.{RouteGoes, RouteOn, RouteWorn, with_acted}
 use Rattle.dm_mirror.proofs.Stays.{apart_is}
 use Rattle.dm_mirror.proofs.Puts.{point_put, wire_length, with_put}
 use Rattle.dm_mirror.proofs.Giving.{with_gift, count_given, node_gave, node_went, same_records, stands_gave, stands_went, world_gave}
-use Rattle.dm_mirror.specs.Tokens.{AllRecords}
 use Rattle.dm_mirror.proofs.Turning.{Route, MayPut, message_of, rule_part_of}
 use Rattle.dm_mirror.proofs.Route.Core.{CoreStands, core_more, core_of}
 use Rattle.dm_mirror.proofs.Route.Puts.{after_route, route_more, route_there, stands_routed}
@@ -162,7 +137,7 @@ module _ (b : Boot) (w : WorldState) (pt : Point) (l : Placed) (h : History) (m 
         home = true;
         out = goes_out (pt.view.pair m x.to.at);
         part = part true (goes_out (pt.view.pair m x.to.at)) (let e : (m == x.to.at) ≡ true = grind (arith, nat_tests, at_) in e) refl;
-        spoken = λ i. line.Put (own_place i) x.to.at x.id (kind_of x.what) x.to.pid ∷ [];
+        spoken = λ i. Line.Put (own_place i) x.to.at x.id (kind_of x.what) x.to.pid ∷ [];
         room = ap (λ (c : ℕ). is_full b.numbers pt.view m c) at_ ∙ open_;
         history = h;
         stands = stood after h (λ d. same_records w m (node_home (w.nodes m) x) d (m == d) refl refl)
@@ -194,7 +169,7 @@ module _ (b : Boot) (w : WorldState) (pt : Point) (l : Placed) (h : History) (m 
       home = false;
       out = false;
       part = part false false (apart_is m x.to.at apart) out;
-      spoken = λ i. line.Put (own_place i) x.to.at x.id (kind_of x.what) x.to.pid ∷ [];
+      spoken = λ i. Line.Put (own_place i) x.to.at x.id (kind_of x.what) x.to.pid ∷ [];
       room = open_pair;
       history = with_gift h m x.to.at x;
       stands = gave;
@@ -204,26 +179,26 @@ module _ (b : Boot) (w : WorldState) (pt : Point) (l : Placed) (h : History) (m 
 
     -- it goes out at once
     goes_away : none_waits ((w.nodes m).senders x.to.at) ≡ true → goes_out (pt.view.pair m x.to.at) ≡ true → due (with_given ((w.nodes m).senders x.to.at) x) ≡ Some (((w.nodes m).senders x.to.at).gone, x)
-        → routes (w.nodes m) x ≡ Goes (record { state = node_went w m x.to.at x; outs = Says (put_line (w.nodes m) x) ∷ Sends (packet_of (here (w.nodes m)) x.to.at (stream.Data ((w.nodes m).senders x.to.at).gone x)) ∷ [] }) → RouteOn b w pt l m r
+        → routes (w.nodes m) x ≡ Goes (record { state = node_went w m x.to.at x; outs = Says (put_line (w.nodes m) x) ∷ Sends (packet_of (here (w.nodes m)) x.to.at (Load.Data ((w.nodes m).senders x.to.at).gone x)) ∷ [] }) → RouteOn b w pt l m r
     goes_away none out next_due is =
         let c : ℕ = x.to.at in
         let pair : PairStands b pt l w h m c = f.stands.pairs m c f.here f.there apart in
         let n : ℕ = ((w.nodes m).senders c).gone in
         let all : length (pt.view.pair m c).ids ≡ n = let e : given_count ((w.nodes m).senders c) ≡ length (pt.view.pair m c).ids = count_given b pt l w h m c pair in grind (arith, nat_tests, e, none) in
         let put : Point = put_point pt m c x in
-        let outs : ℕ → List Out = λ (z : ℕ). Says (put_line (w.nodes m) x) ∷ Sends (packet_of z c (stream.Data n x)) ∷ [] in
-        let later : History = with_put (with_gift h m c x) m c (stream.Data n x) in
-        let went : StandsWith b (with_acted w m (record { state = node_went w m c x; outs = outs m })) (point_put put m c (stream.Data n x)) u later =
+        let outs : ℕ → List Out = λ (z : ℕ). Says (put_line (w.nodes m) x) ∷ Sends (packet_of z c (Load.Data n x)) ∷ [] in
+        let later : History = with_put (with_gift h m c x) m c (Load.Data n x) in
+        let went : StandsWith b (with_acted w m (record { state = node_went w m c x; outs = outs m })) (point_put put m c (Load.Data n x)) u later =
         stands_went b put u w (with_gift h m c x) m c n x apart f.here f.there next_due gave in
-        let end : point_put put m c (stream.Data n x) ≡ put_end pt m c x false true = (λ i. moved put (line.Packet m c (length (pt.view.pair m c).wire) (load.Data (sym all i))) pt.kernel) in
+        let end : point_put put m c (Load.Data n x) ≡ put_end pt m c x false true = (λ i. moved put (Line.Packet m c (length (pt.view.pair m c).wire) (load.Data (sym all i))) pt.kernel) in
         record {
           acted = record { state = node_went w m c x; outs = outs (here (w.nodes m)) };
           goes = is;
           home = false;
           out = true;
           part = part false true (apart_is m c apart) out;
-          spoken = (λ i. line.Put (own_place i) c x.id (kind_of x.what) x.to.pid ∷ line.Packet (own_place i) c (length (w.wires (own_place i) c)) (load.Data n) ∷ [])
-              ∙ (λ i. line_put m c x ∷ line.Packet m c (wire_length b pt l w h m c pair i) (load.Data (sym all i)) ∷ []);
+          spoken = (λ i. Line.Put (own_place i) c x.id (kind_of x.what) x.to.pid ∷ Line.Packet (own_place i) c (length (w.wires (own_place i) c)) (load.Data n) ∷ [])
+              ∙ (λ i. line_put m c x ∷ Line.Packet m c (wire_length b pt l w h m c pair i) (load.Data (sym all i)) ∷ []);
           room = open_pair;
           history = later;
           stands = subst (λ (z : ℕ). StandsWith b (with_acted w m (record { state = node_went w m c x; outs = outs z })) (put_end pt m c x false true) u later) (sym own_place)

@@ -1,37 +1,9 @@
 -- The process that a turn serves, and what serving it gives by the machine and by the rule.
-use Rattle.std.proofs.Common.{◌≡◌, ◌≢◌, ℕ, ◌+◌, ◌≤◌, ◌&&◌, Bool, true, false, List, [], ◌∷◌, ◌++◌, map, length, refl, ap, ◌∙◌, sym, subst, inl, inr, arith}
-use Rattle.std.specs.Prelude.{if◌then◌else◌}
-use Rattle.std.specs.declared.option.Option.{Option}
-use Rattle.std.specs.declared.option.Option.TheVariants.{None, Some}
-use Rattle.std.proofs.lemmas.Bool.{cases_Bool, false≢true}
-use Rattle.dm_link.specs.declared.Pid.{Pid}
-use Rattle.dm_link.specs.Names.{pid_eq}
-use Rattle.dm_message.specs.declared.Message.{Message}
-use Rattle.dm_message.specs.declared.MsgId.{MsgId}
-use Rattle.dm_message.specs.Ids.{id_eq}
-use Rattle.dm_message.specs.Plain.{PlainMessage}
-use Rattle.dm_process.specs.declared.process.Process.{Process}
-use Rattle.dm_records.specs.declared.record.Record.TheVariants as record_
-use Rattle.dm_onekernel.specs.declared.boot.Boot.{Boot}
-use Rattle.dm_onekernel.specs.Kernel.{Alive, OneKernel}
-use Rattle.dm_onekernel.specs.Plain.{plain_process}
-use Rattle.dm_laws.proofs.Equal.{id_eq-is, pid_eq-same}
-use Rattle.dm_laws.proofs.Sound.{Sound}
-use Rattle.dm_line.specs.declared.line.Line.{Line}
+use Rattle.dm_mirror.proofs.Names.{◌≡◌, ◌≢◌, ℕ, ◌+◌, ◌≤◌, ◌&&◌, Bool, true, false, List, [], ◌∷◌, ◌++◌, map, length, refl, ap, ◌∙◌, sym, subst, inl, inr, arith, if◌then◌else◌, Option, None, Some, cases_Bool, false≢true, Pid, pid_eq}
+use Rattle.dm_mirror.proofs.Names.{Message, MsgId, id_eq, PlainMessage, Process, Record, Boot, Alive, OneKernel, plain_process, id_eq-is, pid_eq-same, Sound, Line, Point, after, moved_back, Spot, Queue, times, standing, StandsOutside}
+use Rattle.dm_mirror.proofs.Names.{StandsRight, View, receiver_of, is_kernels, once_at, Droppable, IsFor, Placed, Mirrors, with_queue, KernelState, Turned, with_here, AllOwnStand, MadeStands, AreMessages, KernelStands}
+use Rattle.dm_kernel.specs.declared.part.Part.{Part}
 use Rattle.dm_rule.specs.Parts as rule
-use Rattle.dm_rule.specs.Point.{Point, after}
-use Rattle.dm_line.specs.Sets.{moved_back}
-use Rattle.dm_rule.specs.Spots.{Spot, Queue, times, standing, StandsOutside, StandsRight}
-use Rattle.dm_rule.specs.View.{View, receiver_of, is_kernels}
-use Rattle.dm_rule.proofs.Standing.{once_at}
-use Rattle.dm_rulelaws.proofs.Goes.Turns.{Droppable, IsFor}
-use Rattle.dm_places.specs.Placed.{Placed, Mirrors}
-use Rattle.dm_places.proofs.Queues.{with_queue}
-use Rattle.dm_kernel.specs.declared.part.Part.TheVariants as part
-use Rattle.dm_kernel.specs.State.{KernelState, Turned, with_here}
-use Rattle.dm_mirror.specs.Own.{AllOwnStand}
-use Rattle.dm_mirror.specs.Made.{MadeStands}
-use Rattle.dm_mirror.specs.Stands.{AreMessages, KernelStands}
 use Rattle.dm_mirror.proofs.Turning.{routed, rule_routed, are_still, IsSent}
 use Rattle.dm_mirror.proofs.Kernel.Sets.{Leaves, is_queue_of, off_if, on_if, eq_self, queue_of_others, inbox_stands}
 use Rattle.dm_mirror.proofs.Kernel.Goes.{LivesHere, goes_stands}
@@ -58,7 +30,7 @@ pub record Acts (b : Boot) (m : ℕ) (pt : Point) (l : Placed) (k : KernelState)
   pub state : KernelState
   pub says : List Line
   pub route : Option Message
-  pub turn : turned ≡ Some (record { state = state; parts = map part.Says says ++ routed route })
+  pub turn : turned ≡ Some (record { state = state; parts = map Part.Says says ++ routed route })
   pub outcome : parts ≡ Some (map rule.Says says ++ rule_routed route)
   pub next : Point
   pub after : after pt says ≡ Some next
@@ -100,8 +72,8 @@ pub served_goes : (b : Boot) (m : ℕ) (pt next : Point) (l placed : Placed) (k 
     → KernelStands b next placed m (with_here (moved_round k p) p y)
 served_goes b m pt next l placed k p x y queue s leaves known ring alive there messages memory =
     goes_stands b m (is_queue_of m p) p pt next l placed k (with_here (moved_round k p) p y) x y queue s.at leaves
-    (record { here = refl; records = λ q off. off_if (pid_eq p q) (Some (record_.Here y)) (k.records q) off; made = refl; servers = refl }) (λ q off. queue_of_others m p q off) (λ q. refl)
-    (on_if (pid_eq p p) (Some (record_.Here y)) (k.records p) (pid_eq-same p)) refl (ap (moved_back p) s.stands.ring ∙ sym ring) (inbox_stands m (is_queue_of m p) p pt next l placed k.inbox leaves refl s.stands.inbox) known alive there
+    (record { here = refl; records = λ q off. off_if (pid_eq p q) (Some (Record.Here y)) (k.records q) off; made = refl; servers = refl }) (λ q off. queue_of_others m p q off) (λ q. refl)
+    (on_if (pid_eq p p) (Some (Record.Here y)) (k.records p) (pid_eq-same p)) refl (ap (moved_back p) s.stands.ring ∙ sym ring) (inbox_stands m (is_queue_of m p) p pt next l placed k.inbox leaves refl s.stands.inbox) known alive there
     messages memory s.stands
 
 -- the messages of its queue are for it, and stand nowhere else

@@ -1,29 +1,7 @@
 -- Elementary directives, one by one.
-use Rattle.std.proofs.Common.{◌≡◌, ℕ, List, [], ◌∷◌, ◌++◌, length, map, refl, ap, ◌∙◌, sym, subst, arith}
-use Rattle.std.proofs.lemmas.List.{map-append}
-use Rattle.std.proofs.lemmas.List.Elements.{All-nil}
-use Rattle.std.specs.declared.option.Option.TheVariants.{Some}
-use Rattle.dm_onekernel.specs.declared.boot.Boot.{Boot}
-use Rattle.dm_onekernel.specs.Boot.{IsValid}
-use Rattle.dm_laws.proofs.Runs.{received_once}
-use Rattle.dm_schedule.specs.declared.Step.{Step}
-use Rattle.dm_schedule.specs.declared.Directive.{Directive}
-use Rattle.dm_schedule.specs.declared.Directive.TheVariants as directive
-use Rattle.dm_line.specs.declared.line.Line.{Line}
-use Rattle.dm_line.specs.Todo.{Todo, all_of}
-use Rattle.dm_rule.specs.Good.{next_step, undelivered, IsKept, IsRun}
-use Rattle.dm_rule.specs.Laws.{IsStep, Leads}
-use Rattle.dm_rule.specs.Quiet.{has_mail, is_quiet}
-use Rattle.dm_rule.specs.Point.{Point, first_point, labels}
-use Rattle.dm_rule.proofs.Groups.{stands_once_always}
-use Rattle.dm_world.specs.World.{WorldState}
-use Rattle.dm_world.specs.May.{MayStep}
-use Rattle.dm_world.specs.Readable.{AreReadBack, gave}
-use Rattle.dm_mirror.specs.Todo.{IsTwo, IsTodo}
-use Rattle.dm_mirror.specs.Run.{joined, GoesOn, RunStands}
-use Rattle.dm_mirror.specs.Laws.{StepsStand}
-use Rattle.dm_mirror.specs.Ran.{ones, Ran, RanBegins, RanGoes, RanGoesOn, RunIsRan}
-use Rattle.dm_mirror.proofs.Behind.{behind, run_behind}
+use Rattle.dm_mirror.proofs.Names.{◌≡◌, ℕ, List, [], ◌∷◌, ◌++◌, length, refl, ap, ◌∙◌, sym, subst, arith, map-append, All-nil, Boot, IsValid, received_once, Step, Directive, Line, Todo, all_of, next_step, undelivered, IsKept, IsRun, IsStep}
+use Rattle.dm_mirror.proofs.Names.{Leads, has_mail, is_quiet, Point, first_point, labels, stands_once_always, WorldState, MayStep, AreReadBack, gave, IsTwo, IsTodo, joined, GoesOn, StepsStand, ones, Ran, RanBegins, RanGoesOn, RunIsRan}
+use Rattle.dm_mirror.proofs.Behind.{run_behind}
 use Rattle.dm_mirror.proofs.Deliver.Keeps.{first_readable}
 use Rattle.dm_mirror.proofs.Going.{leads_last, replays_last, run_last}
 use Rattle.dm_mirror.proofs.Machines.{machines_group}
@@ -43,10 +21,10 @@ ran_begins b valid = record {
 }
 
 -- the run so far, with one more directive behind it
-run_before : (b : Boot) (es : List Step) (gs : List (List Line)) (pt : Point) (e : Step) → IsRun b (first_point b) (all_of (ones es)) gs pt (all_of []) → IsRun b (first_point b) (all_of (ones (es ++ e ∷ []))) gs pt (all_of (directive.One e ∷ []))
+run_before : (b : Boot) (es : List Step) (gs : List (List Line)) (pt : Point) (e : Step) → IsRun b (first_point b) (all_of (ones es)) gs pt (all_of []) → IsRun b (first_point b) (all_of (ones (es ++ e ∷ []))) gs pt (all_of (Directive.One e ∷ []))
 run_before b es gs pt e run =
-    subst (λ (ds : List Directive). IsRun b (first_point b) (all_of ds) gs pt (all_of (directive.One e ∷ []))) (sym (map-append directive.One es (e ∷ [])))
-    (run_behind b gs (first_point b) pt (all_of (ones es)) (all_of []) (directive.One e ∷ []) run)
+    subst (λ (ds : List Directive). IsRun b (first_point b) (all_of ds) gs pt (all_of (Directive.One e ∷ []))) (sym (map-append Directive.One es (e ∷ [])))
+    (run_behind b gs (first_point b) pt (all_of (ones es)) (all_of []) (Directive.One e ∷ []) run)
 
 -- where the machines do what the rule says, it goes on
 single_on : (b : Boot) (es : List Step) (gs : List (List Line)) (pt : Point) (w : WorldState) (e : Step) → IsValid b → Ran b es gs pt w → IsStep (length b.machines) e → MayStep b w e → (g : GoesOn b w pt e) → AreReadBack (gave b w e)
@@ -60,7 +38,7 @@ single_on b es gs pt w e valid r fits may g again =
     let kept : IsKept b g.group.point = record { once = λ id. stands_once_always b (es ++ e ∷ []) g.group.point id valid on; counts = stands.counts } in
     record {
       good = record {
-        run = run_last b gs (first_point b) pt (all_of (ones (es ++ e ∷ []))) (all_of (directive.One e ∷ [])) (record { step = e; left = all_of [] }) g.group g.said.lines (run_before b es gs pt e r.good.run) refl g.due lines kept;
+        run = run_last b gs (first_point b) pt (all_of (ones (es ++ e ∷ []))) (all_of (Directive.One e ∷ [])) (record { step = e; left = all_of [] }) g.group g.said.lines (run_before b es gs pt e r.good.run) refl g.due lines kept;
         replays = replays;
         received = λ i. received_once b (labels (joined (gs ++ g.said.lines ∷ []))) g.group.point.kernel i valid replays;
       };

@@ -1,36 +1,17 @@
 -- What the processes of a boot file take of each machine.
-use Rattle.std.proofs.Common.{◌≡◌, inl, inr, ℕ, zero, suc, ◌+◌, ◌*◌, ◌/◌, ◌<◌, ◌≤◌, ◌==◌, Bool, true, false, List, [], ◌∷◌, ◌++◌, length, refl, ap, ◌∙◌, sym, arith}
-use Rattle.std.specs.Prelude.{if◌then◌else◌, slice_get, map}
-use Rattle.std.proofs.lemmas.Grind.{common_steps}
-use Rattle.std.specs.declared.option.Option.{Option}
-use Rattle.std.specs.declared.option.Option.TheVariants.{None, Some}
-use Rattle.std.proofs.lemmas.Bool.{cases_Bool}
-use Rattle.std.proofs.lemmas.Bool.Decides.{nat_tests}
-use Rattle.dm_link.specs.declared.Pid.{Pid}
-use Rattle.dm_link.specs.Names.{pid_of, pid_eq}
-use Rattle.dm_link.specs.Plain.{plain_link}
-use Rattle.dm_onekernel.specs.declared.boot.BootImage.{BootImage}
-use Rattle.dm_onekernel.specs.declared.boot.BootProcess.{BootProcess}
-use Rattle.dm_onekernel.specs.declared.boot.Boot.{Boot}
-use Rattle.dm_onekernel.specs.Boot.{IsValid, starting_at, blocks_at, blocks_of_image, image_is_valid, processes_are_valid, process_named}
-use Rattle.dm_onekernel.specs.Kernel.{Life, Alive}
-use Rattle.dm_onekernel.specs.Options.{bind}
-use Rattle.dm_onekernel.specs.Start.{begun, first_life, memory_of}
+use Rattle.dm_mirror.proofs.Names.{◌≡◌, inl, inr, ℕ, zero, suc, ◌+◌, ◌*◌, ◌/◌, ◌<◌, ◌≤◌, ◌==◌, Bool, true, false, List, [], ◌∷◌, ◌++◌, length, refl, ap, ◌∙◌, sym, arith, if◌then◌else◌, slice_get, map, common_steps, Option, None, Some}
+use Rattle.dm_mirror.proofs.Names.{cases_Bool, nat_tests, Pid, pid_of, pid_eq, plain_link, BootImage, BootProcess, Boot, IsValid, starting_at, blocks_at, blocks_of_image, image_is_valid, processes_are_valid, process_named, Life, Alive}
+use Rattle.dm_mirror.proofs.Names.{bind, first_life, memory_of, image_fits, first_point, Room, and, blocks_of, taken_at, taken_by, taken_of_home, takes_room, Known, is_server}
+use Rattle.dm_onekernel.specs.Start.{begun}
 use Rattle.dm_onekernel.specs.Step as kernel
-use Rattle.dm_kernel.proofs.Making.{image_fits}
-use Rattle.dm_rule.specs.Point.{first_point}
-use Rattle.dm_rule.specs.Rule.{Room, and, blocks_of, taken_at, taken_by, taken_of_home, takes_room}
-use Rattle.dm_rule.specs.View.{Known}
-use Rattle.dm_rule.specs.View as view
-use Rattle.dm_rulelaws.specs.Fits.{is_server}
 use Rattle.dm_mirror.proofs.StartKnown.{known_of_life, first_known}
 use Rattle.dm_mirror.proofs.Numbering.{Listed, listed, named_is, none_again, life_named, one_if, starting-last}
 
 abbrev nothing : Room
 nothing = record { slots = 0; blocks = 0 }
 
-pub first_apart : (b : Boot) (m : ℕ) (q : Pid) → IsValid b → (q.home == m) ≡ false → (first_point b).view.known m q ≡ view.Unknown
-first_apart b m q valid off = first_known b m q valid ∙ ap (λ (c : Bool). if c then (if is_server q then view.Here else known_of_life (bind (process_named q b.processes) (first_life b))) else view.Unknown) off
+pub first_apart : (b : Boot) (m : ℕ) (q : Pid) → IsValid b → (q.home == m) ≡ false → (first_point b).view.known m q ≡ Known.Unknown
+first_apart b m q valid off = first_known b m q valid ∙ ap (λ (c : Bool). if c then (if is_server q then Known.Here else known_of_life (bind (process_named q b.processes) (first_life b))) else Known.Unknown) off
 
 no_server : (q : Pid) → 3 ≤ q.num → is_server q ≡ false
 no_server q least = grind (arith, nat_tests)
@@ -42,13 +23,13 @@ first_alive b p i there = ap (λ (o : Option BootImage). life_in o) there
     life_in None = None
     life_in (Some j) = Some (Alive (begun b.format j (map plain_link p.links)))
 
-pub first_mine : (b : Boot) (m : ℕ) (q : Pid) (p : BootProcess) → IsValid b → (q.home == m) ≡ true → process_named q b.processes ≡ Some p → (first_point b).view.known m q ≡ view.Here
+pub first_mine : (b : Boot) (m : ℕ) (q : Pid) (p : BootProcess) → IsValid b → (q.home == m) ≡ true → process_named q b.processes ≡ Some p → (first_point b).view.known m q ≡ Known.Here
 first_mine b m q p valid on named =
     let n = named_is b [] b.processes q p valid.processes named in
     let least = n.least in
     first_known b m q valid
-    ∙ ap (λ (c : Bool). if c then (if is_server q then view.Here else known_of_life (bind (process_named q b.processes) (first_life b))) else view.Unknown) on
-    ∙ ap (λ (c : Bool). if c then view.Here else known_of_life (bind (process_named q b.processes) (first_life b))) (no_server q (omega (arith, least)))
+    ∙ ap (λ (c : Bool). if c then (if is_server q then Known.Here else known_of_life (bind (process_named q b.processes) (first_life b))) else Known.Unknown) on
+    ∙ ap (λ (c : Bool). if c then Known.Here else known_of_life (bind (process_named q b.processes) (first_life b))) (no_server q (omega (arith, least)))
     ∙ ap (λ (o : Option BootProcess). known_of_life (bind o (first_life b))) named
     ∙ ap known_of_life (first_alive b p n.image n.there)
 

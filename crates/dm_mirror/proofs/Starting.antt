@@ -1,40 +1,10 @@
 -- The world as the boot file has it stands for the first point.
-use Rattle.std.proofs.Common.{◌≡◌, ℕ, zero, suc, ◌-◌, ◌^◌, ◌<◌, ◌≤◌, ◌==◌, Bool, true, false, List, [], ◌∷◌, length, map, replicate, refl, ap, ◌∙◌, sym, subst, is_some, nat_lt, arith}
-use Rattle.std.specs.Prelude.{◌||◌, if◌then◌else◌, slice_get}
-use Rattle.std.specs.declared.option.Option.{Option}
-use Rattle.std.specs.declared.option.Option.TheVariants.{None, Some}
-use Rattle.std.proofs.lemmas.Bool.Decides.{nat_tests}
-use Rattle.std.proofs.lemmas.List.Elements.{All-nil}
-use Rattle.dm_link.specs.declared.Pid.{Pid}
-use Rattle.dm_link.specs.Names.{pid_eq}
-use Rattle.dm_message.specs.declared.Message.{Message}
-use Rattle.dm_message.specs.Lawful.{IsLawfulMessage}
-use Rattle.dm_process.specs.declared.process.Process.{Process}
+use Rattle.dm_mirror.proofs.Names.{◌≡◌, ℕ, zero, suc, ◌-◌, ◌^◌, ◌<◌, ◌≤◌, ◌==◌, Bool, true, false, List, [], ◌∷◌, length, map, replicate, refl, ap, ◌∙◌, sym, subst, is_some, nat_lt, arith, ◌||◌, if◌then◌else◌, slice_get, Option, None, Some}
+use Rattle.dm_mirror.proofs.Names.{nat_tests, All-nil, Pid, pid_eq, Message, IsLawfulMessage, Process, Sending, fresh_sending, fresh_receiving, kept_under, place, Stands-start, BootImage, BootMachine, BootProcess, Boot, IsValid}
+use Rattle.dm_mirror.proofs.Names.{process_named, switchboard, manager, bind, first_life, KernelState, child_of, empty, opened, room_of, with_all, with_child, opened_lawful, Record, fresh_sender, placed_start, started, start_mirrors}
+use Rattle.dm_mirror.proofs.Names.{first_point, Known, is_server, first_world, History, KernelStands, KnownStands, PairStands, StartStands}
 use Rattle.dm_stream.specs.Order as order
-use Rattle.dm_stream.specs.Sending.{Sending, fresh_sending}
-use Rattle.dm_stream.specs.Receiving.{fresh_receiving, kept_under, place}
-use Rattle.dm_stream.proofs.Together.{Stands-start}
-use Rattle.dm_onekernel.specs.declared.boot.BootImage.{BootImage}
-use Rattle.dm_onekernel.specs.declared.boot.BootMachine.{BootMachine}
-use Rattle.dm_onekernel.specs.declared.boot.BootProcess.{BootProcess}
-use Rattle.dm_onekernel.specs.declared.boot.Boot.{Boot}
-use Rattle.dm_onekernel.specs.Boot.{IsValid, process_named, switchboard, manager}
-use Rattle.dm_onekernel.specs.Options.{bind}
-use Rattle.dm_onekernel.specs.Start.{first_life}
-use Rattle.dm_kernel.specs.State.{KernelState}
-use Rattle.dm_kernel.specs.Begun.{begins, child_of, empty, opened, room_of, with_all, with_child}
-use Rattle.dm_kernel.proofs.LawfulStart.{opened_lawful}
-use Rattle.dm_records.specs.declared.record.Record.TheVariants as record_
-use Rattle.dm_node.specs.State.{fresh_sender}
-use Rattle.dm_places.specs.PlacedStart.{placed_start, started}
-use Rattle.dm_places.proofs.Starts.{start_mirrors}
-use Rattle.dm_rule.specs.Point.{first_point}
-use Rattle.dm_rule.specs.View.{Known}
-use Rattle.dm_rule.specs.View as view
-use Rattle.dm_rulelaws.specs.Fits.{is_server}
-use Rattle.dm_world.specs.World.{first_world}
-use Rattle.dm_mirror.specs.Stands.{History, KernelStands, KnownStands, PairStands}
-use Rattle.dm_mirror.specs.Laws.{StartStands}
+use Rattle.dm_kernel.specs.Begun.{begins}
 use Rattle.dm_mirror.proofs.Numbering.{named_is, none_below, started_named}
 use Rattle.dm_mirror.proofs.Opening.{first_here, first_record, first_started, opens_all}
 use Rattle.dm_mirror.proofs.StartKnown.{known_of_life, first_known}
@@ -44,7 +14,7 @@ use Rattle.dm_mirror.proofs.StartRooms.{first_alive, first_taken}
 abbrev first_said : Boot → Option BootProcess → Known
 first_said b o = known_of_life (bind o (first_life b))
 
-started_is : (o : Option Process) (x : Process) → first_here o ≡ Some (record_.Here x) → o ≡ Some x
+started_is : (o : Option Process) (x : Process) → first_here o ≡ Some (Record.Here x) → o ≡ Some x
 started_is None x e = cc
 started_is (Some y) x e = cc
 
@@ -53,18 +23,18 @@ known_named b m q None on e valid = tt
 known_named b m q (Some p) on e valid =
     let n = named_is b [] b.processes q p valid.processes e in
     let x = child_of b p.pid n.image p.links in
-    let here : first_record b m q (Some p) None ≡ Some (record_.Here x) = ap (λ (c : Bool). if c then first_here (started b p) else None) on ∙ first_started b p n.image n.there in
-    let said : first_said b (Some p) ≡ view.Here = ap known_of_life (first_alive b p n.image n.there) in
+    let here : first_record b m q (Some p) None ≡ Some (Record.Here x) = ap (λ (c : Bool). if c then first_here (started b p) else None) on ∙ first_started b p n.image n.there in
+    let said : first_said b (Some p) ≡ Known.Here = ap known_of_life (first_alive b p n.image n.there) in
     let there : (placed_start b).processes q ≡ Some x = started_named b b.processes q ∙ ap (λ (o : Option BootProcess). bind o (started b)) e ∙ started_is (started b p) x (first_started b p n.image n.there) in
     subst (λ k. KnownStands (first_point b) (placed_start b) q [] [] k (first_record b m q (Some p) None)) (sym said)
-    (subst (λ r. KnownStands (first_point b) (placed_start b) q [] [] view.Here r) (sym here) (([], there), refl))
+    (subst (λ r. KnownStands (first_point b) (placed_start b) q [] [] Known.Here r) (sym here) (([], there), refl))
 
 apart_record : (b : Boot) (m : ℕ) (q : Pid) (o : Option BootProcess) → (q.home == m) ≡ false → first_record b m q o None ≡ None
 apart_record b m q None off = refl
 apart_record b m q (Some p) off = ap (λ (c : Bool). if c then first_here (started b p) else None) off
 
 abbrev known_if : Boot → Pid → Bool → Bool → Known
-known_if b q c d = if c then (if d then view.Here else first_said b (process_named q b.processes)) else view.Unknown
+known_if b q c d = if c then (if d then Known.Here else first_said b (process_named q b.processes)) else Known.Unknown
 
 known_first : (b : Boot) (m : ℕ) (q : Pid) (c : Bool) → (q.home == m) ≡ c → is_server q ≡ false → IsValid b
     → KnownStands (first_point b) (placed_start b) q [] [] ((first_point b).view.known m q) (first_record b m q (process_named q b.processes) None)
@@ -72,9 +42,9 @@ known_first b m q true on server valid =
     let k : (first_point b).view.known m q ≡ first_said b (process_named q b.processes) = first_known b m q valid ∙ ap (λ (c : Bool). known_if b q c (is_server q)) on ∙ ap (known_if b q true) server in
     subst (λ k. KnownStands (first_point b) (placed_start b) q [] [] k (first_record b m q (process_named q b.processes) None)) (sym k) (known_named b m q (process_named q b.processes) on refl valid)
 known_first b m q false off server valid =
-    let k : (first_point b).view.known m q ≡ view.Unknown = first_known b m q valid ∙ ap (λ (c : Bool). known_if b q c (is_server q)) off in
+    let k : (first_point b).view.known m q ≡ Known.Unknown = first_known b m q valid ∙ ap (λ (c : Bool). known_if b q c (is_server q)) off in
     subst (λ k. KnownStands (first_point b) (placed_start b) q [] [] k (first_record b m q (process_named q b.processes) None)) (sym k)
-    (subst (λ r. KnownStands (first_point b) (placed_start b) q [] [] view.Unknown r) (sym (apart_record b m q (process_named q b.processes) off)) tt)
+    (subst (λ r. KnownStands (first_point b) (placed_start b) q [] [] Known.Unknown r) (sym (apart_record b m q (process_named q b.processes) off)) tt)
 
 -- servers aren't named
 server_low : (q : Pid) → is_server q ≡ true → q.num < 3

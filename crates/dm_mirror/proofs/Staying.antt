@@ -1,6 +1,5 @@
 -- A turn leaves a kernel on its machine.
-use Rattle.std.proofs.Common.{subst}
-use Rattle.dm_node.proofs.Here.{StaysAt, turn_stays}
+use Rattle.dm_mirror.proofs.Names.{subst, StaysAt, turn_stays}
 use Rattle.dm_mirror.proofs.Local.{KernelStays}
 
 pub kernel_stays : KernelStays

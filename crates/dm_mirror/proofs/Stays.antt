@@ -1,33 +1,10 @@
 -- What a line of a pair leaves of the machines, of the other pairs and of the kernel with places.
-use Rattle.std.proofs.Common.{◌≡◌, ◌≢◌, ℕ, zero, suc, ◌+◌, ◌≤◌, ◌==◌, ◌&&◌, Bool, true, false, List, length, refl, ap, ◌∙◌, sym, subst, arith}
-use Rattle.std.specs.Prelude.{if◌then◌else◌, slice_get}
-use Rattle.std.specs.declared.option.Option.{Option}
-use Rattle.std.specs.declared.option.Option.TheVariants.{None, Some}
-use Rattle.std.proofs.lemmas.Bool.{eqb-true, eq-eqb}
-use Rattle.std.proofs.lemmas.Bool.Decides.{nat_tests}
-use Rattle.dm_link.specs.declared.Pid.{Pid}
-use Rattle.dm_link.specs.Names.{pid_of}
-use Rattle.dm_message.specs.declared.Message.{Message}
-use Rattle.dm_message.specs.declared.MsgId.{MsgId}
-use Rattle.dm_records.specs.declared.record.Record.TheVariants as record_
-use Rattle.dm_onekernel.specs.declared.boot.Boot.{Boot}
-use Rattle.dm_onekernel.specs.Boot.{first_number}
+use Rattle.dm_mirror.proofs.Names.{◌≡◌, ℕ, zero, suc, ◌+◌, ◌≤◌, ◌==◌, ◌&&◌, Bool, true, false, List, length, refl, ap, ◌∙◌, sym, subst, if◌then◌else◌, slice_get, Option, None, Some, eqb-true, eq-eqb, Pid, pid_of, Message, MsgId, Record}
+use Rattle.dm_mirror.proofs.Names.{Boot, first_number, KernelState, room_of, NodeState, at_machine, at_pair, Spot, standing, View, Known, Unknown, Here, Frozen, Incoming, Forward, Ended, Point, and, taken_at, taken_by, taken_of_home}
+use Rattle.dm_mirror.proofs.Names.{Placed, Mirrors, WorldState, incoming_of, AreMessages, History, KernelStands, KnownStands, NodeStands, PairStands, RoomStands, AllRecords, Carries, TokensStand, destination_of, two_of}
 use Rattle.dm_kernel.specs.State as machine
-use Rattle.dm_kernel.specs.State.{KernelState}
-use Rattle.dm_kernel.specs.Begun.{room_of}
-use Rattle.dm_node.specs.State.{NodeState}
-use Rattle.dm_line.specs.Sets.{at_machine, at_pair}
-use Rattle.dm_rule.specs.Spots.{Spot, standing}
-use Rattle.dm_rule.specs.View.{View, Known, Unknown, Here, Frozen, Incoming, Forward, Ended}
-use Rattle.dm_rule.specs.Point.{Point}
-use Rattle.dm_rule.specs.Rule.{and, taken_at, taken_by, taken_of_home}
-use Rattle.dm_places.specs.Placed.{Placed, Mirrors}
-use Rattle.dm_world.specs.World.{WorldState}
-use Rattle.dm_records.specs.Records.{incoming_of}
-use Rattle.dm_mirror.specs.Stands.{AreMessages, History, KernelStands, KnownStands, NodeStands, PairStands, RoomStands}
-use Rattle.dm_mirror.specs.Tokens.{AllRecords, Carries, TokensStand, destination_of}
-use Rattle.dm_rule.proofs.Pairs.Stand.{two_of}
 use Rattle.dm_mirror.proofs.Streams.{Stays, pair_stays}
+pub use Rattle.dm_rule.proofs.QuietTests.{eq_not as apart_is}
 
 -- a value that is set
 module _ {X : Type 0} where
@@ -58,9 +35,6 @@ module _ {X : Type 0} where
   pub pair_other : (f : ℕ → ℕ → X) (a c : ℕ) (x : X) (d e : ℕ) → ((a == d) && (c == e)) ≡ false → at_pair f a c x d e ≡ f d e
   pair_other f a c x d e is = ap (λ (t : Bool). if t then x else f d e) is
 
-pub apart_is : (m c : ℕ) → m ≢ c → (m == c) ≡ false
-apart_is m c e = grind (arith, nat_tests)
-
 pub both_false : (s t : Bool) → s ≡ false → (s && t) ≡ false
 both_false s t e = ap (λ (z : Bool). z && t) e
 
@@ -85,11 +59,11 @@ module _ (b : Boot) (pt : Point) (l : Placed) (v : View) where
 
   known_same : (p : Pid) (queue held : List MsgId) (k : Known) (r : Option machine.Known) → KnownStands pt l p queue held k r → KnownStands (with_view pt v) l p queue held k r
   known_same p queue held Unknown None h = h
-  known_same p queue held Here (Some (record_.Here x)) h = h
-  known_same p queue held (Frozen to) (Some (record_.Frozen d)) h = h
-  known_same p queue held (Incoming from) (Some (record_.Incoming x)) h = h
-  known_same p queue held (Forward to moves) (Some (record_.Forward at n)) h = h
-  known_same p queue held Ended (Some (record_.Ended y)) h = h
+  known_same p queue held Here (Some (Record.Here x)) h = h
+  known_same p queue held (Frozen to) (Some (Record.Frozen d)) h = h
+  known_same p queue held (Incoming from) (Some (Record.Incoming x)) h = h
+  known_same p queue held (Forward to moves) (Some (Record.Forward at n)) h = h
+  known_same p queue held Ended (Some (Record.Ended y)) h = h
   known_same p queue held k r h = h
 
   room_same : (m : ℕ) (k : KernelState) → RoomStands k.room (room_of (slice_get b.machines m)) (taken_at pt m pt.kernel.machines)

@@ -1,33 +1,14 @@
 -- An event of a stream, and what stands of its pair of machines behind it.
-use Rattle.std.proofs.Common.{◌≡◌, ℕ, ◌+◌, ◌<◌, ◌≤◌, nat_lt, Bool, true, false, List, [], ◌∷◌, ◌++◌, length, map, take, drop, is_some, refl, ap, ◌∙◌, sym, subst, arith}
-use Rattle.std.specs.Prelude.{if◌then◌else◌}
-use Rattle.std.specs.List.{All}
-use Rattle.std.specs.declared.option.Option.{Option}
-use Rattle.std.specs.declared.option.Option.TheVariants.{None, Some}
-use Rattle.std.proofs.lemmas.Bool.Decides.{nat_tests}
-use Rattle.std.proofs.lemmas.List.{map-append, drop-append-le, length-map}
-use Rattle.std.proofs.lemmas.List.Elements.{All-push}
-use Rattle.dm_message.specs.declared.Message.{Message}
-use Rattle.dm_message.specs.declared.MsgId.{MsgId}
-use Rattle.dm_message.specs.Lawful.{IsLawfulMessage}
+use Rattle.dm_mirror.proofs.Names.{◌≡◌, ℕ, ◌+◌, ◌<◌, ◌≤◌, nat_lt, Bool, true, false, List, [], ◌∷◌, ◌++◌, length, map, take, drop, is_some, refl, ap, ◌∙◌, sym, subst, arith, if◌then◌else◌, All, Option, None, Some, nat_tests, map-append}
+use Rattle.dm_mirror.proofs.Names.{drop-append-le, length-map, All-push, Message, MsgId, IsLawfulMessage, Sending, due, outstanding, numbered, with_given, with_sent, kept_under, Stream, Give, GoOut, GoAgain, OtherData, goes_again}
+use Rattle.dm_mirror.proofs.Names.{Stands-happens, spelling, Boot, Load, Pair, gone_after, Point, has, Placed, WorldState, AreMessages, History, PairStands, bytes_of, line_of, load_of, stream_of}
 use Rattle.dm_stream.specs.Packets as stream
-use Rattle.dm_stream.specs.Sending.{Sending, due, outstanding, numbered, with_given, with_sent}
-use Rattle.dm_stream.specs.Receiving.{kept_under}
-use Rattle.dm_stream.specs.Stream.{Stream, Give, GoOut, GoAgain, Acknowledge, OtherAck, OtherData, gives, goes_out, goes_again, is_worn}
+use Rattle.dm_stream.specs.Stream.{gives, goes_out, is_worn}
 use Rattle.dm_stream.specs.Order as order
-use Rattle.dm_stream.proofs.Together.{Stands-happens}
-use Rattle.dm_packet.specs.Packets.{spelling}
 use Rattle.dm_wire.specs.Sent as wire
-use Rattle.dm_onekernel.specs.declared.boot.Boot.{Boot}
 use Rattle.dm_node.specs.Out.{packet_of}
-use Rattle.dm_line.specs.declared.line.Load.{Load}
-use Rattle.dm_line.specs.declared.line.Load.TheVariants as load
-use Rattle.dm_rule.specs.View.{Pair, Sent, gone_after}
-use Rattle.dm_rule.specs.Point.{Point}
-use Rattle.dm_rule.specs.Rule.{has}
-use Rattle.dm_places.specs.Placed.{Placed}
-use Rattle.dm_world.specs.World.{WorldState}
-use Rattle.dm_mirror.specs.Stands.{AreMessages, History, PairStands, bytes_of, id_of, line_of, load_of, stream_of}
+use Rattle.dm_rule.specs.View.{Sent}
+use Rattle.dm_mirror.specs.Stands.{id_of}
 
 -- what stands of a pair, over its stream, the bytes on its wire, and what the lines say of it
 pub record Joined (b : Boot) (bag : MsgId → Option Message) (a c : ℕ) (s : Stream Message) (sent : List wire.Sent) (p : Pair) : Type 0 where
@@ -179,14 +160,14 @@ outstanding_is s k n x e =
     let f = due_if n (s.acked + k) _ x (nat_lt (s.acked + k) s.gone) e in
     let less : s.acked + k < s.gone = grind (arith, nat_tests, f.0) in (f.1, omega (arith, less, f.1))
 
-pub gone_next : (n g : ℕ) → n ≡ g → g + 1 ≡ gone_after (load.Data n) g
+pub gone_next : (n g : ℕ) → n ≡ g → g + 1 ≡ gone_after (Load.Data n) g
 gone_next n g e = grind (arith, nat_tests)
 
-pub gone_again : (n g : ℕ) → n < g → g ≡ gone_after (load.Data n) g
+pub gone_again : (n g : ℕ) → n < g → g ≡ gone_after (Load.Data n) g
 gone_again n g e = grind (arith, nat_tests)
 
 pub went_out : (b : Boot) (bag : MsgId → Option Message) (a c : ℕ) (s : Stream Message) (sent : List wire.Sent) (p : Pair) (n : ℕ) (x : Message) → due s.sender ≡ Some (n, x) → Joined b bag a c s sent p
-    → Joined b bag a c (record s { sender = with_sent s.sender; out = s.out ++ stream.just_put (stream.Data n x) ∷ [] }) (with_bytes a c sent (stream.Data n x)) (with_line p (load.Data n))
+    → Joined b bag a c (record s { sender = with_sent s.sender; out = s.out ++ stream.just_put (stream.Data n x) ∷ [] }) (with_bytes a c sent (stream.Data n x)) (with_line p (Load.Data n))
 went_out b bag a c s sent p n x next j = record {
   stream = subst (λ (z : Option (ℕ × Message)). order.Stands (goes_out s z)) next (Stands-happens s GoOut j.stream);
   ids = j.ids;
@@ -203,7 +184,7 @@ went_out b bag a c s sent p n x next j = record {
 
 -- one that is outstanding goes out again
 pub went_again : (b : Boot) (bag : MsgId → Option Message) (a c : ℕ) (s : Stream Message) (sent : List wire.Sent) (p : Pair) (k n : ℕ) (x : Message) → outstanding s.sender k ≡ Some (n, x) → Joined b bag a c s sent p
-    → Joined b bag a c (with_out s (stream.Data n x)) (with_bytes a c sent (stream.Data n x)) (with_line p (load.Data n))
+    → Joined b bag a c (with_out s (stream.Data n x)) (with_bytes a c sent (stream.Data n x)) (with_line p (Load.Data n))
 went_again b bag a c s sent p k n x out j = record {
   stream = subst (λ (z : Option (ℕ × Message)). order.Stands (goes_again s z)) out (Stands-happens s (GoAgain k) j.stream);
   ids = j.ids;
@@ -215,23 +196,6 @@ went_again b bag a c s sent p k n x out j = record {
   kept = j.kept;
   packets = lines_put s.out (stream.Data n x) p.wire j.packets;
   bytes = bytes_put a c s.out (stream.Data n x) sent j.bytes;
-  lawful = j.lawful;
-}
-
--- the stream the other way acknowledges on the wire out
-pub put_ack : (b : Boot) (bag : MsgId → Option Message) (a c : ℕ) (s : Stream Message) (sent : List wire.Sent) (p : Pair) (n : ℕ) → Joined b bag a c s sent p
-    → Joined b bag a c (with_out s (stream.Ack n)) (with_bytes a c sent (stream.Ack n)) (with_line p (load.Ack n))
-put_ack b bag a c s sent p n j = record {
-  stream = Stands-happens s (OtherAck n) j.stream;
-  ids = j.ids;
-  untaken = j.untaken;
-  taken = j.taken;
-  gone = j.gone;
-  acked = j.acked;
-  numbers = j.numbers;
-  kept = j.kept;
-  packets = lines_put s.out (stream.Ack n) p.wire j.packets;
-  bytes = bytes_put a c s.out (stream.Ack n) sent j.bytes;
   lawful = j.lawful;
 }
 
@@ -254,7 +218,3 @@ back_put b bag a c s sent p l stands j = record {
 -- data of the stream the other way
 pub put_back : (b : Boot) (bag : MsgId → Option Message) (a c : ℕ) (s : Stream Message) (sent : List wire.Sent) (p : Pair) (n : ℕ) (x : Message) → Joined b bag a c s sent p → Joined b bag a c (with_back s (stream.Data n x)) sent p
 put_back b bag a c s sent p n x j = back_put b bag a c s sent p (stream.Data n x) (Stands-happens s (OtherData n x) j.stream) j
-
--- the acknowledgement of what was taken
-pub acknowledged : (b : Boot) (bag : MsgId → Option Message) (a c : ℕ) (s : Stream Message) (sent : List wire.Sent) (p : Pair) → Joined b bag a c s sent p → Joined b bag a c (with_back s (stream.Ack s.receiver.count)) sent p
-acknowledged b bag a c s sent p j = back_put b bag a c s sent p (stream.Ack s.receiver.count) (Stands-happens s Acknowledge j.stream) j

@@ -1,38 +1,14 @@
 -- A tick: what is out and not acknowledged goes out again, by the machine and by the rule.
-use Rattle.std.proofs.Common.{◌≡◌, ◌≢◌, ℕ, zero, suc, ◌+◌, ◌-◌, ◌<◌, ◌≤◌, ◌==◌, nat_lt, Bool, true, false, List, [], ◌∷◌, ◌++◌, length, refl, ap, ◌∙◌, sym, subst, arith}
-use Rattle.std.specs.Prelude.{if◌then◌else◌, slice_get}
-use Rattle.std.specs.declared.option.Option.{Option}
-use Rattle.std.specs.declared.option.Option.TheVariants.{None, Some}
-use Rattle.std.proofs.lemmas.Bool.Decides.{nat_tests}
-use Rattle.std.proofs.lemmas.List.{append_assoc, append-nil, length-drop, map-append}
-use Rattle.dm_message.specs.declared.Message.{Message}
-use Rattle.dm_stream.specs.Packets.{Data}
-use Rattle.dm_stream.specs.Sending.{outstanding, numbered}
-use Rattle.dm_stream.specs.Stream.{Stream}
+use Rattle.dm_mirror.proofs.Names.{◌≡◌, ◌≢◌, ℕ, zero, suc, ◌+◌, ◌-◌, ◌<◌, ◌≤◌, ◌==◌, nat_lt, Bool, true, false, List, [], ◌∷◌, ◌++◌, length, refl, ap, ◌∙◌, sym, subst, arith, if◌then◌else◌, slice_get, Option, None, Some, nat_tests}
+use Rattle.dm_mirror.proofs.Names.{append-nil, length-drop, map-append, Message, Data, outstanding, numbered, Stream, Boot, bind, Step, Load, NodeState, here, Out, Sends, again, all_out, count_out, counts_out, first_out, sends, tick}
+use Rattle.dm_mirror.proofs.Names.{spoken, Line, View, NothingElse, after_packet, begins, Part, Transmits, Spelled, spelled, Point, headed, numbers_from, repeats, resends, Placed, WorldState, acted, at_machine, CountsStand, History}
+use Rattle.dm_mirror.proofs.Names.{PairStands, StandsWith, stream_of, GoesOn}
+use Rattle.std.proofs.lemmas.List.{append_assoc}
 use Rattle.dm_stream.specs.Order as order
-use Rattle.dm_onekernel.specs.declared.boot.Boot.{Boot}
-use Rattle.dm_onekernel.specs.Options.{bind}
-use Rattle.dm_schedule.specs.declared.Step.TheVariants as step
-use Rattle.dm_node.specs.State.{NodeState, here}
-use Rattle.dm_node.specs.declared.out.Out.{Out}
-use Rattle.dm_node.specs.declared.out.Out.TheVariants.{Sends}
 use Rattle.dm_node.specs.Out.{packet_of}
-use Rattle.dm_node.specs.Acts.{again, all_out, count_out, counts_out, first_out, sends, tick}
-use Rattle.dm_node.specs.Wired.{spoken}
-use Rattle.dm_line.specs.declared.line.Line.{Line}
-use Rattle.dm_line.specs.declared.line.Line.TheVariants as line
-use Rattle.dm_line.specs.declared.line.Load.TheVariants as load
-use Rattle.dm_rule.specs.View.{View, NothingElse, after_packet, begins}
 use Rattle.dm_rule.specs.Parts as rule
-use Rattle.dm_rule.specs.Parts.{Part, Transmits, Spelled, behind, spelled}
-use Rattle.dm_rule.specs.Point.{Point}
+use Rattle.dm_rule.specs.Parts.{behind}
 use Rattle.dm_rule.specs.Rule as rules
-use Rattle.dm_rule.specs.Rule.{group_of, headed, numbers_from, repeats, resends}
-use Rattle.dm_places.specs.Placed.{Placed}
-use Rattle.dm_world.specs.World.{WorldState, acted}
-use Rattle.dm_line.specs.Sets.{at_machine}
-use Rattle.dm_mirror.specs.Stands.{CountsStand, History, PairStands, StandsWith, stream_of}
-use Rattle.dm_mirror.specs.Run.{GoesOn}
 use Rattle.dm_mirror.proofs.Streams.{joined, put_back, went_again}
 use Rattle.dm_mirror.proofs.Stays.{at_same, node_same}
 use Rattle.dm_mirror.proofs.Puts.{ids_same, line_put, same_senders, spelled_on, spoken-append, stands_begins, stands_put, wire_length}
@@ -75,24 +51,24 @@ again_then b l w pt xs ys ps qs a c = record {
 
 -- one message goes out again
 again_one : (b : Boot) (l : Placed) (w : WorldState) (pt : Point) (h : History) (m c k n : ℕ) (x : Message) → m ≢ c → m < pt.kernel.machines → c < pt.kernel.machines → outstanding ((w.nodes m).senders c) k ≡ Some (n, x) → StandsWith b w pt l h
-    → Again b l w pt (sends (w.nodes m) c (Data n x) ∷ []) (Transmits m c (load.Data n) ∷ [])
+    → Again b l w pt (sends (w.nodes m) c (Data n x) ∷ []) (Transmits m c (Load.Data n) ∷ [])
 again_one b l w pt h m c k n x apart small less out st =
     let pair : PairStands b pt l w h m c = st.pairs m c small less apart in
-    let next : Point = record pt { view = after_packet pt.view m c (load.Data n) } in
-    let is : Again b l w pt (Sends (packet_of m c (Data n x)) ∷ []) (Transmits m c (load.Data n) ∷ []) =
+    let next : Point = record pt { view = after_packet pt.view m c (Load.Data n) } in
+    let is : Again b l w pt (Sends (packet_of m c (Data n x)) ∷ []) (Transmits m c (Load.Data n) ∷ []) =
     record {
-      lines = rule.packet_line pt.view m c (load.Data n) ∷ [];
+      lines = rule.packet_line pt.view m c (Load.Data n) ∷ [];
       next = next;
-      spells = λ qs v e. spelled_on pt next (Transmits m c (load.Data n)) (rule.packet_line pt.view m c (load.Data n) ∷ []) qs v refl refl e;
+      spells = λ qs v e. spelled_on pt next (Transmits m c (Load.Data n)) (rule.packet_line pt.view m c (Load.Data n) ∷ []) qs v refl refl e;
       said = ap (λ (z : Line). z ∷ []) (line_put w.wires m c (length (pt.view.pair m c).wire) (Data n x) (wire_length b pt l w h m c pair));
       history = _;
-      stands = stands_put b pt l w h m c w.nodes ((w.nodes m).senders c) (Data n x) apart (same_senders w m c) (λ d e. refl) (λ d. refl) (node_same b pt l (after_packet pt.view m c (load.Data n)) m (w.nodes m) refl (ids_same pt.view.pair m c _ refl m m) (st.nodes m small))
+      stands = stands_put b pt l w h m c w.nodes ((w.nodes m).senders c) (Data n x) apart (same_senders w m c) (λ d e. refl) (λ d. refl) (node_same b pt l (after_packet pt.view m c (Load.Data n)) m (w.nodes m) refl (ids_same pt.view.pair m c _ refl m m) (st.nodes m small))
           (went_again b l.bag m c (stream_of w h m c) (w.wires m c) (pt.view.pair m c) k n x out (joined b pt l w h m c pair))
           (put_back b l.bag c m (stream_of w h c m) (w.wires c m) (pt.view.pair c m) n x (joined b pt l w h c m (st.pairs c m less small (λ e. apart (sym e))))) st;
       machines = refl;
       counts = refl;
     } in
-    subst (λ (z : ℕ). Again b l w pt (Sends (packet_of z c (Data n x)) ∷ []) (Transmits m c (load.Data n) ∷ [])) (sym (st.nodes m small).kernel.here) is
+    subst (λ (z : ℕ). Again b l w pt (Sends (packet_of z c (Data n x)) ∷ []) (Transmits m c (Load.Data n) ∷ [])) (sym (st.nodes m small).kernel.here) is
 
 apart_of : (m c : ℕ) → (m == c) ≡ false → m ≢ c
 apart_of m c e = grind (arith, nat_tests)
@@ -118,8 +94,8 @@ out_there s k st few =
       ap (λ (t : Bool). if t then numbered (s.sender.acked + k) (slice_get s.sender.unacked k) else None) test ∙ ap (numbered (s.sender.acked + k)) is,
     )
 
-repeats_next : (a c n k : ℕ) → repeats a c (numbers_from n (suc k)) ≡ repeats a c (numbers_from n k) ++ Transmits a c (load.Data (n + k)) ∷ []
-repeats_next a c n k = ap (repeats a c) (numbers_next n k) ∙ map-append (λ (z : ℕ). Transmits a c (load.Data z)) (numbers_from n k) ((n + k) ∷ [])
+repeats_next : (a c n k : ℕ) → repeats a c (numbers_from n (suc k)) ≡ repeats a c (numbers_from n k) ++ Transmits a c (Load.Data (n + k)) ∷ []
+repeats_next a c n k = ap (repeats a c) (numbers_next n k) ∙ map-append (λ (z : ℕ). Transmits a c (Load.Data z)) (numbers_from n k) ((n + k) ∷ [])
 
 module _ (b : Boot) (l : Placed) (w : WorldState) (m : ℕ) where
   first_then : (pt : Point) (h : History) (c k : ℕ) → m ≢ c → m < pt.kernel.machines → c < pt.kernel.machines → StandsWith b w pt l h → suc k ≤ count_out ((w.nodes m).senders c)
@@ -128,11 +104,11 @@ module _ (b : Boot) (l : Placed) (w : WorldState) (m : ℕ) where
       let s = (w.nodes m).senders c in
       let outs : List Out = first_out (w.nodes m) c k in
       let (x, is) = out_there (stream_of w h m c) k (st.pairs m c small less apart).stream few in
-      let one : Again b l (spoke w outs) a.next (sends (w.nodes m) c (Data (s.acked + k) x) ∷ []) (Transmits m c (load.Data (s.acked + k)) ∷ []) =
+      let one : Again b l (spoke w outs) a.next (sends (w.nodes m) c (Data (s.acked + k) x) ∷ []) (Transmits m c (Load.Data (s.acked + k)) ∷ []) =
       again_one b l (spoke w outs) a.next a.history m c k (s.acked + k) x apart (omega (arith, small, a.machines)) (omega (arith, less, a.machines)) is a.stands in
-      let both = again_then b l w pt outs (sends (w.nodes m) c (Data (s.acked + k) x) ∷ []) (repeats m c (numbers_from s.acked k)) (Transmits m c (load.Data (s.acked + k)) ∷ []) a one in
+      let both = again_then b l w pt outs (sends (w.nodes m) c (Data (s.acked + k) x) ∷ []) (repeats m c (numbers_from s.acked k)) (Transmits m c (Load.Data (s.acked + k)) ∷ []) a one in
       subst (λ (ps : List Part). Again b l w pt (first_out (w.nodes m) c (suc k)) ps) (sym (repeats_next m c s.acked k))
-      (subst (λ (o : Option (ℕ × Message)). Again b l w pt (outs ++ again (w.nodes m) c o) (repeats m c (numbers_from s.acked k) ++ Transmits m c (load.Data (s.acked + k)) ∷ [])) (sym is) both)
+      (subst (λ (o : Option (ℕ × Message)). Again b l w pt (outs ++ again (w.nodes m) c o) (repeats m c (numbers_from s.acked k) ++ Transmits m c (Load.Data (s.acked + k)) ∷ [])) (sym is) both)
 
   -- the first k of what is out to machine c
   first_on : (pt : Point) (h : History) (c : ℕ) → m ≢ c → m < pt.kernel.machines → c < pt.kernel.machines → StandsWith b w pt l h → (k : ℕ) → k ≤ count_out ((w.nodes m).senders c)
@@ -182,7 +158,7 @@ tick_sent : (w : WorldState) (m d : ℕ) (f : ℕ → ℕ) {g : ℕ → ℕ} →
 tick_sent w m d f e h = ap (λ (n : ℕ → NodeState). (n d).kernel.sent) (at_same w.nodes m) ∙ h ∙ ap (λ (k : ℕ → ℕ). k d) (sym e)
 
 -- the whole group
-pub tick_goes : (b : Boot) (w : WorldState) (pt : Point) (l : Placed) (h : History) (m : ℕ) → StandsWith b w pt l h → CountsStand w pt → m < pt.kernel.machines → GoesOn b w pt (step.Tick m)
+pub tick_goes : (b : Boot) (w : WorldState) (pt : Point) (l : Placed) (h : History) (m : ℕ) → StandsWith b w pt l h → CountsStand w pt → m < pt.kernel.machines → GoesOn b w pt (Step.Tick m)
 tick_goes b w pt l h m st sent small =
     let n : NodeState = w.nodes m in
     let begun : Point = record pt { view = begins pt.view m NothingElse } in
@@ -191,14 +167,14 @@ tick_goes b w pt l h m st sent small =
     let machines : n.machines ≡ pt.kernel.machines = (st.nodes m small).machines in
     let a : Again b l later begun (all_out n n.machines) (resends pt.view m pt.kernel.machines) = subst (λ (z : ℕ). Again b l later begun (all_out n z) (resends pt.view m pt.kernel.machines)) (sym machines) (all_on b l later m begun h small stood pt.kernel.machines (omega arith)) in
     let count : counts_out n n.machines ≡ rules.outstanding pt.view m pt.kernel.machines = ap (counts_out n) machines ∙ counts_same b l w m pt h small st pt.kernel.machines (omega arith) in
-    let said : Line = line.Resent m (rules.outstanding pt.view m pt.kernel.machines) in
+    let said : Line = Line.Resent m (rules.outstanding pt.view m pt.kernel.machines) in
     let rest : Spelled = record { lines = a.lines ++ []; point = a.next } in
     let ends : spelled begun (resends pt.view m pt.kernel.machines) ≡ Some rest = ap (spelled begun) (sym (append-nil (resends pt.view m pt.kernel.machines))) ∙ a.spells [] (record { lines = []; point = a.next }) refl in
     record {
-      said = acted w (step.Tick m) m (tick n);
+      said = acted w (Step.Tick m) m (tick n);
       happens = refl;
-      group = headed (line.Head (step.Tick m)) (behind (said ∷ []) rest);
-      due = ap (λ (o : Option Spelled). bind o (λ v. Some (headed (line.Head (step.Tick m)) v))) (spelled_on begun begun (rule.Says said) (said ∷ []) (resends pt.view m pt.kernel.machines) rest refl refl ends);
-      lines = λ i. line.Head (step.Tick m) ∷ line.Resent ((st.nodes m small).kernel.here i) (count i) ∷ (a.said ∙ sym (append-nil a.lines)) i;
+      group = headed (Line.Head (Step.Tick m)) (behind (said ∷ []) rest);
+      due = ap (λ (o : Option Spelled). bind o (λ v. Some (headed (Line.Head (Step.Tick m)) v))) (spelled_on begun begun (rule.Says said) (said ∷ []) (resends pt.view m pt.kernel.machines) rest refl refl ends);
+      lines = λ i. Line.Head (Step.Tick m) ∷ Line.Resent ((st.nodes m small).kernel.here i) (count i) ∷ (a.said ∙ sym (append-nil a.lines)) i;
       stands = ((l, a.history, subst (λ (f : ℕ → NodeState). StandsWith b (record { nodes = f; wires = (spoken w.wires (all_out n n.machines)).wires; groups = w.groups + 1 }) a.next l a.history) (sym (at_same w.nodes m)) a.stands), λ d few. tick_sent w m d a.next.view.count (a.counts) (sent d (subst (λ (k : ℕ). d < k) a.machines few)));
     }

@@ -1,26 +1,8 @@
 -- How many messages were routed, pair by pair and in all: no line takes any away, and a route adds one.
-use Rattle.std.proofs.Common.{◌≡◌, inl, inr, ℕ, zero, suc, ◌+◌, ◌*◌, ◌<◌, ◌≤◌, ◌==◌, ◌&&◌, Bool, true, false, not, filter, List, [], ◌∷◌, ◌++◌, length, refl, ap, ◌∙◌, subst, arith}
-use Rattle.std.specs.Prelude.{if◌then◌else◌}
-use Rattle.std.specs.declared.option.Option.{Option}
-use Rattle.std.specs.declared.option.Option.TheVariants.{None, Some}
-use Rattle.std.proofs.lemmas.Bool.{cases_Bool}
-use Rattle.std.proofs.lemmas.Bool.Decides.{nat_tests}
-use Rattle.dm_link.specs.declared.Pid.{Pid}
-use Rattle.dm_message.specs.declared.MsgId.{MsgId}
-use Rattle.dm_message.specs.declared.kind.MessageKind.{MessageKind}
-use Rattle.dm_message.specs.declared.kind.MessageKind.TheVariants as kind
-use Rattle.dm_onekernel.specs.declared.label.Label.{Label}
-use Rattle.dm_onekernel.specs.declared.label.Label.TheVariants as label
-use Rattle.dm_schedule.specs.declared.Step.{Step}
-use Rattle.dm_schedule.specs.declared.Step.TheVariants as step
-use Rattle.dm_line.specs.declared.line.Line.{Line}
-use Rattle.dm_line.specs.declared.line.Line.TheVariants as line
-use Rattle.dm_line.specs.declared.line.Stage.{Stage}
-use Rattle.dm_line.specs.declared.line.Stage.TheVariants as stage
-use Rattle.dm_line.specs.Sets.{at_pair}
-use Rattle.dm_rule.specs.View.{View, About, Pair, Told, view_after, handled}
+use Rattle.dm_mirror.proofs.Names.{◌≡◌, inl, inr, ℕ, zero, suc, ◌+◌, ◌*◌, ◌<◌, ◌≤◌, ◌==◌, ◌&&◌, Bool, true, false, not, filter, List, [], ◌∷◌, ◌++◌, length, refl, ap, ◌∙◌, subst, arith, if◌then◌else◌, cases_Bool, nat_tests, Pid, MsgId}
+use Rattle.dm_mirror.proofs.Names.{MessageKind, Label, Step, Line, at_pair, View, Pair, view_after, handled, eq_is, queued_pair, held_pair, forwarded_pair, taken_pair, label_pair, stage_pair, proto_pair}
 use Rattle.dm_rule.specs.View as view
-use Rattle.dm_rule.proofs.Turns.{served_keeps}
+use Rattle.dm_rule.proofs.Lines.{parts}
 
 -- how many messages were routed from a to c
 abbrev pub ids_of : View → ℕ → ℕ → ℕ
@@ -34,14 +16,6 @@ grows_same v w e = record { ids = λ a c. let f : ids_of w a c ≡ ids_of v a c 
 
 pub grows_on : (u v w : View) → Grows u v → Grows v w → Grows u w
 grows_on u v w h k = record { ids = λ a c. omega (arith, h.ids a c, k.ids a c) }
-
--- one pair is set
-eq_is : (m n : ℕ) → (m == n) ≡ true → m ≡ n
-eq_is m n e = grind (arith, nat_tests)
-
-parts : (c d : Bool) → (c && d) ≡ true → (c ≡ true) × (d ≡ true)
-parts true d e = (refl, e)
-parts false d e = cc
 
 pair_grows : (f : ℕ → ℕ → Pair) (a b : ℕ) (p : Pair) → length (f a b).ids ≤ length p.ids → (c d : ℕ) → length (f c d).ids ≤ length (at_pair f a b p c d).ids
 pair_grows f a b p le c d = elim (cases_Bool ((a == c) && (b == d))) [
@@ -63,127 +37,36 @@ set_grows v w a b p e le = record {
       omega (arith, f, g);
 }
 
--- a row a line
-dropped_pair : (v : View) (i : MsgId) (o : Option Pid) → (view.dropped_for v i o).pair ≡ v.pair
-dropped_pair v i None = refl
-dropped_pair v i (Some p) = refl
-
-queued_pair : (v : View) (i : MsgId) (o : Option Pid) → (view.queued_for v i o).pair ≡ v.pair
-queued_pair v i None = refl
-queued_pair v i (Some p) = refl
-
-held_pair : (v : View) (i : MsgId) (o : Option Pid) → (view.held_for v i o).pair ≡ v.pair
-held_pair v i None = refl
-held_pair v i (Some p) = refl
-
-forwarded_pair : (v : View) (o : Option Pid) → (view.forwarded_for v o).pair ≡ v.pair
-forwarded_pair v None = refl
-forwarded_pair v (Some p) = refl
-
-taken_pair : (v : View) (b : ℕ) (o : Option MsgId) → (view.taken_id v b o).pair ≡ v.pair
-taken_pair v b None = refl
-taken_pair v b (Some i) = refl
-
-label_pair : (v : View) (l : Label) → (view.after_label v l).pair ≡ v.pair
-label_pair v (label.Ran p k) = refl
-label_pair v (label.Call p n c) = refl
-label_pair v (label.Send p i) = refl
-label_pair v (label.Wait p) = refl
-label_pair v (label.Out p w) = refl
-label_pair v (label.End p y) = refl
-label_pair v (label.Receive p i) = refl
-label_pair v (label.Refuse p i c) = refl
-label_pair v (label.Dropped i) = dropped_pair (handled v i) i (view.receiver_of (v.told i))
-label_pair v (label.Served i) = (served_keeps (handled v i) (v.told i)).2
-label_pair v (label.Gone i) = refl
-label_pair v (label.Took i) = refl
-label_pair v (label.Created i p) = refl
-label_pair v (label.NoSpace i s b) = refl
-
 head_grows : (v : View) (d : Step) → Grows v (view.after_head v d)
-head_grows v (step.Turn m) = grows_same v (view.after_head v (step.Turn m)) refl
-head_grows v (step.Tick m) = grows_same v (view.after_head v (step.Tick m)) refl
-head_grows v (step.Migrate p m) = grows_same v (view.after_head v (step.Migrate p m)) refl
-head_grows v (step.Deliver a c k) = set_grows v (view.after_head v (step.Deliver a c k)) a c (view.marked (v.pair a c) k) refl (omega arith)
-
-stage_pair : (v : View) (p : Pid) (s : Stage) → (view.after_stage v p s).pair ≡ v.pair
-stage_pair v p stage.Frozen = refl
-stage_pair v p stage.Asked = refl
-stage_pair v p stage.Accepted = refl
-stage_pair v p stage.StateTaken = refl
-stage_pair v p stage.MemoryTaken = refl
-stage_pair v p stage.Left = refl
-stage_pair v p stage.Restarted = refl
+head_grows v (Step.Deliver a c k) = set_grows v (view.after_head v (Step.Deliver a c k)) a c (view.marked (v.pair a c) k) refl (omega arith)
+head_grows v any_ = grows_same v (view.after_head v any_) refl
 
 append-longer : {A : Type 0} (xs : List A) (y : A) → length (xs ++ y ∷ []) ≡ length xs + 1
 append-longer [] y = refl
 append-longer (x ∷ xs) y = omega (arith, append-longer xs y)
 
-asks_pair : (v : View) (a : About) → (view.asks_on v a).pair ≡ v.pair
-asks_pair v view.NothingElse = refl
-asks_pair v (view.Target m) = refl
-asks_pair v (view.Of p) = refl
-asks_pair v (view.Place p at_ moves) = refl
-
-follows_pair : (v : View) (a : About) (k : MessageKind) → (view.follows_up v a k).pair ≡ v.pair
-follows_pair v a kind.State = asks_pair v a
-follows_pair v a kind.Memory = asks_pair v a
-follows_pair v a kind.PullState = refl
-follows_pair v a kind.PullBlock = refl
-follows_pair v a kind.User = refl
-follows_pair v a kind.Stop = refl
-follows_pair v a kind.Resume = refl
-follows_pair v a kind.Kill = refl
-follows_pair v a kind.Read = refl
-follows_pair v a kind.Write = refl
-follows_pair v a kind.Block = refl
-follows_pair v a kind.Written = refl
-follows_pair v a kind.Gone = refl
-follows_pair v a kind.Create = refl
-follows_pair v a kind.Created = refl
-follows_pair v a kind.NoRoom = refl
-follows_pair v a kind.Migrate = refl
-follows_pair v a kind.Update = refl
-follows_pair v a kind.Ask = refl
-follows_pair v a kind.Refuse = refl
-follows_pair v a kind.AllTaken = refl
-follows_pair v a kind.Restart = refl
-follows_pair v a kind.Move = refl
-follows_pair v a kind.Moved = refl
-follows_pair v a kind.CallOff = refl
-follows_pair v a kind.Bury = refl
-
-proto_pair : (v : View) (o : Option Told) → (view.after_proto v o).pair ≡ v.pair
-proto_pair v None = refl
-proto_pair v (Some t) = follows_pair v t.about t.kind
-
 pub line_grows : (v : View) (l : Line) → Grows v (view_after v l)
-line_grows v (line.Head d) = head_grows v d
-line_grows v (line.Idle m) = grows_same v v refl
-line_grows v (line.Label l) = grows_same v (view.after_label v l) (label_pair v l)
-line_grows v (line.Put a b i k q) = set_grows v (view.after_put v a b i k q) a b (view.routed_on a b (v.pair a b) i) refl (let e = append-longer (v.pair a b).ids i in omega (arith, e))
-line_grows v (line.Packet a b k l) = set_grows v (view.after_packet v a b l) a b (record (v.pair a b) { gone = view.gone_after l (v.pair a b).gone; wire = (v.pair a b).wire ++ record { load = l; delivered = false } ∷ [] }) refl (omega arith)
-line_grows v (line.Taken a b n) =
+line_grows v (Line.Head d) = head_grows v d
+line_grows v (Line.Label l) = grows_same v (view.after_label v l) (label_pair v l)
+line_grows v (Line.Put a b i k q) = set_grows v (view.after_put v a b i k q) a b (view.routed_on a b (v.pair a b) i) refl (let e = append-longer (v.pair a b).ids i in omega (arith, e))
+line_grows v (Line.Packet a b k l) = set_grows v (view.after_packet v a b l) a b (record (v.pair a b) { gone = view.gone_after l (v.pair a b).gone; wire = (v.pair a b).wire ++ record { load = l; delivered = false } ∷ [] }) refl (omega arith)
+line_grows v (Line.Taken a b n) =
     let p : Pair = record (v.pair a b) { taken = (v.pair a b).taken + 1; kept = filter (λ k. not (k == n)) (v.pair a b).kept } in
     set_grows v (view.after_taken v a b n) a b p (taken_pair (view.with_pair v a b p) b (view.oldest (v.pair a b))) (omega arith)
-line_grows v (line.Old a b n) = grows_same v v refl
-line_grows v (line.Early a b n) = set_grows v (view.after_early v a b n) a b (record (v.pair a b) { kept = n ∷ filter (λ k. not (k == n)) (v.pair a b).kept }) refl (omega arith)
-line_grows v (line.Acked a b n) = set_grows v (view.after_acked v a b n) b a (record (v.pair b a) { acked = view.at_least (v.pair b a).acked n }) refl (omega arith)
-line_grows v line.Nothing = grows_same v v refl
-line_grows v (line.Resent m n) = grows_same v v refl
-line_grows v (line.Queued i) = grows_same v (view_after v (line.Queued i)) (queued_pair (handled v i) i (view.receiver_of (v.told i)))
-line_grows v (line.Held i) = grows_same v (view_after v (line.Held i)) (held_pair (handled v i) i (view.receiver_of (v.told i)))
-line_grows v (line.Forwarded i m) = grows_same v (view_after v (line.Forwarded i m)) (forwarded_pair (handled v i) (view.receiver_of (v.told i)))
-line_grows v (line.Updated i n) = grows_same v (handled v i) refl
-line_grows v (line.Migration s p) = grows_same v (view.after_stage v p s) (stage_pair v p s)
-line_grows v (line.SentOn p n) = grows_same v (view_after v (line.SentOn p n)) refl
-line_grows v (line.Lacks p s b) = grows_same v (view_after v (line.Lacks p s b)) refl
-line_grows v (line.Stays p) = grows_same v (view_after v (line.Stays p)) refl
-line_grows v (line.Here i) = grows_same v (handled v i) refl
-line_grows v (line.NoMove i) = grows_same v (handled v i) refl
-line_grows v (line.Proto i) = grows_same v (view_after v (line.Proto i)) (proto_pair (handled v i) (v.told i))
-line_grows v (line.NoChild p) = grows_same v v refl
-line_grows v (line.Pinned p) = grows_same v v refl
+line_grows v (Line.Early a b n) = set_grows v (view.after_early v a b n) a b (record (v.pair a b) { kept = n ∷ filter (λ k. not (k == n)) (v.pair a b).kept }) refl (omega arith)
+line_grows v (Line.Acked a b n) = set_grows v (view.after_acked v a b n) b a (record (v.pair b a) { acked = view.at_least (v.pair b a).acked n }) refl (omega arith)
+line_grows v (Line.Queued i) = grows_same v (view_after v (Line.Queued i)) (queued_pair (handled v i) i (view.receiver_of (v.told i)))
+line_grows v (Line.Held i) = grows_same v (view_after v (Line.Held i)) (held_pair (handled v i) i (view.receiver_of (v.told i)))
+line_grows v (Line.Forwarded i m) = grows_same v (view_after v (Line.Forwarded i m)) (forwarded_pair (handled v i) (view.receiver_of (v.told i)))
+line_grows v (Line.Updated i n) = grows_same v (handled v i) refl
+line_grows v (Line.Migration s p) = grows_same v (view.after_stage v p s) (stage_pair v p s)
+line_grows v (Line.SentOn p n) = grows_same v (view_after v (Line.SentOn p n)) refl
+line_grows v (Line.Lacks p s b) = grows_same v (view_after v (Line.Lacks p s b)) refl
+line_grows v (Line.Stays p) = grows_same v (view_after v (Line.Stays p)) refl
+line_grows v (Line.Here i) = grows_same v (handled v i) refl
+line_grows v (Line.NoMove i) = grows_same v (handled v i) refl
+line_grows v (Line.Proto i) = grows_same v (view_after v (Line.Proto i)) (proto_pair (handled v i) (v.told i))
+line_grows v _ = grows_same v v refl
 
 -- a route adds one
 pub put_adds : (v : View) (a b : ℕ) (i : MsgId) (k : MessageKind) (q : Pid) → ids_of (view.after_put v a b i k q) a b ≡ ids_of v a b + 1

@@ -1,28 +1,6 @@
 -- Each turn of a machine, whatever its inbox has at the front.
-use Rattle.std.proofs.Common.{◌≡◌, ℕ, ◌<◌, false, List, [], ◌∷◌, refl, ap, ◌∙◌, sym, inl, inr}
-use Rattle.std.specs.declared.option.Option.{Option}
-use Rattle.std.specs.declared.option.Option.TheVariants.{None, Some}
-use Rattle.std.proofs.lemmas.Bool.{cases_Bool}
-use Rattle.dm_message.specs.declared.Message.{Message}
-use Rattle.dm_message.specs.declared.MsgId.{MsgId}
-use Rattle.dm_message.specs.Plain.{PlainMessage, plain_message}
-use Rattle.dm_onekernel.specs.declared.boot.Boot.{Boot}
-use Rattle.dm_onekernel.specs.Boot.{IsValid}
-use Rattle.dm_onekernel.specs.Options.{bind}
-use Rattle.dm_kernel.specs.Carried.{FreezesWhole}
-use Rattle.dm_kernel.specs.Lawful.{IsLawfulState}
-use Rattle.dm_kernel.specs.State.{KernelState}
-use Rattle.dm_rule.specs.Point.{Point}
-use Rattle.dm_rule.specs.View.{Known, Unknown, Here, Frozen, Incoming, Forward, Ended}
-use Rattle.dm_rulelaws.specs.Found.{is_fixed}
-use Rattle.dm_rulelaws.proofs.Own.Told.{OwnTold}
-use Rattle.dm_rulelaws.proofs.Runs.{Run}
-use Rattle.dm_places.specs.Placed.{Placed, Mirrors}
-use Rattle.dm_places.proofs.Keeps.{parts}
-use Rattle.dm_mirror.specs.Made.{MadeStands}
-use Rattle.dm_mirror.specs.Own.{AllOwnStand}
-use Rattle.dm_mirror.specs.Stands.{KernelStands}
-use Rattle.dm_mirror.specs.Tokens.{AllRecords, TokensStand}
+use Rattle.dm_mirror.proofs.Names.{◌≡◌, ℕ, ◌<◌, false, List, [], ◌∷◌, refl, ap, ◌∙◌, sym, inl, inr, Option, None, Some, cases_Bool, Message, MsgId, PlainMessage, plain_message, Boot, IsValid, bind, FreezesWhole, IsLawfulState, KernelState}
+use Rattle.dm_mirror.proofs.Names.{Point, Known, Unknown, Here, Ended, is_fixed, OwnTold, Run, Placed, Mirrors, parts, MadeStands, AllOwnStand, KernelStands, AllRecords, TokensStand}
 use Rattle.dm_mirror.proofs.Come.All.{Around}
 use Rattle.dm_mirror.proofs.Follow.Frames.{Fronts}
 use Rattle.dm_mirror.proofs.Follow.Fronts.{fronted}
@@ -60,9 +38,7 @@ module _ (b : Boot) (m : ℕ) (pt : Point) (l : Placed) (records : AllRecords) (
   process_turn y c x Unknown there to fixed knows = absurd (front_known b m pt l records k y c fixed knows)
   process_turn y c x Here there to fixed knows = bag_turn y.id c.ids x c.box there (ForHere (ap (pt.view.known m) (sym to) ∙ knows))
   process_turn y c x Ended there to fixed knows = bag_turn y.id c.ids x c.box there (ForEnded (ap (pt.view.known m) (sym to) ∙ knows))
-  process_turn y c x (Frozen d) there to fixed knows = apart_turn b m pt l records k y c (Frozen d) fixed knows refl
-  process_turn y c x (Incoming s) there to fixed knows = apart_turn b m pt l records k y c (Incoming s) fixed knows refl
-  process_turn y c x (Forward at moves) there to fixed knows = apart_turn b m pt l records k y c (Forward at moves) fixed knows refl
+  process_turn y c x any_ there to fixed knows = apart_turn b m pt l records k y c any_ fixed knows refl
 
   front_turn : (y : Message) (c : Fronts b m pt l records k y) (o : Option PlainMessage) → pt.kernel.bag y.id ≡ o → TurnsAt b m pt l records k
   front_turn y c None none =

@@ -1,48 +1,15 @@
 -- A turn, or a directive to move a process: the machine says and routes what the rule spells, or stops worn.
-use Rattle.std.proofs.Common.{◌≡◌, ℕ, ◌+◌, ◌<◌, ◌≤◌, ◌==◌, List, [], ◌∷◌, ◌++◌, length, map, refl, ap, ◌∙◌, sym, subst, inl, inr}
-use Rattle.std.specs.List.{All}
-use Rattle.std.specs.declared.option.Option.{Option}
-use Rattle.std.specs.declared.option.Option.TheVariants.{Some}
-use Rattle.std.proofs.lemmas.Bool.{cases_Bool, eqb-true}
+use Rattle.dm_mirror.proofs.Names.{◌≡◌, ℕ, ◌+◌, ◌<◌, ◌≤◌, ◌==◌, List, [], ◌∷◌, ◌++◌, length, map, refl, ap, ◌∙◌, sym, subst, inl, inr, All, Option, Some, cases_Bool, eqb-true, All-head, All-tail, Boot, OneKernel, bind, bind-is, Step, Line}
+use Rattle.dm_mirror.proofs.Names.{Stage, Out, Spelled, spelled, Point, after_line, moved, group_of, headed, outcome, at_machine, standing, About, Pair, begins, worn_in, PairsFit, AllSayable, Sane, outcome_sayable, sane_line, machine_of}
+use Rattle.dm_mirror.proofs.Names.{Run, Placed, Mirrors, lines_keep, IsLawfulPart, IsLawfulTurned, NodeState, Acts, Goes, Worn, behind, acts, Spoken, spoken, WorldState, acted, world_step, GoesOn, StopsWorn, Steps, CountsStand, History}
+use Rattle.dm_mirror.proofs.Names.{StandsWith}
 use Rattle.std.proofs.lemmas.List.{append_assoc}
-use Rattle.std.proofs.lemmas.List.Elements.{All-head, All-tail}
-use Rattle.dm_onekernel.specs.declared.boot.Boot.{Boot}
-use Rattle.dm_onekernel.specs.Kernel.{OneKernel}
-use Rattle.dm_onekernel.specs.Options.{bind}
-use Rattle.dm_laws.proofs.Steps.{bind-is}
-use Rattle.dm_schedule.specs.declared.Step.{Step}
-use Rattle.dm_line.specs.declared.line.Line.{Line}
-use Rattle.dm_line.specs.declared.line.Line.TheVariants as line
-use Rattle.dm_line.specs.declared.line.Stage.TheVariants as stage
 use Rattle.dm_rule.specs.Parts as rule
-use Rattle.dm_rule.specs.Parts.{Spelled, spelled}
-use Rattle.dm_rule.specs.Point.{Point, after_line, moved}
-use Rattle.dm_rule.specs.Rule.{group_of, headed, outcome}
-use Rattle.dm_line.specs.Sets.{at_machine}
-use Rattle.dm_rule.specs.Spots.{standing}
-use Rattle.dm_rule.specs.View.{About, Pair, begins}
-use Rattle.dm_rule.specs.Worn.{worn_in}
 use Rattle.dm_rule.proofs.Groups.{fits}
-use Rattle.dm_rule.proofs.States.{PairsFit}
-use Rattle.dm_rule.proofs.Telling.{AllSayable, Sane, outcome_sayable, sane_line}
-use Rattle.dm_rulelaws.specs.Found.{machine_of}
-use Rattle.dm_rulelaws.proofs.Runs.{Run}
-use Rattle.dm_places.specs.Placed.{Placed, Mirrors}
-use Rattle.dm_places.proofs.Lines.{lines_keep}
 use Rattle.dm_kernel.specs.declared.part.Part.{Part}
-use Rattle.dm_kernel.specs.declared.part.Part.TheVariants as part
-use Rattle.dm_kernel.specs.Lawful.{IsLawfulPart, IsLawfulTurned}
 use Rattle.dm_kernel.specs.State as machine
-use Rattle.dm_kernel.specs.State.{KernelState}
-use Rattle.dm_node.specs.State.{NodeState}
-use Rattle.dm_node.specs.declared.out.Out.TheVariants as out
-use Rattle.dm_node.specs.Out.{Acts, Goes, Worn, behind}
-use Rattle.dm_node.specs.Acts.{acts}
 use Rattle.dm_node.specs.Acts as node
-use Rattle.dm_node.specs.Wired.{Spoken, spoken}
-use Rattle.dm_world.specs.World.{WorldState, acted, turned, world_step}
-use Rattle.dm_mirror.specs.Run.{GoesOn, StopsWorn, Steps}
-use Rattle.dm_mirror.specs.Stands.{CountsStand, History, StandsWith}
+use Rattle.dm_world.specs.World.{turned}
 use Rattle.dm_mirror.proofs.Turning.{Route, Late, Nothing, Leaves, Turns, late_parts, late_point, late_rule_parts, part_of, rule_part_of}
 use Rattle.dm_mirror.proofs.Stays.{at_again, at_here, at_other}
 use Rattle.dm_mirror.proofs.Puts.{stands_begins}
@@ -54,9 +21,9 @@ use Rattle.dm_mirror.proofs.Join.{turned_here, turned_records, turned_stands, wi
 use Rattle.dm_mirror.proofs.Within.{made_here, stands_within}
 
 -- what is routed is lawful
-said_lawful : (ls : List Line) (ps : List Part) → All IsLawfulPart (map part.Says ls ++ ps) → All IsLawfulPart ps
+said_lawful : (ls : List Line) (ps : List Part) → All IsLawfulPart (map Part.Says ls ++ ps) → All IsLawfulPart ps
 said_lawful [] ps h = h
-said_lawful (l ∷ ls) ps h = said_lawful ls ps (All-tail IsLawfulPart (part.Says l) (map part.Says ls ++ ps) h)
+said_lawful (l ∷ ls) ps h = said_lawful ls ps (All-tail IsLawfulPart (Part.Says l) (map Part.Says ls ++ ps) h)
 
 routes_lawful : (rs : List Route) (ps : List Part) → All IsLawfulPart (map part_of rs ++ ps) → AreLawful rs × All IsLawfulPart ps
 routes_lawful [] ps h = (tt, h)
@@ -66,16 +33,16 @@ routes_lawful (r ∷ rs) ps h =
 
 late_lawful : (late : Late) → All IsLawfulPart (late_parts late) → IsLawfulLate late
 late_lawful Nothing h = tt
-late_lawful (Leaves p x) h = All-head IsLawfulPart (part.Routes x) [] (All-tail IsLawfulPart (part.Says (line.Migration stage.Left p)) (part.Routes x ∷ []) h)
+late_lawful (Leaves p x) h = All-head IsLawfulPart (Part.Routes x) [] (All-tail IsLawfulPart (Part.Says (Line.Migration Stage.Left p)) (Part.Routes x ∷ []) h)
 
 -- the line of a process that leaves changes nothing of these
 late_sane : (q : Point) (late : Late) → Sane q → Sane (late_point q late)
 late_sane q Nothing h = h
-late_sane q (Leaves p x) h = sane_line q (moved q (line.Migration stage.Left p) q.kernel) (line.Migration stage.Left p) refl refl h
+late_sane q (Leaves p x) h = sane_line q (moved q (Line.Migration Stage.Left p) q.kernel) (Line.Migration Stage.Left p) refl refl h
 
 late_mirrors : (q : Point) (late : Late) (l : Placed) → Mirrors q.kernel q.view q.addresses l → Mirrors (late_point q late).kernel (late_point q late).view (late_point q late).addresses l
 late_mirrors q Nothing l h = h
-late_mirrors q (Leaves p x) l h = lines_keep q (moved q (line.Migration stage.Left p) q.kernel) l (line.Migration stage.Left p) tt h refl
+late_mirrors q (Leaves p x) l h = lines_keep q (moved q (Line.Migration Stage.Left p) q.kernel) l (Line.Migration Stage.Left p) tt h refl
 
 late_made : (m n : ℕ) (start q : Point) (late : Late) → MadeHere m n start q → MadeHere m n start (late_point q late)
 late_made m n start q Nothing h = h
@@ -86,12 +53,12 @@ headed_whole head ls v y group e f = ap (headed head) e ∙ f
 
 -- a directive that machine m acts on, with what its kernel does
 pub record Acting (b : Boot) (w : WorldState) (pt : Point) (m : ℕ) (d : Step) (o : Option machine.Turned) (a : About) : Type 0 where
-  pub head : after_line pt (line.Head d) ≡ Some (record pt { view = begins pt.view m a })
+  pub head : after_line pt (Line.Head d) ≡ Some (record pt { view = begins pt.view m a })
   pub happens : world_step b w d ≡ turned w d m (node.turns (w.nodes m) o)
 
 module _ (b : Boot) (w : WorldState) (pt : Point) (l : Placed) (h : History) (m : ℕ) (d : Step) (o : Option machine.Turned) (a : About) (e : Acting b w pt m d o a) (run : Run b pt) (stands : StandsWith b w pt l h) (sent : CountsStand w pt) (below : m < pt.kernel.machines)
     (t : Turns b m d o pt (record pt { view = begins pt.view m a }) l (λ n. (w.nodes n).kernel.records) (w.nodes m).kernel)
-    (lawful : IsLawfulTurned (record { state = t.state; parts = map part.Says t.says ++ map part_of t.routes ++ late_parts t.late }))
+    (lawful : IsLawfulTurned (record { state = t.state; parts = map Part.Says t.says ++ map part_of t.routes ++ late_parts t.late }))
     (group : Spelled) (due : group_of b pt d ≡ Some group) (ends : Run b group.point) where
   abbrev start : Point
   start = record pt { view = begins pt.view m a }
@@ -100,7 +67,7 @@ module _ (b : Boot) (w : WorldState) (pt : Point) (l : Placed) (h : History) (m 
   rest = map rule_part_of t.routes ++ late_rule_parts t.late
 
   abbrev head : Line
-  head = line.Head d
+  head = Line.Head d
 
   outcome_is : outcome b pt d ≡ Some (map rule.Says t.says ++ rest)
   outcome_is = t.outcome ∙ ap (λ (ps : List rule.Part). Some ps) (append_assoc (map rule.Says t.says) (map rule_part_of t.routes) (late_rule_parts t.late))
@@ -108,8 +75,8 @@ module _ (b : Boot) (w : WorldState) (pt : Point) (l : Placed) (h : History) (m 
   abbrev sends : List Part
   sends = map part_of t.routes ++ late_parts t.late
 
-  parts_are : (map part.Says t.says ++ map part_of t.routes) ++ late_parts t.late ≡ map part.Says t.says ++ sends
-  parts_are = append_assoc (map part.Says t.says) (map part_of t.routes) (late_parts t.late)
+  parts_are : (map Part.Says t.says ++ map part_of t.routes) ++ late_parts t.late ≡ map Part.Says t.says ++ sends
+  parts_are = append_assoc (map Part.Says t.says) (map part_of t.routes) (late_parts t.late)
 
   spells : (v : Spelled) × (spelled t.next rest ≡ Some v) × (headed head (rule.behind t.says v) ≡ group)
   spells =
@@ -177,18 +144,18 @@ module _ (b : Boot) (w : WorldState) (pt : Point) (l : Placed) (h : History) (m 
   }
 
   -- what the machine does
-  does : (c : Acts) → acts (world.nodes m) (map part_of t.routes ++ late_parts t.late) ≡ c → world_step b w d ≡ turned w d m (Some (behind (map out.Says t.says) c))
+  does : (c : Acts) → acts (world.nodes m) (map part_of t.routes ++ late_parts t.late) ≡ c → world_step b w d ≡ turned w d m (Some (behind (map Out.Says t.says) c))
   does c is =
       e.happens
       ∙ ap (λ (p : Option machine.Turned). turned w d m (node.turns (w.nodes m) p)) (t.turn ∙ ap (λ (ps : List Part). Some (record { state = t.state; parts = ps })) parts_are)
       ∙ ap (λ (x : Acts). turned w d m (Some x)) (acts_say (with_kernel (w.nodes m) t.state) t.says (map part_of t.routes ++ late_parts t.late))
-      ∙ ap (λ (x : Acts). turned w d m (Some (behind (map out.Says t.says) x))) (ap (λ (n : NodeState). acts n (map part_of t.routes ++ late_parts t.late)) (sym (turned_here begun m t.state)) ∙ is)
+      ∙ ap (λ (x : Acts). turned w d m (Some (behind (map Out.Says t.says) x))) (ap (λ (n : NodeState). acts n (map part_of t.routes ++ late_parts t.late)) (sym (turned_here begun m t.state)) ∙ is)
 
   goes : RoutesOn b world t.next m t.routes t.late v → GoesOn b w pt d
   goes k =
-      let gave : spoken w.wires (map out.Says t.says ++ k.acted.outs) ≡ record { lines = t.says ++ (spoken w.wires k.acted.outs).lines; wires = (spoken w.wires k.acted.outs).wires } = spoken_says w.wires t.says k.acted.outs in
+      let gave : spoken w.wires (map Out.Says t.says ++ k.acted.outs) ≡ record { lines = t.says ++ (spoken w.wires k.acted.outs).lines; wires = (spoken w.wires k.acted.outs).wires } = spoken_says w.wires t.says k.acted.outs in
       record {
-        said = acted w d m (record { state = k.acted.state; outs = map out.Says t.says ++ k.acted.outs });
+        said = acted w d m (record { state = k.acted.state; outs = map Out.Says t.says ++ k.acted.outs });
         happens = does (Goes k.acted) k.goes;
         group = group;
         due = due;
@@ -197,7 +164,7 @@ module _ (b : Boot) (w : WorldState) (pt : Point) (l : Placed) (h : History) (m 
           (
             k.placed,
             k.history,
-            subst (λ (p : Point). StandsWith b (record { nodes = at_machine w.nodes m k.acted.state; wires = (spoken w.wires (map out.Says t.says ++ k.acted.outs)).wires; groups = w.groups + 1 }) p k.placed k.history) end_point
+            subst (λ (p : Point). StandsWith b (record { nodes = at_machine w.nodes m k.acted.state; wires = (spoken w.wires (map Out.Says t.says ++ k.acted.outs)).wires; groups = w.groups + 1 }) p k.placed k.history) end_point
                 (subst (λ (u : WorldState). StandsWith b u v.point k.placed k.history)
                 (λ i. record { nodes = at_again w.nodes m (with_kernel (w.nodes m) t.state) k.acted.state i; wires = (sym gave i).wires; groups = w.groups + 1 }) k.stands),
           ),

@@ -1,45 +1,13 @@
 -- What a turn says before the messages that it sends are routed.
-use Rattle.std.proofs.Common.{◌≡◌, ◌≢◌, refl, arith, ℕ, ◌+◌, ◌≤◌, Bool, true, false, not, ◌==◌, ◌&&◌, List, [], ◌∷◌, ◌++◌, map, is_some}
-use Rattle.std.specs.Prelude.{⊤}
-use Rattle.std.specs.declared.option.Option.{Option}
-use Rattle.std.specs.declared.option.Option.TheVariants.{None, Some}
-use Rattle.dm_link.specs.declared.Pid.{Pid}
-use Rattle.dm_link.specs.Names.{place_of}
-use Rattle.dm_linkupdate.specs.Notice.{kernel_at}
-use Rattle.dm_message.specs.declared.Message.{Message}
-use Rattle.dm_message.specs.declared.MsgId.{MsgId}
-use Rattle.dm_message.specs.declared.kind.MessageKind.TheVariants as kind
-use Rattle.dm_message.specs.Kinds.{kind_of}
-use Rattle.dm_message.specs.Plain.{plain_message}
-use Rattle.dm_process.specs.declared.process.Process.{Process}
-use Rattle.dm_records.specs.Records.{incoming_of}
-use Rattle.dm_onekernel.specs.declared.boot.Boot.{Boot}
-use Rattle.dm_onekernel.specs.Boot.{manager}
-use Rattle.dm_schedule.specs.declared.Step.{Step}
-use Rattle.dm_schedule.specs.declared.Step.TheVariants as step
-use Rattle.dm_line.specs.declared.line.Line.{Line}
-use Rattle.dm_line.specs.declared.line.Line.TheVariants as line
-use Rattle.dm_line.specs.declared.line.Stage.TheVariants as stage
-use Rattle.dm_rule.specs.Addresses.{Receiver, Sender, given, own_gives}
+use Rattle.dm_mirror.proofs.Names.{◌≡◌, ◌≢◌, ℕ, ◌+◌, ◌≤◌, Bool, true, false, not, ◌==◌, ◌&&◌, List, [], ◌∷◌, ◌++◌, map, is_some, ⊤, Option, None, Some, Pid, place_of, kernel_at, Message, MsgId, MessageKind, Stage, kind_of, plain_message}
+use Rattle.dm_mirror.proofs.Names.{Process, incoming_of, Boot, manager, Step, Line, Receiver, Sender, given, own_gives, is_between, Point, after, moved, outcome, at_machine, Spot, Queue, Held, Inbox, Untaken, standing, Known, Here, Frozen}
+use Rattle.dm_mirror.proofs.Names.{Incoming, Ended, Of, Told, own_id, Placed, Mirrors, enclosed, KernelState, Turned, turn, AllOwnStand, about_of, told_of, KernelStands, AllRecords, Carries, TokensStand, destination_of}
 use Rattle.dm_rule.specs.Parts as rule
-use Rattle.dm_rule.specs.Phases.{is_between}
-use Rattle.dm_rule.specs.Point.{Point, after, moved}
-use Rattle.dm_rule.specs.Rule.{outcome}
-use Rattle.dm_line.specs.Sets.{at_machine}
-use Rattle.dm_rule.specs.Spots.{Spot, Queue, Held, Inbox, Untaken, standing}
-use Rattle.dm_rule.specs.View.{Known, Unknown, Here, Frozen, Incoming, Forward, Ended, Of, Told, own_id}
-use Rattle.dm_places.specs.Placed.{Placed, Mirrors, enclosed}
 use Rattle.dm_kernel.specs.declared.part.Part.{Part}
-use Rattle.dm_kernel.specs.declared.part.Part.TheVariants as part
-use Rattle.dm_kernel.specs.State.{KernelState, Turned}
-use Rattle.dm_kernel.specs.Turn.{turn}
-use Rattle.dm_mirror.specs.Own.{AllOwnStand, about_of, told_of}
-use Rattle.dm_mirror.specs.Stands.{KernelStands}
-use Rattle.dm_mirror.specs.Tokens.{AllRecords, Carries, TokensStand, destination_of}
 
 -- behind the head of a turn
 abbrev pub begun : Point → ℕ → Point
-begun pt m = moved pt (line.Head (step.Turn m)) pt.kernel
+begun pt m = moved pt (Line.Head (Step.Turn m)) pt.kernel
 
 -- a spot that isn't on machine m
 abbrev pub is_elsewhere : ℕ → Spot → Bool
@@ -50,12 +18,10 @@ is_elsewhere m (Untaken a c) = true
 
 -- a machine has a process, holds it back or expects it
 abbrev pub has_process : Known → Bool
-has_process Unknown = false
 has_process Here = true
 has_process (Frozen to) = true
 has_process (Incoming from) = true
-has_process (Forward at moves) = false
-has_process Ended = false
+has_process _ = false
 
 -- what a turn on machine m leaves of the other machines and of the pairs, before its messages are routed
 pub record Elsewhere (m : ℕ) (pt : Point) (l : Placed) (next : Point) (placed : Placed) : Type 0 where
@@ -95,7 +61,7 @@ message_of (Own x) = x
 
 -- the machine's parts, and the rule's
 abbrev pub part_of : Route → Part
-part_of r = part.Routes (message_of r)
+part_of r = Part.Routes (message_of r)
 
 abbrev pub rule_part_of : Route → rule.Part
 rule_part_of (First x) = rule.Routes x.id
@@ -120,7 +86,7 @@ pub record MayOwn (pt : Point) (placed : Placed) (records : AllRecords) (x : Mes
   pub sender : given pt.addresses (own_gives pt.kernel pt.view pt.addresses x.id x.to.pid (kind_of x.what)) (Sender x.id) ≡ place_of x.sender
   pub about : pt.view.topic ≡ about_of x.what
   -- a request to move a process is the manager's
-  pub asker : kind_of x.what ≡ kind.Migrate → x.sender.pid ≡ manager
+  pub asker : kind_of x.what ≡ MessageKind.Migrate → x.sender.pid ≡ manager
   pub carried : is_between (kind_of x.what) ≡ true → (p : Pid) → about_of x.what ≡ Of p → IsCarried placed (pt.view.asked p) records p x
 
 -- a message may be put
@@ -140,15 +106,15 @@ pub data Late : Type 0 where
 
 abbrev pub late_parts : Late → List Part
 late_parts Nothing = []
-late_parts (Leaves p x) = part.Says (line.Migration stage.Left p) ∷ part.Routes x ∷ []
+late_parts (Leaves p x) = Part.Says (Line.Migration Stage.Left p) ∷ Part.Routes x ∷ []
 
 abbrev pub late_rule_parts : Late → List rule.Part
 late_rule_parts Nothing = []
-late_rule_parts (Leaves p x) = rule.Says (line.Migration stage.Left p) ∷ rule_part_of (Own x) ∷ []
+late_rule_parts (Leaves p x) = rule.Says (Line.Migration Stage.Left p) ∷ rule_part_of (Own x) ∷ []
 
 abbrev pub late_point : Point → Late → Point
 late_point pt Nothing = pt
-late_point pt (Leaves p x) = moved pt (line.Migration stage.Left p) pt.kernel
+late_point pt (Leaves p x) = moved pt (Line.Migration Stage.Left p) pt.kernel
 
 -- how many of these are the kernel's own
 abbrev pub is_own : Route → ℕ
@@ -159,11 +125,6 @@ is_own (Own x) = 1
 abbrev pub owns : List Route → ℕ
 owns [] = 0
 owns (r ∷ rs) = is_own r + owns rs
-
--- messages that go on are not
-pub none_owned : (xs : List Message) → owns (map On xs) ≡ 0
-none_owned [] = refl
-none_owned (x ∷ xs) = let e : owns (map On xs) ≡ 0 = none_owned xs in omega (arith, e)
 
 abbrev pub late_owns : Late → ℕ
 late_owns Nothing = 0
@@ -185,7 +146,7 @@ pub record Turns (b : Boot) (m : ℕ) (d : Step) (turned : Option Turned) (pt st
   pub says : List Line
   pub routes : List Route
   pub late : Late
-  pub turn : turned ≡ Some (record { state = state; parts = map part.Says says ++ map part_of routes ++ late_parts late })
+  pub turn : turned ≡ Some (record { state = state; parts = map Part.Says says ++ map part_of routes ++ late_parts late })
   pub outcome : outcome b pt d ≡ Some (map rule.Says says ++ map rule_part_of routes ++ late_rule_parts late)
   pub next : Point
   pub after : after start says ≡ Some next
@@ -206,38 +167,15 @@ pub record Turns (b : Boot) (m : ℕ) (d : Step) (turned : Option Turned) (pt st
 -- a row of a turn that is no migration's: it says labels, or that a message is queued or that the machine idles, and routes at most one
 -- message of the bag; what moves stays as it is
 abbrev pub is_moving : Known → Bool
-is_moving Unknown = false
-is_moving Here = false
 is_moving (Frozen to) = true
 is_moving (Incoming from) = true
-is_moving (Forward at moves) = false
-is_moving Ended = false
+is_moving _ = false
 
 abbrev pub is_still : Line → Bool
-is_still (line.Label e) = true
-is_still (line.Queued id) = true
-is_still (line.Idle m) = true
-is_still (line.Head d) = false
-is_still (line.Put a c id k q) = false
-is_still (line.Packet a c k x) = false
-is_still (line.Taken a c n) = false
-is_still (line.Old a c n) = false
-is_still (line.Early a c n) = false
-is_still (line.Acked a c n) = false
-is_still line.Nothing = false
-is_still (line.Resent m n) = false
-is_still (line.Held id) = false
-is_still (line.Forwarded id m) = false
-is_still (line.Updated id n) = false
-is_still (line.Migration s p) = false
-is_still (line.SentOn p n) = false
-is_still (line.Lacks p s c) = false
-is_still (line.Stays p) = false
-is_still (line.Here id) = false
-is_still (line.NoMove id) = false
-is_still (line.Proto id) = false
-is_still (line.NoChild p) = false
-is_still (line.Pinned p) = false
+is_still (Line.Label e) = true
+is_still (Line.Queued id) = true
+is_still (Line.Idle m) = true
+is_still _ = false
 
 abbrev pub are_still : List Line → Bool
 are_still [] = true
@@ -245,7 +183,7 @@ are_still (l ∷ ls) = is_still l && are_still ls
 
 abbrev pub routed : Option Message → List Part
 routed None = []
-routed (Some x) = part.Routes x ∷ []
+routed (Some x) = Part.Routes x ∷ []
 
 abbrev pub rule_routed : Option Message → List rule.Part
 rule_routed None = []
@@ -259,8 +197,8 @@ pub record Row (b : Boot) (m : ℕ) (pt : Point) (l : Placed) (k : KernelState) 
   pub state : KernelState
   pub says : List Line
   pub route : Option Message
-  pub turn : turn b k ≡ Some (record { state = state; parts = map part.Says says ++ routed route })
-  pub outcome : outcome b pt (step.Turn m) ≡ Some (map rule.Says says ++ rule_routed route)
+  pub turn : turn b k ≡ Some (record { state = state; parts = map Part.Says says ++ routed route })
+  pub outcome : outcome b pt (Step.Turn m) ≡ Some (map rule.Says says ++ rule_routed route)
   pub next : Point
   pub after : after (begun pt m) says ≡ Some next
   pub placed : Placed
@@ -277,4 +215,4 @@ pub record Row (b : Boot) (m : ℕ) (pt : Point) (l : Placed) (k : KernelState) 
   pub own_back : (i : MsgId) (x : Message) → plain_message x ≡ None → placed.bag i ≡ Some x → l.bag i ≡ Some x
 
 abbrev pub TurnsAt : Boot → ℕ → Point → Placed → AllRecords → KernelState → Type 0
-TurnsAt b m pt l records k = Turns b m (step.Turn m) (turn b k) pt (begun pt m) l records k
+TurnsAt b m pt l records k = Turns b m (Step.Turn m) (turn b k) pt (begun pt m) l records k

@@ -1,38 +1,8 @@
 -- Whatever stands somewhere stands on a machine that there is; and what a turn makes is known to no other machine.
-use Rattle.std.proofs.Common.{◌≡◌, ℕ, ◌+◌, ◌<◌, ◌≤◌, Bool, true, false, is_some, List, refl, ap, ◌∙◌, sym, subst, arith}
-use Rattle.std.specs.Prelude.{nat_lt}
-use Rattle.std.specs.declared.option.Option.{Option}
-use Rattle.std.specs.declared.option.Option.TheVariants.{None, Some}
-use Rattle.std.proofs.lemmas.Bool.{false≢true}
-use Rattle.std.proofs.lemmas.Bool.Decides.{nat_tests}
-use Rattle.dm_link.specs.declared.Pid.{Pid}
-use Rattle.dm_link.specs.Names.{pid_of}
-use Rattle.dm_message.specs.declared.MsgId.{MsgId}
-use Rattle.dm_message.specs.Plain.{PlainMessage}
-use Rattle.dm_onekernel.specs.declared.boot.Boot.{Boot}
-use Rattle.dm_onekernel.specs.Boot.{first_number}
-use Rattle.dm_onekernel.specs.Kernel.{Life, OneKernel}
-use Rattle.dm_laws.proofs.Runs.{reached}
-use Rattle.dm_laws.proofs.Sound.{Sound}
-use Rattle.dm_line.specs.declared.line.Line.{Line}
-use Rattle.dm_rule.specs.Addresses.{Receiver}
-use Rattle.dm_rule.specs.Homes.{to_of}
-use Rattle.dm_rule.specs.Point.{Point, after, labels}
-use Rattle.dm_rule.specs.Spots.{Spot, StandsOutside, standing}
-use Rattle.dm_rule.specs.View.{Known, Told, is_kernels}
-use Rattle.dm_rule.proofs.Groups.{stands_right}
-use Rattle.dm_rulelaws.specs.Found.{machine_of}
-use Rattle.dm_rulelaws.proofs.Runs.{Run}
-use Rattle.dm_rulelaws.proofs.RunLabels.{after_replay}
+use Rattle.dm_mirror.proofs.Names.{◌≡◌, ℕ, ◌+◌, ◌<◌, ◌≤◌, true, false, is_some, List, refl, ap, ◌∙◌, sym, subst, arith, nat_lt, Option, None, Some, false≢true, nat_tests, Pid, pid_of, MsgId, PlainMessage, Boot, first_number, Life}
+use Rattle.dm_mirror.proofs.Names.{OneKernel, reached, Sound, Line, Receiver, to_of, Point, after, labels, Spot, standing, Known, is_kernels, stands_right, machine_of, Run, after_replay, own_by}
 use Rattle.dm_mirror.proofs.Others.{MadeHere}
-
-told_of : (o : Option Told) → is_some o ≡ true → (t : Told) × (o ≡ Some t)
-told_of None e = cc
-told_of (Some t) e = (t, refl)
-
-own_by : (c : Bool) (f : Spot → ℕ) (z : Spot) → 1 ≤ f z → StandsOutside c f → c ≡ true
-own_by true f z least h = refl
-own_by false f z least h = absurd (let e : f z ≡ 0 = h z in omega (arith, least, e))
+use Rattle.dm_rulelaws.proofs.Goes.Always.{told_of}
 
 address_within : (b : Boot) (pt : Point) → Run b pt → (i : MsgId) (z : Spot) (o : Option PlainMessage) → pt.kernel.bag i ≡ o → 1 ≤ standing pt.view i z → (pt.addresses (Receiver i)).at < pt.kernel.machines
 address_within b pt run i z (Some x) there st = run.found.within (Receiver i) x.to (ap to_of there)

@@ -1,17 +1,6 @@
 -- The lines of a group lead to where the group leads.
-use Rattle.std.proofs.Common.{◌≡◌, List, [], ◌∷◌, ◌++◌, refl, ap, ◌∙◌, subst}
-use Rattle.std.specs.declared.option.Option.{Option}
-use Rattle.std.specs.declared.option.Option.TheVariants.{Some}
-use Rattle.dm_onekernel.specs.declared.boot.Boot.{Boot}
-use Rattle.dm_onekernel.specs.Options.{bind}
-use Rattle.dm_laws.proofs.Steps.{bind-is}
-use Rattle.dm_schedule.specs.declared.Step.{Step}
-use Rattle.dm_line.specs.declared.line.Line.{Line}
-use Rattle.dm_line.specs.declared.line.Line.TheVariants as line
-use Rattle.dm_rule.specs.Parts.{Part, Spelled, lines_of, behind, spelled}
-use Rattle.dm_rule.specs.Point.{Point, after_line, after}
+use Rattle.dm_movelaws.proofs.Names.{◌≡◌, List, [], ◌∷◌, ◌++◌, refl, ap, ◌∙◌, subst, Option, Some, Boot, bind, bind-is, Step, Line, Part, Spelled, lines_of, behind, spelled, Point, after_line, after, group_of}
 use Rattle.dm_rule.specs.Rule as rule
-use Rattle.dm_rule.specs.Rule.{group_of}
 
 pub after-append : (xs ys : List Line) (pt mid end : Point) → after pt xs ≡ Some mid → after mid ys ≡ Some end → after pt (xs ++ ys) ≡ Some end
 after-append [] ys pt mid end e f = let g : pt ≡ mid = cc in ap (λ (x : Point). after x ys) g ∙ f
@@ -32,8 +21,8 @@ spelled_after (p ∷ ps) pt w e =
 
 pub group_after : (b : Boot) (pt : Point) (d : Step) (w : Spelled) → group_of b pt d ≡ Some w → after pt w.lines ≡ Some w.point
 group_after b pt d w e =
-    let (parts, is, more) = bind-is (rule.outcome b pt d) (λ (parts : List Part). bind (after_line pt (line.Head d)) (λ (begun : Point). bind (spelled begun parts) (λ (w : Spelled). Some (rule.headed (line.Head d) w)))) w e in
-    let (start, head, last) = bind-is (after_line pt (line.Head d)) (λ (begun : Point). bind (spelled begun parts) (λ (w : Spelled). Some (rule.headed (line.Head d) w))) w more in
-    let (rest, told, end) = bind-is (spelled start parts) (λ (w : Spelled). Some (rule.headed (line.Head d) w)) w last in
-    let g : rule.headed (line.Head d) rest ≡ w = cc in
+    let (parts, is, more) = bind-is (rule.outcome b pt d) (λ (parts : List Part). bind (after_line pt (Line.Head d)) (λ (begun : Point). bind (spelled begun parts) (λ (w : Spelled). Some (rule.headed (Line.Head d) w)))) w e in
+    let (start, head, last) = bind-is (after_line pt (Line.Head d)) (λ (begun : Point). bind (spelled begun parts) (λ (w : Spelled). Some (rule.headed (Line.Head d) w))) w more in
+    let (rest, told, end) = bind-is (spelled start parts) (λ (w : Spelled). Some (rule.headed (Line.Head d) w)) w last in
+    let g : rule.headed (Line.Head d) rest ≡ w = cc in
     subst (λ (v : Spelled). after pt v.lines ≡ Some v.point) g (ap (λ (o : Option Point). bind o (λ (q : Point). after q rest.lines)) head ∙ spelled_after parts start rest told)

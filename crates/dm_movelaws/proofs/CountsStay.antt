@@ -1,25 +1,9 @@
 -- The count of an address that a process or a server has doesn't fall until a step gives it a new one.
-use Rattle.std.proofs.Common.{◌≡◌, ℕ, ◌<◌, ◌≤◌, ◌&&◌, ◌||◌, Bool, true, false, List, [], ◌∷◌, ◌++◌, refl, ap, ◌∙◌, sym, subst, nat_lt, arith}
-use Rattle.std.specs.Prelude.{if◌then◌else◌}
-use Rattle.std.proofs.lemmas.Bool.{false≢true}
-use Rattle.std.proofs.lemmas.Bool.Decides.{nat_tests}
-use Rattle.std.specs.declared.option.Option.{Option}
-use Rattle.std.specs.declared.option.Option.TheVariants.{None, Some}
-use Rattle.dm_link.specs.declared.Pid.{Pid}
-use Rattle.dm_link.specs.Names.{Place}
-use Rattle.dm_message.specs.declared.MsgId.{MsgId}
-use Rattle.dm_message.specs.declared.kind.MessageKind.{MessageKind}
-use Rattle.dm_message.specs.declared.kind.MessageKind.TheVariants as kind
-use Rattle.dm_onekernel.specs.Kernel.{OneKernel}
-use Rattle.dm_laws.proofs.Steps.{bind-is}
-use Rattle.dm_line.specs.declared.line.Line.{Line}
-use Rattle.dm_line.specs.declared.line.Line.TheVariants as line
-use Rattle.dm_rule.specs.Addresses.{Addresses, Holder, Slot, Owner, Receiver, Sender, Enclosed, Child, Name, Answer, Gets, gets, holder_eq, unmoved, given, gives, belongs_to, leads_to, is_pid, is_behind, tells_back, is_told_back, forwards, all_follow, child_number, place_of_child, own_gives, first_gives, place_told, updated, updated_to, addresses_after}
-use Rattle.dm_rule.specs.Point.{Point, label_of, kernel_after, moved, after_line, after}
-use Rattle.dm_rule.specs.View.{View, Told, About}
+use Rattle.dm_movelaws.proofs.Names.{◌≡◌, ℕ, ◌<◌, ◌≤◌, ◌&&◌, ◌||◌, Bool, true, false, List, [], ◌∷◌, ◌++◌, refl, ap, ◌∙◌, sym, subst, nat_lt, arith, if◌then◌else◌, false≢true, nat_tests, Option, None, Some, Pid, Place, MsgId, MessageKind}
+use Rattle.dm_movelaws.proofs.Names.{OneKernel, bind-is, Line, Addresses, Holder, Receiver, Sender, Enclosed, Gets, gets, holder_eq, unmoved, given, gives, belongs_to, leads_to, is_pid, is_behind, tells_back, is_told_back, forwards}
+use Rattle.dm_movelaws.proofs.Names.{all_follow, child_number, place_of_child, own_gives, first_gives, place_told, updated, updated_to, addresses_after, Point, label_of, kernel_after, moved, after_line, after, View, Told, About, is_owned}
+use Rattle.dm_movelaws.proofs.Names.{gives_to, is_filled, in_next, refilled, CountsStay, CountsKept, Updated}
 use Rattle.dm_rule.specs.View as view
-use Rattle.dm_movelaws.specs.Counts.{is_owned, gives_to, is_filled, in_next, refilled, CountsStay, CountsKept}
-use Rattle.dm_movelaws.specs.Updates.{Updated}
 use Rattle.dm_movelaws.proofs.After.{group_after}
 use Rattle.dm_movelaws.proofs.Updates.Always.{updates_always}
 
@@ -42,24 +26,12 @@ not_given a (g ∷ gs) h e =
 
 -- what goes on gives addresses to messages only
 no_receiver : (i : MsgId) (h : Holder) → is_owned h ≡ true → holder_eq (Receiver i) h ≡ false
-no_receiver i (Slot p k) e = refl
-no_receiver i (Owner p) e = refl
 no_receiver i (Receiver j) e = absurd (false≢true e)
-no_receiver i (Sender j) e = refl
-no_receiver i (Enclosed j k) e = refl
-no_receiver i (Child n) e = refl
-no_receiver i (Name n) e = refl
-no_receiver i (Answer n) e = refl
+no_receiver i _ e = refl
 
 no_sender : (i : MsgId) (h : Holder) → is_owned h ≡ true → holder_eq (Sender i) h ≡ false
-no_sender i (Slot p k) e = refl
-no_sender i (Owner p) e = refl
-no_sender i (Receiver j) e = refl
 no_sender i (Sender j) e = absurd (false≢true e)
-no_sender i (Enclosed j k) e = refl
-no_sender i (Child n) e = refl
-no_sender i (Name n) e = refl
-no_sender i (Answer n) e = refl
+no_sender i _ e = refl
 
 both_none : (i : MsgId) (p r : Place) (h : Holder) → is_owned h ≡ true → gives_to h (gets (Receiver i) p ∷ gets (Sender i) r ∷ []) ≡ false
 both_none i p r h e = ap (λ (c : Bool). c || (holder_eq (Sender i) h || false)) (no_receiver i h e) ∙ ap (λ (c : Bool). c || false) (no_sender i h e)
@@ -77,32 +49,18 @@ follows_none v a p h [] e = refl
 follows_none v a p h (i ∷ is) e = ap (λ (c : Bool). c || gives_to h (all_follow v a p is)) (no_receiver i h e) ∙ follows_none v a p h is e
 
 own_none : (s : OneKernel) (v : View) (a : Addresses) (id : MsgId) (r : Pid) (h : Holder) (x : MessageKind) → is_owned h ≡ true → gives_to h (own_gives s v a id r x) ≡ false
-own_none s v a id r h kind.Ask e = both_none id (unmoved r.home) (unmoved v.acting) h e
-own_none s v a id r h kind.Refuse e = both_none id (unmoved r.home) (unmoved v.acting) h e
-own_none s v a id r h kind.PullState e = both_none id (unmoved r.home) (unmoved v.acting) h e
-own_none s v a id r h kind.State e = both_none id (unmoved r.home) (unmoved v.acting) h e
-own_none s v a id r h kind.PullBlock e = both_none id (unmoved r.home) (unmoved v.acting) h e
-own_none s v a id r h kind.Memory e = both_none id (unmoved r.home) (unmoved v.acting) h e
-own_none s v a id r h kind.AllTaken e = both_none id (unmoved r.home) (unmoved v.acting) h e
-own_none s v a id r h kind.Restart e = both_none id (unmoved r.home) (unmoved v.acting) h e
-own_none s v a id r h kind.User e = refl
-own_none s v a id r h kind.Stop e = refl
-own_none s v a id r h kind.Resume e = refl
-own_none s v a id r h kind.Kill e = refl
-own_none s v a id r h kind.Read e = refl
-own_none s v a id r h kind.Write e = refl
-own_none s v a id r h kind.Block e = refl
-own_none s v a id r h kind.Written e = refl
-own_none s v a id r h kind.Gone e = refl
-own_none s v a id r h kind.Create e = refl
-own_none s v a id r h kind.Created e = refl
-own_none s v a id r h kind.NoRoom e = refl
-own_none s v a id r h kind.Migrate e = both_none id (place_of_child a (child_number s r)) (unmoved v.acting) h e
-own_none s v a id r h kind.Update e = refl
-own_none s v a id r h kind.Move e = refl
-own_none s v a id r h kind.Moved e = refl
-own_none s v a id r h kind.CallOff e = both_none id (unmoved r.home) (unmoved v.acting) h e
-own_none s v a id r h kind.Bury e = both_none id (unmoved r.home) (unmoved v.acting) h e
+own_none s v a id r h MessageKind.Ask e = both_none id (unmoved r.home) (unmoved v.acting) h e
+own_none s v a id r h MessageKind.Refuse e = both_none id (unmoved r.home) (unmoved v.acting) h e
+own_none s v a id r h MessageKind.PullState e = both_none id (unmoved r.home) (unmoved v.acting) h e
+own_none s v a id r h MessageKind.State e = both_none id (unmoved r.home) (unmoved v.acting) h e
+own_none s v a id r h MessageKind.PullBlock e = both_none id (unmoved r.home) (unmoved v.acting) h e
+own_none s v a id r h MessageKind.Memory e = both_none id (unmoved r.home) (unmoved v.acting) h e
+own_none s v a id r h MessageKind.AllTaken e = both_none id (unmoved r.home) (unmoved v.acting) h e
+own_none s v a id r h MessageKind.Restart e = both_none id (unmoved r.home) (unmoved v.acting) h e
+own_none s v a id r h MessageKind.Migrate e = both_none id (place_of_child a (child_number s r)) (unmoved v.acting) h e
+own_none s v a id r h MessageKind.CallOff e = both_none id (unmoved r.home) (unmoved v.acting) h e
+own_none s v a id r h MessageKind.Bury e = both_none id (unmoved r.home) (unmoved v.acting) h e
+own_none s v a id r h _ e = refl
 
 first_none : (h : Holder) (o : Option Told) (gs : List Gets) → gives_to h gs ≡ false → gives_to h (first_gives o gs) ≡ false
 first_none h None gs e = e
@@ -131,38 +89,20 @@ update_raises s v a h (Some t) = told_raises s a t.receiver h (place_told t.abou
 
 -- each line
 by_line : (pt : Point) (l : Line) (h : Holder) → is_owned h ≡ true → is_filled pt (label_of l) h ≡ false → count_of pt.addresses h ≤ count_of (addresses_after pt.kernel pt.view pt.addresses l) h
-by_line pt (line.Label l) h mine e = same_count pt.addresses (given pt.addresses (gives pt.kernel pt.view pt.addresses l)) h (not_given pt.addresses (gives pt.kernel pt.view pt.addresses l) h e)
-by_line pt (line.Forwarded id m) h mine e =
+by_line pt (Line.Label l) h mine e = same_count pt.addresses (given pt.addresses (gives pt.kernel pt.view pt.addresses l)) h (not_given pt.addresses (gives pt.kernel pt.view pt.addresses l) h e)
+by_line pt (Line.Forwarded id m) h mine e =
     let gs = forwards pt.view pt.addresses id (pt.view.told id) in
     same_count pt.addresses (given pt.addresses gs) h (not_given pt.addresses gs h (forwards_none pt.view pt.addresses id h (pt.view.told id) mine))
-by_line pt (line.SentOn p n) h mine e =
+by_line pt (Line.SentOn p n) h mine e =
     let is = pt.view.queue pt.view.acting p ++ pt.view.held pt.view.acting p in
     let gs = all_follow pt.view pt.addresses p is in
     same_count pt.addresses (given pt.addresses gs) h (not_given pt.addresses gs h (follows_none pt.view pt.addresses p h is mine))
-by_line pt (line.Put from to id x r) h mine e =
+by_line pt (Line.Put from to id x r) h mine e =
     let own = own_gives pt.kernel pt.view pt.addresses id r x in
     let gs = first_gives (pt.view.told id) own in
     same_count pt.addresses (given pt.addresses gs) h (not_given pt.addresses gs h (first_none h (pt.view.told id) own (own_none pt.kernel pt.view pt.addresses id r h x mine)))
-by_line pt (line.Updated id n) h mine e = update_raises pt.kernel pt.view pt.addresses h (pt.view.told id)
-by_line pt (line.Head d) h mine e = omega arith
-by_line pt (line.Idle m) h mine e = omega arith
-by_line pt (line.Packet a b x l) h mine e = omega arith
-by_line pt (line.Taken a b n) h mine e = omega arith
-by_line pt (line.Old a b n) h mine e = omega arith
-by_line pt (line.Early a b n) h mine e = omega arith
-by_line pt (line.Acked a b n) h mine e = omega arith
-by_line pt line.Nothing h mine e = omega arith
-by_line pt (line.Resent m n) h mine e = omega arith
-by_line pt (line.Queued id) h mine e = omega arith
-by_line pt (line.Held id) h mine e = omega arith
-by_line pt (line.Migration s p) h mine e = omega arith
-by_line pt (line.Lacks p f b) h mine e = omega arith
-by_line pt (line.Stays p) h mine e = omega arith
-by_line pt (line.Here id) h mine e = omega arith
-by_line pt (line.NoMove id) h mine e = omega arith
-by_line pt (line.Proto id) h mine e = omega arith
-by_line pt (line.NoChild p) h mine e = omega arith
-by_line pt (line.Pinned p) h mine e = omega arith
+by_line pt (Line.Updated id n) h mine e = update_raises pt.kernel pt.view pt.addresses h (pt.view.told id)
+by_line pt _ h mine e = omega arith
 
 -- and so all lines of a group
 in_some : (o : Option Point) (f : Point → Bool) (next : Point) → o ≡ Some next → in_next o f ≡ false → f next ≡ false
@@ -188,14 +128,10 @@ counts_stay b (d ∷ ds) pt end h mine (w, fit, is, unfilled, more) =
 
 -- what belongs to a process or a server is its own
 owned_by : (q : Pid) (h : Holder) → belongs_to q h ≡ true → is_owned h ≡ true
-owned_by q (Slot p k) e = refl
-owned_by q (Owner p) e = refl
 owned_by q (Receiver j) e = e
 owned_by q (Sender j) e = e
 owned_by q (Enclosed j k) e = e
-owned_by q (Child n) e = refl
-owned_by q (Name n) e = refl
-owned_by q (Answer n) e = refl
+owned_by q _ e = refl
 
 -- what an update told stays
 count_in : (x y : About) (p : Pid) (c at_ : Place) (r : Pid) → x ≡ view.Place p c.at c.moves → x ≡ view.Place r at_.at at_.moves → (r ≡ p) × (c.moves ≡ at_.moves)

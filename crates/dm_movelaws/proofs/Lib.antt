@@ -1,3 +1,4 @@
+pub mod Names
 pub mod After
 pub mod Trail
 pub mod Lists

@@ -1,34 +1,9 @@
 -- The end lines say of each process once whether it lives.
-use Rattle.std.proofs.Common.{◌≡◌, ◌≢◌, ◌⊎◌, ℕ, zero, suc, ◌+◌, ◌<◌, ◌≤◌, ◌==◌, ◌||◌, Bool, true, false, is_some, nat_le, List, [], ◌∷◌, ◌++◌, length, refl, ap, ◌∙◌, sym, subst, inl, inr, arith}
-use Rattle.std.specs.Prelude.{◌*◌, ◌/◌, if◌then◌else◌, take, drop}
-use Rattle.std.specs.declared.option.Option.{Option}
-use Rattle.std.specs.declared.option.Option.TheVariants.{None, Some}
-use Rattle.std.proofs.lemmas.Bool.{cases_Bool}
-use Rattle.std.proofs.lemmas.Bool.Decides.{nat_tests}
-use Rattle.std.proofs.lemmas.List.{append-nil}
-use Rattle.std.proofs.lemmas.List.Elements.{filter-append}
-use Rattle.dm_link.specs.declared.Pid.{Pid}
-use Rattle.dm_link.specs.Names.{pid_of, pid_eq}
-use Rattle.dm_link.specs.Plain.{PlainLink}
-use Rattle.dm_message.specs.declared.MsgId.{MsgId}
-use Rattle.dm_onekernel.specs.declared.boot.Boot.{Boot}
-use Rattle.dm_onekernel.specs.Boot.{first_number, switchboard, manager}
-use Rattle.dm_onekernel.specs.PlainProcess.{PlainProcess}
-use Rattle.dm_onekernel.specs.Kernel.{Life, Alive, NamedLink, Pending}
-use Rattle.dm_onekernel.specs.Kernel as kernel
-use Rattle.dm_laws.proofs.Equal.{pid_eq-is, pid_eq-same}
-use Rattle.dm_line.specs.declared.end_line.EndLine.{EndLine}
-use Rattle.dm_line.specs.declared.end_line.EndLine.TheVariants as end
-use Rattle.dm_line.specs.Ends.{trimmed, block_line, memory_lines, home_with, each_machine, list_line}
-use Rattle.dm_rule.specs.Addresses.{Addresses}
-use Rattle.dm_rule.specs.Ends.{Stood, has, first_with, stood, doing_of, slot_line, link_lines, state_lines, alive_lines, process_lines, homes_with, each_process, name_lines, child_lines, pending_lines, queue_at, queue_lines, holding_lines, inbox_lines, stream_lines, server_lines, end_lines}
-use Rattle.dm_rule.specs.Point.{Point}
-use Rattle.dm_rule.specs.Spots.{untaken}
-use Rattle.dm_rule.specs.View.{View}
-use Rattle.dm_rulelaws.specs.Fits.{is_server}
-use Rattle.dm_rulelaws.proofs.Runs.{Run}
-use Rattle.dm_rulelaws.proofs.RunsAlways.{run_always}
-use Rattle.dm_movelaws.specs.LifeLines.{tells_life, life_lines, IsSaid, LivesAreSaid}
+use Rattle.dm_movelaws.proofs.Names.{◌≡◌, ◌≢◌, ◌⊎◌, ℕ, zero, suc, ◌+◌, ◌<◌, ◌≤◌, ◌==◌, ◌||◌, Bool, true, false, is_some, nat_le, List, [], ◌∷◌, ◌++◌, length, refl, ap, ◌∙◌, sym, subst, inl, inr, arith, ◌*◌, ◌/◌, if◌then◌else◌, take, drop}
+use Rattle.dm_movelaws.proofs.Names.{Option, None, Some, cases_Bool, nat_tests, append-nil, filter-append, Pid, pid_of, pid_eq, PlainLink, MsgId, Boot, first_number, switchboard, manager, PlainProcess, Life, Alive, NamedLink, Pending}
+use Rattle.dm_movelaws.proofs.Names.{pid_eq-is, pid_eq-same, EndLine, trimmed, block_line, memory_lines, home_with, each_machine, list_line, Addresses, Stood, has, first_with, stood, doing_of, slot_line, link_lines, state_lines}
+use Rattle.dm_movelaws.proofs.Names.{alive_lines, process_lines, homes_with, each_process, name_lines, child_lines, pending_lines, queue_at, queue_lines, holding_lines, inbox_lines, stream_lines, server_lines, end_lines, Point, untaken}
+use Rattle.dm_movelaws.proofs.Names.{View, is_server, Run, run_always, tells_life, life_lines, IsSaid, LivesAreSaid}
 use Rattle.dm_movelaws.proofs.LifePlaces.{alive_placed}
 
 -- lines that say of no process whether it lives
@@ -74,14 +49,14 @@ mute_pending p (r ∷ rs) = mute_pending p rs
 mute_servers : (p : Pid) (pt : Point) → Mute p (server_lines pt)
 mute_servers p pt =
     let s = pt.kernel in
-    let names = end.Server switchboard s.switchboard.sent ∷ end.Server manager s.manager.sent ∷ name_lines pt.addresses 0 s.switchboard.names in
+    let names = EndLine.Server switchboard s.switchboard.sent ∷ EndLine.Server manager s.manager.sent ∷ name_lines pt.addresses 0 s.switchboard.names in
     let children = child_lines pt.addresses 1 s.manager.children in
     let pending = pending_lines s.manager.pending in
     mute_both p (names ++ children) pending (mute_both p names children (mute_names p pt.addresses 0 s.switchboard.names) (mute_children p pt.addresses 1 s.manager.children)) (mute_pending p s.manager.pending)
 
 mute_queue : (p : Pid) (v : View) (q : Pid) (o : Option Stood) → Mute p (queue_at v q o)
 mute_queue p v q None = refl
-mute_queue p v q (Some s) = mute_list p (end.Queue q) (v.queue s.at q) (λ is. refl)
+mute_queue p v q (Some s) = mute_list p (EndLine.Queue q) (v.queue s.at q) (λ is. refl)
 
 mute_queues : (p : Pid) (pt : Point) → Mute p (queue_lines pt)
 mute_queues p pt =
@@ -91,17 +66,17 @@ mute_queues p pt =
 mute_holding : (p : Pid) (pt : Point) → Mute p (holding_lines pt)
 mute_holding p pt =
     let n = pt.kernel.machines in
-    mute_machines p (λ m. each_process pt (λ q. list_line (end.Holding m q) (pt.view.held m q))) n
-    (λ m. mute_homes p pt (λ q. list_line (end.Holding m q) (pt.view.held m q)) n (λ q. mute_list p (end.Holding m q) (pt.view.held m q) (λ is. refl)))
+    mute_machines p (λ m. each_process pt (λ q. list_line (EndLine.Holding m q) (pt.view.held m q))) n
+    (λ m. mute_homes p pt (λ q. list_line (EndLine.Holding m q) (pt.view.held m q)) n (λ q. mute_list p (EndLine.Holding m q) (pt.view.held m q) (λ is. refl)))
 
 mute_inboxes : (p : Pid) (pt : Point) → Mute p (inbox_lines pt)
-mute_inboxes p pt = mute_machines p (λ m. list_line (end.Inbox m) (pt.view.inbox m)) pt.kernel.machines (λ m. mute_list p (end.Inbox m) (pt.view.inbox m) (λ is. refl))
+mute_inboxes p pt = mute_machines p (λ m. list_line (EndLine.Inbox m) (pt.view.inbox m)) pt.kernel.machines (λ m. mute_list p (EndLine.Inbox m) (pt.view.inbox m) (λ is. refl))
 
 mute_streams : (p : Pid) (pt : Point) → Mute p (stream_lines pt)
 mute_streams p pt =
     let n = pt.kernel.machines in
-    mute_machines p (λ a. each_machine (λ c. list_line (end.Stream a c) (untaken (pt.view.pair a c))) n) n
-    (λ a. mute_machines p (λ c. list_line (end.Stream a c) (untaken (pt.view.pair a c))) n (λ c. mute_list p (end.Stream a c) (untaken (pt.view.pair a c)) (λ is. refl)))
+    mute_machines p (λ a. each_machine (λ c. list_line (EndLine.Stream a c) (untaken (pt.view.pair a c))) n) n
+    (λ a. mute_machines p (λ c. list_line (EndLine.Stream a c) (untaken (pt.view.pair a c))) n (λ c. mute_list p (EndLine.Stream a c) (untaken (pt.view.pair a c)) (λ is. refl)))
 
 -- the lines of a process, but for the first
 mute_block : (p q : Pid) (k : ℕ) (bytes : List ℕ) → Mute p (block_line q k bytes)
@@ -125,27 +100,27 @@ mute_links p a q k (l ∷ ls) = mute_both p (slot_line a q k l) (link_lines a q 
 mute_state : (p : Pid) (a : Addresses) (q : Pid) (x : PlainProcess) → Mute p (state_lines a q x)
 mute_state p a q x =
     let memory = memory_lines q x.memory (length x.memory / 256) in
-    mute_both p (end.Registers q x.regs.r x.regs.pc ∷ memory) (link_lines a q 0 x.links) (mute_memory p q x.memory (length x.memory / 256)) (mute_links p a q 0 x.links)
+    mute_both p (EndLine.Registers q x.regs.r x.regs.pc ∷ memory) (link_lines a q 0 x.links) (mute_memory p q x.memory (length x.memory / 256)) (mute_links p a q 0 x.links)
 
 -- another process's lines say nothing of this one
 other_alive : (p : Pid) (a : Addresses) (q : Pid) (x : PlainProcess) (o : Option Stood) → pid_eq p q ≡ false → Mute p (alive_lines a q x o)
 other_alive p a q x None off = refl
 other_alive p a q x (Some s) off =
-    let l = end.Process q s.at s.standing (doing_of x.status) x.stopped x.sent in
+    let l = EndLine.Process q s.at s.standing (doing_of x.status) x.stopped x.sent in
     ap (λ (c : Bool). if c then l ∷ life_lines p (state_lines a q x) else life_lines p (state_lines a q x)) off ∙ mute_state p a q x
 
 other_life : (p : Pid) (pt : Point) (q : Pid) (l : Option Life) → pid_eq p q ≡ false → Mute p (process_lines pt q l)
 other_life p pt q None off = refl
 other_life p pt q (Some (Alive x)) off = other_alive p pt.addresses q x (stood pt.view q pt.kernel.machines) off
-other_life p pt q (Some (kernel.Ended because)) off = ap (λ (c : Bool). if c then end.Ended q because ∷ [] else []) off
+other_life p pt q (Some (Life.Ended because)) off = ap (λ (c : Bool). if c then EndLine.Ended q because ∷ [] else []) off
 
 -- this process's own lines
 own_life : (b : Boot) (pt : Point) (p : Pid) (l : Option Life) → Run b pt → pt.kernel.processes p ≡ l → IsSaid pt p l (life_lines p (process_lines pt p l))
 own_life b pt p None run is = refl
-own_life b pt p (Some (kernel.Ended because)) run is = ap (λ (c : Bool). if c then end.Ended p because ∷ [] else []) (pid_eq-same p)
+own_life b pt p (Some (Life.Ended because)) run is = ap (λ (c : Bool). if c then EndLine.Ended p because ∷ [] else []) (pid_eq-same p)
 own_life b pt p (Some (Alive x)) run is =
     let at = alive_placed b pt p x run is in
-    let l = end.Process p at.at.at at.at.standing (doing_of x.status) x.stopped x.sent in
+    let l = EndLine.Process p at.at.at at.at.standing (doing_of x.status) x.stopped x.sent in
     let rest = state_lines pt.addresses p x in
     let said : life_lines p (alive_lines pt.addresses p x (stood pt.view p pt.kernel.machines)) ≡ l ∷ [] =
     ap (λ (o : Option Stood). life_lines p (alive_lines pt.addresses p x o)) at.is ∙ ap (λ (c : Bool). if c then l ∷ life_lines p rest else life_lines p rest) (pid_eq-same p)
@@ -222,13 +197,13 @@ of_processes pt q = process_lines pt q (pt.kernel.processes q)
 
 end_by : (p : Pid) (pt : Point) (ls : List EndLine) → life_lines p (each_process pt (of_processes pt)) ≡ ls → life_lines p (end_lines pt) ≡ ls
 end_by p pt ls h =
-    let lives = end.Final ∷ each_process pt (of_processes pt) in
+    let lives = EndLine.Final ∷ each_process pt (of_processes pt) in
     let servers = lives ++ server_lines pt in
     let queues = servers ++ queue_lines pt in
     let holding = queues ++ holding_lines pt in
     let inboxes = holding ++ inbox_lines pt in
     let streams = inboxes ++ stream_lines pt in
-    one_first p streams (end.Groups pt.view.groups ∷ []) ls
+    one_first p streams (EndLine.Groups pt.view.groups ∷ []) ls
     (one_first p inboxes (stream_lines pt) ls
     (one_first p holding (inbox_lines pt) ls
     (one_first p queues (holding_lines pt) ls

@@ -1,31 +1,10 @@
 -- Each living process is on a machine, leaves one or comes to one, and the end lines find it there.
-use Rattle.std.proofs.Common.{◌≡◌, ◌≢◌, ◌⊎◌, ℕ, zero, suc, ◌<◌, ◌==◌, Bool, true, false, not, is_some, refl, ap, ◌∙◌, sym, inl, inr, arith}
-use Rattle.std.specs.Prelude.{◌&&◌, if◌then◌else◌}
-use Rattle.std.specs.declared.option.Option.{Option}
-use Rattle.std.specs.declared.option.Option.TheVariants.{None, Some}
-use Rattle.std.proofs.lemmas.Bool.{cases_Bool, false≢true}
-use Rattle.std.proofs.lemmas.Bool.Decides.{nat_tests}
-use Rattle.dm_link.specs.declared.Pid.{Pid}
-use Rattle.dm_message.specs.declared.MsgId.{MsgId}
-use Rattle.dm_message.specs.declared.kind.MessageKind.{MessageKind}
-use Rattle.dm_message.specs.declared.kind.MessageKind.TheVariants as kind
-use Rattle.dm_onekernel.specs.declared.boot.Boot.{Boot}
-use Rattle.dm_onekernel.specs.Kernel.{Life, Alive}
-use Rattle.dm_onekernel.specs.PlainProcess.{PlainProcess}
+use Rattle.dm_movelaws.proofs.Names.{◌≡◌, ◌≢◌, ◌⊎◌, ℕ, zero, suc, ◌<◌, ◌==◌, Bool, true, false, not, is_some, refl, ap, ◌∙◌, sym, inl, inr, arith, ◌&&◌, if◌then◌else◌, Option, None, Some, cases_Bool, false≢true, nat_tests, Pid, MsgId}
+use Rattle.dm_movelaws.proofs.Names.{MessageKind, Boot, Life, Alive, PlainProcess, Standing, or, Stood, has, stood_at, first_with, stood, Phase, Nowhere, Rests, Over, Moves, IsIn, knows, is_unknown, is_here, is_over, is_restart, is_early}
+use Rattle.dm_movelaws.proofs.Names.{Point, View, Known, Unknown, Here, Frozen, Incoming, Forward, agrees, living, Run, stands_by, IsPlace}
 use Rattle.dm_onekernel.specs.Step as kernel
-use Rattle.dm_line.specs.declared.end_line.Standing.{Standing}
-use Rattle.dm_line.specs.declared.end_line.Standing.TheVariants as standing
-use Rattle.dm_line.specs.Todo.{or}
-use Rattle.dm_rule.specs.Ends.{Stood, has, awaits, stood_at, first_with, stood}
-use Rattle.dm_rule.specs.Phases.{Phase, Nowhere, Rests, Over, Moves, IsIn, knows, is_unknown, is_here, is_over, is_restart, is_early}
+use Rattle.dm_rule.specs.Ends.{awaits}
 use Rattle.dm_rule.specs.Phases as phases
-use Rattle.dm_rule.specs.Point.{Point}
-use Rattle.dm_rule.specs.View.{View, Known, Unknown, Here, Frozen, Incoming, Forward}
-use Rattle.dm_rule.specs.View as view
-use Rattle.dm_rulelaws.specs.KnownStands.{agrees}
-use Rattle.dm_rulelaws.proofs.Based.Rows.{living}
-use Rattle.dm_rulelaws.proofs.Runs.{Run}
-use Rattle.dm_movelaws.specs.LifeLines.{stands_by, IsPlace}
 
 -- the first of so many machines that is looked for
 record Finds (f : Known → Option Standing) (v : View) (p : Pid) (n : ℕ) : Type 0 where
@@ -73,26 +52,17 @@ first_or f v p (suc n) = elim (first_or f v p n) [
 has_stands : (k : Known) (x : Standing) → has k ≡ Some x → stands_by k ≡ Some x
 has_stands Here x e = e
 has_stands (Frozen to) x e = e
-has_stands Unknown x e = cc
-has_stands (Incoming from) x e = cc
-has_stands (Forward at moves) x e = cc
-has_stands view.Ended x e = cc
+has_stands _ x e = cc
 
 awaits_stands : (k : Known) (x : Standing) → awaits k ≡ Some x → stands_by k ≡ Some x
 awaits_stands (Incoming from) x e = e
-awaits_stands Unknown x e = cc
-awaits_stands Here x e = cc
-awaits_stands (Frozen to) x e = cc
-awaits_stands (Forward at moves) x e = cc
-awaits_stands view.Ended x e = cc
+awaits_stands _ x e = cc
 
 neither : (k : Known) (x : Standing) → has k ≡ None → awaits k ≡ None → stands_by k ≡ Some x → ⊥
-neither Unknown x a b e = let f : None ≡ Some x = e in cc
 neither Here x a b e = cc
 neither (Frozen to) x a b e = cc
 neither (Incoming from) x a b e = cc
-neither (Forward at moves) x a b e = let f : None ≡ Some x = e in cc
-neither view.Ended x a b e = let f : None ≡ Some x = e in cc
+neither _ x a b e = let f : None ≡ Some x = e in cc
 
 -- a process that stands on some machine is found
 pub record Placed (pt : Point) (p : Pid) : Type 0 where
@@ -125,43 +95,34 @@ record Somewhere (v : View) (p : Pid) : Type 0 where
   standing : Standing
   stands : stands_by (v.known machine p) ≡ Some standing
 
-here_stands : (k : Known) → is_here k ≡ true → stands_by k ≡ Some standing.Here
+here_stands : (k : Known) → is_here k ≡ true → stands_by k ≡ Some Standing.Here
 here_stands Here e = refl
-here_stands Unknown e = absurd (false≢true e)
-here_stands (Frozen to) e = absurd (false≢true e)
-here_stands (Incoming from) e = absurd (false≢true e)
-here_stands (Forward at moves) e = absurd (false≢true e)
-here_stands view.Ended e = absurd (false≢true e)
+here_stands _ e = absurd (false≢true e)
 
 rests_stands : (v : View) (p : Pid) (at : ℕ) → knows (Rests at) at (v.known at p) ≡ true → Somewhere v p
 rests_stands v p at e =
     let same : (at == at) ≡ true = grind (arith, nat_tests) in
-    record { machine = at; standing = standing.Here; stands = here_stands (v.known at p) (sym (ap (λ (c : Bool). if c then is_here (v.known at p) else phases.is_away (v.known at p)) same) ∙ e) }
+    record { machine = at; standing = Standing.Here; stands = here_stands (v.known at p) (sym (ap (λ (c : Bool). if c then is_here (v.known at p) else phases.is_away (v.known at p)) same) ∙ e) }
 
 -- a process that moves is frozen at its source, or comes to its destination
-leaves_or : (k : MessageKind) (d : ℕ) (x : Known) → phases.leaves k d x ≡ true → (stands_by x ≡ Some standing.Leaving) ⊎ (is_restart k ≡ true)
+leaves_or : (k : MessageKind) (d : ℕ) (x : Known) → phases.leaves k d x ≡ true → (stands_by x ≡ Some Standing.Leaving) ⊎ (is_restart k ≡ true)
 leaves_or k d (Frozen m) e = inl refl
 leaves_or k d (Forward m moves) e = inr (first (is_restart k) (d == m) e)
   where
     first : (a b : Bool) → (a && b) ≡ true → a ≡ true
     first true b e = refl
     first false b e = absurd (false≢true e)
-leaves_or k d Unknown e = absurd (false≢true e)
-leaves_or k d Here e = absurd (false≢true e)
-leaves_or k d (Incoming from) e = absurd (false≢true e)
-leaves_or k d view.Ended e = absurd (false≢true e)
+leaves_or k d _ e = absurd (false≢true e)
 
 restart_late : (k : MessageKind) → is_restart k ≡ true → is_early k ≡ false
-restart_late kind.Restart e = refl
+restart_late MessageKind.Restart e = refl
 restart_late k e = absurd (false≢true e)
 
-comes_stands : (k : MessageKind) (s : ℕ) (x : Known) → is_early k ≡ false → phases.comes k s x ≡ true → stands_by x ≡ Some standing.Arriving
+comes_stands : (k : MessageKind) (s : ℕ) (x : Known) → is_early k ≡ false → phases.comes k s x ≡ true → stands_by x ≡ Some Standing.Arriving
 comes_stands k s (Incoming m) late e = refl
 comes_stands k s Unknown late e = absurd (false≢true (sym late ∙ e))
 comes_stands k s (Forward m moves) late e = absurd (false≢true (sym late ∙ e))
-comes_stands k s Here late e = absurd (false≢true e)
-comes_stands k s (Frozen to) late e = absurd (false≢true e)
-comes_stands k s view.Ended late e = absurd (false≢true e)
+comes_stands k s _ late e = absurd (false≢true e)
 
 moves_stands : (v : View) (p : Pid) (k : MessageKind) (s d : ℕ) (id : Option MsgId) → IsIn v p (Moves k s d id) → Somewhere v p
 moves_stands v p k s d id h =
@@ -169,14 +130,14 @@ moves_stands v p k s d id h =
     let source : phases.leaves k d (v.known s p) ≡ true =
     sym (ap (λ (c : Bool). if c then phases.leaves k d (v.known s p) else if d == s then phases.comes k s (v.known s p) else phases.is_away (v.known s p)) at_s) ∙ h.known s in
     elim (leaves_or k d (v.known s p) source) [
-      | inl leaving ↦ record { machine = s; standing = standing.Leaving; stands = leaving }
+      | inl leaving ↦ record { machine = s; standing = Standing.Leaving; stands = leaving }
       | inr restart ↦
           let apart : (s == d) ≡ false = other (phases.is_between k) (s == d) h.apart in
           let at_d : (d == d) ≡ true = grind (arith, nat_tests) in
           let destination : phases.comes k s (v.known d p) ≡ true =
           sym (ap (λ (c : Bool). if c then phases.leaves k d (v.known d p) else if d == d then phases.comes k s (v.known d p) else phases.is_away (v.known d p)) apart
           ∙ ap (λ (c : Bool). if c then phases.comes k s (v.known d p) else phases.is_away (v.known d p)) at_d) ∙ h.known d in
-          record { machine = d; standing = standing.Arriving; stands = comes_stands k s (v.known d p) (restart_late k restart) destination }
+          record { machine = d; standing = Standing.Arriving; stands = comes_stands k s (v.known d p) (restart_late k restart) destination }
     ]
   where
     other : (a b : Bool) → (a && not b) ≡ true → b ≡ false
@@ -187,26 +148,18 @@ moves_stands v p k s d id h =
 -- a living process is in none of the other phases
 unknown_by : (k : Known) → is_unknown k ≡ true → k ≡ Unknown
 unknown_by Unknown e = refl
-unknown_by Here e = absurd (false≢true e)
-unknown_by (Frozen to) e = absurd (false≢true e)
-unknown_by (Incoming from) e = absurd (false≢true e)
-unknown_by (Forward at moves) e = absurd (false≢true e)
-unknown_by view.Ended e = absurd (false≢true e)
+unknown_by _ e = absurd (false≢true e)
 
-over_by : (k : Known) → is_over k ≡ true → k ≡ view.Ended
-over_by view.Ended e = refl
-over_by Unknown e = absurd (false≢true e)
-over_by Here e = absurd (false≢true e)
-over_by (Frozen to) e = absurd (false≢true e)
-over_by (Incoming from) e = absurd (false≢true e)
-over_by (Forward at moves) e = absurd (false≢true e)
+over_by : (k : Known) → is_over k ≡ true → k ≡ Known.Ended
+over_by Known.Ended e = refl
+over_by _ e = absurd (false≢true e)
 
 somewhere : (v : View) (p : Pid) (phase : Phase) (l : Option Life) (x : PlainProcess) → IsIn v p phase → l ≡ Some (Alive x) → ((m : ℕ) → agrees (v.known m p) l ≡ true) → v.known p.home p ≢ Unknown → Somewhere v p
 somewhere v p Nowhere l x h alive agree home = absurd (home (unknown_by (v.known p.home p) (h.known p.home)))
 somewhere v p (Rests at) l x h alive agree home = rests_stands v p at (h.known at)
 somewhere v p (Over at) l x h alive agree home =
     let same : (at == at) ≡ true = grind (arith, nat_tests) in
-    let over : v.known at p ≡ view.Ended = over_by (v.known at p) (sym (ap (λ (c : Bool). if c then is_over (v.known at p) else phases.is_away (v.known at p)) same) ∙ h.known at) in
+    let over : v.known at p ≡ Known.Ended = over_by (v.known at p) (sym (ap (λ (c : Bool). if c then is_over (v.known at p) else phases.is_away (v.known at p)) same) ∙ h.known at) in
     absurd (false≢true (sym (ap (λ (k : Known). agrees k (Some (Alive x))) over) ∙ ap (agrees (v.known at p)) (sym alive) ∙ agree at))
 somewhere v p (Moves k s d id) l x h alive agree home = moves_stands v p k s d id h
 

@@ -1,25 +1,6 @@
 -- The numbers in names of messages are below the counts of their senders.
-use Rattle.std.proofs.Common.{◌≡◌, ◌⊎◌, ℕ, zero, suc, ◌<◌, ◌≤◌, Bool, true, false, nat_lt, refl, ap, ◌∙◌, sym, inl, inr, arith}
-use Rattle.std.specs.Prelude.{if◌then◌else◌}
-use Rattle.std.specs.declared.option.Option.TheVariants.{None, Some}
-use Rattle.std.proofs.lemmas.Bool.{cases_Bool}
-use Rattle.std.proofs.lemmas.Bool.Decides.{nat_tests}
-use Rattle.dm_link.specs.declared.Pid.{Pid}
-use Rattle.dm_link.specs.Names.{pid_of, pid_eq}
-use Rattle.dm_message.specs.declared.MsgId.{MsgId}
-use Rattle.dm_message.specs.Ids.{id_of}
-use Rattle.dm_message.specs.Plain.{PlainMessage}
-use Rattle.dm_onekernel.specs.Boot.{switchboard, manager}
-use Rattle.dm_onekernel.specs.Kernel.{OneKernel}
-use Rattle.dm_laws.specs.Laws.{in_bag}
-use Rattle.dm_laws.proofs.Entered.{is_counted, counts}
-use Rattle.dm_laws.proofs.Equal.{pid_eq-same}
-use Rattle.dm_laws.proofs.Sound.{Sound, not_server, counts_process}
-use Rattle.dm_rule.specs.Point.{Point}
-use Rattle.dm_rule.specs.View.{Told, is_kernels}
-use Rattle.dm_rule.proofs.Telling.{Sane}
-use Rattle.dm_rulelaws.proofs.RunsAlways.{run_always}
-use Rattle.dm_movelaws.specs.Numbers.{IsBelow, NumbersAlways}
+use Rattle.dm_movelaws.proofs.Names.{◌≡◌, ℕ, ◌<◌, ◌≤◌, Bool, true, false, nat_lt, refl, ap, ◌∙◌, sym, inl, inr, arith, if◌then◌else◌, None, Some, cases_Bool, nat_tests, Pid, pid_of, pid_eq, MsgId, id_of, PlainMessage, switchboard, manager}
+use Rattle.dm_movelaws.proofs.Names.{OneKernel, in_bag, is_counted, counts, pid_eq-same, Sound, not_server, counts_process, Point, Told, is_kernels, Sane, run_always, IsBelow, NumbersAlways, cases_zero}
 
 -- what has entered is counted
 below : (r e : MsgId → ℕ) (s : OneKernel) (i : MsgId) → Sound r e s → counts s i ≡ true → IsBelow s i
@@ -43,12 +24,8 @@ below r e s i h c = record {
 pub bag_counted : (r e : MsgId → ℕ) (s : OneKernel) (i : MsgId) (m : PlainMessage) → Sound r e s → s.bag i ≡ Some m → counts s i ≡ true
 bag_counted r e s i m h there = h.entered.counted i (let f = h.entered.fewer i in let g : in_bag (s.bag i) ≡ 1 = ap in_bag there in omega (arith, f, g))
 
-zero_or : (n : ℕ) → (n ≡ 0) ⊎ (1 ≤ n)
-zero_or zero = inl refl
-zero_or (suc n) = inr (omega arith)
-
 pub told_counted : (pt : Point) (i : MsgId) (t : Told) → (h : Sane pt) → pt.view.told i ≡ Some t → is_kernels i ≡ false → counts pt.kernel i ≡ true
-told_counted pt i t h told other = elim (zero_or (h.e i)) [
+told_counted pt i t h told other = elim (cases_zero (h.e i)) [
   | inl none ↦ absurd (let f : None ≡ Some t = sym (h.untold i none other) ∙ told in cc)
   | inr some ↦ h.sound.entered.counted i some
 ]

@@ -1,14 +1,5 @@
 -- Each message of a migration that stands anywhere is the one that is under way of a process that moves.
-use Rattle.std.proofs.Common.{◌≡◌, ℕ, ap, ◌∙◌, sym, subst}
-use Rattle.std.specs.declared.option.Option.TheVariants.{Some}
-use Rattle.dm_link.specs.declared.Pid.{Pid}
-use Rattle.dm_message.specs.declared.MsgId.{MsgId}
-use Rattle.dm_message.specs.declared.kind.MessageKind.{MessageKind}
-use Rattle.dm_rule.specs.Phases.{Moves, IsIn, told_between}
-use Rattle.dm_rule.specs.View.{View, Told}
-use Rattle.dm_rule.proofs.Phases.Stand.{token_is}
-use Rattle.dm_rulelaws.proofs.RunsAlways.{run_always}
-use Rattle.dm_movelaws.specs.Protocol.{ProtocolMoves}
+use Rattle.dm_movelaws.proofs.Names.{◌≡◌, ℕ, ap, ◌∙◌, sym, subst, Some, Pid, MsgId, MessageKind, Moves, IsIn, told_between, View, Told, token_is, run_always, ProtocolMoves}
 
 -- what was told of the message says its kind
 kind_is : (v : View) (p : Pid) (i : MsgId) (t : Told) (k : MessageKind) (s d : ℕ) → v.told i ≡ Some t → IsIn v p (Moves k s d (Some i)) → k ≡ t.kind

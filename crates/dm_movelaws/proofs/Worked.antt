@@ -1,19 +1,5 @@
 -- Lines of migrations in and out of order, and what ends a directive, computed.
-use Rattle.std.proofs.Common.{◌≡◌, true, false, List, [], ◌∷◌, refl}
-use Rattle.std.specs.declared.option.Option.{Option}
-use Rattle.std.specs.declared.option.Option.TheVariants.{None, Some}
-use Rattle.dm_link.specs.declared.Pid.{Pid}
-use Rattle.dm_link.specs.Names.{pid_of}
-use Rattle.dm_message.specs.declared.MsgId.{MsgId}
-use Rattle.dm_message.specs.declared.kind.MessageKind.TheVariants as kind
-use Rattle.dm_message.specs.Ids.{id_of}
-use Rattle.dm_schedule.specs.declared.Step.TheVariants as step
-use Rattle.dm_line.specs.declared.line.Line.{Line}
-use Rattle.dm_line.specs.declared.line.Line.TheVariants as line
-use Rattle.dm_line.specs.declared.line.Stage.TheVariants as stage
-use Rattle.dm_rule.specs.View.{Told, Target}
-use Rattle.dm_movelaws.specs.Stages.{marks, in_order}
-use Rattle.dm_movelaws.specs.Ends.{count, asks, ends}
+use Rattle.dm_movelaws.proofs.Names.{◌≡◌, true, false, List, [], ◌∷◌, refl, Option, None, Some, Pid, pid_of, MsgId, MessageKind, Step, Stage, id_of, Line, Told, Target, marks, in_order, count, asks, ends}
 
 abbrev p : Pid
 p = pid_of 0 3
@@ -23,37 +9,37 @@ q = pid_of 1 3
 
 -- what comes before step 3, where the other machine has room
 abbrev asked : List Line → List Line
-asked ls = line.Head (step.Turn 0) ∷ line.Migration stage.Frozen p ∷ line.Migration stage.Asked p ∷ ls
+asked ls = Line.Head (Step.Turn 0) ∷ Line.Migration Stage.Frozen p ∷ Line.Migration Stage.Asked p ∷ ls
 
 abbrev moved : List Line → List Line
 moved ls =
     asked
-    (line.Migration stage.Accepted p ∷ line.Migration stage.Frozen q ∷ line.Migration stage.StateTaken p ∷ line.Migration stage.MemoryTaken p ∷ line.SentOn p 2 ∷ line.Migration stage.Left p ∷ line.Migration stage.Restarted p ∷ ls)
+    (Line.Migration Stage.Accepted p ∷ Line.Migration Stage.Frozen q ∷ Line.Migration Stage.StateTaken p ∷ Line.Migration Stage.MemoryTaken p ∷ Line.SentOn p 2 ∷ Line.Migration Stage.Left p ∷ Line.Migration Stage.Restarted p ∷ ls)
 
 -- a move, a refusal and half a move, one after another; another process's steps between them are none of its own
-all_right : in_order None (marks p (moved (asked (line.Lacks p 0 4 ∷ line.Stays p ∷ asked [])))) ≡ true
+all_right : in_order None (marks p (moved (asked (Line.Lacks p 0 4 ∷ Line.Stays p ∷ asked [])))) ≡ true
 all_right = refl
 
 others : in_order None (marks q (moved [])) ≡ true
 others = refl
 
 -- a step left out, one that comes twice, and what is out of place
-left_out : in_order None (marks p (asked (line.Migration stage.StateTaken p ∷ []))) ≡ false
+left_out : in_order None (marks p (asked (Line.Migration Stage.StateTaken p ∷ []))) ≡ false
 left_out = refl
 
-twice : in_order None (marks p (asked (line.Migration stage.Asked p ∷ []))) ≡ false
+twice : in_order None (marks p (asked (Line.Migration Stage.Asked p ∷ []))) ≡ false
 twice = refl
 
-stays_at_once : in_order None (marks p (asked (line.Stays p ∷ []))) ≡ false
+stays_at_once : in_order None (marks p (asked (Line.Stays p ∷ []))) ≡ false
 stays_at_once = refl
 
-lacks_late : in_order None (marks p (asked (line.Migration stage.Accepted p ∷ line.Lacks p 0 4 ∷ []))) ≡ false
+lacks_late : in_order None (marks p (asked (Line.Migration Stage.Accepted p ∷ Line.Lacks p 0 4 ∷ []))) ≡ false
 lacks_late = refl
 
-goes_on_after_stays : in_order None (marks p (asked (line.Lacks p 0 4 ∷ line.Stays p ∷ line.Migration stage.Accepted p ∷ []))) ≡ false
+goes_on_after_stays : in_order None (marks p (asked (Line.Lacks p 0 4 ∷ Line.Stays p ∷ Line.Migration Stage.Accepted p ∷ []))) ≡ false
 goes_on_after_stays = refl
 
-moves_without_asking : in_order None (marks p (moved (line.Migration stage.Accepted p ∷ []))) ≡ false
+moves_without_asking : in_order None (marks p (moved (Line.Migration Stage.Accepted p ∷ []))) ≡ false
 moves_without_asking = refl
 
 -- three directives to move a process: one that it follows, one to where it is, and one that no line ended yet
@@ -61,10 +47,10 @@ abbrev request : MsgId
 request = id_of (pid_of 0 0) 7
 
 abbrev told : MsgId → Option Told
-told i = Some (record { kind = kind.Migrate; receiver = p; about = Target 1 })
+told i = Some (record { kind = MessageKind.Migrate; receiver = p; about = Target 1 })
 
 abbrev lines : List Line
-lines = line.Head (step.Migrate p 1) ∷ moved (line.Head (step.Migrate q 0) ∷ line.NoChild q ∷ line.Head (step.Migrate p 1) ∷ line.Here request ∷ line.Head (step.Migrate p 0) ∷ [])
+lines = Line.Head (Step.Migrate p 1) ∷ moved (Line.Head (Step.Migrate q 0) ∷ Line.NoChild q ∷ Line.Head (Step.Migrate p 1) ∷ Line.Here request ∷ Line.Head (Step.Migrate p 0) ∷ [])
 
 asked_three : count (asks p) lines ≡ 3
 asked_three = refl

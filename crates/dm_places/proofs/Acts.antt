@@ -1,47 +1,12 @@
 -- What a process that executes does, with places: plain instructions, calls and faults, a lemma a label.
-use Rattle.std.proofs.Common.{◌≡◌, ℕ, ◌==◌, ◌&&◌, Bool, true, false, refl, ap, ◌∙◌, sym, subst, arith}
-use Rattle.std.specs.Prelude.{if◌then◌else◌}
-use Rattle.std.specs.declared.option.Option.{Option}
-use Rattle.std.specs.declared.option.Option.TheVariants.{None, Some}
-use Rattle.std.proofs.lemmas.Bool.Decides.{nat_tests}
-use Rattle.dm_link.specs.declared.Pid.{Pid}
-use Rattle.dm_message.specs.declared.MsgId.{MsgId}
-use Rattle.dm_message.specs.declared.Message.{Message}
-use Rattle.dm_message.specs.Ids.{id_eq}
-use Rattle.dm_message.specs.Plain.{PlainMessage, plain_message}
-use Rattle.dm_process.specs.declared.process.Process.{Process}
-use Rattle.dm_process.specs.declared.process.Status.{Status}
-use Rattle.dm_process.specs.declared.process.Status.TheVariants as status
-use Rattle.dm_processor.specs.declared.registers.Regs.{Regs}
-use Rattle.dm_processor.specs.Instructions.{Row, instruction, past}
-use Rattle.dm_processor.specs.Instructions as row
-use Rattle.dm_onekernel.specs.declared.label.Label.TheVariants as label
-use Rattle.dm_onekernel.specs.declared.label.Reply.{Reply}
-use Rattle.dm_onekernel.specs.declared.label.Why.{Why}
-use Rattle.dm_onekernel.specs.declared.label.Why.TheVariants as why
-use Rattle.dm_onekernel.specs.Codes.{reply_eq, why_eq}
-use Rattle.dm_onekernel.specs.Options.{bind}
-use Rattle.dm_onekernel.specs.Kernel.{Alive, Ended, OneKernel}
+use Rattle.dm_places.proofs.Names.{◌≡◌, ℕ, ◌==◌, ◌&&◌, Bool, true, false, refl, ap, ◌∙◌, sym, subst, arith, if◌then◌else◌, Option, None, Some, nat_tests, Pid, MsgId, Message, id_eq, PlainMessage, plain_message, Process, Status, Label, Regs}
+use Rattle.dm_places.proofs.Names.{Row, instruction, past, Reply, Why, reply_eq, why_eq, bind, Alive, Ended, OneKernel, plain_process, plain_status, PlainProcess, Called, calls, plain_called, call_plainly, id_eq-is, bind-is, when-is, View}
+use Rattle.dm_places.proofs.Names.{Addresses, given, gives, made, sends_what, past_call, gives_by, made_is, gives_same, only_gives_by, Placed, Mirrors, MirrorsKernel, MirrorsProcess, Acted, acted, acts, after_call, after_done, if_ready}
+use Rattle.dm_places.proofs.Names.{machine_of, ran, running, with_acted, with_machine, with_process, with_sent}
 use Rattle.dm_onekernel.specs.Kernel as kernels
-use Rattle.dm_onekernel.specs.Plain.{plain_process, plain_status}
-use Rattle.dm_onekernel.specs.PlainProcess.{PlainProcess}
 use Rattle.dm_onekernel.specs.Calls as one
 use Rattle.dm_onekernel.specs.Step as kernel
-use Rattle.dm_syscall.specs.declared.Called.{Called}
-use Rattle.dm_syscall.specs.declared.Called.TheVariants as called
-use Rattle.dm_syscall.specs.Calls.{calls}
-use Rattle.dm_syscall.specs.Plainly.{plain_called}
-use Rattle.dm_syscall.proofs.PlainCalls.{call_plainly}
-use Rattle.dm_laws.proofs.Equal.{id_eq-is}
-use Rattle.dm_laws.proofs.Steps.{bind-is, when-is}
-use Rattle.dm_rule.specs.View.{View}
 use Rattle.dm_rule.specs.Addresses as addresses
-use Rattle.dm_rule.specs.Addresses.{Addresses, Gets, given, gives, made, sends_what}
-use Rattle.dm_rule.proofs.Homes.Slots.{past_call}
-use Rattle.dm_rule.proofs.Homes.Calls.{gives_by}
-use Rattle.dm_rule.proofs.Homes.Steps.{made_is, gives_same, only_gives_by}
-use Rattle.dm_places.specs.Placed.{Placed, Mirrors, MirrorsKernel, MirrorsProcess}
-use Rattle.dm_places.specs.PlacedStep.{Acted, acted, acts, after_call, after_done, if_ready, machine_of, ran, running, with_acted, with_machine, with_process, with_sent}
 use Rattle.dm_places.proofs.Keeps.{alive_of, goes_mirrors, ends_mirrors, kernel_process, kernel_sent, places_process, places_sends, this_process}
 use Rattle.dm_places.proofs.Calls.{MirrorsCalled, MirrorsSent, behind, does_call_kept}
 
@@ -58,9 +23,9 @@ ready_if y true x e = cc
 ready_if y false x e = (refl, let g : plain_process y ≡ x = cc in g)
 
 ready_of : (y : Process) (st : Status) (x : PlainProcess) → kernel.if_ready (plain_process y) (plain_status st) ≡ Some x → (if_ready y st ≡ Some y) × (plain_process y ≡ x)
-ready_of y status.Ready x e = ready_if y y.stopped x e
-ready_of y (status.Waiting mask base size) x e = cc
-ready_of y (status.Moving dir owner base own left pending) x e = cc
+ready_of y Status.Ready x e = ready_if y y.stopped x e
+ready_of y (Status.Waiting mask base size) x e = cc
+ready_of y (Status.Moving dir owner base own left pending) x e = cc
 
 record Runs (l : Placed) (p : Pid) (x : PlainProcess) : Type 0 where
   y : Process
@@ -76,7 +41,7 @@ runs_of s l p x h e =
     record { y = y; there = there; is = k.1; runs = ap (λ (o : Option Process). bind o (λ (z : Process). if_ready z z.status)) there ∙ k.0 }
 
 -- ran
-pub ran_follows : (s t : OneKernel) (v : View) (a : Addresses) (l : Placed) (p : Pid) (k : ℕ) → kernel.step s (label.Ran p k) ≡ Some t → Mirrors s v a l → Follows t v a (ran l p k)
+pub ran_follows : (s t : OneKernel) (v : View) (a : Addresses) (l : Placed) (p : Pid) (k : ℕ) → kernel.step s (Label.Ran p k) ≡ Some t → Mirrors s v a l → Follows t v a (ran l p k)
 ran_follows s t v a l p k is h =
     let (x, runs, rest) = bind-is (kernel.running s p) (λ (w : PlainProcess). bind (kernel.plain_steps k (kernel.machine_of w)) (λ (m : kernel.Machine). Some (kernel.goes_on s p (kernel.with_machine w m)))) t is in
     let (m, plain, last) = bind-is (kernel.plain_steps k (kernel.machine_of x)) (λ (m : kernel.Machine). Some (kernel.goes_on s p (kernel.with_machine x m))) t rest in
@@ -119,7 +84,7 @@ CalledAs v a p x n w (one.Outputs u z) = Goes v a p w z
 CalledAs v a p x n w (one.Ends y) = w ≡ ended
 
 sent_as : (v : View) (a : Addresses) (p : Pid) (x : Process) (n : one.CallNumber) (m : Message) (y : Process) (k : one.Called) → bind (plain_message m) (λ (u : PlainMessage). Some (one.Sends u (plain_process y))) ≡ Some k
-    → MirrorsCalled v a p x n (called.Sent m) y → CalledAs v a p x n (record { process = Some y; message = Some m }) k
+    → MirrorsCalled v a p x n (Called.Sent m) y → CalledAs v a p x n (record { process = Some y; message = Some m }) k
 sent_as v a p x n m y k e h =
     let w : Acted = record { process = Some y; message = Some m } in
     let (u, says, last) = bind-is (plain_message m) (λ (u : PlainMessage). Some (one.Sends u (plain_process y))) k e in
@@ -127,18 +92,18 @@ sent_as v a p x n m y k e h =
     subst (CalledAs v a p x n w) f (record { y = y; m = m; acted = refl; says = says; is = refl; kept = h u says })
 
 called_as : (v : View) (a : Addresses) (p : Pid) (x : Process) (n : one.CallNumber) (c : Called) (y : Process) (k : one.Called) → plain_called c y ≡ Some k → MirrorsCalled v a p x n c y → CalledAs v a p x n (after_call c y) k
-called_as v a p x n (called.Replied c) y k e h =
+called_as v a p x n (Called.Replied c) y k e h =
     let f : one.Replies c (plain_process y) ≡ k = cc in
-    subst (CalledAs v a p x n (after_call (called.Replied c) y)) f (record { y = y; acted = refl; is = refl; kept = h })
-called_as v a p x n (called.Sent m) y k e h = sent_as v a p x n m y k e h
-called_as v a p x n (called.Moving m) y k e h = sent_as v a p x n m y k e h
-called_as v a p x n called.Waits y k e h =
+    subst (CalledAs v a p x n (after_call (Called.Replied c) y)) f (record { y = y; acted = refl; is = refl; kept = h })
+called_as v a p x n (Called.Sent m) y k e h = sent_as v a p x n m y k e h
+called_as v a p x n (Called.Moving m) y k e h = sent_as v a p x n m y k e h
+called_as v a p x n Called.Waits y k e h =
     let f : one.Waits (plain_process y) ≡ k = cc in
-    subst (CalledAs v a p x n (after_call called.Waits y)) f (record { y = y; acted = refl; is = refl; kept = h })
-called_as v a p x n (called.Out w) y k e h =
+    subst (CalledAs v a p x n (after_call Called.Waits y)) f (record { y = y; acted = refl; is = refl; kept = h })
+called_as v a p x n (Called.Out w) y k e h =
     let f : one.Outputs w (plain_process y) ≡ k = cc in
-    subst (CalledAs v a p x n (after_call (called.Out w) y)) f (record { y = y; acted = refl; is = refl; kept = h })
-called_as v a p x n (called.Ended because) y k e h =
+    subst (CalledAs v a p x n (after_call (Called.Out w) y)) f (record { y = y; acted = refl; is = refl; kept = h })
+called_as v a p x n (Called.Ended because) y k e h =
     let f : one.Ends because ≡ k = cc in
     subst (CalledAs v a p x n ended) f refl
 
@@ -148,8 +113,8 @@ ActsNext v a p x w (kernel.Faults fault) = w ≡ ended
 
 acts_row : (v : View) (a : Addresses) (p : Pid) (x : Process) (w : Row) (n : kernel.Next) → instruction x.regs x.memory ≡ w → kernel.next_row p (plain_process x) w ≡ Some n → MirrorsProcess v a p x
     → (d : Acted) × (acted v.acting x w ≡ Some d) × ActsNext v a p x d n
-acts_row v a p x (row.Plain regs bytes) n w e h = cc
-acts_row v a p x (row.Calls number regs) n w e h =
+acts_row v a p x (Row.Plain regs bytes) n w e h = cc
+acts_row v a p x (Row.Calls number regs) n w e h =
     let f : regs ≡ past x.regs = past_call x.regs x.memory number regs w in
     let g : kernel.Calls number (one.call p (record (plain_process x) { regs = regs }) number) ≡ n = cc in
     let d = calls v.acting (behind x) number in
@@ -162,7 +127,7 @@ acts_row v a p x (row.Calls number regs) n w e h =
       subst (ActsNext v a p x (after_done (calls v.acting (record x { regs = regs }) number))) g
           (subst (λ (r : Regs). ActsNext v a p x (after_done (calls v.acting (record x { regs = r }) number)) (kernel.Calls number (one.call p (record (plain_process x) { regs = r }) number))) (sym f) base),
     )
-acts_row v a p x (row.Faults fault) n w e h = let g : kernel.Faults fault ≡ n = cc in (ended, refl, subst (ActsNext v a p x ended) g refl)
+acts_row v a p x (Row.Faults fault) n w e h = let g : kernel.Faults fault ≡ n = cc in (ended, refl, subst (ActsNext v a p x ended) g refl)
 
 record ActsOf (s : OneKernel) (v : View) (a : Addresses) (l : Placed) (p : Pid) (n : kernel.Next) : Type 0 where
   x : Process
@@ -215,26 +180,26 @@ reply_row s t v a l p n c (kernel.Calls number (one.Outputs word y)) q is h = cc
 reply_row s t v a l p n c (kernel.Calls number (one.Ends because)) q is h = cc
 reply_row s t v a l p n c (kernel.Faults fault) q is h = cc
 
-pub call_follows : (s t : OneKernel) (v : View) (a : Addresses) (l : Placed) (p : Pid) (n : ℕ) (c : Reply) → kernel.step s (label.Call p n c) ≡ Some t → Mirrors s v a l → Follows t v (given a (gives s v a (label.Call p n c))) (acts v.acting l p)
+pub call_follows : (s t : OneKernel) (v : View) (a : Addresses) (l : Placed) (p : Pid) (n : ℕ) (c : Reply) → kernel.step s (Label.Call p n c) ≡ Some t → Mirrors s v a l → Follows t v (given a (gives s v a (Label.Call p n c))) (acts v.acting l p)
 call_follows s t v a l p n c is h =
     let (x, next, rest) = bind-is (kernel.next s p) (kernel.replies s p n c) t is in
     reply_row s t v a l p n c x (acts_of s v a l p x h next) rest h
 
 -- send
 send_row : (s t : OneKernel) (v : View) (a : Addresses) (l : Placed) (p : Pid) (id : MsgId) (next : kernel.Next) → kernel.next s p ≡ Some next → ActsOf s v a l p next → kernel.sends s p id next ≡ Some t → Mirrors s v a l
-    → Follows t v (given a (gives s v a (label.Send p id))) (acts v.acting l p)
+    → Follows t v (given a (gives s v a (Label.Send p id))) (acts v.acting l p)
 send_row s t v a l p id (kernel.Calls number (one.Sends m z)) nx q is h =
     let k = when-is (id_eq id m.id) (kernels.with_sent (kernel.goes_on s p z) (Some m)) t is in
     let name : m.id ≡ id = sym (id_eq-is id m.id k.0) in
     let x = plain_process q.x in
     let g = q.next in
     let gs = sends_what v a p x m.id m.what in
-    let gs_is : gs ≡ gives s v a (label.Send p id) =
+    let gs_is : gs ≡ gives s v a (Label.Send p id) =
     ap (λ (i : MsgId). sends_what v a p x i m.what) name ∙ ap (addresses.sends_next v a p x id) (sym nx) ∙ ap (addresses.sends s v a p id) (sym q.runs) in
     let o = g.kept in (
       with_acted l p q.w,
       q.acts,
-      mirrors_as (kernels.with_sent (kernel.goes_on s p (plain_process g.y)) (Some m)) t v (given a gs) (given a (gives s v a (label.Send p id))) (with_sent (with_process l p (Some g.y)) (Some g.m)) (with_acted l p q.w)
+      mirrors_as (kernels.with_sent (kernel.goes_on s p (plain_process g.y)) (Some m)) t v (given a gs) (given a (gives s v a (Label.Send p id))) (with_sent (with_process l p (Some g.y)) (Some g.m)) (with_acted l p q.w)
           (ap (λ (u : PlainProcess). kernels.with_sent (kernel.goes_on s p u) (Some m)) g.is ∙ k.1) (ap (given a) gs_is) (ap (with_acted l p) (sym g.acted))
           (record {
             plain = kernel_sent (kernel.goes_on s p (plain_process g.y)) (with_process l p (Some g.y)) m g.m g.says (kernel_process s l p (Alive (plain_process g.y)) (Some g.y) refl h.plain);
@@ -247,7 +212,7 @@ send_row s t v a l p id (kernel.Calls number (one.Outputs word y)) nx q is h = c
 send_row s t v a l p id (kernel.Calls number (one.Ends because)) nx q is h = cc
 send_row s t v a l p id (kernel.Faults fault) nx q is h = cc
 
-pub send_follows : (s t : OneKernel) (v : View) (a : Addresses) (l : Placed) (p : Pid) (id : MsgId) → kernel.step s (label.Send p id) ≡ Some t → Mirrors s v a l → Follows t v (given a (gives s v a (label.Send p id))) (acts v.acting l p)
+pub send_follows : (s t : OneKernel) (v : View) (a : Addresses) (l : Placed) (p : Pid) (id : MsgId) → kernel.step s (Label.Send p id) ≡ Some t → Mirrors s v a l → Follows t v (given a (gives s v a (Label.Send p id))) (acts v.acting l p)
 send_follows s t v a l p id is h =
     let (x, next, rest) = bind-is (kernel.next s p) (kernel.sends s p id) t is in
     send_row s t v a l p id x next (acts_of s v a l p x h next) rest h
@@ -270,7 +235,7 @@ wait_row s t v a l p (kernel.Calls number (one.Outputs word y)) q is h = cc
 wait_row s t v a l p (kernel.Calls number (one.Ends because)) q is h = cc
 wait_row s t v a l p (kernel.Faults fault) q is h = cc
 
-pub wait_follows : (s t : OneKernel) (v : View) (a : Addresses) (l : Placed) (p : Pid) → kernel.step s (label.Wait p) ≡ Some t → Mirrors s v a l → Follows t v a (acts v.acting l p)
+pub wait_follows : (s t : OneKernel) (v : View) (a : Addresses) (l : Placed) (p : Pid) → kernel.step s (Label.Wait p) ≡ Some t → Mirrors s v a l → Follows t v a (acts v.acting l p)
 wait_follows s t v a l p is h =
     let (x, next, rest) = bind-is (kernel.next s p) (kernel.waits s p) t is in
     wait_row s t v a l p x (acts_of s v a l p x h next) rest h
@@ -285,7 +250,7 @@ out_row s t v a l p word (kernel.Calls number (one.Waits y)) q is h = cc
 out_row s t v a l p word (kernel.Calls number (one.Ends because)) q is h = cc
 out_row s t v a l p word (kernel.Faults fault) q is h = cc
 
-pub out_follows : (s t : OneKernel) (v : View) (a : Addresses) (l : Placed) (p : Pid) (word : ℕ) → kernel.step s (label.Out p word) ≡ Some t → Mirrors s v a l → Follows t v a (acts v.acting l p)
+pub out_follows : (s t : OneKernel) (v : View) (a : Addresses) (l : Placed) (p : Pid) (word : ℕ) → kernel.step s (Label.Out p word) ≡ Some t → Mirrors s v a l → Follows t v a (acts v.acting l p)
 out_follows s t v a l p word is h =
     let (x, next, rest) = bind-is (kernel.next s p) (kernel.outputs s p word) t is in
     out_row s t v a l p word x (acts_of s v a l p x h next) rest h
@@ -302,13 +267,13 @@ end_row : (s t : OneKernel) (v : View) (a : Addresses) (l : Placed) (p : Pid) (y
 end_row s t v a l p y (kernel.Calls number (one.Ends because)) q is h =
     let k = when-is (why_eq y because) (kernels.with_process s p (Ended y)) t is in ends_follows s t v a l p y q.w q.acts q.next k.1 h
 end_row s t v a l p y (kernel.Faults fault) q is h =
-    let k = when-is (why_eq y (why.Fault fault)) (kernels.with_process s p (Ended y)) t is in ends_follows s t v a l p y q.w q.acts q.next k.1 h
+    let k = when-is (why_eq y (Why.Fault fault)) (kernels.with_process s p (Ended y)) t is in ends_follows s t v a l p y q.w q.acts q.next k.1 h
 end_row s t v a l p y (kernel.Calls number (one.Replies d z)) q is h = cc
 end_row s t v a l p y (kernel.Calls number (one.Sends m z)) q is h = cc
 end_row s t v a l p y (kernel.Calls number (one.Waits z)) q is h = cc
 end_row s t v a l p y (kernel.Calls number (one.Outputs word z)) q is h = cc
 
-pub end_follows : (s t : OneKernel) (v : View) (a : Addresses) (l : Placed) (p : Pid) (y : Why) → kernel.step s (label.End p y) ≡ Some t → Mirrors s v a l → Follows t v a (acts v.acting l p)
+pub end_follows : (s t : OneKernel) (v : View) (a : Addresses) (l : Placed) (p : Pid) (y : Why) → kernel.step s (Label.End p y) ≡ Some t → Mirrors s v a l → Follows t v a (acts v.acting l p)
 end_follows s t v a l p y is h =
     let (x, next, rest) = bind-is (kernel.next s p) (kernel.ends s p y) t is in
     end_row s t v a l p y x (acts_of s v a l p x h next) rest h

@@ -1,32 +1,11 @@
 -- Messages without links that come in another's place, with places: answers, and what kernels say of ended processes and of
 -- want of room.
-use Rattle.std.proofs.Common.{◌≡◌, ℕ, List, [], Bool, refl, ap, ◌∙◌, sym, subst}
-use Rattle.std.specs.Prelude.{if◌then◌else◌, slice_get}
-use Rattle.std.specs.declared.option.Option.{Option}
-use Rattle.std.specs.declared.option.Option.TheVariants.{None, Some}
-use Rattle.dm_link.specs.declared.Link.{Link}
-use Rattle.dm_link.specs.Names.{Place, place_of}
-use Rattle.dm_message.specs.declared.MsgId.{MsgId}
-use Rattle.dm_message.specs.declared.Message.{Message}
-use Rattle.dm_message.specs.declared.What.{What}
-use Rattle.dm_message.specs.declared.What.TheVariants as what
-use Rattle.dm_message.specs.Plain as said
-use Rattle.dm_message.specs.Plain.{PlainMessage, PlainWhat, plain_message, plain_what, with_what}
-use Rattle.dm_onekernel.specs.declared.label.Label.TheVariants as label
-use Rattle.dm_onekernel.specs.Options.{bind}
+use Rattle.dm_places.proofs.Names.{◌≡◌, ℕ, List, [], Bool, refl, ap, ◌∙◌, sym, subst, if◌then◌else◌, slice_get, Option, None, Some, Link, Place, place_of, MsgId, Message, What, Label, PlainMessage, PlainWhat, plain_message, plain_what}
+use Rattle.dm_places.proofs.Names.{with_what, bind, OneKernel, answer_id, answer_to, answer, gone_answer, id_eq-same, bind-is, when-is, View, Addresses, answers, given, gives, Receiver, Sender, unmoved, two, two_process, two_servers}
+use Rattle.dm_places.proofs.Names.{two_off, Placed, Mirrors, MirrorsMessage, enclosed, with_sent, without_message}
 use Rattle.dm_onekernel.specs.Kernel as kernels
-use Rattle.dm_onekernel.specs.Kernel.{OneKernel}
-use Rattle.dm_onekernel.specs.Pieces.{answer_id, answer_to}
 use Rattle.dm_onekernel.specs.Service as service
 use Rattle.dm_onekernel.specs.Step as kernel
-use Rattle.dm_datamove.specs.Serving.{answer, gone_answer}
-use Rattle.dm_laws.proofs.Equal.{id_eq-same}
-use Rattle.dm_laws.proofs.Steps.{bind-is, when-is}
-use Rattle.dm_rule.specs.View.{View}
-use Rattle.dm_rule.specs.Addresses.{Addresses, answers, given, gives, Receiver, Sender, unmoved}
-use Rattle.dm_rule.proofs.Homes.Serves.{two, two_process, two_servers, two_off}
-use Rattle.dm_places.specs.Placed.{Placed, Mirrors, MirrorsMessage, enclosed}
-use Rattle.dm_places.specs.PlacedStep.{with_sent, without_message}
 use Rattle.dm_places.proofs.Keeps.{kernel_sent, out_mirrors, parts, places_sent, there_of}
 use Rattle.dm_places.proofs.Acts.{Follows}
 
@@ -61,7 +40,7 @@ answer_mirrors s v a l id m k w u moves hm says e none h =
     (two_sends s v a l n (answer_to k u) (a (Sender id)) from (answer_plainly v.acting moves m k w u says e) none hm.sender refl h)
 
 -- dropped
-pub dropped_follows : (s t : OneKernel) (v : View) (a : Addresses) (l : Placed) (id : MsgId) → kernel.step s (label.Dropped id) ≡ Some t → Mirrors s v a l → Follows t v a (Some (without_message l id))
+pub dropped_follows : (s t : OneKernel) (v : View) (a : Addresses) (l : Placed) (id : MsgId) → kernel.step s (Label.Dropped id) ≡ Some t → Mirrors s v a l → Follows t v a (Some (without_message l id))
 dropped_follows s t v a l id is h =
     let (m, there, rest) = bind-is (s.bag id) (λ (w : PlainMessage). bind (kernel.ended (s.processes w.to)) (kernel.drops s id w)) t is in
     let (y, gone, last) = bind-is (kernel.ended (s.processes m.to)) (kernel.drops s id m) t rest in
@@ -69,38 +48,38 @@ dropped_follows s t v a l id is h =
     (without_message l id, refl, subst (λ (u : OneKernel). Mirrors u v a (without_message l id)) k.1 (out_mirrors s v a l id h))
 
 -- gone
-pub gone_follows : (s t : OneKernel) (v : View) (a : Addresses) (l : Placed) (id : MsgId) → kernel.step s (label.Gone id) ≡ Some t → Mirrors s v a l
-    → Follows t v (given a (gives s v a (label.Gone id))) (bind (l.bag id) (λ (m : Message). Some (with_sent (without_message l id) (Some (gone_answer v.acting m)))))
+pub gone_follows : (s t : OneKernel) (v : View) (a : Addresses) (l : Placed) (id : MsgId) → kernel.step s (Label.Gone id) ≡ Some t → Mirrors s v a l
+    → Follows t v (given a (gives s v a (Label.Gone id))) (bind (l.bag id) (λ (m : Message). Some (with_sent (without_message l id) (Some (gone_answer v.acting m)))))
 gone_follows s t v a l id is h =
     let (k, there, rest) = bind-is (s.bag id) (λ (w : PlainMessage). bind (kernel.ended (s.processes w.to)) (kernel.says_gone s id w)) t is in
     let (y, gone, last) = bind-is (kernel.ended (s.processes k.to)) (kernel.says_gone s id k) t rest in
-    let z = when-is (service.is_of_memory k.what) (kernels.with_sent (service.without_message s id) (Some (answer_to k said.Gone))) t last in
+    let z = when-is (service.is_of_memory k.what) (kernels.with_sent (service.without_message s id) (Some (answer_to k PlainWhat.Gone))) t last in
     let (m, found, says) = there_of s l id k h.plain there in
     let hm = h.places.message id m found in
     let on = with_sent (without_message l id) (Some (gone_answer v.acting m)) in
     let count : m.to.moves ≡ (a (Receiver id)).moves = ap (λ (p : Place). p.moves) (sym hm.receiver) in (
       on,
       ap (λ (o : Option Message). bind o (λ (n : Message). Some (with_sent (without_message l id) (Some (gone_answer v.acting n))))) found,
-      subst (λ (u : OneKernel). Mirrors u v (given a (gives s v a (label.Gone id))) on) z.1
-          (subst (λ (n : ℕ). Mirrors (kernels.with_sent (service.without_message s id) (Some (answer_to k said.Gone))) v (given a (answers a id (record { at = v.acting; moves = n }))) on) count
-          (answer_mirrors (service.without_message s id) v a (without_message l id) id m k what.Gone said.Gone m.to.moves hm says refl refl (out_mirrors s v a l id h))),
+      subst (λ (u : OneKernel). Mirrors u v (given a (gives s v a (Label.Gone id))) on) z.1
+          (subst (λ (n : ℕ). Mirrors (kernels.with_sent (service.without_message s id) (Some (answer_to k PlainWhat.Gone))) v (given a (answers a id (record { at = v.acting; moves = n }))) on) count
+          (answer_mirrors (service.without_message s id) v a (without_message l id) id m k What.Gone PlainWhat.Gone m.to.moves hm says refl refl (out_mirrors s v a l id h))),
     )
 
 -- nospace
 no_room_row : (s t : OneKernel) (v : View) (a : Addresses) (l : Placed) (id : MsgId) (m : Message) (k : PlainMessage) (u : PlainWhat) → service.has_no_room s id k u ≡ Some t → MirrorsMessage a id m → plain_message m ≡ Some k → Mirrors s v a l
-    → Mirrors t v (given a (answers a id (unmoved v.acting))) (with_sent (without_message l id) (Some (answer v.acting 0 m what.NoRoom)))
-no_room_row s t v a l id m k (said.Create image links) is hm says h =
-    let z = when-is (service.is_kernel s k.to) (kernels.with_sent (service.without_message s id) (Some (answer_to k said.NoRoom))) t is in
-    subst (λ (u : OneKernel). Mirrors u v (given a (answers a id (unmoved v.acting))) (with_sent (without_message l id) (Some (answer v.acting 0 m what.NoRoom)))) z.1
-    (answer_mirrors (service.without_message s id) v a (without_message l id) id m k what.NoRoom said.NoRoom 0 hm says refl refl (out_mirrors s v a l id h))
+    → Mirrors t v (given a (answers a id (unmoved v.acting))) (with_sent (without_message l id) (Some (answer v.acting 0 m What.NoRoom)))
+no_room_row s t v a l id m k (PlainWhat.Create image links) is hm says h =
+    let z = when-is (service.is_kernel s k.to) (kernels.with_sent (service.without_message s id) (Some (answer_to k PlainWhat.NoRoom))) t is in
+    subst (λ (u : OneKernel). Mirrors u v (given a (answers a id (unmoved v.acting))) (with_sent (without_message l id) (Some (answer v.acting 0 m What.NoRoom)))) z.1
+    (answer_mirrors (service.without_message s id) v a (without_message l id) id m k What.NoRoom PlainWhat.NoRoom 0 hm says refl refl (out_mirrors s v a l id h))
 no_room_row s t v a l id m k u is hm says h = cc
 
-pub no_space_follows : (s t : OneKernel) (v : View) (a : Addresses) (l : Placed) (id : MsgId) (f b : ℕ) → kernel.step s (label.NoSpace id f b) ≡ Some t → Mirrors s v a l
-    → Follows t v (given a (gives s v a (label.NoSpace id f b))) (bind (l.bag id) (λ (m : Message). Some (with_sent (without_message l id) (Some (answer v.acting 0 m what.NoRoom)))))
+pub no_space_follows : (s t : OneKernel) (v : View) (a : Addresses) (l : Placed) (id : MsgId) (f b : ℕ) → kernel.step s (Label.NoSpace id f b) ≡ Some t → Mirrors s v a l
+    → Follows t v (given a (gives s v a (Label.NoSpace id f b))) (bind (l.bag id) (λ (m : Message). Some (with_sent (without_message l id) (Some (answer v.acting 0 m What.NoRoom)))))
 no_space_follows s t v a l id f b is h =
     let (k, there, rest) = bind-is (s.bag id) (λ (w : PlainMessage). service.has_no_room s id w w.what) t is in
     let (m, found, says) = there_of s l id k h.plain there in (
-      with_sent (without_message l id) (Some (answer v.acting 0 m what.NoRoom)),
-      ap (λ (o : Option Message). bind o (λ (n : Message). Some (with_sent (without_message l id) (Some (answer v.acting 0 n what.NoRoom))))) found,
+      with_sent (without_message l id) (Some (answer v.acting 0 m What.NoRoom)),
+      ap (λ (o : Option Message). bind o (λ (n : Message). Some (with_sent (without_message l id) (Some (answer v.acting 0 n What.NoRoom))))) found,
       no_room_row s t v a l id m k k.what rest (h.places.message id m found) says h,
     )

@@ -1,34 +1,11 @@
 -- Behind each group there is a kernel with places, where there was one before.
-use Rattle.std.proofs.Common.{◌≡◌, ℕ, ◌+◌, ◌<◌, ◌==◌, ◌||◌, Bool, true, false, List, [], ◌∷◌, length, refl, ap, ◌∙◌, subst, is_some, inl, inr, arith}
-use Rattle.std.specs.Prelude.{⊤, if◌then◌else◌, nat_lt, slice_get}
-use Rattle.std.specs.declared.option.Option.{Option}
-use Rattle.std.specs.declared.option.Option.TheVariants.{None, Some}
-use Rattle.std.proofs.lemmas.Bool.Decides.{nat_tests}
-use Rattle.dm_link.specs.declared.Pid.{Pid}
-use Rattle.dm_link.specs.Names.{pid_eq, pid_of}
-use Rattle.dm_message.specs.declared.MsgId.{MsgId}
-use Rattle.dm_message.specs.Plain as what
-use Rattle.dm_message.specs.Plain.{PlainMessage, PlainWhat}
-use Rattle.dm_onekernel.specs.declared.boot.Boot.{Boot}
-use Rattle.dm_onekernel.specs.declared.boot.BootImage.{BootImage}
-use Rattle.dm_onekernel.specs.declared.label.Label.TheVariants as label
-use Rattle.dm_onekernel.specs.Boot.{first_number, manager, switchboard}
-use Rattle.dm_onekernel.specs.Kernel.{Life, OneKernel}
+use Rattle.dm_places.proofs.Names.{◌≡◌, ℕ, ◌+◌, ◌<◌, ◌==◌, ◌||◌, Bool, true, false, List, [], ◌∷◌, length, refl, ap, ◌∙◌, subst, is_some, inl, inr, arith, ⊤, if◌then◌else◌, nat_lt, slice_get, Option, None, Some, nat_tests, Pid, pid_eq}
+use Rattle.dm_places.proofs.Names.{pid_of, MsgId, Label, Line, PlainMessage, PlainWhat, Boot, BootImage, first_number, manager, switchboard, Life, OneKernel, bind, Step, bind-is, View, after_head, Part, Routes, Spelled, spelled, Point}
+use Rattle.dm_places.proofs.Names.{after_line, moved, group_of, headed, outcome, Placed, GroupNeeds, MirrorsPoint, or_second}
 use Rattle.dm_onekernel.specs.Manager as manage
-use Rattle.dm_onekernel.specs.Options.{bind}
 use Rattle.dm_onekernel.specs.Pieces as pieces
 use Rattle.dm_onekernel.specs.Switchboard as board
-use Rattle.dm_schedule.specs.declared.Step.{Step}
-use Rattle.dm_schedule.specs.declared.Step.TheVariants as directive
-use Rattle.dm_laws.proofs.Steps.{bind-is}
-use Rattle.dm_line.specs.declared.line.Line.TheVariants as line
-use Rattle.dm_rule.specs.View.{View, after_head}
-use Rattle.dm_rule.specs.Parts.{Part, Routes, Spelled, spelled}
-use Rattle.dm_rule.specs.Point.{Point, after_line, moved}
 use Rattle.dm_rule.specs.Rule as rule
-use Rattle.dm_rule.specs.Rule.{group_of, headed, outcome}
-use Rattle.dm_places.specs.Placed.{Placed}
-use Rattle.dm_places.specs.Following.{GroupNeeds, MirrorsPoint}
 use Rattle.dm_places.proofs.EasyRows.{Easy, arrives_easy, hears_easy, migrates_easy, process_easy, resends_easy, round_easy, routes_easy}
 use Rattle.dm_places.proofs.AnyPart.{Behind, EasyParts, PartsNeed, SoundAt, parts_follow}
 use Rattle.dm_places.proofs.Lines.{lines_keep}
@@ -52,11 +29,11 @@ if_fits s v false o p h k = k
 
 board_fits : (pt : Point) (v : View) (id : MsgId) (o : Option board.Took) → v.acting ≡ 0 → GroupNeeds pt → Fits pt.kernel v (rule.board_took id o)
 board_fits pt v id None at needs = tt
-board_fits pt v id (Some t) at needs = (inr (label.Took id, refl, (at, needs.pending)), routes_easy t.answer)
+board_fits pt v id (Some t) at needs = (inr (Label.Took id, refl, (at, needs.pending)), routes_easy t.answer)
 
 manager_fits : (pt : Point) (v : View) (id : MsgId) (o : Option manage.Took) → v.acting ≡ 0 → GroupNeeds pt → Fits pt.kernel v (rule.manager_took id o)
 manager_fits pt v id None at needs = tt
-manager_fits pt v id (Some t) at needs = (inr (label.Took id, refl, (at, needs.pending)), routes_easy t.message)
+manager_fits pt v id (Some t) at needs = (inr (Label.Took id, refl, (at, needs.pending)), routes_easy t.message)
 
 -- the next process of a home wasn't made
 not_made : (o : Option Life) → (is_some o ≡ true → ⊥) → o ≡ None
@@ -69,10 +46,10 @@ next_unmade s m h =
     not_made (s.processes p) (λ there. let f : nat_lt (3 + s.made m) (3 + s.made m) ≡ true = h.sound.made.most p there in let g : (3 + s.made m) < (3 + s.made m) = grind (arith, nat_tests) in omega (arith, g))
 
 creates_if : (pt : Point) (v : View) (m : ℕ) (id : MsgId) (r : rule.Room) (c : Bool) → v.moves ≡ pt.view.moves → SoundAt pt.kernel → GroupNeeds pt
-    → PartsNeed pt.kernel v ((if c then rule.says (label.Created id (pid_of m (first_number + pt.kernel.made m))) else rule.says (label.NoSpace id r.slots r.blocks)) ∷ Routes (pieces.answer_id id) ∷ [])
+    → PartsNeed pt.kernel v ((if c then rule.says (Label.Created id (pid_of m (first_number + pt.kernel.made m))) else rule.says (Label.NoSpace id r.slots r.blocks)) ∷ Routes (pieces.answer_id id) ∷ [])
 creates_if pt v m id r true counts h needs =
     let p = pid_of m (first_number + pt.kernel.made m) in
-    (inr (label.Created id p, refl, ap (λ (f : Pid → ℕ). f p) counts ∙ needs.unmoved p (next_unmade pt.kernel m h)), (tt, tt))
+    (inr (Label.Created id p, refl, ap (λ (f : Pid → ℕ). f p) counts ∙ needs.unmoved p (next_unmade pt.kernel m h)), (tt, tt))
 creates_if pt v m id r false counts h needs = (inl tt, (tt, tt))
 
 creates_fit : (pt : Point) (v : View) (m : ℕ) (id : MsgId) (r : rule.Room) (o : Option BootImage) → v.moves ≡ pt.view.moves → SoundAt pt.kernel → GroupNeeds pt → Fits pt.kernel v (rule.creates pt m id r o)
@@ -80,28 +57,12 @@ creates_fit pt v m id r None counts h needs = tt
 creates_fit pt v m id r (Some i) counts h needs = creates_if pt v m id r (rule.has_room r i.blocks) counts h needs
 
 kernel_fits : (b : Boot) (pt : Point) (v : View) (m : ℕ) (id : MsgId) (w : PlainWhat) → v.moves ≡ pt.view.moves → SoundAt pt.kernel → GroupNeeds pt → Fits pt.kernel v (rule.kernel_handles b pt m id w)
-kernel_fits b pt v m id (what.User code channel body links) counts h needs = tt
-kernel_fits b pt v m id what.Stop counts h needs = tt
-kernel_fits b pt v m id what.Resume counts h needs = tt
-kernel_fits b pt v m id what.Kill counts h needs = tt
-kernel_fits b pt v m id (what.Read base len) counts h needs = tt
-kernel_fits b pt v m id (what.Write base bytes) counts h needs = tt
-kernel_fits b pt v m id (what.Block bytes) counts h needs = tt
-kernel_fits b pt v m id what.Written counts h needs = tt
-kernel_fits b pt v m id what.Gone counts h needs = tt
-kernel_fits b pt v m id (what.Create image links) counts h needs = creates_fit pt v m id (rule.free_room b pt m) (slice_get b.images image) counts h needs
-kernel_fits b pt v m id (what.Created child) counts h needs = tt
-kernel_fits b pt v m id what.NoRoom counts h needs = tt
-kernel_fits b pt v m id (what.Move machine) counts h needs = tt
-kernel_fits b pt v m id (what.Moved outcome) counts h needs = tt
+kernel_fits b pt v m id (PlainWhat.Create image links) counts h needs = creates_fit pt v m id (rule.free_room b pt m) (slice_get b.images image) counts h needs
+kernel_fits b pt v m id _ counts h needs = tt
 
 or_first : (b c : Bool) → b ≡ true → (b || c) ≡ true
 or_first true c e = refl
 or_first false c e = cc
-
-or_second : (b c : Bool) → c ≡ true → (b || c) ≡ true
-or_second true c e = refl
-or_second false c e = e
 
 comes_fit : (b : Boot) (pt : Point) (v : View) (m : ℕ) (id : MsgId) (o : Option PlainMessage) → v.acting ≡ m → v.moves ≡ pt.view.moves → SoundAt pt.kernel → GroupNeeds pt
     → ((x : PlainMessage) → o ≡ Some x → (pid_eq x.to switchboard || pid_eq x.to manager) ≡ true → m ≡ 0) → Fits pt.kernel v (rule.comes_to b pt m id o)
@@ -127,11 +88,11 @@ turns_fit b pt v m [] inbox acting counts h needs =
 turns_fit b pt v m (i ∷ is) inbox acting counts h needs = comes_fit b pt v m i (pt.kernel.bag i) acting counts h needs (λ x there to. needs.server m i is x inbox there to)
 
 outcome_fits : (b : Boot) (pt : Point) (d : Step) → SoundAt pt.kernel → GroupNeeds pt → Fits pt.kernel (after_head pt.view d) (outcome b pt d)
-outcome_fits b pt (directive.Turn m) h needs = turns_fit b pt (after_head pt.view (directive.Turn m)) m (pt.view.inbox m) refl refl refl h needs
-outcome_fits b pt (directive.Tick m) h needs = easy_fits pt.kernel (after_head pt.view (directive.Tick m)) (outcome b pt (directive.Tick m)) (tt, resends_easy m pt.view pt.kernel.machines)
-outcome_fits b pt (directive.Deliver a c k) h needs =
-    easy_fits pt.kernel (after_head pt.view (directive.Deliver a c k)) (outcome b pt (directive.Deliver a c k)) (arrives_easy a c (pt.view.pair a c) (pt.view.pair c a) (slice_get (pt.view.pair a c).wire k))
-outcome_fits b pt (directive.Migrate p m) h needs = easy_fits pt.kernel (after_head pt.view (directive.Migrate p m)) (outcome b pt (directive.Migrate p m)) (migrates_easy pt p)
+outcome_fits b pt (Step.Turn m) h needs = turns_fit b pt (after_head pt.view (Step.Turn m)) m (pt.view.inbox m) refl refl refl h needs
+outcome_fits b pt (Step.Tick m) h needs = easy_fits pt.kernel (after_head pt.view (Step.Tick m)) (outcome b pt (Step.Tick m)) (tt, resends_easy m pt.view pt.kernel.machines)
+outcome_fits b pt (Step.Deliver a c k) h needs =
+    easy_fits pt.kernel (after_head pt.view (Step.Deliver a c k)) (outcome b pt (Step.Deliver a c k)) (arrives_easy a c (pt.view.pair a c) (pt.view.pair c a) (slice_get (pt.view.pair a c).wire k))
+outcome_fits b pt (Step.Migrate p m) h needs = easy_fits pt.kernel (after_head pt.view (Step.Migrate p m)) (outcome b pt (Step.Migrate p m)) (migrates_easy pt p)
 
 fits_as : (s : OneKernel) (v : View) (o : Option (List Part)) (ps : List Part) → Fits s v o → o ≡ Some ps → PartsNeed s v ps
 fits_as s v o ps h is = subst (Fits s v) is h
@@ -139,12 +100,12 @@ fits_as s v o ps h is = subst (Fits s v) is h
 -- a group
 group_behind : (b : Boot) (pt : Point) (l : Placed) (d : Step) (w : Spelled) → SoundAt pt.kernel → GroupNeeds pt → group_of b pt d ≡ Some w → MirrorsPoint pt l → Behind w.point
 group_behind b pt l d w sound needs is h =
-    let begun = moved pt (line.Head d) pt.kernel in
-    let (ps, comes, rest) = bind-is (outcome b pt d) (λ (xs : List Part). bind (after_line pt (line.Head d)) (λ (q : Point). bind (spelled q xs) (λ (z : Spelled). Some (headed (line.Head d) z)))) w is in
-    let (z, more, end) = bind-is (spelled begun ps) (λ (y : Spelled). Some (headed (line.Head d) y)) w rest in
-    let f : headed (line.Head d) z ≡ w = cc in
+    let begun = moved pt (Line.Head d) pt.kernel in
+    let (ps, comes, rest) = bind-is (outcome b pt d) (λ (xs : List Part). bind (after_line pt (Line.Head d)) (λ (q : Point). bind (spelled q xs) (λ (z : Spelled). Some (headed (Line.Head d) z)))) w is in
+    let (z, more, end) = bind-is (spelled begun ps) (λ (y : Spelled). Some (headed (Line.Head d) y)) w rest in
+    let f : headed (Line.Head d) z ≡ w = cc in
     subst (λ (x : Spelled). Behind x.point) f
-    (parts_follow ps begun z l (fits_as pt.kernel (after_head pt.view d) (outcome b pt d) ps (outcome_fits b pt d sound needs) comes) sound (lines_keep pt begun l (line.Head d) tt h refl) more)
+    (parts_follow ps begun z l (fits_as pt.kernel (after_head pt.view d) (outcome b pt d) ps (outcome_fits b pt d sound needs) comes) sound (lines_keep pt begun l (Line.Head d) tt h refl) more)
 
 pub group_follows : (b : Boot) (pt : Point) (l : Placed) (d : Step) (w : Spelled) → SoundAt pt.kernel → GroupNeeds pt → group_of b pt d ≡ Some w → MirrorsPoint pt l → (m : Placed) × MirrorsPoint w.point m × SoundAt w.point.kernel
 group_follows b pt l d w sound needs is h = let z = group_behind b pt l d w sound needs is h in (z.l, z.mirrors, z.sound)

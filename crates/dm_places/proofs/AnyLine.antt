@@ -1,33 +1,9 @@
 -- Behind any line there is a kernel with places, where there was one before.
-use Rattle.std.proofs.Common.{◌≡◌, ◌+◌, ◌++◌, Bool, false, List, [], ◌∷◌, refl, ap, ◌∙◌, sym, subst, inl, inr}
-use Rattle.std.specs.Prelude.{if◌then◌else◌, option_map}
-use Rattle.std.specs.declared.option.Option.{Option}
-use Rattle.std.specs.declared.option.Option.TheVariants.{None, Some}
-use Rattle.std.proofs.lemmas.Bool.{cases_Bool}
-use Rattle.dm_link.specs.declared.Pid.{Pid}
-use Rattle.dm_link.specs.Names.{Place, pid_eq}
-use Rattle.dm_linkupdate.specs.Applied.{applied}
-use Rattle.dm_message.specs.declared.MsgId.{MsgId}
-use Rattle.dm_process.specs.declared.process.Process.{Process}
-use Rattle.dm_migrate.specs.Departure.{sent_on}
+use Rattle.dm_places.proofs.Names.{◌≡◌, ◌+◌, ◌++◌, Bool, false, List, [], ◌∷◌, refl, ap, ◌∙◌, sym, subst, inl, inr, if◌then◌else◌, option_map, Option, None, Some, cases_Bool, Pid, Place, pid_eq, applied, MsgId, Process, sent_on, manager}
+use Rattle.dm_places.proofs.Names.{switchboard, OneKernel, plain_process, pid_eq-is, Line, Stage, Told, View, handled, own_id, receiver_of, view_after, Addresses, Receiver, all_follow, forwards, gets, given, is_told_back, place_known}
+use Rattle.dm_places.proofs.Names.{place_told, tells_back, updated, updated_to, Point, after_line, moved, Placed, Mirrors, with_message, with_process, KeepsPlaces, LineNeeds, MirrorsPoint, ServersApart}
 use Rattle.dm_migrate.specs.Way as way
-use Rattle.dm_onekernel.specs.Boot.{manager, switchboard}
-use Rattle.dm_onekernel.specs.Kernel.{OneKernel}
-use Rattle.dm_onekernel.specs.Plain.{plain_process}
 use Rattle.dm_onekernel.specs.Step as kernel
-use Rattle.dm_laws.proofs.Equal.{pid_eq-is}
-use Rattle.dm_laws.proofs.Steps.{bind-is}
-use Rattle.dm_line.specs.declared.line.Line.{Line}
-use Rattle.dm_line.specs.declared.line.Line.TheVariants as line
-use Rattle.dm_line.specs.declared.line.Stage.{Stage}
-use Rattle.dm_line.specs.declared.line.Stage.TheVariants as stage
-use Rattle.dm_rule.specs.View.{Told, View, handled, own_id, receiver_of, view_after}
-use Rattle.dm_rule.specs.Addresses.{Addresses, Receiver, all_follow, forwards, gets, given, is_told_back, place_known, place_told, tells_back, updated, updated_to}
-use Rattle.dm_rule.specs.Point.{Point, after, after_line, moved}
-use Rattle.dm_places.specs.Placed.{Placed, Mirrors}
-use Rattle.dm_places.specs.PlacedStep.{with_message, with_process}
-use Rattle.dm_places.specs.Laws.{KeepsPlaces}
-use Rattle.dm_places.specs.Following.{LineNeeds, LinesNeed, MirrorsPoint, ServersApart}
 use Rattle.dm_places.proofs.Changed.{sent_on_any}
 use Rattle.dm_places.proofs.Followed.{moves_forwarded, restarted_mirrors, tells_mirrors}
 use Rattle.dm_places.proofs.Steps.{label_follows}
@@ -64,7 +40,7 @@ forwards_follow s v a l id (Some t) none h =
     (record { l = l; mirrors = tells_mirrors s v a l id (is_told_back t.kind) none h })
 
 -- an update
-no_process : (o : Option Process) → option_map plain_process o ≡ None → o ≡ None
+pub no_process : (o : Option Process) → option_map plain_process o ≡ None → o ≡ None
 no_process None e = refl
 no_process (Some x) e = cc
 
@@ -105,7 +81,7 @@ absent_comes v p q l x none there = elim (cases_Bool (pid_eq p q)) [
   | inr apart ↦ ap (λ (c : Bool). if c then v.moves p + 1 else v.moves q) apart
 ]
 
-comes : (pt : Point) (l : Placed) (p : Pid) (o : Option Process) → l.processes p ≡ o → MirrorsPoint pt l → Stands (moved pt (line.Migration stage.Restarted p) pt.kernel)
+comes : (pt : Point) (l : Placed) (p : Pid) (o : Option Process) → l.processes p ≡ o → MirrorsPoint pt l → Stands (moved pt (Line.Migration Stage.Restarted p) pt.kernel)
 comes pt l p (Some x) there h = record { l = with_process l p (Some (way.moved x)); mirrors = restarted_mirrors pt l p x h there }
 comes pt l p None none h =
     let g = h.places in
@@ -127,73 +103,61 @@ comes pt l p None none h =
 keeps : (pt pt' : Point) (l : Placed) (x : Line) → KeepsPlaces pt x → MirrorsPoint pt l → after_line pt x ≡ Some pt' → Stands pt'
 keeps pt pt' l x k h e = record { l = l; mirrors = lines_keep pt pt' l x k h e }
 
-stage_stands : (pt pt' : Point) (l : Placed) (p : Pid) (step : Stage) → MirrorsPoint pt l → after_line pt (line.Migration step p) ≡ Some pt' → Stands pt'
-stage_stands pt pt' l p stage.Restarted h e =
-    let f : moved pt (line.Migration stage.Restarted p) pt.kernel ≡ pt' = cc in
+stage_stands : (pt pt' : Point) (l : Placed) (p : Pid) (step : Stage) → MirrorsPoint pt l → after_line pt (Line.Migration step p) ≡ Some pt' → Stands pt'
+stage_stands pt pt' l p Stage.Restarted h e =
+    let f : moved pt (Line.Migration Stage.Restarted p) pt.kernel ≡ pt' = cc in
     subst Stands f (comes pt l p (l.processes p) refl h)
-stage_stands pt pt' l p stage.Frozen h e = keeps pt pt' l (line.Migration stage.Frozen p) tt h e
-stage_stands pt pt' l p stage.Asked h e = keeps pt pt' l (line.Migration stage.Asked p) tt h e
-stage_stands pt pt' l p stage.Accepted h e = keeps pt pt' l (line.Migration stage.Accepted p) tt h e
-stage_stands pt pt' l p stage.StateTaken h e = keeps pt pt' l (line.Migration stage.StateTaken p) tt h e
-stage_stands pt pt' l p stage.MemoryTaken h e = keeps pt pt' l (line.Migration stage.MemoryTaken p) tt h e
-stage_stands pt pt' l p stage.Left h e = keeps pt pt' l (line.Migration stage.Left p) tt h e
+stage_stands pt pt' l p any_ h e = keeps pt pt' l (Line.Migration any_ p) tt h e
 
 line_stands : (pt pt' : Point) (l : Placed) (x : Line) → LineNeeds pt x → MirrorsPoint pt l → after_line pt x ≡ Some pt' → Stands pt'
-line_stands pt pt' l (line.Label x) needs h e = let (m, step, on) = label_follows pt pt' l x (λ t is. needs) h e in record { l = m; mirrors = on }
-line_stands pt pt' l (line.Put from to id k q) needs h e = elim needs [
-  | inl same ↦ keeps pt pt' l (line.Put from to id k q) same h e
+line_stands pt pt' l (Line.Label x) needs h e = let (m, step, on) = label_follows pt pt' l x (λ t is. needs) h e in record { l = m; mirrors = on }
+line_stands pt pt' l (Line.Put from to id k q) needs h e = elim needs [
+  | inl same ↦ keeps pt pt' l (Line.Put from to id k q) same h e
   | inr none ↦
-      let f : moved pt (line.Put from to id k q) pt.kernel ≡ pt' = cc in
+      let f : moved pt (Line.Put from to id k q) pt.kernel ≡ pt' = cc in
       let g = without_own_mirrors pt.kernel pt.view pt.addresses l h in
       subst Stands f (record { l = without_own l; mirrors = absent_put_mirrors pt (without_own l) from to id k q g (none_own pt.kernel pt.view pt.addresses l id none h) })
 ]
-line_stands pt pt' l (line.Forwarded id m) none h e =
+line_stands pt pt' l (Line.Forwarded id m) none h e =
     let s = pt.kernel in
     let v = pt.view in
     let a = pt.addresses in
-    let f : moved pt (line.Forwarded id m) s ≡ pt' = cc in
+    let f : moved pt (Line.Forwarded id m) s ≡ pt' = cc in
     let g = without_own_mirrors s v a l h in
-    subst Stands f (other_view s v (view_after v (line.Forwarded id m)) (given a (forwards v a id (v.told id))) (moves_forwarded (handled v id) (receiver_of (v.told id)))
+    subst Stands f (other_view s v (view_after v (Line.Forwarded id m)) (given a (forwards v a id (v.told id))) (moves_forwarded (handled v id) (receiver_of (v.told id)))
     (forwards_follow s v a (without_own l) id (v.told id) (none_own s v a l (own_id v) none h) g))
-line_stands pt pt' l (line.SentOn p n) needs h e =
+line_stands pt pt' l (Line.SentOn p n) needs h e =
     let s = pt.kernel in
     let v = pt.view in
     let a = pt.addresses in
     let ids = v.queue v.acting p ++ v.held v.acting p in
-    let f : moved pt (line.SentOn p n) s ≡ pt' = cc in
-    subst Stands f (other_view s v (view_after v (line.SentOn p n)) (given a (all_follow v a p ids)) refl (all_follows s v a p ids (record { l = l; mirrors = h })))
-line_stands pt pt' l (line.Updated id n) apart h e =
+    let f : moved pt (Line.SentOn p n) s ≡ pt' = cc in
+    subst Stands f (other_view s v (view_after v (Line.SentOn p n)) (given a (all_follow v a p ids)) refl (all_follows s v a p ids (record { l = l; mirrors = h })))
+line_stands pt pt' l (Line.Updated id n) apart h e =
     let s = pt.kernel in
     let v = pt.view in
     let a = pt.addresses in
-    let f : moved pt (line.Updated id n) s ≡ pt' = cc in
-    subst Stands f (other_view s v (view_after v (line.Updated id n)) (λ h. updated s v a (v.told id) h) refl (update_follows s v a l (v.told id) apart h))
-line_stands pt pt' l (line.Migration step p) needs h e = stage_stands pt pt' l p step h e
-line_stands pt pt' l (line.Head d) needs h e = keeps pt pt' l (line.Head d) tt h e
-line_stands pt pt' l (line.Idle m) needs h e = keeps pt pt' l (line.Idle m) tt h e
-line_stands pt pt' l (line.Packet from to k c) needs h e = keeps pt pt' l (line.Packet from to k c) tt h e
-line_stands pt pt' l (line.Taken from to n) needs h e = keeps pt pt' l (line.Taken from to n) tt h e
-line_stands pt pt' l (line.Old from to n) needs h e = keeps pt pt' l (line.Old from to n) tt h e
-line_stands pt pt' l (line.Early from to n) needs h e = keeps pt pt' l (line.Early from to n) tt h e
-line_stands pt pt' l (line.Acked from to n) needs h e = keeps pt pt' l (line.Acked from to n) tt h e
-line_stands pt pt' l line.Nothing needs h e = keeps pt pt' l line.Nothing tt h e
-line_stands pt pt' l (line.Resent m n) needs h e = keeps pt pt' l (line.Resent m n) tt h e
-line_stands pt pt' l (line.Queued id) needs h e = keeps pt pt' l (line.Queued id) tt h e
-line_stands pt pt' l (line.Held id) needs h e = keeps pt pt' l (line.Held id) tt h e
-line_stands pt pt' l (line.Lacks p slots blocks) needs h e = keeps pt pt' l (line.Lacks p slots blocks) tt h e
-line_stands pt pt' l (line.Stays p) needs h e = keeps pt pt' l (line.Stays p) tt h e
-line_stands pt pt' l (line.Here id) needs h e = keeps pt pt' l (line.Here id) tt h e
-line_stands pt pt' l (line.NoMove id) needs h e = keeps pt pt' l (line.NoMove id) tt h e
-line_stands pt pt' l (line.Proto id) needs h e = keeps pt pt' l (line.Proto id) tt h e
-line_stands pt pt' l (line.NoChild p) needs h e = keeps pt pt' l (line.NoChild p) tt h e
-line_stands pt pt' l (line.Pinned p) needs h e = keeps pt pt' l (line.Pinned p) tt h e
+    let f : moved pt (Line.Updated id n) s ≡ pt' = cc in
+    subst Stands f (other_view s v (view_after v (Line.Updated id n)) (λ h. updated s v a (v.told id) h) refl (update_follows s v a l (v.told id) apart h))
+line_stands pt pt' l (Line.Migration step p) needs h e = stage_stands pt pt' l p step h e
+line_stands pt pt' l (Line.Head d) needs h e = keeps pt pt' l (Line.Head d) tt h e
+line_stands pt pt' l (Line.Idle m) needs h e = keeps pt pt' l (Line.Idle m) tt h e
+line_stands pt pt' l (Line.Packet from to k c) needs h e = keeps pt pt' l (Line.Packet from to k c) tt h e
+line_stands pt pt' l (Line.Taken from to n) needs h e = keeps pt pt' l (Line.Taken from to n) tt h e
+line_stands pt pt' l (Line.Old from to n) needs h e = keeps pt pt' l (Line.Old from to n) tt h e
+line_stands pt pt' l (Line.Early from to n) needs h e = keeps pt pt' l (Line.Early from to n) tt h e
+line_stands pt pt' l (Line.Acked from to n) needs h e = keeps pt pt' l (Line.Acked from to n) tt h e
+line_stands pt pt' l Line.Nothing needs h e = keeps pt pt' l Line.Nothing tt h e
+line_stands pt pt' l (Line.Resent m n) needs h e = keeps pt pt' l (Line.Resent m n) tt h e
+line_stands pt pt' l (Line.Queued id) needs h e = keeps pt pt' l (Line.Queued id) tt h e
+line_stands pt pt' l (Line.Held id) needs h e = keeps pt pt' l (Line.Held id) tt h e
+line_stands pt pt' l (Line.Lacks p slots blocks) needs h e = keeps pt pt' l (Line.Lacks p slots blocks) tt h e
+line_stands pt pt' l (Line.Stays p) needs h e = keeps pt pt' l (Line.Stays p) tt h e
+line_stands pt pt' l (Line.Here id) needs h e = keeps pt pt' l (Line.Here id) tt h e
+line_stands pt pt' l (Line.NoMove id) needs h e = keeps pt pt' l (Line.NoMove id) tt h e
+line_stands pt pt' l (Line.Proto id) needs h e = keeps pt pt' l (Line.Proto id) tt h e
+line_stands pt pt' l (Line.NoChild p) needs h e = keeps pt pt' l (Line.NoChild p) tt h e
+line_stands pt pt' l (Line.Pinned p) needs h e = keeps pt pt' l (Line.Pinned p) tt h e
 
 pub line_follows : (pt pt' : Point) (l : Placed) (x : Line) → LineNeeds pt x → MirrorsPoint pt l → after_line pt x ≡ Some pt' → (m : Placed) × MirrorsPoint pt' m
 line_follows pt pt' l x needs h e = let z = line_stands pt pt' l x needs h e in (z.l, z.mirrors)
-
-pub lines_follow : (pt pt' : Point) (l : Placed) (ls : List Line) → LinesNeed pt ls → MirrorsPoint pt l → after pt ls ≡ Some pt' → (m : Placed) × MirrorsPoint pt' m
-lines_follow pt pt' l [] needs h e = let f : pt ≡ pt' = cc in (l, subst (λ (q : Point). MirrorsPoint q l) f h)
-lines_follow pt pt' l (x ∷ xs) needs h e =
-    let (next, first, rest) = bind-is (after_line pt x) (λ (q : Point). after q xs) pt' e in
-    let z = line_stands pt next l x needs.0 h first in
-    lines_follow next pt' z.l xs (needs.1 next first) z.mirrors rest

@@ -1,28 +1,8 @@
 -- Behind the parts of a group there is a kernel with places, where there was one before.
-use Rattle.std.proofs.Common.{◌≡◌, ℕ, true, false, List, [], ◌∷◌, refl, ap, ◌∙◌, sym, subst, is_some, ◌⊎◌, inl, inr}
-use Rattle.std.specs.Prelude.{⊤, nat_le}
-use Rattle.std.specs.declared.option.Option.{Option}
-use Rattle.std.specs.declared.option.Option.TheVariants.{None, Some}
-use Rattle.dm_message.specs.declared.MsgId.{MsgId}
-use Rattle.dm_message.specs.Plain.{PlainMessage}
-use Rattle.dm_onekernel.specs.declared.label.Label.{Label}
-use Rattle.dm_onekernel.specs.declared.label.Label.TheVariants as label
-use Rattle.dm_onekernel.specs.Boot.{manager, switchboard}
-use Rattle.dm_onekernel.specs.Kernel.{Life, OneKernel}
-use Rattle.dm_onekernel.specs.Options.{bind}
+use Rattle.dm_places.proofs.Names.{◌≡◌, ℕ, true, false, List, [], ◌∷◌, refl, ap, ◌∙◌, sym, subst, is_some, ◌⊎◌, inl, inr, ⊤, nat_le, Option, None, Some, MsgId, PlainMessage, Label, manager, switchboard, Life, OneKernel, bind, Sound}
+use Rattle.dm_places.proofs.Names.{bind-is, after_step, Line, Told, View, is_kernels, own_id, Again, Owns, Part, Routes, Says, Spelled, Transmits, behind, lines_of, packet_line, puts, spelled, Point, after, after_line, kernel_after}
+use Rattle.dm_places.proofs.Names.{label_of, moved, not_kernels, Placed, LineNeeds, MirrorsPoint, ServersApart, StepNeeds}
 use Rattle.dm_onekernel.specs.Step as kernel
-use Rattle.dm_laws.proofs.Sound.{Sound}
-use Rattle.dm_laws.proofs.Steps.{bind-is}
-use Rattle.dm_laws.proofs.Runs.{after_step}
-use Rattle.dm_line.specs.declared.line.Line.{Line}
-use Rattle.dm_line.specs.declared.line.Line.TheVariants as line
-use Rattle.dm_rule.specs.View.{Told, View, is_kernels, own_id}
-use Rattle.dm_rule.specs.Parts.{Again, Owns, Part, Routes, Says, Spelled, Transmits, behind, lines_of, packet_line, puts, spelled}
-use Rattle.dm_rule.specs.Point.{Point, after, after_line, kernel_after, label_of, moved}
-use Rattle.dm_rule.proofs.Letters.{not_kernels}
-use Rattle.dm_places.specs.Placed.{Placed}
-use Rattle.dm_places.specs.Following.{LineNeeds, MirrorsPoint, ServersApart}
-use Rattle.dm_places.specs.Laws.{StepNeeds}
 use Rattle.dm_places.proofs.AnyLine.{line_follows}
 use Rattle.dm_places.proofs.Putting.{SamePoint, again_same, puts_same, routes_kernel, routes_mirrors}
 
@@ -56,95 +36,30 @@ own_apart s v h = own_apart_of s (own_id v) (s.bag (own_id v)) refl refl h
 
 -- what needs nothing beside: all labels but those of a server and of a new process
 abbrev pub EasyLabel : Label → Type 0
-EasyLabel (label.Ran p k) = ⊤
-EasyLabel (label.Call p n c) = ⊤
-EasyLabel (label.Send p id) = ⊤
-EasyLabel (label.Wait p) = ⊤
-EasyLabel (label.Out p w) = ⊤
-EasyLabel (label.End p y) = ⊤
-EasyLabel (label.Receive p id) = ⊤
-EasyLabel (label.Refuse p id c) = ⊤
-EasyLabel (label.Dropped id) = ⊤
-EasyLabel (label.Served id) = ⊤
-EasyLabel (label.Gone id) = ⊤
-EasyLabel (label.Took id) = ⊥
-EasyLabel (label.Created id child) = ⊥
-EasyLabel (label.NoSpace id slots blocks) = ⊤
+EasyLabel (Label.Took id) = ⊥
+EasyLabel (Label.Created id child) = ⊥
+EasyLabel _ = ⊤
 
 easy_label : (s : OneKernel) (v : View) (l : Label) → EasyLabel l → StepNeeds s v l
-easy_label s v (label.Ran p k) e = tt
-easy_label s v (label.Call p n c) e = tt
-easy_label s v (label.Send p id) e = tt
-easy_label s v (label.Wait p) e = tt
-easy_label s v (label.Out p w) e = tt
-easy_label s v (label.End p y) e = tt
-easy_label s v (label.Receive p id) e = tt
-easy_label s v (label.Refuse p id c) e = tt
-easy_label s v (label.Dropped id) e = tt
-easy_label s v (label.Served id) e = tt
-easy_label s v (label.Gone id) e = tt
-easy_label s v (label.Took id) e = absurd e
-easy_label s v (label.Created id child) e = absurd e
-easy_label s v (label.NoSpace id slots blocks) e = tt
+easy_label s v (Label.Took id) e = absurd e
+easy_label s v (Label.Created id child) e = absurd e
+easy_label s v _ e = tt
 
 abbrev pub EasyLine : Line → Type 0
-EasyLine (line.Head d) = ⊤
-EasyLine (line.Idle m) = ⊤
-EasyLine (line.Label e) = EasyLabel e
-EasyLine (line.Put from to id k q) = ⊥
-EasyLine (line.Packet from to k c) = ⊤
-EasyLine (line.Taken from to n) = ⊤
-EasyLine (line.Old from to n) = ⊤
-EasyLine (line.Early from to n) = ⊤
-EasyLine (line.Acked from to n) = ⊤
-EasyLine line.Nothing = ⊤
-EasyLine (line.Resent m n) = ⊤
-EasyLine (line.Queued id) = ⊤
-EasyLine (line.Held id) = ⊤
-EasyLine (line.Forwarded id m) = ⊤
-EasyLine (line.Updated id n) = ⊤
-EasyLine (line.Migration step p) = ⊤
-EasyLine (line.SentOn p n) = ⊤
-EasyLine (line.Lacks p slots blocks) = ⊤
-EasyLine (line.Stays p) = ⊤
-EasyLine (line.Here id) = ⊤
-EasyLine (line.NoMove id) = ⊤
-EasyLine (line.Proto id) = ⊤
-EasyLine (line.NoChild p) = ⊤
-EasyLine (line.Pinned p) = ⊤
+EasyLine (Line.Label e) = EasyLabel e
+EasyLine (Line.Put from to id k q) = ⊥
+EasyLine _ = ⊤
 
 easy_line : (pt : Point) (x : Line) → EasyLine x → SoundAt pt.kernel → LineNeeds pt x
-easy_line pt (line.Head d) easy h = tt
-easy_line pt (line.Idle m) easy h = tt
-easy_line pt (line.Label e) easy h = easy_label pt.kernel pt.view e easy
-easy_line pt (line.Put from to id k q) easy h = absurd easy
-easy_line pt (line.Packet from to k c) easy h = tt
-easy_line pt (line.Taken from to n) easy h = tt
-easy_line pt (line.Old from to n) easy h = tt
-easy_line pt (line.Early from to n) easy h = tt
-easy_line pt (line.Acked from to n) easy h = tt
-easy_line pt line.Nothing easy h = tt
-easy_line pt (line.Resent m n) easy h = tt
-easy_line pt (line.Queued id) easy h = tt
-easy_line pt (line.Held id) easy h = tt
-easy_line pt (line.Forwarded id m) easy h = own_apart pt.kernel pt.view h
-easy_line pt (line.Updated id n) easy h = servers_apart pt.kernel h
-easy_line pt (line.Migration step p) easy h = tt
-easy_line pt (line.SentOn p n) easy h = tt
-easy_line pt (line.Lacks p slots blocks) easy h = tt
-easy_line pt (line.Stays p) easy h = tt
-easy_line pt (line.Here id) easy h = tt
-easy_line pt (line.NoMove id) easy h = tt
-easy_line pt (line.Proto id) easy h = tt
-easy_line pt (line.NoChild p) easy h = tt
-easy_line pt (line.Pinned p) easy h = tt
+easy_line pt (Line.Label e) easy h = easy_label pt.kernel pt.view e easy
+easy_line pt (Line.Put from to id k q) easy h = absurd easy
+easy_line pt (Line.Forwarded id m) easy h = own_apart pt.kernel pt.view h
+easy_line pt (Line.Updated id n) easy h = servers_apart pt.kernel h
+easy_line pt _ easy h = tt
 
 abbrev pub EasyPart : Part → Type 0
 EasyPart (Says x) = EasyLine x
-EasyPart (Routes id) = ⊤
-EasyPart (Again id b) = ⊤
-EasyPart (Owns k q b) = ⊤
-EasyPart (Transmits a b x) = ⊤
+EasyPart _ = ⊤
 
 abbrev pub EasyParts : List Part → Type 0
 EasyParts [] = ⊤
@@ -152,7 +67,7 @@ EasyParts (p ∷ ps) = EasyPart p × EasyParts ps
 
 -- the first part of a group may be another label
 abbrev pub FirstNeeds : OneKernel → View → Part → Type 0
-FirstNeeds s v p = EasyPart p ⊎ ((l : Label) × (Says (line.Label l) ≡ p) × StepNeeds s v l)
+FirstNeeds s v p = EasyPart p ⊎ ((l : Label) × (Says (Line.Label l) ≡ p) × StepNeeds s v l)
 
 abbrev pub PartsNeed : OneKernel → View → List Part → Type 0
 PartsNeed s v [] = ⊤
@@ -189,7 +104,7 @@ part_follows pt next l (Again id b) ls easy sound h lines is =
     same_follows pt next l (again_same pt next id b t ls told lines is) sound h
 part_follows pt next l (Owns k q b) ls easy sound h lines is =
     let own = own_id pt.view in
-    let x = line.Put pt.view.acting b own k q in
+    let x = Line.Put pt.view.acting b own k q in
     let mid = moved pt x pt.kernel in
     let f : puts pt.view b own k q ≡ ls = cc in
     let (m, on) = line_follows pt mid l x (inr (own_apart pt.kernel pt.view sound)) h refl in
@@ -203,9 +118,9 @@ first_follows : (pt next : Point) (l : Placed) (p : Part) (ls : List Line) → F
 first_follows pt next l p ls needs sound h lines is = elim needs [
   | inl easy ↦ part_follows pt next l p ls easy sound h lines is
   | inr said ↦
-      let f : Some (line.Label said.0 ∷ []) ≡ Some ls = ap (lines_of pt) said.1 ∙ lines in
-      let g : line.Label said.0 ∷ [] ≡ ls = cc in
-      says_follow pt next l (line.Label said.0) said.2 sound h (ap (after pt) g ∙ is)
+      let f : Some (Line.Label said.0 ∷ []) ≡ Some ls = ap (lines_of pt) said.1 ∙ lines in
+      let g : Line.Label said.0 ∷ [] ≡ ls = cc in
+      says_follow pt next l (Line.Label said.0) said.2 sound h (ap (after pt) g ∙ is)
 ]
 
 abbrev StandsBehind : Spelled → Type 0

@@ -1,41 +1,12 @@
 -- What the switchboard takes, with places: each link that it keeps or hands out has the place that the lines say.
-use Rattle.std.proofs.Common.{◌≡◌, ℕ, zero, suc, ◌+◌, ◌==◌, ◌&&◌, Bool, true, false, List, [], ◌∷◌, ◌++◌, refl, ap, ◌∙◌, sym, subst, inl, inr, arith}
-use Rattle.std.specs.Prelude.{if◌then◌else◌, map, slice_get}
-use Rattle.std.specs.declared.option.Option.{Option}
-use Rattle.std.specs.declared.option.Option.TheVariants.{None, Some}
-use Rattle.std.proofs.lemmas.Bool.{cases_Bool}
-use Rattle.std.proofs.lemmas.Bool.Decides.{nat_tests}
-use Rattle.std.proofs.lemmas.List.{length-map}
-use Rattle.dm_link.specs.declared.Pid.{Pid}
-use Rattle.dm_link.specs.declared.Link.{Link}
-use Rattle.dm_link.specs.Names.{Place, place_of}
-use Rattle.dm_link.specs.Plain.{PlainLink, plain_link}
-use Rattle.dm_message.specs.declared.MsgId.{MsgId}
-use Rattle.dm_message.specs.declared.Message.{Message}
-use Rattle.dm_message.specs.declared.What.{What}
-use Rattle.dm_message.specs.Ids.{id_eq, id_of}
-use Rattle.dm_message.specs.Plain as said
-use Rattle.dm_message.specs.Plain.{PlainMessage, PlainWhat, plain_what}
-use Rattle.dm_onekernel.specs.Boot.{is_general, switchboard}
-use Rattle.dm_onekernel.specs.Options.{bind}
-use Rattle.dm_onekernel.specs.Kernel.{OneKernel, Switchboard}
+use Rattle.dm_places.proofs.Names.{◌≡◌, ℕ, zero, suc, ◌+◌, ◌==◌, ◌&&◌, Bool, true, false, List, [], ◌∷◌, ◌++◌, refl, ap, ◌∙◌, sym, subst, inl, inr, arith, if◌then◌else◌, map, slice_get, Option, None, Some, cases_Bool, nat_tests, length-map}
+use Rattle.dm_places.proofs.Names.{Pid, Link, Place, place_of, PlainLink, plain_link, MsgId, Message, What, id_eq, id_of, PlainMessage, PlainWhat, plain_what, is_general, switchboard, bind, OneKernel, Switchboard, bytes_eq, is_name, Named}
+use Rattle.dm_places.proofs.Names.{plain_board, plain_named, Asked, plain_answer, plain_asks, plain_asked, plain_reply, id_eq-same, View, Addresses, gets, given, Receiver, Sender, Enclosed, Child, Name, Answer, unmoved, place_named}
+use Rattle.dm_places.proofs.Names.{board_asks, board_finds, board_keeps, board_takes, SameProcess, SameMessage, two, two_off, get_last, Placed, Mirrors, MirrorsKernel, MirrorsMessage, enclosed, board_took, without_message}
 use Rattle.dm_onekernel.specs.Service as service
 use Rattle.dm_onekernel.specs.Switchboard as one
-use Rattle.dm_onekernel.specs.Switchboard.{bytes_eq, is_name}
 use Rattle.dm_switchboard.specs.declared.reply.Reply.{Reply}
-use Rattle.dm_switchboard.specs.declared.reply.Reply.TheVariants as reply
-use Rattle.dm_switchboard.specs.Board.{Named, plain_board, plain_named}
 use Rattle.dm_switchboard.specs.Taking as board
-use Rattle.dm_switchboard.specs.Taking.{Asked}
-use Rattle.dm_switchboard.proofs.Plain.{plain_answer, plain_asks, plain_asked, plain_reply}
-use Rattle.dm_laws.proofs.Equal.{id_eq-same}
-use Rattle.dm_rule.specs.View.{View}
-use Rattle.dm_rule.specs.Addresses.{Addresses, gets, given, Receiver, Sender, Enclosed, Child, Name, Answer, unmoved, place_named, board_asks, board_finds, board_keeps, board_takes}
-use Rattle.dm_rule.proofs.Homes.Rows.{SameProcess, SameMessage}
-use Rattle.dm_rule.proofs.Homes.Serves.{two, two_off}
-use Rattle.dm_rule.proofs.Homes.Servers.{get_last}
-use Rattle.dm_places.specs.Placed.{Placed, Mirrors, MirrorsKernel, MirrorsMessage, enclosed}
-use Rattle.dm_places.specs.PlacedStep.{board_took, without_message}
 use Rattle.dm_places.proofs.Keeps.{came_places, kernel_out, kernel_sent, out_mirrors, places_out, process_same}
 use Rattle.dm_places.proofs.Acts.{Follows}
 use Rattle.dm_places.proofs.Whats.{user_what}
@@ -99,7 +70,7 @@ found_one a sent pl l at (suc n) w e = absurd (let f : None ≡ Some w = e in cc
 
 looks_up_kept : (a : Addresses) (id sent : MsgId) (names : List Named) (op : ℕ) (name : List ℕ) (o : Option Link) → board.link_named name names ≡ o → NamesKept a names
     → AsksKept a id sent names (op ∷ name) (record { names = names; reply = board.found_or_unknown o })
-looks_up_kept a id sent names op name None is h = nothing_given a sent names reply.Unknown refl h
+looks_up_kept a id sent names op name None is h = nothing_given a sent names Reply.Unknown refl h
 looks_up_kept a id sent names op name (Some l) is h =
     let f = found_at name names 0 l is in
     let place : place_named name (map plain_named names) 0 ≡ f.i = let p = f.place in omega (arith, p) in
@@ -116,7 +87,7 @@ looks_up_kept a id sent names op name (Some l) is h =
 
 registers_kept : (a : Addresses) (id sent : MsgId) (names : List Named) (op : ℕ) (name : List ℕ) (l : Link) (o : Option Link) → a (Enclosed id 1) ≡ place_of l.addr → NamesKept a names
     → AsksKept a id sent names (op ∷ name) (board.registers_new names name l o)
-registers_kept a id sent names op name l (Some k) at h = nothing_given a sent names reply.Taken refl h
+registers_kept a id sent names op name l (Some k) at h = nothing_given a sent names Reply.Taken refl h
 registers_kept a id sent names op name l None at h = record {
   name = λ n w e. elim (get_last names (record { name = name; link = l }) n w e) [
     | inl g ↦ ap (λ (k : ℕ). if k == n then a (Enclosed id 1) else a (Name n)) (length-map names plain_named) ∙ ap (λ (c : Bool). if c then a (Enclosed id 1) else a (Name n)) g.0 ∙ at ∙ ap (λ (k : Named). place_of k.link.addr) g.1
@@ -131,26 +102,26 @@ registers_kept a id sent names op name l None at h = record {
 
 to_register : (a : Addresses) (id sent : MsgId) (names : List Named) (op : ℕ) (name : List ℕ) (ls : List Link) → ((n : ℕ) (w : Link) → slice_get ls n ≡ Some w → a (Enclosed id (suc n)) ≡ place_of w.addr) → NamesKept a names
     → AsksKept a id sent names (op ∷ name) (board.asks_to_register names name ls)
-to_register a id sent names op name [] en h = nothing_given a sent names reply.BadRequest refl h
-to_register a id sent names op name (l ∷ k ∷ ks) en h = nothing_given a sent names reply.BadRequest refl h
+to_register a id sent names op name [] en h = nothing_given a sent names Reply.BadRequest refl h
+to_register a id sent names op name (l ∷ k ∷ ks) en h = nothing_given a sent names Reply.BadRequest refl h
 to_register a id sent names op name (l ∷ []) en h =
     asks_if a id sent names (op ∷ name) (is_name name) (board.registers names name l) (board.bad_request names)
-    (asks_if a id sent names (op ∷ name) (is_general l.kind) (board.registers_new names name l (board.link_named name names)) (record { names = names; reply = reply.BadLink })
-    (registers_kept a id sent names op name l (board.link_named name names) (en 0 l refl) h) (nothing_given a sent names reply.BadLink refl h))
-    (nothing_given a sent names reply.BadRequest refl h)
+    (asks_if a id sent names (op ∷ name) (is_general l.kind) (board.registers_new names name l (board.link_named name names)) (record { names = names; reply = Reply.BadLink })
+    (registers_kept a id sent names op name l (board.link_named name names) (en 0 l refl) h) (nothing_given a sent names Reply.BadLink refl h))
+    (nothing_given a sent names Reply.BadRequest refl h)
 
 to_look_up : (a : Addresses) (id sent : MsgId) (names : List Named) (op : ℕ) (name : List ℕ) (ls : List Link) → NamesKept a names → AsksKept a id sent names (op ∷ name) (board.asks_to_look_up names name ls)
 to_look_up a id sent names op name [] h =
-    asks_if a id sent names (op ∷ name) (is_name name) (board.looks_up names name) (board.bad_request names) (looks_up_kept a id sent names op name (board.link_named name names) refl h) (nothing_given a sent names reply.BadRequest refl h)
-to_look_up a id sent names op name (l ∷ ls) h = nothing_given a sent names reply.BadRequest refl h
+    asks_if a id sent names (op ∷ name) (is_name name) (board.looks_up names name) (board.bad_request names) (looks_up_kept a id sent names op name (board.link_named name names) refl h) (nothing_given a sent names Reply.BadRequest refl h)
+to_look_up a id sent names op name (l ∷ ls) h = nothing_given a sent names Reply.BadRequest refl h
 
 asks_kept : (a : Addresses) (id sent : MsgId) (names : List Named) (body : List ℕ) (ls : List Link) → ((n : ℕ) (w : Link) → slice_get ls n ≡ Some w → a (Enclosed id (suc n)) ≡ place_of w.addr) → NamesKept a names
     → AsksKept a id sent names body (board.asks names body ls)
-asks_kept a id sent names [] ls en h = nothing_given a sent names reply.BadRequest refl h
+asks_kept a id sent names [] ls en h = nothing_given a sent names Reply.BadRequest refl h
 asks_kept a id sent names (op ∷ name) ls en h =
     asks_if a id sent names (op ∷ name) (op == 1) (board.asks_to_register names name ls) (if op == 2 then board.asks_to_look_up names name ls else board.bad_request names)
     (to_register a id sent names op name ls en h)
-    (asks_if a id sent names (op ∷ name) (op == 2) (board.asks_to_look_up names name ls) (board.bad_request names) (to_look_up a id sent names op name ls h) (nothing_given a sent names reply.BadRequest refl h))
+    (asks_if a id sent names (op ∷ name) (op == 2) (board.asks_to_look_up names name ls) (board.bad_request names) (to_look_up a id sent names op name ls h) (nothing_given a sent names Reply.BadRequest refl h))
 
 -- the kernel's board after a request is this one without places
 abbrev BoardAt : OneKernel → View → Addresses → Placed → MsgId → List ℕ → Link → List Link → Switchboard → one.Asked → Type 0
@@ -195,7 +166,7 @@ request_mirrors s v a l id body w ws en at h =
     }
 
 board_request : (s : OneKernel) (v : View) (a : Addresses) (l : Placed) (id : MsgId) (code channel : ℕ) (body : List ℕ) (links : List Link) → ((n : ℕ) (u : Link) → slice_get links n ≡ Some u → a (Enclosed id n) ≡ place_of u.addr) → v.acting ≡ 0 → Mirrors s v a l
-    → Mirrors (service.switchboard_took s id (one.takes_request s.switchboard body (map plain_link links))) v (given a (board_takes s v a id (said.User code channel body (map plain_link links)))) (board_took (without_message l id) (board.takes_request l.board body links))
+    → Mirrors (service.switchboard_took s id (one.takes_request s.switchboard body (map plain_link links))) v (given a (board_takes s v a id (PlainWhat.User code channel body (map plain_link links)))) (board_took (without_message l id) (board.takes_request l.board body links))
 board_request s v a l id code channel body [] en at h =
     let u = out_mirrors s v a l id h in
     let p = u.plain in
@@ -212,7 +183,7 @@ board_request s v a l id code channel body (w ∷ ws) en at h =
 pub board_row : (s t : OneKernel) (v : View) (a : Addresses) (l : Placed) (id : MsgId) (m : Message) (k : PlainMessage) (u : PlainWhat) → plain_what m.what ≡ Some u → MirrorsMessage a id m → v.acting ≡ 0 → Mirrors s v a l
     → bind (one.takes s.switchboard k u) (λ (z : one.Took). Some (service.switchboard_took s id z)) ≡ Some t
     → Follows t v (given a (board_takes s v a id u)) (bind (board.takes l.board m.what) (λ (z : board.Taken). Some (board_took (without_message l id) z)))
-board_row s t v a l id m k (said.User code channel bytes ls) says hm at h e =
+board_row s t v a l id m k (PlainWhat.User code channel bytes ls) says hm at h e =
     let w = user_what m.what code channel bytes ls says in
     let f : service.switchboard_took s id (one.takes_request s.switchboard bytes ls) ≡ t = cc in
     let body = w.body.items in
@@ -220,9 +191,9 @@ board_row s t v a l id m k (said.User code channel bytes ls) says hm at h e =
     let on = board_took (without_message l id) (board.takes_request l.board body links) in (
       on,
       ap (λ (x : What). bind (board.takes l.board x) (λ (z : board.Taken). Some (board_took (without_message l id) z))) w.is,
-      subst (λ (q : OneKernel). Mirrors q v (given a (board_takes s v a id (said.User code channel bytes ls))) on) f
-          (subst (λ (bs : List ℕ). Mirrors (service.switchboard_took s id (one.takes_request s.switchboard bs ls)) v (given a (board_takes s v a id (said.User code channel bs ls))) on) w.bytes_are
-          (subst (λ (ks : List PlainLink). Mirrors (service.switchboard_took s id (one.takes_request s.switchboard body ks)) v (given a (board_takes s v a id (said.User code channel body ks))) on) w.links_are
+      subst (λ (q : OneKernel). Mirrors q v (given a (board_takes s v a id (PlainWhat.User code channel bytes ls))) on) f
+          (subst (λ (bs : List ℕ). Mirrors (service.switchboard_took s id (one.takes_request s.switchboard bs ls)) v (given a (board_takes s v a id (PlainWhat.User code channel bs ls))) on) w.bytes_are
+          (subst (λ (ks : List PlainLink). Mirrors (service.switchboard_took s id (one.takes_request s.switchboard body ks)) v (given a (board_takes s v a id (PlainWhat.User code channel body ks))) on) w.links_are
           (board_request s v a l id code channel body links (λ n x g. hm.enclosed n x (ap (λ (y : What). slice_get (enclosed y) n) w.is ∙ g)) at h))),
     )
 board_row s t v a l id m k u says hm at h e = cc

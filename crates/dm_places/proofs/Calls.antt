@@ -1,49 +1,11 @@
 -- What a call leaves of a process with places, and of what it sends: each address that it gives is the one that stands there.
-use Rattle.std.proofs.Common.{◌≡◌, ℕ, zero, suc, ◌==◌, ◌&&◌, ◌||◌, Bool, true, false, List, [], ◌∷◌, refl, ap, ◌∙◌, sym, subst, inl, inr, arith, nat_lt}
-use Rattle.std.specs.Prelude.{⊤, if◌then◌else◌, map, slice_get, slice_set, filter_map}
-use Rattle.std.specs.List.{cons_option}
-use Rattle.std.specs.Option.{is_none}
-use Rattle.std.specs.declared.option.Option.{Option}
-use Rattle.std.specs.declared.option.Option.TheVariants.{None, Some}
-use Rattle.std.proofs.lemmas.Bool.Decides.{nat_tests}
-use Rattle.dm_link.specs.declared.Pid.{Pid}
-use Rattle.dm_link.specs.declared.Link.{Link}
-use Rattle.dm_link.specs.Names.{Place, place_of, pid_eq}
-use Rattle.dm_link.specs.Plain.{plain_link}
-use Rattle.dm_linktable.specs.Slots.{first_empty, link_at, plain_slot}
-use Rattle.dm_message.specs.declared.MsgId.{MsgId}
-use Rattle.dm_message.specs.declared.Message.{Message}
-use Rattle.dm_message.specs.Ids.{id_eq}
-use Rattle.dm_message.specs.Plain.{PlainMessage, User, Read, Write, plain_message}
-use Rattle.dm_process.specs.declared.process.Process.{Process}
-use Rattle.dm_process.specs.declared.process.Direction.{Direction}
-use Rattle.dm_process.specs.declared.process.Direction.TheVariants as direction
-use Rattle.dm_process.specs.declared.process.Status.TheVariants as status
-use Rattle.dm_process.specs.Directions.{direction_numbered}
-use Rattle.dm_processor.specs.declared.registers.Regs.{Regs}
-use Rattle.dm_processor.specs.Instructions.{past}
-use Rattle.dm_onekernel.specs.declared.label.Reply.{Reply}
-use Rattle.dm_onekernel.specs.declared.label.Reply.TheVariants as reply
-use Rattle.dm_onekernel.specs.Plain.{plain_process}
-use Rattle.dm_onekernel.specs.PlainProcess.{reg}
+use Rattle.dm_places.proofs.Names.{◌≡◌, ℕ, zero, suc, ◌==◌, ◌&&◌, ◌||◌, Bool, true, false, List, [], ◌∷◌, refl, ap, ◌∙◌, sym, subst, inl, inr, arith, nat_lt, ⊤, if◌then◌else◌, map, slice_get, slice_set, filter_map, cons_option, is_none}
+use Rattle.dm_places.proofs.Names.{Option, None, Some, nat_tests, Pid, Link, Place, place_of, pid_eq, plain_link, first_empty, link_at, plain_slot, MsgId, Message, id_eq, PlainMessage, User, Read, Write, plain_message, Process, Direction}
+use Rattle.dm_places.proofs.Names.{Status, direction_numbered, Regs, past, Reply, plain_process, reg, CallNumber, first_failed, piece_of, address_of, moving, request, Called, Done, emptied, links_in, first_of, slot_at, pid_eq-same}
+use Rattle.dm_places.proofs.Names.{id_eq-same, View, Addresses, Gets, gets, given, Slot, Owner, Receiver, Sender, here, encloses, fills, fills_by, sends_what, set_link, emptied_link, SameProcess, SameMessage, SameServers, encloses_servers}
+use Rattle.dm_places.proofs.Names.{encloses_process, encloses_message, encloses_at, gives_by, no_gives, or-left, or-right, MirrorsProcess, MirrorsMessage, enclosed, owner_at}
 use Rattle.dm_onekernel.specs.Calls as one
-use Rattle.dm_onekernel.specs.Calls.{CallNumber}
-use Rattle.dm_onekernel.specs.Refusals.{first_failed}
-use Rattle.dm_onekernel.specs.Pieces.{piece_of}
-use Rattle.dm_datamove.specs.Requests.{address_of, moving, request}
-use Rattle.dm_syscall.specs.declared.Called.{Called}
-use Rattle.dm_syscall.specs.declared.Called.TheVariants as called
 use Rattle.dm_syscall.specs.Calls as calls
-use Rattle.dm_syscall.specs.Calls.{Done}
-use Rattle.dm_syscall.specs.Sends.{emptied, links_in}
-use Rattle.dm_syscall.proofs.PlainCalls.{first_of, slot_at}
-use Rattle.dm_laws.proofs.Equal.{pid_eq-same, id_eq-same}
-use Rattle.dm_rule.specs.View.{View}
-use Rattle.dm_rule.specs.Addresses.{Addresses, Gets, gets, given, Slot, Owner, Receiver, Sender, here, encloses, fills, fills_by, sends_what}
-use Rattle.dm_rule.proofs.Homes.Slots.{set_link, emptied_link}
-use Rattle.dm_rule.proofs.Homes.Rows.{SameProcess, SameMessage, SameServers, encloses_servers, encloses_process, encloses_message, encloses_at}
-use Rattle.dm_rule.proofs.Homes.Calls.{gives_by, no_gives, or-left, or-right}
-use Rattle.dm_places.specs.Placed.{MirrorsProcess, MirrorsMessage, enclosed, owner_at}
 
 -- the process behind its call
 abbrev pub behind : Process → Process
@@ -61,12 +23,11 @@ abbrev pub SentPlainly : View → Addresses → Pid → Process → Message → 
 SentPlainly v a p x m y = (k : PlainMessage) → plain_message m ≡ Some k → MirrorsSent v a (given a (sends_what v a p (plain_process x) k.id k.what)) p m y
 
 abbrev pub MirrorsCalled : View → Addresses → Pid → Process → CallNumber → Called → Process → Type 0
-MirrorsCalled v a p x n (called.Replied c) y = MirrorsProcess v (given a (gives_by v a p (plain_process x) n c)) p y
-MirrorsCalled v a p x n (called.Sent m) y = SentPlainly v a p x m y
-MirrorsCalled v a p x n (called.Moving m) y = SentPlainly v a p x m y
-MirrorsCalled v a p x n called.Waits y = MirrorsProcess v a p y
-MirrorsCalled v a p x n (called.Out w) y = MirrorsProcess v a p y
-MirrorsCalled v a p x n (called.Ended because) y = ⊤
+MirrorsCalled v a p x n (Called.Replied c) y = MirrorsProcess v (given a (gives_by v a p (plain_process x) n c)) p y
+MirrorsCalled v a p x n (Called.Sent m) y = SentPlainly v a p x m y
+MirrorsCalled v a p x n (Called.Moving m) y = SentPlainly v a p x m y
+MirrorsCalled v a p x n (Called.Ended because) y = ⊤
+MirrorsCalled v a p x n _ y = MirrorsProcess v a p y
 
 abbrev pub MirrorsDone : View → Addresses → Pid → Process → CallNumber → Done → Type 0
 MirrorsDone v a p x n d = MirrorsCalled v a p x n d.called d.process
@@ -113,26 +74,26 @@ set_slot_kept v a p x regs slot w place is h = record {
 
 puts_kept : (v : View) (a : Addresses) (p : Pid) (x : Process) (n : CallNumber) (w : Link) (place : Place) (o : Option ℕ) → fills_by v a p (plain_process x) n ≡ fills p o place → place ≡ place_of w.addr → MirrorsProcess v a p x
     → MirrorsDone v a p x n (calls.puts_link (behind x) w o)
-puts_kept v a p x n w place None fills is h = regs_kept v a p x (calls.replied reply.TableFull (behind x)).process.regs h
+puts_kept v a p x n w place None fills is h = regs_kept v a p x (calls.replied Reply.TableFull (behind x)).process.regs h
 puts_kept v a p x n w place (Some slot) fills is h =
     let y = (calls.puts_link (behind x) w (Some slot)).process in
     subst (λ (gs : List Gets). MirrorsProcess v (given a gs) p y) (sym fills) (set_slot_kept v a p x y.regs slot w place is h)
 
 copies_kept : (v : View) (a : Addresses) (p : Pid) (x : Process) (o : Option Link) → link_at x.table (reg x.regs 1) ≡ o → MirrorsProcess v a p x → MirrorsDone v a p x one.Copy (calls.copies (behind x) o)
-copies_kept v a p x None is h = regs_kept v a p x (calls.replied reply.NoLink (behind x)).process.regs h
+copies_kept v a p x None is h = regs_kept v a p x (calls.replied Reply.NoLink (behind x)).process.regs h
 copies_kept v a p x (Some w) is h =
-    if_kept v a p x one.Copy (one.is_reply w.kind) (calls.replied reply.NotCopyable (behind x)) (calls.puts_link (behind x) w (first_empty x.table))
-    (regs_kept v a p x (calls.replied reply.NotCopyable (behind x)).process.regs h)
+    if_kept v a p x one.Copy (one.is_reply w.kind) (calls.replied Reply.NotCopyable (behind x)) (calls.puts_link (behind x) w (first_empty x.table))
+    (regs_kept v a p x (calls.replied Reply.NotCopyable (behind x)).process.regs h)
     (puts_kept v a p x one.Copy w (a (Slot p (reg x.regs 1))) (first_empty x.table) (ap (λ (o : Option ℕ). fills p o (a (Slot p (reg x.regs 1)))) (first_of x.table)) (h.slots (reg x.regs 1) w is) h)
 
 drops_kept : (v : View) (a : Addresses) (p : Pid) (x : Process) (o : Option Link) → MirrorsProcess v a p x → MirrorsDone v a p x one.Drop (calls.drops (behind x) o)
-drops_kept v a p x None h = regs_kept v a p x (calls.replied reply.NoLink (behind x)).process.regs h
+drops_kept v a p x None h = regs_kept v a p x (calls.replied Reply.NoLink (behind x)).process.regs h
 drops_kept v a p x (Some w) h = record { pid = h.pid; moves = h.moves; slots = λ k u e. h.slots k u (emptied_link x.table (reg x.regs 1) k u e); owner = h.owner }
 
 makes_by : (v : View) (a : Addresses) (p : Pid) (x : Process) (b c : Bool) → MirrorsProcess v a p x
-    → MirrorsDone v a p x one.Make (calls.unless_refused (first_failed (record { fails = b; reply = reply.BadKind } ∷ record { fails = c; reply = reply.BadRange } ∷ [])) (behind x) (calls.puts_link (behind x) (calls.own_link v.acting (behind x)) (first_empty x.table)))
-makes_by v a p x true c h = regs_kept v a p x (calls.replied reply.BadKind (behind x)).process.regs h
-makes_by v a p x false true h = regs_kept v a p x (calls.replied reply.BadRange (behind x)).process.regs h
+    → MirrorsDone v a p x one.Make (calls.unless_refused (first_failed (record { fails = b; reply = Reply.BadKind } ∷ record { fails = c; reply = Reply.BadRange } ∷ [])) (behind x) (calls.puts_link (behind x) (calls.own_link v.acting (behind x)) (first_empty x.table)))
+makes_by v a p x true c h = regs_kept v a p x (calls.replied Reply.BadKind (behind x)).process.regs h
+makes_by v a p x false true h = regs_kept v a p x (calls.replied Reply.BadRange (behind x)).process.regs h
 makes_by v a p x false false h =
     puts_kept v a p x one.Make (calls.own_link v.acting (behind x)) (here v p) (first_empty x.table) (ap (λ (o : Option ℕ). fills p o (here v p)) (first_of x.table)) (stands_here v a p x h) h
 
@@ -207,16 +168,16 @@ user_sent v a p x w over some h k e =
 
 sends_by : (v : View) (a : Addresses) (p : Pid) (x : Process) (w : Link) (b c d e : Bool) → d ≡ one.any_empty (map plain_slot x.table) (calls.listed x) → link_at x.table (reg x.regs 1) ≡ Some w → MirrorsProcess v a p x
     → MirrorsDone v a p x one.Send (calls.unless_refused
-    (first_failed (record { fails = b; reply = reply.TooLong } ∷ record { fails = c; reply = reply.BadRange } ∷ record { fails = d; reply = reply.NoLink } ∷ record { fails = e; reply = reply.BadKind } ∷ []))
-    (behind x) (record { called = called.Sent (calls.message_over v.acting (behind x) w); process = calls.after_send (behind x) }))
-sends_by v a p x w true c d e f over h = regs_kept v a p x (calls.replied reply.TooLong (behind x)).process.regs h
-sends_by v a p x w false true d e f over h = regs_kept v a p x (calls.replied reply.BadRange (behind x)).process.regs h
-sends_by v a p x w false false true e f over h = regs_kept v a p x (calls.replied reply.NoLink (behind x)).process.regs h
-sends_by v a p x w false false false true f over h = regs_kept v a p x (calls.replied reply.BadKind (behind x)).process.regs h
+    (first_failed (record { fails = b; reply = Reply.TooLong } ∷ record { fails = c; reply = Reply.BadRange } ∷ record { fails = d; reply = Reply.NoLink } ∷ record { fails = e; reply = Reply.BadKind } ∷ []))
+    (behind x) (record { called = Called.Sent (calls.message_over v.acting (behind x) w); process = calls.after_send (behind x) }))
+sends_by v a p x w true c d e f over h = regs_kept v a p x (calls.replied Reply.TooLong (behind x)).process.regs h
+sends_by v a p x w false true d e f over h = regs_kept v a p x (calls.replied Reply.BadRange (behind x)).process.regs h
+sends_by v a p x w false false true e f over h = regs_kept v a p x (calls.replied Reply.NoLink (behind x)).process.regs h
+sends_by v a p x w false false false true f over h = regs_kept v a p x (calls.replied Reply.BadKind (behind x)).process.regs h
 sends_by v a p x w false false false false f over h = user_sent v a p x w over (sym f) h
 
 sends_kept : (v : View) (a : Addresses) (p : Pid) (x : Process) (o : Option Link) → link_at x.table (reg x.regs 1) ≡ o → MirrorsProcess v a p x → MirrorsDone v a p x one.Send (calls.sends v.acting (behind x) o)
-sends_kept v a p x None over h = regs_kept v a p x (calls.replied reply.NoLink (behind x)).process.regs h
+sends_kept v a p x None over h = regs_kept v a p x (calls.replied Reply.NoLink (behind x)).process.regs h
 sends_kept v a p x (Some w) over h =
     let y = plain_process x in
     sends_by v a p x w (nat_lt (one.most_body y) (reg x.regs 3) || nat_lt 4 (reg x.regs 4)) (one.is_outside y (reg x.regs 2) (reg x.regs 3) || one.is_outside y (reg x.regs 5) (reg x.regs 4))
@@ -252,15 +213,15 @@ move_sent v a p m x y to there from none pid moves table owner h = record {
 
 begins_kept : (v : View) (a : Addresses) (p : Pid) (x : Process) (w : Link) (dir : Direction) → link_at x.table (reg x.regs 1) ≡ Some w → MirrorsProcess v a p x
     → MirrorsDone v a p x one.Move (calls.begins v.acting (behind x) (calls.whole (behind x) w dir))
-begins_kept v a p x w direction.FromArea over h k e =
-    let r = calls.whole (behind x) w direction.FromArea in
+begins_kept v a p x w Direction.FromArea over h k e =
+    let r = calls.whole (behind x) w Direction.FromArea in
     let m = request v.acting (behind x) r in
     let z : PlainMessage = record { id = m.id; to = m.to.pid; sender = m.sender.pid; what = Read r.base (piece_of r.left) } in
     let f : z ≡ k = cc in
     subst (λ (u : PlainMessage). MirrorsSent v a (given a (sends_what v a p (plain_process x) u.id u.what)) p m (moving (behind x) r)) f
     (move_sent v a p m x (moving (behind x) r) (a (Slot p (reg x.regs 1))) (h.slots (reg x.regs 1) w over) (stands_here v a p x h) refl refl refl refl refl h)
-begins_kept v a p x w direction.IntoArea over h k e =
-    let r = calls.whole (behind x) w direction.IntoArea in
+begins_kept v a p x w Direction.IntoArea over h k e =
+    let r = calls.whole (behind x) w Direction.IntoArea in
     let m = request v.acting (behind x) r in
     let z : PlainMessage = record { id = m.id; to = m.to.pid; sender = m.sender.pid; what = Write r.base (one.bytes_at (plain_process x) r.own (piece_of r.left)) } in
     let f : z ≡ k = cc in
@@ -269,20 +230,19 @@ begins_kept v a p x w direction.IntoArea over h k e =
 
 moves_over_kept : (v : View) (a : Addresses) (p : Pid) (x : Process) (w : Link) (o : Option Direction) → link_at x.table (reg x.regs 1) ≡ Some w → MirrorsProcess v a p x
     → MirrorsDone v a p x one.Move (calls.moves_over v.acting (behind x) w o)
-moves_over_kept v a p x w None over h = regs_kept v a p x (calls.replied reply.BadKind (behind x)).process.regs h
+moves_over_kept v a p x w None over h = regs_kept v a p x (calls.replied Reply.BadKind (behind x)).process.regs h
 moves_over_kept v a p x w (Some dir) over h =
     unless_kept v a p x one.Move (first_failed (one.move_refusals (plain_process (behind x)) (plain_link w) dir)) (calls.moves_bytes v.acting (behind x) w dir) refl h
-    (if_kept v a p x one.Move (reg x.regs 5 == 0) (calls.replied reply.Done (behind x)) (calls.begins v.acting (behind x) (calls.whole (behind x) w dir))
-    (regs_kept v a p x (calls.replied reply.Done (behind x)).process.regs h)
+    (if_kept v a p x one.Move (reg x.regs 5 == 0) (calls.replied Reply.Done (behind x)) (calls.begins v.acting (behind x) (calls.whole (behind x) w dir))
+    (regs_kept v a p x (calls.replied Reply.Done (behind x)).process.regs h)
     (begins_kept v a p x w dir over h))
 
 moves_kept : (v : View) (a : Addresses) (p : Pid) (x : Process) (o : Option Link) → link_at x.table (reg x.regs 1) ≡ o → MirrorsProcess v a p x → MirrorsDone v a p x one.Move (calls.moves v.acting (behind x) o)
-moves_kept v a p x None over h = regs_kept v a p x (calls.replied reply.NoLink (behind x)).process.regs h
+moves_kept v a p x None over h = regs_kept v a p x (calls.replied Reply.NoLink (behind x)).process.regs h
 moves_kept v a p x (Some w) over h = moves_over_kept v a p x w (direction_numbered (reg x.regs 2)) over h
 
 pub does_call_kept : (v : View) (a : Addresses) (p : Pid) (x : Process) (n : CallNumber) → MirrorsProcess v a p x → MirrorsDone v a p x n (calls.does_call v.acting (behind x) n)
-does_call_kept v a p x one.Exit h = tt
-does_call_kept v a p x one.Out h = regs_kept v a p x (calls.replied reply.Done (behind x)).process.regs h
+does_call_kept v a p x one.Out h = regs_kept v a p x (calls.replied Reply.Done (behind x)).process.regs h
 does_call_kept v a p x one.Make h =
     let y = plain_process x in
     makes_by v a p x (nat_lt 7 (reg x.regs 3)) (nat_lt 31 (reg x.regs 2) || one.is_outside y (reg x.regs 4) (reg x.regs 5)) h
@@ -290,7 +250,7 @@ does_call_kept v a p x one.Copy h = copies_kept v a p x (link_at x.table (reg x.
 does_call_kept v a p x one.Drop h = drops_kept v a p x (link_at x.table (reg x.regs 1)) h
 does_call_kept v a p x one.Send h = sends_kept v a p x (link_at x.table (reg x.regs 1)) refl h
 does_call_kept v a p x one.Receive h =
-    if_kept v a p x one.Receive (one.is_outside (plain_process x) (reg x.regs 2) (reg x.regs 3)) (calls.replied reply.BadRange (behind x)) (record { called = called.Waits; process = record (behind x) { status = status.Waiting (reg x.regs 1) (reg x.regs 2) (reg x.regs 3) } })
-    (regs_kept v a p x (calls.replied reply.BadRange (behind x)).process.regs h) (record { pid = h.pid; moves = h.moves; slots = h.slots; owner = λ q e. absurd (let f : None ≡ Some q = e in cc) })
+    if_kept v a p x one.Receive (one.is_outside (plain_process x) (reg x.regs 2) (reg x.regs 3)) (calls.replied Reply.BadRange (behind x)) (record { called = Called.Waits; process = record (behind x) { status = Status.Waiting (reg x.regs 1) (reg x.regs 2) (reg x.regs 3) } })
+    (regs_kept v a p x (calls.replied Reply.BadRange (behind x)).process.regs h) (record { pid = h.pid; moves = h.moves; slots = h.slots; owner = λ q e. absurd (let f : None ≡ Some q = e in cc) })
 does_call_kept v a p x one.Move h = moves_kept v a p x (link_at x.table (reg x.regs 1)) refl h
-does_call_kept v a p x one.Unknown h = tt
+does_call_kept v a p x _ h = tt

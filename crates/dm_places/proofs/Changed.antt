@@ -1,26 +1,8 @@
 -- What a message that changes its places keeps, and one whose addresses nobody reads.
-use Rattle.std.proofs.Common.{◌≡◌, ℕ, Bool, false, [], ◌∷◌, refl, ap, ◌∙◌, sym, subst, inl, inr}
-use Rattle.std.specs.Prelude.{if◌then◌else◌, option_map}
-use Rattle.std.specs.declared.option.Option.{Option}
-use Rattle.std.specs.declared.option.Option.TheVariants.{None, Some}
-use Rattle.std.proofs.lemmas.Bool.{cases_Bool}
-use Rattle.dm_link.specs.declared.Pid.{Pid}
-use Rattle.dm_link.specs.Names.{Place}
-use Rattle.dm_message.specs.declared.MsgId.{MsgId}
-use Rattle.dm_message.specs.declared.Message.{Message}
-use Rattle.dm_message.specs.Ids.{id_eq}
-use Rattle.dm_message.specs.Plain.{PlainWhat, plain_message, plain_what, with_what}
-use Rattle.dm_migrate.specs.Departure.{sent_on}
-use Rattle.dm_onekernel.specs.Kernel.{OneKernel}
-use Rattle.dm_onekernel.specs.Options.{bind}
-use Rattle.dm_laws.proofs.Equal.{id_eq-is, id_eq-same}
-use Rattle.dm_rule.specs.View.{View}
-use Rattle.dm_rule.specs.Addresses.{Addresses, Receiver, gets, given}
-use Rattle.dm_rule.proofs.Homes.Rows.{SameMessage, SameProcess, SameServers}
-use Rattle.dm_rule.proofs.Homes.Serves.{two, two_off, two_process}
-use Rattle.dm_places.specs.Placed.{Placed, Mirrors, MirrorsKernel, MirrorsMessage, MirrorsPlaces}
-use Rattle.dm_places.specs.PlacedStep.{with_message, without_message}
-use Rattle.dm_places.proofs.Keeps.{message_same, places_out, process_same}
+use Rattle.dm_places.proofs.Names.{◌≡◌, ℕ, Bool, false, [], ◌∷◌, refl, ap, ◌∙◌, sym, subst, inl, inr, if◌then◌else◌, option_map, Option, None, Some, cases_Bool, Pid, Place, MsgId, Message, id_eq, PlainWhat, plain_message, plain_what}
+use Rattle.dm_places.proofs.Names.{with_what, sent_on, OneKernel, bind, id_eq-is, id_eq-same, View, Addresses, Receiver, gets, given, SameMessage, SameProcess, SameServers, two, two_off, two_process, Placed, Mirrors, MirrorsKernel}
+use Rattle.dm_places.proofs.Names.{MirrorsMessage, MirrorsPlaces, with_message}
+use Rattle.dm_places.proofs.Keeps.{message_same, process_same}
 
 -- a message that means the same
 bag_again : (s : OneKernel) (l : Placed) (id : MsgId) (m : Option Message) (i : MsgId) → bind m plain_message ≡ s.bag id → MirrorsKernel s l → bind ((with_message l id m).bag i) plain_message ≡ s.bag i
@@ -123,10 +105,3 @@ free_mirrors s v a l i to from none h =
         answer = g.answer;
       };
     }
-
--- a message that a machine's kernel sends itself goes
-pub own_out_mirrors : (s : OneKernel) (v : View) (a : Addresses) (l : Placed) (i : MsgId) (x : Message) → l.bag i ≡ Some x → plain_message x ≡ None → Mirrors s v a l → Mirrors s v a (without_message l i)
-own_out_mirrors s v a l i x there none h = record {
-  plain = kernel_again s l i None (sym none ∙ sym (ap (λ (o : Option Message). bind o plain_message) there) ∙ h.plain.bag i) h.plain;
-  places = places_out v a l i h.places;
-}

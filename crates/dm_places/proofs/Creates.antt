@@ -1,44 +1,14 @@
 -- A process that a kernel makes, with places: it begins with the links that its request brought.
-use Rattle.std.proofs.Common.{◌≡◌, ℕ, zero, suc, ◌+◌, ◌-◌, ◌&&◌, List, [], ◌∷◌, ◌++◌, length, refl, ap, ◌∙◌, sym, subst, false, arith}
-use Rattle.std.specs.Prelude.{map, option_map, slice_get, replicate}
-use Rattle.std.specs.declared.option.Option.{Option}
-use Rattle.std.specs.declared.option.Option.TheVariants.{None, Some}
-use Rattle.std.proofs.lemmas.List.{length-map}
-use Rattle.std.proofs.lemmas.Option.{slice_get-map}
-use Rattle.dm_link.specs.declared.Pid.{Pid}
-use Rattle.dm_link.specs.declared.Link.{Link}
-use Rattle.dm_link.specs.Names.{pid_eq, pid_of}
-use Rattle.dm_link.specs.Plain.{PlainLink, plain_link}
-use Rattle.dm_linktable.specs.Slots.{link_at, plain_slot}
-use Rattle.dm_message.specs.declared.MsgId.{MsgId}
-use Rattle.dm_message.specs.declared.Message.{Message}
-use Rattle.dm_message.specs.declared.What.TheVariants as what
-use Rattle.dm_message.specs.Plain as said
-use Rattle.dm_message.specs.Plain.{PlainMessage, PlainWhat, plain_message, plain_what}
-use Rattle.dm_process.specs.Begun.{begun}
-use Rattle.dm_onekernel.specs.declared.boot.Format.{Format}
-use Rattle.dm_onekernel.specs.declared.boot.BootImage.{BootImage}
-use Rattle.dm_onekernel.specs.declared.label.Label.TheVariants as label
-use Rattle.dm_onekernel.specs.Boot.{first_number, slots_of}
-use Rattle.dm_onekernel.specs.Options.{bind}
+use Rattle.dm_places.proofs.Names.{◌≡◌, ℕ, zero, suc, ◌+◌, ◌-◌, ◌&&◌, List, [], ◌∷◌, ◌++◌, length, refl, ap, ◌∙◌, sym, subst, false, arith, map, option_map, slice_get, replicate, Option, None, Some, length-map, slice_get-map, Pid, Link}
+use Rattle.dm_places.proofs.Names.{pid_eq, pid_of, PlainLink, plain_link, link_at, plain_slot, MsgId, Message, What, Label, PlainMessage, PlainWhat, plain_message, plain_what, begun, Format, BootImage, first_number, slots_of, bind, Alive}
+use Rattle.dm_places.proofs.Names.{OneKernel, plain_process, Ready, answer_id, answer_to, memory_of, slots_with, zero_regs, answer, bind-is, when-is, View, Addresses, Gets, Sender, answers, child_links, given, gives, unmoved, two, child_at}
+use Rattle.dm_places.proofs.Names.{only_child, Placed, Mirrors, MirrorsMessage, MirrorsProcess, enclosed, with_child, with_sent, without_message}
 use Rattle.dm_onekernel.specs.Kernel as kernels
-use Rattle.dm_onekernel.specs.Kernel.{Alive, OneKernel}
-use Rattle.dm_onekernel.specs.Plain.{plain_process}
-use Rattle.dm_onekernel.specs.PlainProcess.{Ready}
-use Rattle.dm_onekernel.specs.Pieces.{answer_id, answer_to}
 use Rattle.dm_onekernel.specs.Service as service
 use Rattle.dm_onekernel.specs.Start as one
-use Rattle.dm_onekernel.specs.Start.{memory_of, slots_with, zero_regs}
 use Rattle.dm_onekernel.specs.Step as kernel
-use Rattle.dm_datamove.specs.Serving.{answer}
-use Rattle.dm_laws.proofs.Steps.{bind-is, when-is}
-use Rattle.dm_rule.specs.View.{View}
 use Rattle.dm_rule.specs.Addresses as addresses
-use Rattle.dm_rule.specs.Addresses.{Addresses, Gets, Sender, answers, child_links, given, gives, unmoved}
-use Rattle.dm_rule.proofs.Homes.Serves.{two, child_at, only_child}
-use Rattle.dm_places.specs.Placed.{Placed, Mirrors, MirrorsMessage, MirrorsProcess, enclosed}
 use Rattle.dm_places.specs.PlacedStep as placed
-use Rattle.dm_places.specs.PlacedStep.{with_child, with_sent, without_message}
 use Rattle.dm_places.proofs.Keeps.{kernel_out, kernel_process, parts, places_out, places_process, there_of, this_process}
 use Rattle.dm_places.proofs.Acts.{Follows}
 use Rattle.dm_places.proofs.Answers.{answer_plainly, two_sends}
@@ -88,38 +58,38 @@ begun_mirrors s v a l id m child image links none hm is h =
 
 created_row : (s t : OneKernel) (v : View) (a : Addresses) (l : Placed) (id : MsgId) (m : Message) (k : PlainMessage) (child : Pid) (image : BootImage) (links : List Link) → service.creates_of s id k child (map plain_link links) image ≡ Some t → v.moves child ≡ 0
     → MirrorsMessage a id m → plain_message m ≡ Some k → enclosed m.what ≡ links → Mirrors s v a l
-    → Mirrors t v (given a (answers a id (unmoved v.acting) ++ child_links a child id 0 (map plain_link links))) (with_sent (with_child (without_message l id) s.format child image links) (Some (answer v.acting 0 m (what.Created child))))
+    → Mirrors t v (given a (answers a id (unmoved v.acting) ++ child_links a child id 0 (map plain_link links))) (with_sent (with_child (without_message l id) s.format child image links) (Some (answer v.acting 0 m (What.Created child))))
 created_row s t v a l id m k child image links is none hm says links_are h =
     let ls = map plain_link links in
     let u = service.with_child (service.without_message s id) child image ls in
     let b = given a (child_links a child id 0 ls) in
-    let n = answer v.acting 0 m (what.Created child) in
-    let q = answer_to k (said.Created child) in
+    let n = answer v.acting 0 m (What.Created child) in
+    let q = answer_to k (PlainWhat.Created child) in
     let z = when-is (service.is_kernel s k.to && pid_eq child (pid_of k.to.home (first_number + s.made k.to.home))) (kernels.with_sent u (Some q)) t is in
     let on = with_child (without_message l id) s.format child image links in
     let sent : Mirrors (kernels.with_sent u (Some q)) v (given b (two n.id (a (Sender id)) (unmoved v.acting))) (with_sent on (Some n)) =
-    two_sends u v b on n q (a (Sender id)) (unmoved v.acting) (answer_plainly v.acting 0 m k (what.Created child) (said.Created child) says refl) refl hm.sender refl (begun_mirrors s v a l id m child image links none hm links_are h) in
+    two_sends u v b on n q (a (Sender id)) (unmoved v.acting) (answer_plainly v.acting 0 m k (What.Created child) (PlainWhat.Created child) says refl) refl hm.sender refl (begun_mirrors s v a l id m child image links none hm links_are h) in
     subst (λ (w : OneKernel). Mirrors w v (given a (answers a id (unmoved v.acting) ++ child_links a child id 0 ls)) (with_sent on (Some n))) z.1
     (subst (λ (i : MsgId). Mirrors (kernels.with_sent u (Some q)) v (given a (two (answer_id i) (a (Sender id)) (unmoved v.acting) ++ child_links a child id 0 ls)) (with_sent on (Some n))) hm.id sent)
 
 creates_row : (s t : OneKernel) (v : View) (a : Addresses) (l : Placed) (id : MsgId) (m : Message) (k : PlainMessage) (child : Pid) (u : PlainWhat) → plain_what m.what ≡ Some u → service.creates s id k child u ≡ Some t → v.moves child ≡ 0 → MirrorsMessage a id m
     → plain_message m ≡ Some k → Mirrors s v a l → Follows t v (given a (answers a id (unmoved v.acting) ++ addresses.creates_what a id child u)) (placed.creates v.acting s.format s.images (without_message l id) m child m.what)
-creates_row s t v a l id m k child (said.Create number ls) u is none hm says h =
+creates_row s t v a l id m k child (PlainWhat.Create number ls) u is none hm says h =
     let w = create_what m.what number ls u in
     let links = w.links.items in
     let (image, image_is, last) = bind-is (slice_get s.images number) (service.creates_of s id k child ls) t is in
-    let on = with_sent (with_child (without_message l id) s.format child image links) (Some (answer v.acting 0 m (what.Created child))) in (
+    let on = with_sent (with_child (without_message l id) s.format child image links) (Some (answer v.acting 0 m (What.Created child))) in (
       on,
       ap (placed.creates v.acting s.format s.images (without_message l id) m child) w.is
-          ∙ ap (λ (o : Option BootImage). bind o (λ (i : BootImage). Some (with_sent (with_child (without_message l id) s.format child i links) (Some (answer v.acting 0 m (what.Created child)))))) image_is,
+          ∙ ap (λ (o : Option BootImage). bind o (λ (i : BootImage). Some (with_sent (with_child (without_message l id) s.format child i links) (Some (answer v.acting 0 m (What.Created child)))))) image_is,
       subst (λ (ks : List PlainLink). Mirrors t v (given a (answers a id (unmoved v.acting) ++ child_links a child id 0 ks)) on) w.links_are
           (created_row s t v a l id m k child image links (ap (λ (ks : List PlainLink). service.creates_of s id k child ks image) w.links_are ∙ last) none hm says (ap enclosed w.is) h),
     )
 creates_row s t v a l id m k child u says is none hm there h = cc
 
 -- created: a process that is made now hasn't moved yet
-pub created_follows : (s t : OneKernel) (v : View) (a : Addresses) (l : Placed) (id : MsgId) (child : Pid) → kernel.step s (label.Created id child) ≡ Some t → v.moves child ≡ 0 → Mirrors s v a l
-    → Follows t v (given a (gives s v a (label.Created id child))) (bind (l.bag id) (λ (m : Message). placed.creates v.acting s.format s.images (without_message l id) m child m.what))
+pub created_follows : (s t : OneKernel) (v : View) (a : Addresses) (l : Placed) (id : MsgId) (child : Pid) → kernel.step s (Label.Created id child) ≡ Some t → v.moves child ≡ 0 → Mirrors s v a l
+    → Follows t v (given a (gives s v a (Label.Created id child))) (bind (l.bag id) (λ (m : Message). placed.creates v.acting s.format s.images (without_message l id) m child m.what))
 created_follows s t v a l id child is none h =
     let (k, there, rest) = bind-is (s.bag id) (λ (w : PlainMessage). service.creates s id w child w.what) t is in
     let (m, found, says) = there_of s l id k h.plain there in

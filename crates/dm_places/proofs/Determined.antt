@@ -1,34 +1,9 @@
 -- A point determines the kernel with places, but for the queues: what is a process or a message without places, and has the
 -- places of the addresses, is the one that stands there.
-use Rattle.std.proofs.Common.{◌≡◌, ℕ, zero, suc, List, [], ◌∷◌, map, refl, ap, ◌∙◌, sym}
-use Rattle.std.specs.Prelude.{option_map, slice_get}
-use Rattle.std.specs.declared.option.Option.{Option}
-use Rattle.std.specs.declared.option.Option.TheVariants.{None, Some}
-use Rattle.arrayvec.specs.ArrayVec.{ArrayVec}
-use Rattle.dm_link.specs.declared.Pid.{Pid}
-use Rattle.dm_link.specs.declared.Addr.{Addr}
-use Rattle.dm_link.specs.declared.Link.{Link}
-use Rattle.dm_link.specs.Names.{place_of}
-use Rattle.dm_link.specs.Plain.{plain_link}
-use Rattle.dm_linktable.specs.Slots.{link_at, plain_slot}
-use Rattle.dm_message.specs.declared.MsgId.{MsgId}
-use Rattle.dm_message.specs.declared.Message.{Message}
-use Rattle.dm_message.specs.declared.What.{What}
-use Rattle.dm_message.specs.declared.What.TheVariants as what
-use Rattle.dm_message.specs.Plain as said
-use Rattle.dm_message.specs.Plain.{PlainMessage, PlainWhat, plain_message, plain_what}
-use Rattle.dm_process.specs.declared.process.Process.{Process}
-use Rattle.dm_process.specs.declared.process.Status.{Status}
-use Rattle.dm_process.specs.declared.process.Status.TheVariants as status
-use Rattle.dm_onekernel.specs.Kernel.{OneKernel}
-use Rattle.dm_onekernel.specs.Plain.{plain_process, plain_status}
-use Rattle.dm_onekernel.specs.PlainProcess.{PlainProcess}
+use Rattle.dm_places.proofs.Names.{◌≡◌, ℕ, zero, suc, List, [], ◌∷◌, map, refl, ap, ◌∙◌, sym, option_map, slice_get, Option, None, Some, ArrayVec, Pid, Addr, Link, place_of, plain_link, link_at, plain_slot, MsgId, Message, What}
+use Rattle.dm_places.proofs.Names.{PlainMessage, PlainWhat, plain_message, plain_what, Process, Status, plain_process, plain_status, PlainProcess, View, Addresses, MirrorsMessage, MirrorsProcess, enclosed, owner_at, PointDetermines}
 use Rattle.dm_onekernel.specs.Step as kernel
-use Rattle.dm_rule.specs.View.{View}
-use Rattle.dm_rule.specs.Addresses.{Addresses}
-use Rattle.dm_places.specs.Placed.{Placed, Mirrors, MirrorsMessage, MirrorsProcess, enclosed, owner_at}
-use Rattle.dm_places.specs.Laws.{PointDetermines}
-use Rattle.dm_places.proofs.Keeps.{alive_of, parts, there_of}
+use Rattle.dm_places.proofs.Keeps.{parts, there_of}
 use Rattle.dm_places.proofs.Queues.{with_queue}
 use Rattle.dm_places.proofs.Whats.{user_what, create_what, read_what, write_what, block_what, stop_what, resume_what, kill_what, written_what, gone_what, created_what, no_room_what, move_what, moved_what}
 
@@ -78,18 +53,18 @@ slots_are (x ∷ xs) (y ∷ ys) e h =
     λ i. first i ∷ rest i
 
 status_is : (s t : Status) → plain_status s ≡ plain_status t → ((o p : Addr) → owner_at s ≡ Some o → owner_at t ≡ Some p → place_of o ≡ place_of p) → s ≡ t
-status_is status.Ready status.Ready e h = refl
-status_is (status.Waiting mask base size) (status.Waiting m b c) e h = cc
-status_is (status.Moving dir owner base own left pending) (status.Moving d o b w l p) e h =
+status_is Status.Ready Status.Ready e h = refl
+status_is (Status.Waiting mask base size) (Status.Waiting m b c) e h = cc
+status_is (Status.Moving dir owner base own left pending) (Status.Moving d o b w l p) e h =
     let pid : owner.pid ≡ o.pid = cc in
     let same : owner ≡ o = addr_is owner o pid (h owner o refl refl) in
     cc
-status_is status.Ready (status.Waiting m b c) e h = cc
-status_is status.Ready (status.Moving d o b w l p) e h = cc
-status_is (status.Waiting mask base size) status.Ready e h = cc
-status_is (status.Waiting mask base size) (status.Moving d o b w l p) e h = cc
-status_is (status.Moving dir owner base own left pending) status.Ready e h = cc
-status_is (status.Moving dir owner base own left pending) (status.Waiting m b c) e h = cc
+status_is Status.Ready (Status.Waiting m b c) e h = cc
+status_is Status.Ready (Status.Moving d o b w l p) e h = cc
+status_is (Status.Waiting mask base size) Status.Ready e h = cc
+status_is (Status.Waiting mask base size) (Status.Moving d o b w l p) e h = cc
+status_is (Status.Moving dir owner base own left pending) Status.Ready e h = cc
+status_is (Status.Moving dir owner base own left pending) (Status.Waiting m b c) e h = cc
 
 -- two processes that mirror the same one are one, but for the queue
 pub process_is : (v : View) (a : Addresses) (p : Pid) (x y : Process) (q : List Message) → plain_process x ≡ plain_process y → MirrorsProcess v a p x → MirrorsProcess v a p y → with_queue x q ≡ with_queue y q
@@ -112,39 +87,39 @@ process_is v a p x y q e h k =
 
 -- what two messages say
 what_is : (w z : What) (u : PlainWhat) → plain_what w ≡ Some u → plain_what z ≡ Some u → ((k : ℕ) (x y : Link) → slice_get (enclosed w) k ≡ Some x → slice_get (enclosed z) k ≡ Some y → place_of x.addr ≡ place_of y.addr) → w ≡ z
-what_is w z (said.User code channel bytes ls) e f h =
+what_is w z (PlainWhat.User code channel bytes ls) e f h =
     let m = user_what w code channel bytes ls e in
     let n = user_what z code channel bytes ls f in
     let body : m.body ≡ n.body = array_is m.body n.body (m.bytes_are ∙ sym n.bytes_are) in
     let links : m.links ≡ n.links = array_is m.links n.links
     (links_are m.links.items n.links.items (m.links_are ∙ sym n.links_are) (λ k x y g j. h k x y (ap (λ (v : What). slice_get (enclosed v) k) m.is ∙ g) (ap (λ (v : What). slice_get (enclosed v) k) n.is ∙ j))) in
-    m.is ∙ (λ i. what.User code channel (body i) (links i)) ∙ sym n.is
-what_is w z (said.Create image ls) e f h =
+    m.is ∙ (λ i. What.User code channel (body i) (links i)) ∙ sym n.is
+what_is w z (PlainWhat.Create image ls) e f h =
     let m = create_what w image ls e in
     let n = create_what z image ls f in
     let links : m.links ≡ n.links = array_is m.links n.links
     (links_are m.links.items n.links.items (m.links_are ∙ sym n.links_are) (λ k x y g j. h k x y (ap (λ (v : What). slice_get (enclosed v) k) m.is ∙ g) (ap (λ (v : What). slice_get (enclosed v) k) n.is ∙ j))) in
-    m.is ∙ (λ i. what.Create image (links i)) ∙ sym n.is
-what_is w z (said.Write base bytes) e f h =
+    m.is ∙ (λ i. What.Create image (links i)) ∙ sym n.is
+what_is w z (PlainWhat.Write base bytes) e f h =
     let m = write_what w base bytes e in
     let n = write_what z base bytes f in
     let body : m.body ≡ n.body = array_is m.body n.body (m.bytes_are ∙ sym n.bytes_are) in
-    m.is ∙ (λ i. what.Write base (body i)) ∙ sym n.is
-what_is w z (said.Block bytes) e f h =
+    m.is ∙ (λ i. What.Write base (body i)) ∙ sym n.is
+what_is w z (PlainWhat.Block bytes) e f h =
     let m = block_what w bytes e in
     let n = block_what z bytes f in
     let body : m.body ≡ n.body = array_is m.body n.body (m.bytes_are ∙ sym n.bytes_are) in
-    m.is ∙ (λ i. what.Block (body i)) ∙ sym n.is
-what_is w z (said.Read base len) e f h = read_what w base len e ∙ sym (read_what z base len f)
-what_is w z said.Stop e f h = stop_what w e ∙ sym (stop_what z f)
-what_is w z said.Resume e f h = resume_what w e ∙ sym (resume_what z f)
-what_is w z said.Kill e f h = kill_what w e ∙ sym (kill_what z f)
-what_is w z said.Written e f h = written_what w e ∙ sym (written_what z f)
-what_is w z said.Gone e f h = gone_what w e ∙ sym (gone_what z f)
-what_is w z (said.Created child) e f h = created_what w child e ∙ sym (created_what z child f)
-what_is w z said.NoRoom e f h = no_room_what w e ∙ sym (no_room_what z f)
-what_is w z (said.Move machine) e f h = move_what w machine e ∙ sym (move_what z machine f)
-what_is w z (said.Moved outcome) e f h = moved_what w outcome e ∙ sym (moved_what z outcome f)
+    m.is ∙ (λ i. What.Block (body i)) ∙ sym n.is
+what_is w z (PlainWhat.Read base len) e f h = read_what w base len e ∙ sym (read_what z base len f)
+what_is w z PlainWhat.Stop e f h = stop_what w e ∙ sym (stop_what z f)
+what_is w z PlainWhat.Resume e f h = resume_what w e ∙ sym (resume_what z f)
+what_is w z PlainWhat.Kill e f h = kill_what w e ∙ sym (kill_what z f)
+what_is w z PlainWhat.Written e f h = written_what w e ∙ sym (written_what z f)
+what_is w z PlainWhat.Gone e f h = gone_what w e ∙ sym (gone_what z f)
+what_is w z (PlainWhat.Created child) e f h = created_what w child e ∙ sym (created_what z child f)
+what_is w z PlainWhat.NoRoom e f h = no_room_what w e ∙ sym (no_room_what z f)
+what_is w z (PlainWhat.Move machine) e f h = move_what w machine e ∙ sym (move_what z machine f)
+what_is w z (PlainWhat.Moved outcome) e f h = moved_what w outcome e ∙ sym (moved_what z outcome f)
 
 -- two messages that mirror the same one are one
 pub message_is : (a : Addresses) (i : MsgId) (m n : Message) (k : PlainMessage) → plain_message m ≡ Some k → plain_message n ≡ Some k → MirrorsMessage a i m → MirrorsMessage a i n → m ≡ n
@@ -156,18 +131,6 @@ message_is a i m n k e f h j =
     let says : m.what ≡ n.what = what_is m.what n.what k.what g.what r.what (λ c x y there that. sym (h.enclosed c x there) ∙ j.enclosed c y that) in
     let name : m.id ≡ n.id = h.id ∙ sym j.id in
     λ c. record { id = name c; to = to c; sender = from c; what = says c }
-
--- so a machine's process or message that mirrors the point is the one of the kernel with places
-pub stands_there : (s : OneKernel) (v : View) (a : Addresses) (l : Placed) (p : Pid) (y : Process) (q : List Message) → Mirrors s v a l → kernel.alive (s.processes p) ≡ Some (plain_process y) → MirrorsProcess v a p y
-    → (x : Process) × (l.processes p ≡ Some x) × (with_queue x q ≡ with_queue y q)
-stands_there s v a l p y q h alive k =
-    let (x, there, is) = alive_of s l p (plain_process y) h.plain alive in
-    (x, there, process_is v a p x y q is (h.places.process p x there) k)
-
-pub is_there : (s : OneKernel) (v : View) (a : Addresses) (l : Placed) (i : MsgId) (n : Message) (k : PlainMessage) → Mirrors s v a l → s.bag i ≡ Some k → plain_message n ≡ Some k → MirrorsMessage a i n → l.bag i ≡ Some n
-is_there s v a l i n k h there says j =
-    let (m, found, e) = there_of s l i k h.plain there in
-    found ∙ ap Some (message_is a i m n k e says (h.places.message i m found) j)
 
 -- a process of both
 alike_of : (o : Option PlainProcess) (b c : Option Process) (x y : Process) → o ≡ option_map plain_process b → o ≡ option_map plain_process c → b ≡ Some x → c ≡ Some y → plain_process x ≡ plain_process y

@@ -1,31 +1,10 @@
 -- Messages that follow a process to another machine, and the process that has come there.
-use Rattle.std.proofs.Common.{◌≡◌, ℕ, ◌+◌, ◌≤◌, ◌||◌, Bool, true, false, List, [], ◌∷◌, ◌++◌, map, refl, ap, ◌∙◌, sym, subst, inl, inr, arith}
-use Rattle.std.specs.Prelude.{if◌then◌else◌, option_map}
-use Rattle.std.specs.declared.option.Option.{Option}
-use Rattle.std.specs.declared.option.Option.TheVariants.{None, Some}
-use Rattle.std.proofs.lemmas.Bool.{cases_Bool}
-use Rattle.dm_link.specs.declared.Pid.{Pid}
-use Rattle.dm_link.specs.Names.{Place, pid_eq, place_of}
-use Rattle.dm_message.specs.declared.MsgId.{MsgId}
-use Rattle.dm_message.specs.declared.Message.{Message}
-use Rattle.dm_message.specs.Ids.{id_eq}
-use Rattle.dm_process.specs.declared.process.Process.{Process}
-use Rattle.dm_migrate.specs.Departure.{sent_on}
+use Rattle.dm_places.proofs.Names.{◌≡◌, ℕ, ◌+◌, ◌≤◌, ◌||◌, Bool, true, false, List, [], ◌∷◌, ◌++◌, refl, ap, ◌∙◌, sym, subst, inl, inr, arith, if◌then◌else◌, option_map, Option, None, Some, cases_Bool, Pid, Place, pid_eq, place_of, MsgId}
+use Rattle.dm_places.proofs.Names.{Message, id_eq, Process, sent_on, OneKernel, plain_process, id_eq-is, id_eq-same, id_eq-swap, pid_eq-is, pid_eq-same, Line, Stage, at_pid, times, Forward, Frozen, Known, Told, View, forwarded_for, handled}
+use Rattle.dm_places.proofs.Names.{own_id, receiver_of, view_after, Addresses, Gets, Receiver, Sender, all_follow, forwards, gets, given, is_told_back, place_known, tells_back, unmoved, Point, moved, Placed, Mirrors, MirrorsKernel}
+use Rattle.dm_places.proofs.Names.{MirrorsProcess, with_message, with_process, MirrorsPoint, is_among, sent_all, or_first}
 use Rattle.dm_migrate.specs.Way as way
-use Rattle.dm_onekernel.specs.Kernel.{OneKernel}
-use Rattle.dm_onekernel.specs.Plain.{plain_process}
 use Rattle.dm_onekernel.specs.Step as kernel
-use Rattle.dm_laws.proofs.Equal.{id_eq-is, id_eq-same, id_eq-swap, pid_eq-is, pid_eq-same}
-use Rattle.dm_line.specs.declared.line.Line.TheVariants as line
-use Rattle.dm_line.specs.declared.line.Stage.TheVariants as stage
-use Rattle.dm_line.specs.Sets.{at_pid}
-use Rattle.dm_rule.specs.Spots.{times}
-use Rattle.dm_rule.specs.View.{Forward, Frozen, Known, Told, View, forwarded_for, handled, own_id, receiver_of, view_after}
-use Rattle.dm_rule.specs.Addresses.{Addresses, Gets, Receiver, Sender, all_follow, forwards, gets, given, is_told_back, place_known, tells_back, unmoved}
-use Rattle.dm_rule.specs.Point.{Point, moved}
-use Rattle.dm_places.specs.Placed.{Placed, Mirrors, MirrorsKernel, MirrorsProcess}
-use Rattle.dm_places.specs.PlacedStep.{with_message, with_process}
-use Rattle.dm_places.specs.Following.{MirrorsPoint, is_among, sent_all}
 use Rattle.dm_places.proofs.Changed.{free_mirrors, free_off, sent_on_any, sent_on_one}
 use Rattle.dm_places.proofs.Lines.{mirrors_view}
 
@@ -45,12 +24,12 @@ forwards_is v a id t at moves told knows =
     ap (forwards v a id) told ∙ ap (λ (k : Known). gets (Receiver id) (place_known k (v.moves t.receiver) (a (Receiver id))) ∷ tells_back v a id (is_told_back t.kind)) knows
 
 pub forwarded_mirrors : (pt : Point) (l : Placed) (id : MsgId) (x : Message) (t : Told) (m at moves : ℕ) → MirrorsPoint pt l → l.bag id ≡ Some x → pt.view.told id ≡ Some t → pt.view.known pt.view.acting t.receiver ≡ Forward at moves
-    → l.bag (own_id pt.view) ≡ None → MirrorsPoint (moved pt (line.Forwarded id m) pt.kernel) (with_message l id (Some (sent_on at moves x)))
+    → l.bag (own_id pt.view) ≡ None → MirrorsPoint (moved pt (Line.Forwarded id m) pt.kernel) (with_message l id (Some (sent_on at moves x)))
 forwarded_mirrors pt l id x t m at moves h there told knows none =
     let v = pt.view in
     let a = pt.addresses in
     let l' = with_message l id (Some (sent_on at moves x)) in
-    let w = view_after v (line.Forwarded id m) in
+    let w = view_after v (Line.Forwarded id m) in
     let gone = sent_on_one pt.kernel v (given a (tells_back v a id (is_told_back t.kind))) l id x at moves there (tells_mirrors pt.kernel v a l id (is_told_back t.kind) none h) in
     subst (λ (g : List Gets). Mirrors pt.kernel w (given a g) l') (sym (forwards_is v a id t at moves told knows))
     (mirrors_view pt.kernel v w (given a (gets (Receiver id) (record { at = at; moves = moves }) ∷ tells_back v a id (is_told_back t.kind))) l' (moves_forwarded (handled v id) (receiver_of (v.told id))) gone)
@@ -58,7 +37,7 @@ forwarded_mirrors pt l id x t m at moves h there told knows none =
 -- the update goes to where the message came from
 pub update_gets : (pt : Point) (l : Placed) (id : MsgId) (x : Message) (t : Told) (m at moves : ℕ) → MirrorsPoint pt l → l.bag id ≡ Some x → pt.view.told id ≡ Some t → pt.view.known pt.view.acting t.receiver ≡ Forward at moves
     → l.bag (own_id pt.view) ≡ None → is_told_back t.kind ≡ true
-    → ((moved pt (line.Forwarded id m) pt.kernel).addresses (Receiver (own_id pt.view)) ≡ place_of x.sender) × ((moved pt (line.Forwarded id m) pt.kernel).addresses (Sender (own_id pt.view)) ≡ unmoved pt.view.acting)
+    → ((moved pt (Line.Forwarded id m) pt.kernel).addresses (Receiver (own_id pt.view)) ≡ place_of x.sender) × ((moved pt (Line.Forwarded id m) pt.kernel).addresses (Sender (own_id pt.view)) ≡ unmoved pt.view.acting)
 update_gets pt l id x t m at moves h there told knows none back =
     let v = pt.view in
     let a = pt.addresses in
@@ -85,12 +64,6 @@ all_onward v a p to (i ∷ is) knows =
     let rest = all_onward v a p to is knows in
     λ c. gets (Receiver i) (place_known (knows c) (v.moves p) (a (Receiver i))) ∷ rest c
 
-pub sent_at : (l : Placed) (at moves : ℕ) (ids : List MsgId) (i : MsgId) (x : Message) → is_among i ids ≡ true → l.bag i ≡ Some x → (sent_all l at moves ids).bag i ≡ Some (sent_on at moves x)
-sent_at l at moves ids i x among there = ap (λ (c : Bool). if c then option_map (sent_on at moves) (l.bag i) else l.bag i) among ∙ ap (option_map (sent_on at moves)) there
-
-pub sent_off : (l : Placed) (at moves : ℕ) (ids : List MsgId) (i : MsgId) → is_among i ids ≡ false → (sent_all l at moves ids).bag i ≡ l.bag i
-sent_off l at moves ids i apart = ap (λ (c : Bool). if c then option_map (sent_on at moves) (l.bag i) else l.bag i) apart
-
 more_bag : (l : Placed) (at moves : ℕ) (i : MsgId) (is : List MsgId) (j : MsgId) → (with_message (sent_all l at moves is) i (option_map (sent_on at moves) (l.bag i))).bag j ≡ (sent_all l at moves (i ∷ is)).bag j
 more_bag l at moves i is j = elim (cases_Bool (id_eq i j)) [
   | inl same ↦
@@ -111,17 +84,6 @@ on_twice at moves true None = refl
 on_twice at moves true (Some x) = refl
 on_twice at moves false o = refl
 
-among_first : (i : MsgId) (is : List MsgId) → is_among i (i ∷ is) ≡ true
-among_first i is = ap (λ (c : Bool). c || is_among i is) (id_eq-same i)
-
-or_later : (b c : Bool) → c ≡ true → (b || c) ≡ true
-or_later true c e = refl
-or_later false c e = e
-
-or_is : (b c : Bool) → (b || c) ≡ true → b ≡ false → c ≡ true
-or_is true c e f = cc
-or_is false c e f = e
-
 all_on : (s : OneKernel) (v : View) (a : Addresses) (l : Placed) (at moves : ℕ) (ids : List MsgId) → Mirrors s v a l → Mirrors s v (given a (onward (record { at = at; moves = moves }) ids)) (sent_all l at moves ids)
 unfolding onward
 all_on s v a l at moves [] h = h
@@ -134,13 +96,13 @@ all_on s v a l at moves (i ∷ is) h =
 
 -- the queue, then what was held
 pub sent_on_mirrors : (pt : Point) (l : Placed) (p : Pid) (n to : ℕ) → MirrorsPoint pt l → pt.view.known pt.view.acting p ≡ Frozen to
-    → MirrorsPoint (moved pt (line.SentOn p n) pt.kernel) (sent_all l to (pt.view.moves p + 1) (pt.view.queue pt.view.acting p ++ pt.view.held pt.view.acting p))
+    → MirrorsPoint (moved pt (Line.SentOn p n) pt.kernel) (sent_all l to (pt.view.moves p + 1) (pt.view.queue pt.view.acting p ++ pt.view.held pt.view.acting p))
 sent_on_mirrors pt l p n to h knows =
     let v = pt.view in
     let a = pt.addresses in
     let ids = v.queue v.acting p ++ v.held v.acting p in
     let l' = sent_all l to (v.moves p + 1) ids in
-    let w = view_after v (line.SentOn p n) in
+    let w = view_after v (Line.SentOn p n) in
     subst (λ (g : List Gets). Mirrors pt.kernel w (given a g) l') (sym (all_onward v a p to ids knows))
     (mirrors_view pt.kernel v w (given a (onward (record { at = to; moves = v.moves p + 1 }) ids)) l' refl (all_on pt.kernel v a l to (v.moves p + 1) ids h))
 
@@ -151,36 +113,8 @@ among_times i (j ∷ js) e = elim (cases_Bool (id_eq j i)) [
   | inr apart ↦
       let f : times i (j ∷ js) ≡ 0 + times i js = ap (λ (c : Bool). (if c then 1 else 0) + times i js) (id_eq-swap i j ∙ apart) in
       let g : 1 ≤ times i js = omega (arith, f, e) in
-      or_later (id_eq j i) (is_among i js) (among_times i js g)
+      or_first (id_eq j i) (is_among i js) (among_times i js g)
 ]
-
--- messages in order
-pub among_messages : (l : Placed) (ids : List MsgId) (ms : List Message) (i : MsgId) → map l.bag ids ≡ map Some ms → is_among i ids ≡ true → (x : Message) × (l.bag i ≡ Some x)
-among_messages l [] ms i e among = cc
-among_messages l (j ∷ js) [] i e among = cc
-among_messages l (j ∷ js) (m ∷ ms) i e among = elim (cases_Bool (id_eq j i)) [
-  | inl same ↦
-      let f : l.bag j ≡ Some m = cc in
-      (m, ap l.bag (sym (id_eq-is j i same)) ∙ f)
-  | inr apart ↦
-      let f : map l.bag js ≡ map Some ms = cc in
-      among_messages l js ms i f (or_is (id_eq j i) (is_among i js) among apart)
-]
-
-sent_among : (l : Placed) (at moves : ℕ) (ids js : List MsgId) (ms : List Message) → ((i : MsgId) → is_among i js ≡ true → is_among i ids ≡ true) → map l.bag js ≡ map Some ms
-    → map (sent_all l at moves ids).bag js ≡ map Some (map (sent_on at moves) ms)
-sent_among l at moves ids [] [] within e = refl
-sent_among l at moves ids [] (m ∷ ms) within e = cc
-sent_among l at moves ids (j ∷ js) [] within e = cc
-sent_among l at moves ids (j ∷ js) (m ∷ ms) within e =
-    let f : l.bag j ≡ Some m = cc in
-    let g : map l.bag js ≡ map Some ms = cc in
-    let first = sent_at l at moves ids j m (within j (among_first j js)) f in
-    let rest = sent_among l at moves ids js ms (λ i among. within i (or_later (id_eq j i) (is_among i js) among)) g in
-    λ c. first c ∷ rest c
-
-pub sent_messages : (l : Placed) (at moves : ℕ) (ids : List MsgId) (ms : List Message) → map l.bag ids ≡ map Some ms → map (sent_all l at moves ids).bag ids ≡ map Some (map (sent_on at moves) ms)
-sent_messages l at moves ids ms e = sent_among l at moves ids ids ms (λ i among. among) e
 
 -- restarted: the process has moved once more
 alive_again : (s : OneKernel) (l : Placed) (p : Pid) (x y : Process) (q : Pid) → l.processes p ≡ Some x → plain_process y ≡ plain_process x → MirrorsKernel s l → kernel.alive (s.processes q) ≡ option_map plain_process ((with_process l p (Some y)).processes q)
@@ -226,10 +160,10 @@ moved_places v w a l p x q z counts there h e = elim (cases_Bool (pid_eq p q)) [
       }
 ]
 
-pub restarted_mirrors : (pt : Point) (l : Placed) (p : Pid) (x : Process) → MirrorsPoint pt l → l.processes p ≡ Some x → MirrorsPoint (moved pt (line.Migration stage.Restarted p) pt.kernel) (with_process l p (Some (way.moved x)))
+pub restarted_mirrors : (pt : Point) (l : Placed) (p : Pid) (x : Process) → MirrorsPoint pt l → l.processes p ≡ Some x → MirrorsPoint (moved pt (Line.Migration Stage.Restarted p) pt.kernel) (with_process l p (Some (way.moved x)))
 restarted_mirrors pt l p x h there =
     let v = pt.view in
-    let w = view_after v (line.Migration stage.Restarted p) in
+    let w = view_after v (Line.Migration Stage.Restarted p) in
     let g = h.places in
     record {
       plain = kernel_process_again pt.kernel l p x (way.moved x) there refl h.plain;

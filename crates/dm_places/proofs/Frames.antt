@@ -1,37 +1,11 @@
 -- What a step with places leaves as it is.
-use Rattle.std.proofs.Common.{◌≡◌, ℕ, Bool, true, false, List, refl, ap, sym, subst}
-use Rattle.std.specs.Prelude.{if◌then◌else◌, slice_get}
-use Rattle.std.specs.declared.option.Option.{Option}
-use Rattle.std.specs.declared.option.Option.TheVariants.{None, Some}
-use Rattle.std.proofs.lemmas.Bool.{false≢true}
-use Rattle.dm_link.specs.declared.Pid.{Pid}
-use Rattle.dm_link.specs.Names.{pid_eq}
-use Rattle.dm_message.specs.declared.MsgId.{MsgId}
-use Rattle.dm_message.specs.declared.Message.{Message}
-use Rattle.dm_message.specs.declared.What.{What}
-use Rattle.dm_message.specs.declared.What.TheVariants as what
-use Rattle.dm_process.specs.declared.process.Process.{Process}
-use Rattle.dm_process.specs.Begun.{begun}
-use Rattle.dm_processor.specs.Instructions.{instruction}
-use Rattle.dm_onekernel.specs.declared.boot.Format.{Format}
-use Rattle.dm_onekernel.specs.declared.boot.BootImage.{BootImage}
-use Rattle.dm_onekernel.specs.declared.label.Label.{Label}
-use Rattle.dm_onekernel.specs.declared.label.Label.TheVariants as label
-use Rattle.dm_onekernel.specs.Boot.{manager, slots_of, switchboard}
-use Rattle.dm_onekernel.specs.Options.{bind}
-use Rattle.dm_onekernel.specs.Start.{memory_of, slots_with}
-use Rattle.dm_onekernel.specs.Step.{Machine, plain_steps}
-use Rattle.dm_datamove.specs.declared.Landed.{Landed}
-use Rattle.dm_datamove.specs.declared.Landed.TheVariants as landed
-use Rattle.dm_datamove.specs.Landing.{Landing, landing}
-use Rattle.dm_datamove.specs.Serving.{after_serving, answer, gone_answer, serving_answer}
-use Rattle.dm_syscall.specs.Completing.{Completion}
+use Rattle.dm_places.proofs.Names.{◌≡◌, ℕ, Bool, true, false, List, refl, ap, sym, subst, if◌then◌else◌, slice_get, Option, None, Some, false≢true, Pid, pid_eq, MsgId, Message, What, Process, begun, instruction, Format, BootImage, Label}
+use Rattle.dm_places.proofs.Names.{manager, slots_of, switchboard, bind, memory_of, slots_with, Machine, plain_steps, Landed, Landing, landing, after_serving, answer, gone_answer, serving_answer, Completion, bind-is, Placed, Acted, acted}
+use Rattle.dm_places.proofs.Names.{acts, after_landing, board_took, completed, creates, lands, machine_of, manager_took, ran, running, serves, takes, with_acted, with_child, with_machine, with_process, with_sent, without_message, Changes}
+use Rattle.dm_places.proofs.Names.{StepsChangeLittle, changed, is_named, receiver_in, taken, taken_out}
 use Rattle.dm_switchboard.specs.Taking as board
 use Rattle.dm_procman.specs.Taking as manage
-use Rattle.dm_laws.proofs.Steps.{bind-is}
-use Rattle.dm_places.specs.Placed.{Placed}
-use Rattle.dm_places.specs.PlacedStep.{Acted, acted, acts, after_landing, answers, board_took, completed, creates, lands, machine_of, manager_took, ran, running, serves, takes, with_acted, with_child, with_machine, with_process, with_sent, without_message}
-use Rattle.dm_places.specs.Changes.{Changes, StepsChangeLittle, changed, is_named, receiver_in, taken, taken_out}
+use Rattle.dm_places.specs.PlacedStep.{answers}
 
 -- a process set, and a message sent or none
 kept_process : (l : Placed) (p : Pid) (x : Option Process) (o : Option Message) (q : Pid) → pid_eq p q ≡ false → (with_sent (with_process l p x) o).processes q ≡ l.processes q
@@ -50,7 +24,7 @@ kept_manager : (l : Placed) (o : Option Message) → (with_sent l o).manager ≡
 kept_manager l None = refl
 kept_manager l (Some m) = refl
 
-kept_processes : (l : Placed) (o : Option Message) (q : Pid) → (with_sent l o).processes q ≡ l.processes q
+pub kept_processes : (l : Placed) (o : Option Message) (q : Pid) → (with_sent l o).processes q ≡ l.processes q
 kept_processes l None q = refl
 kept_processes l (Some m) q = refl
 
@@ -101,8 +75,8 @@ acts_leaves here l m p e =
     subst (Leaves l (Some p) None) f (sets l p w.process w.message)
 
 landing_leaves : (l : Placed) (id : MsgId) (p : Pid) (d : Landed) (x : Process) → Leaves l (Some p) (Some id) (after_landing (without_message l id) p d x)
-landing_leaves l id p (landed.Next n) x = sets_and_takes l id p (Some x) (Some n)
-landing_leaves l id p (landed.Done c) x = sets_and_takes l id p (Some x) None
+landing_leaves l id p (Landed.Next n) x = sets_and_takes l id p (Some x) (Some n)
+landing_leaves l id p (Landed.Done c) x = sets_and_takes l id p (Some x) None
 
 lands_leaves : (here : ℕ) (l m : Placed) (id : MsgId) (n : Message) (x : Process) → lands here (without_message l id) n x ≡ Some m → Leaves l (Some n.to.pid) (Some id) m
 lands_leaves here l m id n x e =
@@ -123,19 +97,19 @@ goes_leaves l m id p x e =
     subst (Leaves l (Some p) (Some id)) f (sets_and_takes l id p x None)
 
 serves_leaves : (here : ℕ) (l m : Placed) (id : MsgId) (n : Message) (x : Process) (w : What) → serves here (without_message l id) n x w ≡ Some m → Leaves l (Some n.to.pid) (Some id) m
-serves_leaves here l m id n x what.Stop e = goes_leaves l m id n.to.pid (Some (record x { stopped = true })) e
-serves_leaves here l m id n x what.Resume e = goes_leaves l m id n.to.pid (Some (record x { stopped = false })) e
-serves_leaves here l m id n x what.Kill e = goes_leaves l m id n.to.pid None e
-serves_leaves here l m id n x (what.Read base len) e = answers_leaves here l m id n x e
-serves_leaves here l m id n x (what.Write base bytes) e = answers_leaves here l m id n x e
-serves_leaves here l m id n x (what.Block bytes) e = lands_leaves here l m id n x e
-serves_leaves here l m id n x what.Written e = lands_leaves here l m id n x e
-serves_leaves here l m id n x what.Gone e = lands_leaves here l m id n x e
+serves_leaves here l m id n x What.Stop e = goes_leaves l m id n.to.pid (Some (record x { stopped = true })) e
+serves_leaves here l m id n x What.Resume e = goes_leaves l m id n.to.pid (Some (record x { stopped = false })) e
+serves_leaves here l m id n x What.Kill e = goes_leaves l m id n.to.pid None e
+serves_leaves here l m id n x (What.Read base len) e = answers_leaves here l m id n x e
+serves_leaves here l m id n x (What.Write base bytes) e = answers_leaves here l m id n x e
+serves_leaves here l m id n x (What.Block bytes) e = lands_leaves here l m id n x e
+serves_leaves here l m id n x What.Written e = lands_leaves here l m id n x e
+serves_leaves here l m id n x What.Gone e = lands_leaves here l m id n x e
 serves_leaves here l m id n x w e = cc
 
 creates_leaves : (here : ℕ) (f : Format) (images : List BootImage) (l m : Placed) (id : MsgId) (n : Message) (child : Pid) (w : What) → creates here f images (without_message l id) n child w ≡ Some m → Leaves l (Some child) (Some id) m
-creates_leaves here f images l m id n child (what.Create number links) e =
-    let a = answer here 0 n (what.Created child) in
+creates_leaves here f images l m id n child (What.Create number links) e =
+    let a = answer here 0 n (What.Created child) in
     let (i, is, last) = bind-is (slice_get images number) (λ (i : BootImage). Some (with_sent (with_child (without_message l id) f child i links.items) (Some a))) m e in
     let g : with_sent (with_child (without_message l id) f child i links.items) (Some a) ≡ m = cc in
     subst (Leaves l (Some child) (Some id)) g (sets_and_takes l id child (Some (begun child (memory_of i) (slots_with (slots_of f) links.items))) (Some a))
@@ -170,41 +144,41 @@ takes_if l m id n false true e =
     (record { processes = kept_processes (record (without_message l id) { manager = t.manager }) t.message; sent = t.message; bag = with_manager (without_message l id) t.manager t.message })
 takes_if l m id n false false e = cc
 
-took_leaves : (l m : Placed) (id : MsgId) → bind (l.bag id) (takes (without_message l id)) ≡ Some m → Changes l (label.Took id) m
+took_leaves : (l m : Placed) (id : MsgId) → bind (l.bag id) (takes (without_message l id)) ≡ Some m → Changes l (Label.Took id) m
 took_leaves l m id e =
     let (n, found, rest) = bind-is (l.bag id) (takes (without_message l id)) m e in
     let h = takes_if l m id n (pid_eq n.to.pid switchboard) (pid_eq n.to.pid manager) rest in
     record { processes = λ q k. h.processes q; sent = h.sent; bag = h.bag; board = λ k. absurd (false≢true (sym k)); manager = λ k. absurd (false≢true (sym k)) }
 
 pub steps_change_little : StepsChangeLittle
-steps_change_little here f images l m (label.Ran p k) e = leaves l (label.Ran p k) m (ran_leaves l m p k e)
-steps_change_little here f images l m (label.Call p n c) e = leaves l (label.Call p n c) m (acts_leaves here l m p e)
-steps_change_little here f images l m (label.Send p id) e = leaves l (label.Send p id) m (acts_leaves here l m p e)
-steps_change_little here f images l m (label.Wait p) e = leaves l (label.Wait p) m (acts_leaves here l m p e)
-steps_change_little here f images l m (label.Out p w) e = leaves l (label.Out p w) m (acts_leaves here l m p e)
-steps_change_little here f images l m (label.End p y) e = leaves l (label.End p y) m (acts_leaves here l m p e)
-steps_change_little here f images l m (label.Receive p id) e =
+steps_change_little here f images l m (Label.Ran p k) e = leaves l (Label.Ran p k) m (ran_leaves l m p k e)
+steps_change_little here f images l m (Label.Call p n c) e = leaves l (Label.Call p n c) m (acts_leaves here l m p e)
+steps_change_little here f images l m (Label.Send p id) e = leaves l (Label.Send p id) m (acts_leaves here l m p e)
+steps_change_little here f images l m (Label.Wait p) e = leaves l (Label.Wait p) m (acts_leaves here l m p e)
+steps_change_little here f images l m (Label.Out p w) e = leaves l (Label.Out p w) m (acts_leaves here l m p e)
+steps_change_little here f images l m (Label.End p y) e = leaves l (Label.End p y) m (acts_leaves here l m p e)
+steps_change_little here f images l m (Label.Receive p id) e =
     let (d, is, last) = bind-is (completed l p id) (λ (d : Completion). Some (with_process (without_message l id) p (Some d.process))) m e in
-    leaves l (label.Receive p id) m (goes_leaves l m id p (Some d.process) last)
-steps_change_little here f images l m (label.Refuse p id c) e =
+    leaves l (Label.Receive p id) m (goes_leaves l m id p (Some d.process) last)
+steps_change_little here f images l m (Label.Refuse p id c) e =
     let (d, is, last) = bind-is (completed l p id) (λ (d : Completion). Some (with_process l p (Some d.process))) m e in
     let g : with_process l p (Some d.process) ≡ m = cc in
-    leaves l (label.Refuse p id c) m (subst (Leaves l (Some p) None) g (sets l p (Some d.process) None))
-steps_change_little here f images l m (label.Dropped id) e =
-    let g : without_message l id ≡ m = cc in leaves l (label.Dropped id) m (subst (Leaves l None (Some id)) g (only_takes l id None))
-steps_change_little here f images l m (label.Served id) e =
+    leaves l (Label.Refuse p id c) m (subst (Leaves l (Some p) None) g (sets l p (Some d.process) None))
+steps_change_little here f images l m (Label.Dropped id) e =
+    let g : without_message l id ≡ m = cc in leaves l (Label.Dropped id) m (subst (Leaves l None (Some id)) g (only_takes l id None))
+steps_change_little here f images l m (Label.Served id) e =
     let (n, found, rest) = bind-is (l.bag id) (λ (n : Message). bind (l.processes n.to.pid) (λ (x : Process). serves here (without_message l id) n x n.what)) m e in
     let (x, stands, last) = bind-is (l.processes n.to.pid) (λ (x : Process). serves here (without_message l id) n x n.what) m rest in
-    leaves l (label.Served id) m (subst (λ (p : Option Pid). Leaves l p (Some id) m) (ap receiver_in (sym found)) (serves_leaves here l m id n x n.what last))
-steps_change_little here f images l m (label.Gone id) e =
+    leaves l (Label.Served id) m (subst (λ (p : Option Pid). Leaves l p (Some id) m) (ap receiver_in (sym found)) (serves_leaves here l m id n x n.what last))
+steps_change_little here f images l m (Label.Gone id) e =
     let (n, found, last) = bind-is (l.bag id) (λ (n : Message). Some (with_sent (without_message l id) (Some (gone_answer here n)))) m e in
     let g : with_sent (without_message l id) (Some (gone_answer here n)) ≡ m = cc in
-    leaves l (label.Gone id) m (subst (Leaves l None (Some id)) g (only_takes l id (Some (gone_answer here n))))
-steps_change_little here f images l m (label.Took id) e = took_leaves l m id e
-steps_change_little here f images l m (label.Created id child) e =
+    leaves l (Label.Gone id) m (subst (Leaves l None (Some id)) g (only_takes l id (Some (gone_answer here n))))
+steps_change_little here f images l m (Label.Took id) e = took_leaves l m id e
+steps_change_little here f images l m (Label.Created id child) e =
     let (n, found, last) = bind-is (l.bag id) (λ (n : Message). creates here f images (without_message l id) n child n.what) m e in
-    leaves l (label.Created id child) m (creates_leaves here f images l m id n child n.what last)
-steps_change_little here f images l m (label.NoSpace id slots blocks) e =
-    let (n, found, last) = bind-is (l.bag id) (λ (n : Message). Some (with_sent (without_message l id) (Some (answer here 0 n what.NoRoom)))) m e in
-    let g : with_sent (without_message l id) (Some (answer here 0 n what.NoRoom)) ≡ m = cc in
-    leaves l (label.NoSpace id slots blocks) m (subst (Leaves l None (Some id)) g (only_takes l id (Some (answer here 0 n what.NoRoom))))
+    leaves l (Label.Created id child) m (creates_leaves here f images l m id n child n.what last)
+steps_change_little here f images l m (Label.NoSpace id slots blocks) e =
+    let (n, found, last) = bind-is (l.bag id) (λ (n : Message). Some (with_sent (without_message l id) (Some (answer here 0 n What.NoRoom)))) m e in
+    let g : with_sent (without_message l id) (Some (answer here 0 n What.NoRoom)) ≡ m = cc in
+    leaves l (Label.NoSpace id slots blocks) m (subst (Leaves l None (Some id)) g (only_takes l id (Some (answer here 0 n What.NoRoom))))

@@ -1,30 +1,10 @@
 -- What each way of changing the kernel with places keeps: a process that goes on or ends, a message that comes or goes.
-use Rattle.std.proofs.Common.{◌≡◌, Bool, true, false, refl, ap, ◌∙◌, sym, subst, inl, inr}
-use Rattle.std.specs.Prelude.{if◌then◌else◌, option_map}
-use Rattle.std.specs.declared.option.Option.{Option}
-use Rattle.std.specs.declared.option.Option.TheVariants.{None, Some}
-use Rattle.std.proofs.lemmas.Bool.{cases_Bool}
-use Rattle.dm_link.specs.declared.Pid.{Pid}
-use Rattle.dm_link.specs.Names.{pid_eq}
-use Rattle.dm_message.specs.declared.MsgId.{MsgId}
-use Rattle.dm_message.specs.declared.Message.{Message}
-use Rattle.dm_message.specs.Ids.{id_eq}
-use Rattle.dm_message.specs.Plain.{PlainMessage, PlainWhat, plain_message, plain_what, with_what}
-use Rattle.dm_process.specs.declared.process.Process.{Process}
+use Rattle.dm_places.proofs.Names.{◌≡◌, Bool, true, false, refl, ap, ◌∙◌, sym, subst, inl, inr, if◌then◌else◌, option_map, Option, None, Some, cases_Bool, Pid, pid_eq, MsgId, Message, id_eq, PlainMessage, PlainWhat, plain_message}
+use Rattle.dm_places.proofs.Names.{plain_what, with_what, Process, Life, OneKernel, bind, plain_process, PlainProcess, pid_eq-is, id_eq-is, bind-is, View, Addresses, SameProcess, SameMessage, SameServers, Placed, Mirrors, MirrorsKernel}
+use Rattle.dm_places.proofs.Names.{MirrorsMessage, MirrorsPlaces, MirrorsProcess, with_message, with_process, with_sent, without_message}
 use Rattle.dm_onekernel.specs.Kernel as one
-use Rattle.dm_onekernel.specs.Kernel.{Life, OneKernel}
-use Rattle.dm_onekernel.specs.Options.{bind}
-use Rattle.dm_onekernel.specs.Plain.{plain_process}
-use Rattle.dm_onekernel.specs.PlainProcess.{PlainProcess}
 use Rattle.dm_onekernel.specs.Service as service
 use Rattle.dm_onekernel.specs.Step as kernel
-use Rattle.dm_laws.proofs.Equal.{pid_eq-is, id_eq-is}
-use Rattle.dm_laws.proofs.Steps.{bind-is}
-use Rattle.dm_rule.specs.View.{View}
-use Rattle.dm_rule.specs.Addresses.{Addresses}
-use Rattle.dm_rule.proofs.Homes.Rows.{SameProcess, SameMessage, SameServers}
-use Rattle.dm_places.specs.Placed.{Placed, Mirrors, MirrorsKernel, MirrorsMessage, MirrorsPlaces, MirrorsProcess}
-use Rattle.dm_places.specs.PlacedStep.{with_message, with_process, with_sent, without_message}
 
 -- what there is with places where there is something without
 pub of_map : {A B : Type 0} (f : A → B) (o : Option A) (x : B) → Some x ≡ option_map f o → (y : A) × (o ≡ Some y) × (f y ≡ x)

@@ -1,3 +1,4 @@
+pub mod Names
 pub mod Keeps
 pub mod Calls
 pub mod Acts

@@ -1,43 +1,12 @@
 -- What the process manager takes, with places: it tells kernels and children, and answers over links, where the lines say.
-use Rattle.std.proofs.Common.{◌≡◌, ℕ, suc, ◌+◌, ◌*◌, ◌==◌, ◌&&◌, Bool, true, false, List, [], ◌∷◌, length, refl, ap, ◌∙◌, sym, subst, inl, inr, nat_lt, arith}
-use Rattle.std.specs.Prelude.{if◌then◌else◌, map, option_map, slice_get}
-use Rattle.std.specs.declared.option.Option.{Option}
-use Rattle.std.specs.declared.option.Option.TheVariants.{None, Some}
-use Rattle.std.proofs.lemmas.Bool.Decides.{nat_tests}
-use Rattle.std.proofs.lemmas.Option.{slice_get-map}
-use Rattle.dm_link.specs.declared.Pid.{Pid}
-use Rattle.dm_link.specs.declared.Addr.{Addr}
-use Rattle.dm_link.specs.declared.Link.{Link}
-use Rattle.dm_link.specs.Names.{place_of}
-use Rattle.dm_link.specs.Plain.{plain_link}
-use Rattle.dm_message.specs.declared.MsgId.{MsgId}
-use Rattle.dm_message.specs.declared.What.{What}
-use Rattle.dm_message.specs.declared.What.TheVariants as what
-use Rattle.dm_message.specs.Ids.{id_of}
-use Rattle.dm_message.specs.Plain as said
-use Rattle.dm_message.specs.Plain.{PlainMessage, PlainWhat, plain_message, plain_what}
-use Rattle.dm_onekernel.specs.Boot.{manager}
+use Rattle.dm_places.proofs.Names.{◌≡◌, ℕ, suc, ◌+◌, ◌*◌, ◌==◌, ◌&&◌, Bool, true, false, List, [], ◌∷◌, length, refl, ap, ◌∙◌, sym, subst, inl, inr, nat_lt, arith, if◌then◌else◌, map, option_map, slice_get, Option, None, Some, nat_tests}
+use Rattle.dm_places.proofs.Names.{slice_get-map, Pid, Addr, Link, place_of, plain_link, MsgId, What, id_of, PlainMessage, PlainWhat, plain_message, manager, OneKernel, goes_over, Pending, Managing, plain_child, plain_manager}
+use Rattle.dm_places.proofs.Names.{plain_pending, answer_over, kernel, message_to, Taken, child_numbered, plain_numbered, plain_push, id_eq-same, View, Addresses, gets, given, Receiver, Sender, Enclosed, Child, Answer, unmoved, encloses}
+use Rattle.dm_places.proofs.Names.{enclosed_from, manager_sends, ascends, encloses_servers, encloses_process, encloses_message, encloses_at, two, enclosed_at, Placed, Mirrors, MirrorsKernel, enclosed, manager_took, without_message}
 use Rattle.dm_onekernel.specs.Kernel as kernels
-use Rattle.dm_onekernel.specs.Kernel.{Manager, OneKernel}
 use Rattle.dm_onekernel.specs.Manager as one
 use Rattle.dm_onekernel.specs.Service as service
-use Rattle.dm_onekernel.specs.Switchboard.{goes_over}
-use Rattle.dm_procman.specs.declared.pending.Pending.{Pending}
-use Rattle.dm_procman.specs.Managing.{Managing, plain_child, plain_manager, plain_pending}
-use Rattle.dm_link.specs.Places.{kernel_at as kernel}
-use Rattle.dm_procman.specs.Making.{answer_over, message_to}
 use Rattle.dm_procman.specs.Taking as take
-use Rattle.dm_procman.specs.Taking.{Taken, child_numbered, pending_numbered}
-use Rattle.dm_procman.proofs.Plain.{plain_numbered, plain_push}
-use Rattle.dm_laws.proofs.Equal.{id_eq-same}
-use Rattle.dm_rule.specs.View.{View}
-use Rattle.dm_rule.specs.Addresses.{Addresses, gets, given, Receiver, Sender, Enclosed, Child, Answer, unmoved, encloses, enclosed_from, manager_sends}
-use Rattle.dm_rule.specs.Homes.{ascends}
-use Rattle.dm_rule.proofs.Homes.Rows.{encloses_servers, encloses_process, encloses_message, encloses_at}
-use Rattle.dm_rule.proofs.Homes.Serves.{two}
-use Rattle.dm_rule.proofs.Homes.Manager.{enclosed_at}
-use Rattle.dm_places.specs.Placed.{Placed, Mirrors, MirrorsKernel, enclosed}
-use Rattle.dm_places.specs.PlacedStep.{manager_took, without_message}
 use Rattle.dm_places.proofs.Keeps.{came_places, kernel_out, kernel_sent, places_out, process_same}
 use Rattle.dm_places.proofs.Answers.{two_sends}
 use Rattle.dm_places.proofs.Pendings.{numbered_below, pending_last}
@@ -99,8 +68,8 @@ asks_for_mirrors s v a l id mid code machine image w ws en at order h =
     let r : Pending = record { n = n; answer = w } in
     let k = one.asks_for (plain_manager g) machine image (plain_link w) ls in
     let t = take.asks_for g machine image w ws in
-    let m = message_to n (kernel machine) (what.Create image (record { items = ws })) in
-    let q : PlainMessage = record { id = sent; to = m.to.pid; sender = manager; what = said.Create image ls } in
+    let m = message_to n (kernel machine) (What.Create image (record { items = ws })) in
+    let q : PlainMessage = record { id = sent; to = m.to.pid; sender = manager; what = PlainWhat.Create image ls } in
     let u = kernel_out s l id h.plain in
     let o = places_out v a l id h.places in
     let s' = record (service.without_message s id) { manager = k.manager } in
@@ -171,11 +140,11 @@ tells_mirrors s v a l id code child w u says none to at h =
 
 control_by : (s : OneKernel) (v : View) (a : Addresses) (l : Placed) (id mid : MsgId) (code : ℕ) (child : Addr) (b c d : Bool) (links : List Link) → a (Child code) ≡ place_of child → LinksKept a mid links → v.acting ≡ 0 → Mirrors s v a l
     → TookAt s v a l id mid code
-    (one.controls_child (plain_manager l.manager) child.pid (if b then Some said.Stop else if c then Some said.Resume else if d then Some said.Kill else None) (map plain_link links))
-    (take.controls_child l.manager child (if b then Some what.Stop else if c then Some what.Resume else if d then Some what.Kill else None) links)
-control_by s v a l id mid code child true c d links to en at h = tells_mirrors s v a l id code child what.Stop said.Stop refl refl to at h
-control_by s v a l id mid code child false true d links to en at h = tells_mirrors s v a l id code child what.Resume said.Resume refl refl to at h
-control_by s v a l id mid code child false false true links to en at h = tells_mirrors s v a l id code child what.Kill said.Kill refl refl to at h
+    (one.controls_child (plain_manager l.manager) child.pid (if b then Some PlainWhat.Stop else if c then Some PlainWhat.Resume else if d then Some PlainWhat.Kill else None) (map plain_link links))
+    (take.controls_child l.manager child (if b then Some What.Stop else if c then Some What.Resume else if d then Some What.Kill else None) links)
+control_by s v a l id mid code child true c d links to en at h = tells_mirrors s v a l id code child What.Stop PlainWhat.Stop refl refl to at h
+control_by s v a l id mid code child false true d links to en at h = tells_mirrors s v a l id code child What.Resume PlainWhat.Resume refl refl to at h
+control_by s v a l id mid code child false false true links to en at h = tells_mirrors s v a l id code child What.Kill PlainWhat.Kill refl refl to at h
 control_by s v a l id mid code child false false false links to en at h = bad_mirrors s v a l id mid code links en at h
 
 controls_mirrors : (s : OneKernel) (v : View) (a : Addresses) (l : Placed) (id mid : MsgId) (code : ℕ) (o : Option Addr) (body : List ℕ) (links : List Link) → child_numbered l.manager.children code ≡ o → LinksKept a mid links → v.acting ≡ 0 → Mirrors s v a l

@@ -1,29 +1,9 @@
 -- The rows with places in a machine's terms: where the kernel with places has a machine's process but for its queue, each row
 -- is what the machine's code does to that process, but for its queue.
-use Rattle.std.proofs.Common.{◌≡◌, ℕ, Bool, true, false, List, refl, ap, ◌∙◌, sym}
-use Rattle.std.specs.Prelude.{if◌then◌else◌, option_map}
-use Rattle.std.specs.declared.option.Option.{Option}
-use Rattle.std.specs.declared.option.Option.TheVariants.{None, Some}
-use Rattle.dm_link.specs.declared.Pid.{Pid}
-use Rattle.dm_message.specs.declared.MsgId.{MsgId}
-use Rattle.dm_message.specs.declared.Message.{Message}
-use Rattle.dm_process.specs.declared.process.Process.{Process}
-use Rattle.dm_process.specs.declared.process.Status.{Status}
-use Rattle.dm_process.specs.declared.process.Status.TheVariants as status
-use Rattle.dm_processor.specs.declared.registers.Regs.{Regs}
-use Rattle.dm_processor.specs.declared.registers.Fault.{Fault}
-use Rattle.dm_processor.specs.Instructions.{Row, instruction}
-use Rattle.dm_processor.specs.Instructions as row
-use Rattle.dm_onekernel.specs.Options.{bind}
-use Rattle.dm_onekernel.specs.Step.{Machine, plain_steps}
-use Rattle.dm_datamove.specs.Landing.{Landing, landing}
-use Rattle.dm_datamove.specs.Serving.{after_serving, serving_answer}
-use Rattle.dm_syscall.specs.declared.Called.{Called}
-use Rattle.dm_syscall.specs.declared.Called.TheVariants as called
-use Rattle.dm_syscall.specs.Calls.{Done, calls}
-use Rattle.dm_syscall.specs.Completing.{Completion, completion}
-use Rattle.dm_places.specs.Placed.{Placed}
-use Rattle.dm_places.specs.PlacedStep.{Acted, acted, acts, after_call, after_done, after_landing, answers, completed, if_ready, lands, machine_of, ran, running, with_acted, with_machine, with_process, with_sent}
+use Rattle.dm_places.proofs.Names.{◌≡◌, ℕ, Bool, true, false, List, refl, ap, ◌∙◌, sym, if◌then◌else◌, option_map, Option, None, Some, Pid, MsgId, Message, Process, Status, Regs, Fault, Row, instruction, bind, Machine, plain_steps, Landing}
+use Rattle.dm_places.proofs.Names.{landing, after_serving, serving_answer, Called, Done, calls, Completion, completion, Placed, Acted, acted, acts, after_call, after_done, after_landing, completed, if_ready, lands, machine_of, ran, running}
+use Rattle.dm_places.proofs.Names.{with_acted, with_machine, with_process, with_sent}
+use Rattle.dm_places.specs.PlacedStep.{answers}
 use Rattle.dm_places.proofs.Keeps.{of_map}
 use Rattle.dm_places.proofs.Queues.{after_serving_with, calls_with, completion_is, completion_with, landing_is, landing_with, queue_after, serving_with, with_queue}
 
@@ -33,9 +13,9 @@ ready_if true x y q e = cc
 ready_if false x y q e = let f : x ≡ y = cc in ap (λ (z : Process). Some (with_queue z q)) f
 
 ready_with : (x y : Process) (st : Status) (q : List Message) → if_ready x st ≡ Some y → if_ready (with_queue x q) st ≡ Some (with_queue y q)
-ready_with x y status.Ready q e = ready_if x.stopped x y q e
-ready_with x y (status.Waiting mask base size) q e = cc
-ready_with x y (status.Moving dir owner base own left pending) q e = cc
+ready_with x y Status.Ready q e = ready_if x.stopped x y q e
+ready_with x y (Status.Waiting mask base size) q e = cc
+ready_with x y (Status.Moving dir owner base own left pending) q e = cc
 
 runs_with : (l : Placed) (p : Pid) (y : Process) (q : List Message) → l.processes p ≡ Some (with_queue y q) → if_ready y y.status ≡ Some y → running l p ≡ Some (with_queue y q)
 runs_with l p y q there ready = ap (λ (o : Option Process). bind o (λ (z : Process). if_ready z z.status)) there ∙ ready_with y y y.status q ready
@@ -52,26 +32,22 @@ abbrev pub acted_with : List Message → Acted → Acted
 acted_with q w = record { process = option_map (λ (z : Process). with_queue z q) w.process; message = w.message }
 
 after_with : (c : Called) (x : Process) (q : List Message) → after_call c (with_queue x q) ≡ acted_with q (after_call c x)
-after_with (called.Replied c) x q = refl
-after_with (called.Sent m) x q = refl
-after_with (called.Moving m) x q = refl
-after_with called.Waits x q = refl
-after_with (called.Out w) x q = refl
-after_with (called.Ended y) x q = refl
+after_with (Called.Replied c) x q = refl
+after_with _ x q = refl
 
 acts_by : (here : ℕ) (l : Placed) (p : Pid) (y : Process) (q : List Message) (w : Acted) → l.processes p ≡ Some (with_queue y q) → if_ready y y.status ≡ Some y → acted here (with_queue y q) (instruction y.regs y.memory) ≡ Some w → acts here l p ≡ Some (with_acted l p w)
 acts_by here l p y q w there ready e =
     ap (λ (o : Option Process). bind o (λ (z : Process). bind (acted here z (instruction z.regs z.memory)) (λ (d : Acted). Some (with_acted l p d)))) (runs_with l p y q there ready)
     ∙ ap (λ (o : Option Acted). bind o (λ (d : Acted). Some (with_acted l p d))) e
 
-pub call_matches : (here : ℕ) (l : Placed) (p : Pid) (y : Process) (q : List Message) (n : ℕ) (regs : Regs) → l.processes p ≡ Some (with_queue y q) → if_ready y y.status ≡ Some y → instruction y.regs y.memory ≡ row.Calls n regs
+pub call_matches : (here : ℕ) (l : Placed) (p : Pid) (y : Process) (q : List Message) (n : ℕ) (regs : Regs) → l.processes p ≡ Some (with_queue y q) → if_ready y y.status ≡ Some y → instruction y.regs y.memory ≡ Row.Calls n regs
     → acts here l p ≡ Some (with_acted l p (acted_with q (after_done (calls here (record y { regs = regs }) n))))
 call_matches here l p y q n regs there ready is =
     let d = calls here (record y { regs = regs }) n in
     acts_by here l p y q (acted_with q (after_done d)) there ready
     (ap (acted here (with_queue y q)) is ∙ ap (λ (z : Done). Some (after_done z)) (calls_with here (record y { regs = regs }) n q) ∙ ap Some (after_with d.called d.process q))
 
-pub fault_matches : (here : ℕ) (l : Placed) (p : Pid) (y : Process) (q : List Message) (f : Fault) → l.processes p ≡ Some (with_queue y q) → if_ready y y.status ≡ Some y → instruction y.regs y.memory ≡ row.Faults f
+pub fault_matches : (here : ℕ) (l : Placed) (p : Pid) (y : Process) (q : List Message) (f : Fault) → l.processes p ≡ Some (with_queue y q) → if_ready y y.status ≡ Some y → instruction y.regs y.memory ≡ Row.Faults f
     → acts here l p ≡ Some (with_process l p None)
 fault_matches here l p y q f there ready is =
     let w : Acted = record { process = None; message = None } in acts_by here l p y q w there ready (ap (acted here (with_queue y q)) is)

@@ -1,21 +1,7 @@
 -- The manager's requests with places: their numbers ascend, so that each has its own.
-use Rattle.std.proofs.Common.{◌≡◌, ℕ, zero, suc, ◌+◌, ◌==◌, Bool, true, false, List, [], ◌∷◌, ◌++◌, length, ap, ◌∙◌, sym, ◌⊎◌, inl, inr, arith}
-use Rattle.std.specs.Prelude.{if◌then◌else◌, map, option_map, nat_le, nat_lt}
-use Rattle.std.specs.declared.option.Option.TheVariants.{None, Some}
-use Rattle.std.proofs.lemmas.Bool.{cases_Bool}
-use Rattle.std.proofs.lemmas.Bool.Decides.{nat_tests}
-use Rattle.std.proofs.lemmas.List.{length-map}
-use Rattle.dm_link.specs.declared.Pid.{Pid}
-use Rattle.dm_link.specs.declared.Addr.{Addr}
-use Rattle.dm_link.specs.declared.Link.{Link}
-use Rattle.dm_link.specs.Names.{place_of}
-use Rattle.dm_procman.specs.declared.pending.Pending.{Pending}
-use Rattle.dm_procman.specs.Managing.{at_home, plain_child, plain_pending}
-use Rattle.dm_procman.specs.Taking.{child_numbered, pending_numbered, without_pending}
-use Rattle.dm_procman.proofs.Plain.{plain_pending_numbered}
-use Rattle.dm_rule.specs.Addresses.{Addresses, gets, given, Child, unmoved}
-use Rattle.dm_rule.specs.Homes.{ascends}
-use Rattle.dm_rule.proofs.Homes.Servers.{and-both, get_last, numbered_from}
+use Rattle.dm_places.proofs.Names.{◌≡◌, ℕ, zero, suc, ◌+◌, ◌==◌, Bool, true, false, List, [], ◌∷◌, ◌++◌, length, ap, ◌∙◌, sym, ◌⊎◌, inl, inr, arith, if◌then◌else◌, map, option_map, nat_le, nat_lt, None, Some, cases_Bool, nat_tests}
+use Rattle.dm_places.proofs.Names.{length-map, Pid, Addr, Link, place_of, Pending, at_home, plain_child, plain_pending, child_numbered, pending_numbered, without_pending, plain_pending_numbered, Addresses, gets, given, Child, unmoved}
+use Rattle.dm_places.proofs.Names.{ascends, and-both, get_last, numbered_from}
 
 pub numbered_below : (ps : List Pending) (from to n : ℕ) (r : Pending) → ascends from (map plain_pending ps) to ≡ true → pending_numbered n ps ≡ Some r → (nat_le from n ≡ true) × (nat_lt n to ≡ true)
 numbered_below ps from to n r e f = numbered_from (map plain_pending ps) from to n (plain_pending r) e (plain_pending_numbered n ps ∙ ap (option_map plain_pending) f)

@@ -1,15 +1,5 @@
 -- The kernel with places without the messages that machines' kernels send themselves: it mirrors the same point.
-use Rattle.std.proofs.Common.{◌≡◌, refl, ap, ◌∙◌}
-use Rattle.std.specs.declared.option.Option.{Option}
-use Rattle.std.specs.declared.option.Option.TheVariants.{None, Some}
-use Rattle.dm_message.specs.declared.MsgId.{MsgId}
-use Rattle.dm_message.specs.declared.Message.{Message}
-use Rattle.dm_message.specs.Plain.{PlainWhat, plain_message, plain_what, with_what}
-use Rattle.dm_onekernel.specs.Kernel.{OneKernel}
-use Rattle.dm_onekernel.specs.Options.{bind}
-use Rattle.dm_rule.specs.View.{View}
-use Rattle.dm_rule.specs.Addresses.{Addresses}
-use Rattle.dm_places.specs.Placed.{Placed, Mirrors}
+use Rattle.dm_places.proofs.Names.{◌≡◌, refl, ap, ◌∙◌, Option, None, Some, MsgId, Message, PlainWhat, plain_message, plain_what, with_what, OneKernel, bind, View, Addresses, Placed, Mirrors}
 
 abbrev if_plain : Message → Option PlainWhat → Option Message
 if_plain m None = None

@@ -1,27 +1,6 @@
 -- The lines of a message that is put: the put, and a packet where it goes out at once.
-use Rattle.std.proofs.Common.{◌≡◌, ℕ, ◌==◌, Bool, true, false, List, [], ◌∷◌, length, refl, ap, ◌∙◌, sym, subst, inl, inr}
-use Rattle.std.specs.Prelude.{if◌then◌else◌}
-use Rattle.std.specs.declared.option.Option.{Option}
-use Rattle.std.specs.declared.option.Option.TheVariants.{Some}
-use Rattle.std.proofs.lemmas.Bool.{cases_Bool}
-use Rattle.dm_link.specs.declared.Pid.{Pid}
-use Rattle.dm_message.specs.declared.MsgId.{MsgId}
-use Rattle.dm_message.specs.declared.kind.MessageKind.{MessageKind}
-use Rattle.dm_message.specs.Ids.{id_eq}
-use Rattle.dm_message.specs.Kinds.{plain_kind}
-use Rattle.dm_message.specs.Plain.{PlainMessage}
-use Rattle.dm_onekernel.specs.Options.{bind}
-use Rattle.dm_laws.proofs.Equal.{id_eq-is}
-use Rattle.dm_laws.proofs.Steps.{bind-is}
-use Rattle.dm_line.specs.declared.line.Line.{Line}
-use Rattle.dm_line.specs.declared.line.Line.TheVariants as line
-use Rattle.dm_line.specs.declared.line.Load.TheVariants as load
-use Rattle.dm_rule.specs.View.{Told, first_told, own_id}
-use Rattle.dm_rule.specs.Addresses.{Receiver}
-use Rattle.dm_rule.specs.Parts.{Again, Owns, Routes, goes_out, lines_of, packet_line, puts}
-use Rattle.dm_rule.specs.Point.{Point, after, moved}
-use Rattle.dm_places.specs.Placed.{Placed}
-use Rattle.dm_places.specs.Following.{MirrorsPoint}
+use Rattle.dm_places.proofs.Names.{◌≡◌, ℕ, ◌==◌, Bool, true, false, List, [], ◌∷◌, length, refl, ap, ◌∙◌, sym, subst, inl, inr, if◌then◌else◌, Option, Some, cases_Bool, Pid, MsgId, MessageKind, id_eq, plain_kind, PlainMessage, bind}
+use Rattle.dm_places.proofs.Names.{id_eq-is, bind-is, Line, Load, Told, first_told, own_id, Receiver, Again, Routes, goes_out, lines_of, puts, Point, after, moved, Placed, MirrorsPoint}
 use Rattle.dm_places.proofs.Lines.{lines_keep, routed_keeps, told_keeps}
 use Rattle.dm_places.proofs.OwnPuts.{put_addresses, put_own_id}
 
@@ -36,25 +15,20 @@ pub record SamePoint (pt pt' : Point) : Type 0 where
 same_point : (pt : Point) → SamePoint pt pt
 same_point pt = record { kernel = refl; addresses = refl; own = refl; told = λ i. refl; mirrors = λ l h. h }
 
-packet_same : (pt : Point) (a b : ℕ) (n : ℕ) → SamePoint pt (moved pt (packet_line pt.view a b (load.Data n)) pt.kernel)
-packet_same pt a b n =
-    let x = packet_line pt.view a b (load.Data n) in
-    record { kernel = refl; addresses = refl; own = refl; told = λ i. refl; mirrors = λ l h. lines_keep pt (moved pt x pt.kernel) l x tt h refl }
-
 -- the packet after a put speaks of the view before it
-packet_after : (pt pt' mid : Point) (a b n k : ℕ) (c d : Bool) → after mid (if c then [] else if d then line.Packet a b k (load.Data n) ∷ [] else []) ≡ Some pt' → SamePoint mid pt'
+packet_after : (pt pt' mid : Point) (a b n k : ℕ) (c d : Bool) → after mid (if c then [] else if d then Line.Packet a b k (Load.Data n) ∷ [] else []) ≡ Some pt' → SamePoint mid pt'
 packet_after pt pt' mid a b n k true d e = let f : mid ≡ pt' = cc in subst (SamePoint mid) f (same_point mid)
 packet_after pt pt' mid a b n k false false e = let f : mid ≡ pt' = cc in subst (SamePoint mid) f (same_point mid)
 packet_after pt pt' mid a b n k false true e =
-    let x = line.Packet a b k (load.Data n) in
+    let x = Line.Packet a b k (Load.Data n) in
     let f : moved mid x mid.kernel ≡ pt' = cc in
     subst (SamePoint mid) f (record { kernel = refl; addresses = refl; own = refl; told = λ i. refl; mirrors = λ l h. lines_keep mid (moved mid x mid.kernel) l x tt h refl })
 
-pub puts_same : (pt pt' : Point) (b : ℕ) (id : MsgId) (k : MessageKind) (q : Pid) → after pt (puts pt.view b id k q) ≡ Some pt' → SamePoint (moved pt (line.Put pt.view.acting b id k q) pt.kernel) pt'
+pub puts_same : (pt pt' : Point) (b : ℕ) (id : MsgId) (k : MessageKind) (q : Pid) → after pt (puts pt.view b id k q) ≡ Some pt' → SamePoint (moved pt (Line.Put pt.view.acting b id k q) pt.kernel) pt'
 puts_same pt pt' b id k q e =
     let v = pt.view in
     let p = v.pair v.acting b in
-    packet_after pt pt' (moved pt (line.Put v.acting b id k q) pt.kernel) v.acting b (length p.ids) (length p.wire) (v.acting == b) (goes_out p) e
+    packet_after pt pt' (moved pt (Line.Put v.acting b id k q) pt.kernel) v.acting b (length p.ids) (length p.wire) (v.acting == b) (goes_out p) e
 
 -- a message of the bag
 pub routes_mirrors : (pt pt' : Point) (l : Placed) (id : MsgId) (ls : List Line) → MirrorsPoint pt l → lines_of pt (Routes id) ≡ Some ls → after pt ls ≡ Some pt' → MirrorsPoint pt' l
@@ -62,7 +36,7 @@ routes_mirrors pt pt' l id ls h is next =
     let b = (pt.addresses (Receiver id)).at in
     let (m, there, last) = bind-is (pt.kernel.bag id) (λ (x : PlainMessage). Some (puts pt.view b id (plain_kind x.what) x.to)) ls is in
     let f : puts pt.view b id (plain_kind m.what) m.to ≡ ls = cc in
-    let x = line.Put pt.view.acting b id (plain_kind m.what) m.to in
+    let x = Line.Put pt.view.acting b id (plain_kind m.what) m.to in
     (puts_same pt pt' b id (plain_kind m.what) m.to (ap (after pt) f ∙ next)).mirrors l (lines_keep pt (moved pt x pt.kernel) l x (routed_keeps pt pt.view.acting b id m) h refl)
 
 pub routes_kernel : (pt pt' : Point) (id : MsgId) (ls : List Line) → lines_of pt (Routes id) ≡ Some ls → after pt ls ≡ Some pt' → pt'.kernel ≡ pt.kernel
@@ -73,7 +47,7 @@ routes_kernel pt pt' id ls is next =
     (puts_same pt pt' b id (plain_kind m.what) m.to (ap (after pt) f ∙ next)).kernel
 
 -- a message that goes on: it was told of before, so all stays
-told_stays : (pt : Point) (a b : ℕ) (id : MsgId) (k : MessageKind) (q : Pid) (t : Told) (i : MsgId) → pt.view.told id ≡ Some t → (moved pt (line.Put a b id k q) pt.kernel).view.told i ≡ pt.view.told i
+told_stays : (pt : Point) (a b : ℕ) (id : MsgId) (k : MessageKind) (q : Pid) (t : Told) (i : MsgId) → pt.view.told id ≡ Some t → (moved pt (Line.Put a b id k q) pt.kernel).view.told i ≡ pt.view.told i
 told_stays pt a b id k q t i told =
     let about : Told = record { kind = k; receiver = q; about = pt.view.topic } in
     elim (cases_Bool (id_eq id i)) [
@@ -88,7 +62,7 @@ told_stays pt a b id k q t i told =
 pub again_same : (pt pt' : Point) (id : MsgId) (b : ℕ) (t : Told) (ls : List Line) → pt.view.told id ≡ Some t → lines_of pt (Again id b) ≡ Some ls → after pt ls ≡ Some pt' → SamePoint pt pt'
 again_same pt pt' id b t ls told is next =
     let a = pt.view.acting in
-    let x = line.Put a b id t.kind t.receiver in
+    let x = Line.Put a b id t.kind t.receiver in
     let mid = moved pt x pt.kernel in
     let lines : Some (puts pt.view b id t.kind t.receiver) ≡ Some ls = sym (ap (λ (o : Option Told). bind o (λ (w : Told). Some (puts pt.view b id w.kind w.receiver))) told) ∙ is in
     let f : puts pt.view b id t.kind t.receiver ≡ ls = cc in
@@ -101,9 +75,3 @@ again_same pt pt' id b t ls told is next =
       told = λ i. s.told i ∙ told_stays pt a b id t.kind t.receiver t i told;
       mirrors = λ l h. s.mirrors l (lines_keep pt mid l x keeps h refl);
     }
-
--- the next message of the acting machine's kernel, from what mirrors its put
-pub owns_mirrors : (pt pt' : Point) (l : Placed) (k : MessageKind) (q : Pid) (b : ℕ) (ls : List Line) → MirrorsPoint (moved pt (line.Put pt.view.acting b (own_id pt.view) k q) pt.kernel) l → lines_of pt (Owns k q b) ≡ Some ls → after pt ls ≡ Some pt' → MirrorsPoint pt' l
-owns_mirrors pt pt' l k q b ls h is next =
-    let f : puts pt.view b (own_id pt.view) k q ≡ ls = cc in
-    (puts_same pt pt' b (own_id pt.view) k q (ap (after pt) f ∙ next)).mirrors l h

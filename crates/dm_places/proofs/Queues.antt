@@ -1,41 +1,11 @@
 -- The messages that wait for a process change nothing of what it does: each function of the machines' code commutes with
 -- setting the queue, which a received message leaves.
-use Rattle.std.proofs.Common.{◌≡◌, ℕ, ◌-◌, ◌==◌, Bool, true, false, List, map, refl, ap, ◌∙◌}
-use Rattle.std.specs.Prelude.{if◌then◌else◌, option_map, remove}
-use Rattle.std.specs.declared.option.Option.{Option}
-use Rattle.std.specs.declared.option.Option.TheVariants.{None, Some}
-use Rattle.dm_link.specs.declared.Link.{Link}
-use Rattle.dm_link.specs.Plain.{plain_link}
-use Rattle.dm_linktable.specs.Slots.{first_empty, link_at}
-use Rattle.dm_message.specs.declared.Message.{Message}
-use Rattle.dm_message.specs.declared.MsgId.{MsgId}
-use Rattle.dm_message.specs.declared.What.{What}
-use Rattle.dm_message.specs.declared.What.TheVariants as what
-use Rattle.dm_process.specs.declared.process.Process.{Process}
-use Rattle.dm_process.specs.declared.process.Direction.{Direction}
-use Rattle.dm_process.specs.declared.process.Direction.TheVariants as direction
-use Rattle.dm_process.specs.declared.process.Status.{Status}
-use Rattle.dm_process.specs.declared.process.Status.TheVariants as status
-use Rattle.dm_process.specs.Directions.{direction_numbered}
-use Rattle.dm_onekernel.specs.declared.label.Reply.{Reply}
-use Rattle.dm_onekernel.specs.declared.label.Reply.TheVariants as reply
-use Rattle.dm_onekernel.specs.Calls.{CallNumber, Exit, Out, Make, Copy, Drop, Send, Receive, Move, Unknown, call_number, is_outside, is_reply, make_refusals, move_refusals, send_refusals}
-use Rattle.dm_onekernel.specs.Plain.{plain_process}
-use Rattle.dm_onekernel.specs.PlainProcess.{reg}
-use Rattle.dm_onekernel.specs.Pieces.{piece_of, written_at}
-use Rattle.dm_onekernel.specs.Receiving.{receive_refusals}
-use Rattle.dm_onekernel.specs.Refusals.{first_failed}
-use Rattle.dm_datamove.specs.declared.Rest.{Rest}
+use Rattle.dm_places.proofs.Names.{◌≡◌, ℕ, ◌-◌, ◌==◌, Bool, true, false, List, map, refl, ap, ◌∙◌, if◌then◌else◌, option_map, remove, Option, None, Some, Link, plain_link, first_empty, link_at, Message, MsgId, What, Called, Process}
+use Rattle.dm_places.proofs.Names.{Direction, Status, direction_numbered, Reply, CallNumber, Make, Copy, Drop, Send, Receive, Move, call_number, is_outside, is_reply, make_refusals, move_refusals, send_refusals, plain_process, reg}
+use Rattle.dm_places.proofs.Names.{piece_of, written_at, receive_refusals, first_failed, Rest, Landing, after_serving, serving_answer, answer_of, answer_with, Completed, Done, Completion}
 use Rattle.dm_datamove.specs.Landing as landing
-use Rattle.dm_datamove.specs.Landing.{Landing}
-use Rattle.dm_datamove.specs.Serving.{after_serving, serving_answer, answer_of, answer_with}
-use Rattle.dm_syscall.specs.declared.Called.TheVariants as called
-use Rattle.dm_syscall.specs.declared.Completed.{Completed}
-use Rattle.dm_syscall.specs.declared.Completed.TheVariants as completed
 use Rattle.dm_syscall.specs.Calls as calls
-use Rattle.dm_syscall.specs.Calls.{Done}
 use Rattle.dm_syscall.specs.Completing as completing
-use Rattle.dm_syscall.specs.Completing.{Completion}
 
 abbrev pub with_queue : Process → List Message → Process
 with_queue x q = record x { queue = q }
@@ -59,8 +29,8 @@ puts_with x w (Some slot) q = refl
 copies_with : (x : Process) (o : Option Link) (q : List Message) → calls.copies (with_queue x q) o ≡ done_with (calls.copies x o) q
 copies_with x None q = refl
 copies_with x (Some w) q =
-    ap (λ (d : Done). if is_reply w.kind then calls.replied reply.NotCopyable (with_queue x q) else d) (puts_with x w (first_empty x.table) q)
-    ∙ if_with (is_reply w.kind) (calls.replied reply.NotCopyable x) (calls.puts_link x w (first_empty x.table)) q
+    ap (λ (d : Done). if is_reply w.kind then calls.replied Reply.NotCopyable (with_queue x q) else d) (puts_with x w (first_empty x.table) q)
+    ∙ if_with (is_reply w.kind) (calls.replied Reply.NotCopyable x) (calls.puts_link x w (first_empty x.table)) q
 
 drops_with : (x : Process) (o : Option Link) (q : List Message) → calls.drops (with_queue x q) o ≡ done_with (calls.drops x o) q
 drops_with x None q = refl
@@ -69,19 +39,19 @@ drops_with x (Some w) q = refl
 sends_with : (here : ℕ) (x : Process) (o : Option Link) (q : List Message) → calls.sends here (with_queue x q) o ≡ done_with (calls.sends here x o) q
 sends_with here x None q = refl
 sends_with here x (Some w) q =
-    unless_with (first_failed (send_refusals (plain_process x))) x (record { called = called.Sent (calls.message_over here x w); process = calls.after_send x }) q
+    unless_with (first_failed (send_refusals (plain_process x))) x (record { called = Called.Sent (calls.message_over here x w); process = calls.after_send x }) q
 
 begins_with : (here : ℕ) (x : Process) (w : Link) (dir : Direction) (q : List Message) → calls.begins here (with_queue x q) (calls.whole (with_queue x q) w dir) ≡ done_with (calls.begins here x (calls.whole x w dir)) q
-begins_with here x w direction.FromArea q = refl
-begins_with here x w direction.IntoArea q = refl
+begins_with here x w Direction.FromArea q = refl
+begins_with here x w Direction.IntoArea q = refl
 
 over_with : (here : ℕ) (x : Process) (w : Link) (o : Option Direction) (q : List Message) → calls.moves_over here (with_queue x q) w o ≡ done_with (calls.moves_over here x w o) q
 over_with here x w None q = refl
 over_with here x w (Some dir) q =
     let o = first_failed (move_refusals (plain_process x) (plain_link w) dir) in
     let b = reg x.regs 5 == 0 in
-    ap (λ (d : Done). calls.unless_refused o (with_queue x q) (if b then calls.replied reply.Done (with_queue x q) else d)) (begins_with here x w dir q)
-    ∙ ap (calls.unless_refused o (with_queue x q)) (if_with b (calls.replied reply.Done x) (calls.begins here x (calls.whole x w dir)) q)
+    ap (λ (d : Done). calls.unless_refused o (with_queue x q) (if b then calls.replied Reply.Done (with_queue x q) else d)) (begins_with here x w dir q)
+    ∙ ap (calls.unless_refused o (with_queue x q)) (if_with b (calls.replied Reply.Done x) (calls.begins here x (calls.whole x w dir)) q)
     ∙ unless_with o x (calls.moves_bytes here x w dir) q
 
 moves_with : (here : ℕ) (x : Process) (o : Option Link) (q : List Message) → calls.moves here (with_queue x q) o ≡ done_with (calls.moves here x o) q
@@ -89,8 +59,6 @@ moves_with here x None q = refl
 moves_with here x (Some w) q = over_with here x w (direction_numbered (reg x.regs 2)) q
 
 does_with : (here : ℕ) (x : Process) (n : CallNumber) (q : List Message) → calls.does_call here (with_queue x q) n ≡ done_with (calls.does_call here x n) q
-does_with here x Exit q = refl
-does_with here x Out q = refl
 does_with here x Make q =
     let o = first_failed (make_refusals (plain_process x)) in
     ap (calls.unless_refused o (with_queue x q)) (puts_with x (calls.own_link here x) (first_empty x.table) q)
@@ -99,17 +67,17 @@ does_with here x Copy q = copies_with x (link_at x.table (reg x.regs 1)) q
 does_with here x Drop q = drops_with x (link_at x.table (reg x.regs 1)) q
 does_with here x Send q = sends_with here x (link_at x.table (reg x.regs 1)) q
 does_with here x Receive q =
-    if_with (is_outside (plain_process x) (reg x.regs 2) (reg x.regs 3)) (calls.replied reply.BadRange x) (record { called = called.Waits; process = record x { status = status.Waiting (reg x.regs 1) (reg x.regs 2) (reg x.regs 3) } }) q
+    if_with (is_outside (plain_process x) (reg x.regs 2) (reg x.regs 3)) (calls.replied Reply.BadRange x) (record { called = Called.Waits; process = record x { status = Status.Waiting (reg x.regs 1) (reg x.regs 2) (reg x.regs 3) } }) q
 does_with here x Move q = moves_with here x (link_at x.table (reg x.regs 1)) q
-does_with here x Unknown q = refl
+does_with here x _ q = refl
 
 pub calls_with : (here : ℕ) (x : Process) (n : ℕ) (q : List Message) → calls.calls here (with_queue x q) n ≡ done_with (calls.calls here x n) q
 calls_with here x n q = does_with here x (call_number n) q
 
 -- a receive that ends: the message leaves its place where it is received
 abbrev pub queue_after : Completed → List Message → ℕ → List Message
-queue_after (completed.Received id) q place = remove q place
-queue_after (completed.Refused c) q place = q
+queue_after (Completed.Received id) q place = remove q place
+queue_after (Completed.Refused c) q place = q
 
 abbrev pub completion_with : List Message → ℕ → Completion → Completion
 completion_with q place d = record { completed = d.completed; process = with_queue d.process (queue_after d.completed q place) }
@@ -120,27 +88,27 @@ completes_with x q place id base code channel body links None = refl
 completes_with x q place id base code channel body links (Some c) = refl
 
 what_with : (x : Process) (q : List Message) (place : ℕ) (id : MsgId) (base size : ℕ) (w : What) → completing.completes (with_queue x q) place id base size w ≡ option_map (completion_with q place) (completing.completes x 0 id base size w)
-what_with x q place id base size (what.User code channel body links) =
+what_with x q place id base size (What.User code channel body links) =
     ap Some (completes_with x q place id base code channel body.items links.items (first_failed (receive_refusals (plain_process x) size body.items (map plain_link links.items))))
 what_with x q place id base size w = refl
 
 pub completion_is : (x : Process) (q : List Message) (place : ℕ) (st : Status) (o : Option Message) → completing.completion (with_queue x q) place st o ≡ option_map (completion_with q place) (completing.completion x 0 st o)
-completion_is x q place (status.Waiting mask base size) (Some m) = what_with x q place m.id base size m.what
-completion_is x q place (status.Waiting mask base size) None = refl
-completion_is x q place status.Ready o = refl
-completion_is x q place (status.Moving dir owner base own left pending) o = refl
+completion_is x q place (Status.Waiting mask base size) (Some m) = what_with x q place m.id base size m.what
+completion_is x q place (Status.Waiting mask base size) None = refl
+completion_is x q place Status.Ready o = refl
+completion_is x q place (Status.Moving dir owner base own left pending) o = refl
 
 -- the service of a piece
 answer_is : (here : ℕ) (x : Process) (m : Message) (w : What) (q : List Message) → answer_with here (with_queue x q) m (answer_of (with_queue x q) w) ≡ answer_with here x m (answer_of x w)
-answer_is here x m (what.Read base len) q = refl
-answer_is here x m (what.Write base bytes) q = refl
+answer_is here x m (What.Read base len) q = refl
+answer_is here x m (What.Write base bytes) q = refl
 answer_is here x m w q = refl
 
 pub serving_with : (here : ℕ) (x : Process) (m : Message) (q : List Message) → serving_answer here (with_queue x q) m ≡ serving_answer here x m
 serving_with here x m q = answer_is here x m m.what q
 
 pub after_serving_with : (x : Process) (w : What) (q : List Message) → after_serving (with_queue x q) w ≡ with_queue (after_serving x w) q
-after_serving_with x (what.Write base bytes) q = refl
+after_serving_with x (What.Write base bytes) q = refl
 after_serving_with x w q = refl
 
 -- the landing of a piece
@@ -157,18 +125,18 @@ asks_with here x dir r q e = refl
 goes_on_with : (here : ℕ) (x : Process) (r : Rest) (q : List Message) → landing.goes_on here (with_queue x q) r ≡ landing_with q (landing.goes_on here x r)
 goes_on_with here x r q =
     let b = r.left - piece_of r.left == 0 in
-    ap (λ (d : Landing). if b then landing.done reply.Done (with_queue x q) else d) (asks_with here x r.dir (landing.behind r) q refl)
-    ∙ if_landing b (landing.done reply.Done x) (landing.asks here x (landing.behind r)) q
+    ap (λ (d : Landing). if b then landing.done Reply.Done (with_queue x q) else d) (asks_with here x r.dir (landing.behind r) q refl)
+    ∙ if_landing b (landing.done Reply.Done x) (landing.asks here x (landing.behind r)) q
 
 lands_with : (here : ℕ) (x : Process) (r : Rest) (dir : Direction) (w : What) (q : List Message) → landing.lands_what here (with_queue x q) r dir w ≡ option_map (landing_with q) (landing.lands_what here x r dir w)
-lands_with here x r direction.FromArea (what.Block bytes) q = ap Some (goes_on_with here (record x { memory = written_at x.memory r.own bytes.items }) r q)
-lands_with here x r direction.IntoArea what.Written q = ap Some (goes_on_with here x r q)
-lands_with here x r direction.FromArea what.Gone q = refl
-lands_with here x r direction.IntoArea what.Gone q = refl
+lands_with here x r Direction.FromArea (What.Block bytes) q = ap Some (goes_on_with here (record x { memory = written_at x.memory r.own bytes.items }) r q)
+lands_with here x r Direction.IntoArea What.Written q = ap Some (goes_on_with here x r q)
+lands_with here x r Direction.FromArea What.Gone q = refl
+lands_with here x r Direction.IntoArea What.Gone q = refl
 lands_with here x r dir w q = refl
 
 pub landing_is : (here : ℕ) (x : Process) (w : What) (st : Status) (q : List Message) → landing.landing here (with_queue x q) w st ≡ option_map (landing_with q) (landing.landing here x w st)
-landing_is here x w status.Ready q = refl
-landing_is here x w (status.Waiting mask base size) q = refl
-landing_is here x w (status.Moving dir owner base own left pending) q =
+landing_is here x w Status.Ready q = refl
+landing_is here x w (Status.Waiting mask base size) q = refl
+landing_is here x w (Status.Moving dir owner base own left pending) q =
     lands_with here x (record { dir = dir; owner = owner; base = base; own = own; left = left }) dir w q

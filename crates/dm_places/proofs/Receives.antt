@@ -1,52 +1,15 @@
 -- Receives and refusals, with places: each link of a message goes into the slot that the lines say, with its place.
-use Rattle.std.proofs.Common.{◌≡◌, ℕ, suc, ◌+◌, ◌==◌, ◌&&◌, Bool, true, false, List, [], ◌∷◌, ◌++◌, length, refl, ap, ◌∙◌, sym, subst, inl, inr, arith}
-use Rattle.std.specs.Prelude.{if◌then◌else◌, map, slice_get, slice_set}
-use Rattle.std.specs.declared.option.Option.{Option}
-use Rattle.std.specs.declared.option.Option.TheVariants.{None, Some}
-use Rattle.std.proofs.lemmas.Bool.{cases_Bool}
-use Rattle.std.proofs.lemmas.Bool.Decides.{nat_tests}
-use Rattle.std.proofs.lemmas.List.{map-set}
-use Rattle.dm_link.specs.declared.Pid.{Pid}
-use Rattle.dm_link.specs.declared.Link.{Link}
-use Rattle.dm_link.specs.Names.{place_of, pid_eq}
-use Rattle.dm_link.specs.Plain.{PlainLink, plain_link}
-use Rattle.dm_linktable.specs.Slots.{first_empty, link_at, plain_slot}
-use Rattle.dm_message.specs.declared.MsgId.{MsgId}
-use Rattle.dm_message.specs.declared.Message.{Message}
-use Rattle.dm_message.specs.declared.What.{What}
-use Rattle.dm_message.specs.Plain as said
-use Rattle.dm_message.specs.Plain.{PlainMessage, PlainWhat, plain_message, plain_what}
-use Rattle.dm_process.specs.declared.process.Process.{Process}
-use Rattle.dm_process.specs.declared.process.Status.{Status}
-use Rattle.dm_process.specs.declared.process.Status.TheVariants as status
-use Rattle.dm_process.specs.Mail.{on_mask, what_is_on}
-use Rattle.dm_onekernel.specs.declared.label.Label.TheVariants as label
-use Rattle.dm_onekernel.specs.declared.label.Reply.{Reply}
-use Rattle.dm_onekernel.specs.Codes.{reply_eq}
-use Rattle.dm_onekernel.specs.Options.{bind}
-use Rattle.dm_onekernel.specs.Kernel.{Alive, OneKernel}
-use Rattle.dm_onekernel.specs.Plain.{plain_process, plain_status}
-use Rattle.dm_onekernel.specs.PlainProcess.{PlainProcess}
+use Rattle.dm_places.proofs.Names.{◌≡◌, ℕ, suc, ◌+◌, ◌==◌, ◌&&◌, Bool, true, false, List, [], ◌∷◌, ◌++◌, length, refl, ap, ◌∙◌, sym, subst, inl, inr, arith, if◌then◌else◌, map, slice_get, slice_set, Option, None, Some, cases_Bool}
+use Rattle.dm_places.proofs.Names.{nat_tests, map-set, Pid, Link, place_of, pid_eq, PlainLink, plain_link, first_empty, link_at, plain_slot, MsgId, Message, What, Label, PlainMessage, PlainWhat, plain_message, Process, Status, on_mask}
+use Rattle.dm_places.proofs.Names.{what_is_on, Reply, reply_eq, bind, Alive, OneKernel, plain_process, plain_status, PlainProcess, first_failed, Completed, Completion, completion, completes, completes_unless, plain_completed, first_of}
+use Rattle.dm_places.proofs.Names.{status_plainly, pid_eq-same, pid_eq-is, bind-is, when-is, View, Addresses, Gets, given, gives, Slot, Enclosed, fills, receives_links, receives_what, slot_after, set_at, set_off, is_empty, only_receives}
+use Rattle.dm_places.proofs.Names.{OnlySlots, Placed, Mirrors, MirrorsProcess, enclosed, with_process, without_message, and-both}
 use Rattle.dm_onekernel.specs.Receiving as one
-use Rattle.dm_onekernel.specs.Refusals.{first_failed}
 use Rattle.dm_onekernel.specs.Service as service
 use Rattle.dm_onekernel.specs.Step as kernel
-use Rattle.dm_syscall.specs.declared.Completed.{Completed}
-use Rattle.dm_syscall.specs.declared.Completed.TheVariants as completed
 use Rattle.dm_syscall.specs.Completing as completing
-use Rattle.dm_syscall.specs.Completing.{Completion, completion, completes, completes_unless, plain_completed}
-use Rattle.dm_syscall.proofs.PlainCalls.{first_of}
-use Rattle.dm_syscall.proofs.Completes.{status_plainly}
-use Rattle.dm_laws.proofs.Equal.{pid_eq-same, pid_eq-is}
-use Rattle.dm_laws.proofs.Steps.{bind-is, when-is}
-use Rattle.dm_rule.specs.View.{View}
 use Rattle.dm_rule.specs.Addresses as addresses
-use Rattle.dm_rule.specs.Addresses.{Addresses, Gets, given, gives, Slot, Enclosed, fills, receives_links, receives_what, slot_after}
-use Rattle.dm_rule.proofs.Homes.Receives.{set_at, set_off, is_empty, only_receives}
-use Rattle.dm_rule.proofs.Homes.Steps.{OnlySlots}
-use Rattle.dm_places.specs.Placed.{Placed, Mirrors, MirrorsProcess, enclosed}
 use Rattle.dm_places.specs.PlacedStep as placed
-use Rattle.dm_places.specs.PlacedStep.{with_process, without_message}
 use Rattle.dm_places.proofs.Keeps.{alive_of, there_of, parts, goes_mirrors, kernel_out, kernel_process, places_out, places_process, this_process}
 use Rattle.dm_places.proofs.Acts.{Follows, mirrors_as}
 use Rattle.dm_places.proofs.Whats.{user_what}
@@ -134,15 +97,15 @@ CompletedKept v a p id x u (one.Refuses c z) y = MirrorsProcess v a p y
 
 unless_kept : (v : View) (a : Addresses) (p : Pid) (id i : MsgId) (x : Process) (base code channel : ℕ) (body : List ℕ) (links : List Link) (o : Option Reply) (d : one.Completed) → MirrorsProcess v a p x → EnclosedFrom a id 0 links
     → plain_completed (completes_unless o x (completing.receives x 0 i base code channel body links)).completed (completes_unless o x (completing.receives x 0 i base code channel body links)).process ≡ d
-    → CompletedKept v a p id x (said.User code channel body (map plain_link links)) d (completes_unless o x (completing.receives x 0 i base code channel body links)).process
+    → CompletedKept v a p id x (PlainWhat.User code channel body (map plain_link links)) d (completes_unless o x (completing.receives x 0 i base code channel body links)).process
 unless_kept v a p id i x base code channel body links (Some c) d h en e =
     let y = (completing.refusal c x).process in
-    subst (λ (k : one.Completed). CompletedKept v a p id x (said.User code channel body (map plain_link links)) k y) e
+    subst (λ (k : one.Completed). CompletedKept v a p id x (PlainWhat.User code channel body (map plain_link links)) k y) e
     (record { pid = h.pid; moves = h.moves; slots = h.slots; owner = λ q f. absurd (let g : None ≡ Some q = f in cc) })
 unless_kept v a p id i x base code channel body links None d h en e =
     let y = (completing.receives x 0 i base code channel body links).process in
     let t : completing.Placed = record { regs = one.received_regs x.regs code channel (length body) (length links); table = x.table } in
-    subst (λ (k : one.Completed). CompletedKept v a p id x (said.User code channel body (map plain_link links)) k y) e
+    subst (λ (k : one.Completed). CompletedKept v a p id x (PlainWhat.User code channel body (map plain_link links)) k y) e
     (record {
       process = record {
         pid = h.pid;
@@ -157,36 +120,32 @@ test_is : {A : Type 0} (b : Bool) (x d : A) → (if b then Some x else None) ≡
 test_is true x d e = refl
 test_is false x d e = cc
 
-both_true : (b c : Bool) → (b && c) ≡ true → (b ≡ true) × (c ≡ true)
-both_true true c e = (refl, e)
-both_true false c e = cc
-
 record Completes (v : View) (a : Addresses) (p : Pid) (id : MsgId) (x : Process) (m : Message) (u : PlainWhat) (d : one.Completed) : Type 0 where
   e : Completion
   completion : completion x 0 x.status (Some m) ≡ Some e
   plain : plain_completed e.completed e.process ≡ d
   kept : CompletedKept v a p id x u d e.process
 
-completes_user : (v : View) (a : Addresses) (p : Pid) (id : MsgId) (x : Process) (m : Message) (k : PlainMessage) (d : one.Completed) (mask base size code channel : ℕ) (bytes : List ℕ) (ls : List PlainLink) → x.status ≡ status.Waiting mask base size
-    → plain_message m ≡ Some k → k.what ≡ said.User code channel bytes ls → MirrorsProcess v a p x → EnclosedFrom a id 0 (enclosed m.what) → one.completes_what p (plain_process x) k mask base size (said.User code channel bytes ls) ≡ Some d
+completes_user : (v : View) (a : Addresses) (p : Pid) (id : MsgId) (x : Process) (m : Message) (k : PlainMessage) (d : one.Completed) (mask base size code channel : ℕ) (bytes : List ℕ) (ls : List PlainLink) → x.status ≡ Status.Waiting mask base size
+    → plain_message m ≡ Some k → k.what ≡ PlainWhat.User code channel bytes ls → MirrorsProcess v a p x → EnclosedFrom a id 0 (enclosed m.what) → one.completes_what p (plain_process x) k mask base size (PlainWhat.User code channel bytes ls) ≡ Some d
     → Completes v a p id x m k.what d
 completes_user v a p id x m k d mask base size code channel bytes ls waits says what_is h en e =
     let w = user_what m.what code channel bytes ls ((parts m k says).what ∙ ap Some what_is) in
-    let tests = both_true (pid_eq k.to p) (on_mask mask channel) (test_is (pid_eq k.to p && on_mask mask channel) (one.completes (plain_process x) base size code channel bytes ls) d e) in
+    let tests = and-both (pid_eq k.to p) (on_mask mask channel) (test_is (pid_eq k.to p && on_mask mask channel) (one.completes (plain_process x) base size code channel bytes ls) d e) in
     let o = first_failed (one.receive_refusals (plain_process x) size w.body.items (map plain_link w.links.items)) in
     let z = completes_unless o x (completing.receives x 0 m.id base code channel w.body.items w.links.items) in
-    let comp : completing.completion x 0 (status.Waiting mask base size) (Some m) ≡ Some z = ap (completes x 0 m.id base size) w.is in
+    let comp : completing.completion x 0 (Status.Waiting mask base size) (Some m) ≡ Some z = ap (completes x 0 m.id base size) w.is in
     let to : k.to ≡ x.pid = pid_eq-is k.to p tests.0 ∙ sym h.pid in
     let on : what_is_on mask m.what ≡ true = ap (what_is_on mask) w.is ∙ tests.1 in
-    let same : one.completes_status x.pid (plain_process x) k (plain_status (status.Waiting mask base size)) ≡ Some (plain_completed z.completed z.process) =
-    status_plainly x 0 (status.Waiting mask base size) (Some m) z k on comp says to
+    let same : one.completes_status x.pid (plain_process x) k (plain_status (Status.Waiting mask base size)) ≡ Some (plain_completed z.completed z.process) =
+    status_plainly x 0 (Status.Waiting mask base size) (Some m) z k on comp says to
     in
-    let same_k : one.completes_status x.pid (plain_process x) k (plain_status (status.Waiting mask base size)) ≡ Some d =
+    let same_k : one.completes_status x.pid (plain_process x) k (plain_status (Status.Waiting mask base size)) ≡ Some d =
     (λ i. one.completes_what (h.pid i) (plain_process x) k mask base size (what_is i)) ∙ e
     in
     let both : Some (plain_completed z.completed z.process) ≡ Some d = sym same ∙ same_k in
     let plain : plain_completed z.completed z.process ≡ d = cc in
-    let u_is : said.User code channel w.body.items (map plain_link w.links.items) ≡ k.what = (λ i. said.User code channel (w.bytes_are i) (w.links_are i)) ∙ sym what_is in
+    let u_is : PlainWhat.User code channel w.body.items (map plain_link w.links.items) ≡ k.what = (λ i. PlainWhat.User code channel (w.bytes_are i) (w.links_are i)) ∙ sym what_is in
     let links : EnclosedFrom a id 0 w.links.items = subst (λ (u : What). EnclosedFrom a id 0 (enclosed u)) w.is en in
     record {
       e = z;
@@ -195,16 +154,16 @@ completes_user v a p id x m k d mask base size code channel bytes ls waits says 
       kept = subst (λ (u : PlainWhat). CompletedKept v a p id x u d z.process) u_is (unless_kept v a p id m.id x base code channel w.body.items w.links.items o d h links plain);
     }
 
-completes_what_of : (v : View) (a : Addresses) (p : Pid) (id : MsgId) (x : Process) (m : Message) (k : PlainMessage) (d : one.Completed) (mask base size : ℕ) (u : PlainWhat) → x.status ≡ status.Waiting mask base size
+completes_what_of : (v : View) (a : Addresses) (p : Pid) (id : MsgId) (x : Process) (m : Message) (k : PlainMessage) (d : one.Completed) (mask base size : ℕ) (u : PlainWhat) → x.status ≡ Status.Waiting mask base size
     → plain_message m ≡ Some k → k.what ≡ u → MirrorsProcess v a p x → EnclosedFrom a id 0 (enclosed m.what) → one.completes_what p (plain_process x) k mask base size u ≡ Some d → Completes v a p id x m k.what d
-completes_what_of v a p id x m k d mask base size (said.User code channel bytes ls) waits says is h en e = completes_user v a p id x m k d mask base size code channel bytes ls waits says is h en e
+completes_what_of v a p id x m k d mask base size (PlainWhat.User code channel bytes ls) waits says is h en e = completes_user v a p id x m k d mask base size code channel bytes ls waits says is h en e
 completes_what_of v a p id x m k d mask base size u waits says is h en e = cc
 
 completes_status_of : (v : View) (a : Addresses) (p : Pid) (id : MsgId) (x : Process) (m : Message) (k : PlainMessage) (d : one.Completed) (st : Status) → x.status ≡ st → plain_message m ≡ Some k → MirrorsProcess v a p x → EnclosedFrom a id 0 (enclosed m.what)
     → one.completes_status p (plain_process x) k (plain_status st) ≡ Some d → Completes v a p id x m k.what d
-completes_status_of v a p id x m k d (status.Waiting mask base size) is says h en e = completes_what_of v a p id x m k d mask base size k.what is says refl h en e
-completes_status_of v a p id x m k d status.Ready is says h en e = cc
-completes_status_of v a p id x m k d (status.Moving dir owner base own left pending) is says h en e = cc
+completes_status_of v a p id x m k d (Status.Waiting mask base size) is says h en e = completes_what_of v a p id x m k d mask base size k.what is says refl h en e
+completes_status_of v a p id x m k d Status.Ready is says h en e = cc
+completes_status_of v a p id x m k d (Status.Moving dir owner base own left pending) is says h en e = cc
 
 completes_with_of : (v : View) (a : Addresses) (p : Pid) (id : MsgId) (x : Process) (m : Message) (k : PlainMessage) (d : one.Completed) (b : Bool) → plain_message m ≡ Some k → MirrorsProcess v a p x → EnclosedFrom a id 0 (enclosed m.what)
     → (if b then None else one.completes_status p (plain_process x) k (plain_status x.status)) ≡ Some d → Completes v a p id x m k.what d
@@ -245,26 +204,26 @@ completing_of s v a l p id d h is =
     }
 
 received_is : (c : Completed) (y : Process) (z : PlainProcess) → plain_completed c y ≡ one.Receives z → plain_process y ≡ z
-received_is (completed.Received i) y z e = cc
-received_is (completed.Refused r) y z e = cc
+received_is (Completed.Received i) y z e = cc
+received_is (Completed.Refused r) y z e = cc
 
 refused_is : (c : Completed) (y : Process) (r : Reply) (z : PlainProcess) → plain_completed c y ≡ one.Refuses r z → plain_process y ≡ z
-refused_is (completed.Received i) y r z e = cc
-refused_is (completed.Refused q) y r z e = cc
+refused_is (Completed.Received i) y r z e = cc
+refused_is (Completed.Refused q) y r z e = cc
 
 -- receive
 receive_row : (s t : OneKernel) (v : View) (a : Addresses) (l : Placed) (p : Pid) (id : MsgId) (d : one.Completed) → CompletingOf s v a l p id d → kernel.receives s p id d ≡ Some t → Mirrors s v a l
-    → Follows t v (given a (gives s v a (label.Receive p id))) (bind (placed.completed l p id) (λ (e : Completion). Some (with_process (without_message l id) p (Some e.process))))
+    → Follows t v (given a (gives s v a (Label.Receive p id))) (bind (placed.completed l p id) (λ (e : Completion). Some (with_process (without_message l id) p (Some e.process))))
 receive_row s t v a l p id (one.Receives z) w f h =
     let eq : kernel.goes_on (service.without_message s id) p z ≡ t = cc in
     let gs = receives_what a p id (plain_process w.x) w.k.what in
-    let gs_is : gs ≡ gives s v a (label.Receive p id) = ap (addresses.receives a p id (Some (plain_process w.x))) (sym w.there) ∙ ap (λ (o : Option PlainProcess). addresses.receives a p id o (s.bag id)) (sym w.alive) in
+    let gs_is : gs ≡ gives s v a (Label.Receive p id) = ap (addresses.receives a p id (Some (plain_process w.x))) (sym w.there) ∙ ap (λ (o : Option PlainProcess). addresses.receives a p id o (s.bag id)) (sym w.alive) in
     let y = w.e.process in
     let o = w.kept.only in
     let on = with_process (without_message l id) p (Some y) in (
       on,
       ap (λ (q : Option Completion). bind q (λ (e : Completion). Some (with_process (without_message l id) p (Some e.process)))) w.completed,
-      mirrors_as (kernel.goes_on (service.without_message s id) p (plain_process y)) t v (given a gs) (given a (gives s v a (label.Receive p id))) on on
+      mirrors_as (kernel.goes_on (service.without_message s id) p (plain_process y)) t v (given a gs) (given a (gives s v a (Label.Receive p id))) on on
           (ap (kernel.goes_on (service.without_message s id) p) (received_is w.e.completed y z w.plain) ∙ eq) (ap (given a) gs_is) refl
           (record {
             plain = kernel_process (service.without_message s id) (without_message l id) p (Alive (plain_process y)) (Some y) refl (kernel_out s l id h.plain);
@@ -273,8 +232,8 @@ receive_row s t v a l p id (one.Receives z) w f h =
     )
 receive_row s t v a l p id (one.Refuses c z) w f h = cc
 
-pub receive_follows : (s t : OneKernel) (v : View) (a : Addresses) (l : Placed) (p : Pid) (id : MsgId) → kernel.step s (label.Receive p id) ≡ Some t → Mirrors s v a l
-    → Follows t v (given a (gives s v a (label.Receive p id))) (bind (placed.completed l p id) (λ (e : Completion). Some (with_process (without_message l id) p (Some e.process))))
+pub receive_follows : (s t : OneKernel) (v : View) (a : Addresses) (l : Placed) (p : Pid) (id : MsgId) → kernel.step s (Label.Receive p id) ≡ Some t → Mirrors s v a l
+    → Follows t v (given a (gives s v a (Label.Receive p id))) (bind (placed.completed l p id) (λ (e : Completion). Some (with_process (without_message l id) p (Some e.process))))
 receive_follows s t v a l p id is h =
     let (d, c, rest) = bind-is (kernel.completing s p id) (kernel.receives s p id) t is in
     receive_row s t v a l p id d (completing_of s v a l p id d h c) rest h
@@ -292,7 +251,7 @@ refuse_row s t v a l p id r (one.Refuses c z) w f h =
       subst (λ (u : OneKernel). Mirrors u v a on) (ap (kernel.goes_on s p) (refused_is w.e.completed y c z w.plain) ∙ k.1) (goes_mirrors s v a l p y h w.kept),
     )
 
-pub refuse_follows : (s t : OneKernel) (v : View) (a : Addresses) (l : Placed) (p : Pid) (id : MsgId) (r : Reply) → kernel.step s (label.Refuse p id r) ≡ Some t → Mirrors s v a l
+pub refuse_follows : (s t : OneKernel) (v : View) (a : Addresses) (l : Placed) (p : Pid) (id : MsgId) (r : Reply) → kernel.step s (Label.Refuse p id r) ≡ Some t → Mirrors s v a l
     → Follows t v a (bind (placed.completed l p id) (λ (e : Completion). Some (with_process l p (Some e.process))))
 refuse_follows s t v a l p id r is h =
     let (d, c, rest) = bind-is (kernel.completing s p id) (kernel.refuses s p r) t is in

@@ -1,33 +1,9 @@
 -- Where a run begins, the boot file's processes with their links mirror the first point.
-use Rattle.std.proofs.Common.{◌≡◌, ℕ, zero, suc, ◌-◌, Bool, true, false, List, [], ◌∷◌, length, refl, ap, ◌∙◌, sym, subst, inl, inr}
-use Rattle.std.specs.Prelude.{if◌then◌else◌, map, option_map, slice_get}
-use Rattle.std.specs.declared.option.Option.{Option}
-use Rattle.std.specs.declared.option.Option.TheVariants.{None, Some}
-use Rattle.std.proofs.lemmas.Bool.{cases_Bool}
-use Rattle.dm_link.specs.declared.Pid.{Pid}
-use Rattle.dm_link.specs.declared.Addr.{Addr}
-use Rattle.dm_link.specs.declared.Link.{Link}
-use Rattle.dm_link.specs.Names.{pid_eq, place_of}
-use Rattle.dm_link.specs.Plain.{plain_link}
-use Rattle.dm_process.specs.declared.process.Process.{Process}
-use Rattle.dm_process.specs.Begun.{begun}
-use Rattle.dm_onekernel.specs.declared.boot.BootImage.{BootImage}
-use Rattle.dm_onekernel.specs.declared.boot.BootProcess.{BootProcess}
-use Rattle.dm_onekernel.specs.declared.boot.Boot.{Boot}
-use Rattle.dm_onekernel.specs.Boot.{slots_of}
-use Rattle.dm_onekernel.specs.Kernel.{Alive, Life}
-use Rattle.dm_onekernel.specs.Plain.{plain_process}
+use Rattle.dm_places.proofs.Names.{◌≡◌, ℕ, zero, suc, ◌-◌, Bool, true, false, List, [], ◌∷◌, length, refl, ap, ◌∙◌, sym, subst, inl, inr, if◌then◌else◌, map, option_map, slice_get, Option, None, Some, cases_Bool, Pid, Addr, Link, pid_eq}
+use Rattle.dm_places.proofs.Names.{place_of, plain_link, Process, begun, BootImage, BootProcess, Boot, slots_of, Alive, Life, plain_process, memory_of, slots_with, child_of, plain_child, child_numbered, pid_eq-is, first_view}
+use Rattle.dm_places.proofs.Names.{first_addresses, home_of, links_at, nth_child, place_in, unmoved, MirrorsProcess, started, started_at, StartMirrors}
 use Rattle.dm_onekernel.specs.Start as one
-use Rattle.dm_onekernel.specs.Start.{memory_of, slots_with}
 use Rattle.dm_onekernel.specs.Step as kernel
-use Rattle.dm_procman.specs.Managing.{child_of, plain_child}
-use Rattle.dm_procman.specs.Taking.{child_numbered}
-use Rattle.dm_laws.proofs.Equal.{pid_eq-is}
-use Rattle.dm_rule.specs.View.{first_view}
-use Rattle.dm_rule.specs.Addresses.{first_addresses, home_of, links_at, nth_child, place_in, unmoved}
-use Rattle.dm_places.specs.Placed.{MirrorsProcess}
-use Rattle.dm_places.specs.PlacedStart.{started, started_at}
-use Rattle.dm_places.specs.Laws.{StartMirrors}
 use Rattle.dm_places.proofs.Creates.{begun_link, begun_plainly}
 
 -- without places

@@ -1,46 +1,17 @@
 -- What the two servers take, with places: the manager's answers about children, and both servers' rows together.
-use Rattle.std.proofs.Common.{◌≡◌, ℕ, zero, suc, ◌+◌, ◌==◌, ◌&&◌, Bool, true, false, List, [], ◌∷◌, ◌++◌, length, refl, ap, ◌∙◌, sym, subst, arith}
-use Rattle.std.specs.Prelude.{if◌then◌else◌, map, option_map, slice_get}
-use Rattle.std.specs.declared.option.Option.{Option}
-use Rattle.std.specs.declared.option.Option.TheVariants.{None, Some}
-use Rattle.std.proofs.lemmas.Bool.Decides.{nat_tests}
-use Rattle.std.proofs.lemmas.List.{length-map}
-use Rattle.dm_link.specs.declared.Pid.{Pid}
-use Rattle.dm_link.specs.declared.Addr.{Addr}
-use Rattle.dm_link.specs.declared.Link.{Link}
-use Rattle.dm_link.specs.Names.{Place, pid_eq, place_of}
-use Rattle.dm_link.specs.Plain.{PlainLink, plain_link}
-use Rattle.dm_message.specs.declared.MsgId.{MsgId}
-use Rattle.dm_message.specs.declared.Message.{Message}
-use Rattle.dm_message.specs.declared.What.{What}
-use Rattle.dm_message.specs.Ids.{id_eq, id_of}
-use Rattle.dm_message.specs.Plain as said
-use Rattle.dm_message.specs.Plain.{PlainMessage, PlainWhat, plain_message, plain_what}
-use Rattle.dm_onekernel.specs.declared.label.Label.TheVariants as label
-use Rattle.dm_onekernel.specs.Boot.{manager, switchboard}
-use Rattle.dm_onekernel.specs.Options.{bind}
-use Rattle.dm_onekernel.specs.Kernel.{Manager, OneKernel}
+use Rattle.dm_places.proofs.Names.{◌≡◌, ℕ, zero, suc, ◌+◌, ◌==◌, ◌&&◌, Bool, true, false, List, [], ◌∷◌, ◌++◌, length, refl, ap, ◌∙◌, sym, subst, arith, if◌then◌else◌, map, option_map, slice_get, Option, None, Some, nat_tests, length-map}
+use Rattle.dm_places.proofs.Names.{Pid, Addr, Link, Place, pid_eq, place_of, PlainLink, plain_link, MsgId, Message, What, id_eq, id_of, Label, PlainMessage, PlainWhat, plain_message, plain_what, manager, switchboard, bind, Manager}
+use Rattle.dm_places.proofs.Names.{OneKernel, goes_over, Pending, Managing, at_home, plain_child, plain_manager, plain_pending, answer_over, control_link, Taken, child_numbered, pending_numbered, plain_bear, plain_pending_numbered}
+use Rattle.dm_places.proofs.Names.{plain_without, id_eq-same, bind-is, View, Addresses, Gets, gets, given, gives, Receiver, Sender, Enclosed, Child, Name, Answer, unmoved, board_takes, manager_answers, manager_sends, manager_takes}
+use Rattle.dm_places.proofs.Names.{SameProcess, SameMessage, Placed, Mirrors, MirrorsKernel, MirrorsMessage, enclosed, board_took, manager_took, without_message}
 use Rattle.dm_onekernel.specs.Manager as one
 use Rattle.dm_onekernel.specs.Service as service
 use Rattle.dm_onekernel.specs.Step as kernel
 use Rattle.dm_onekernel.specs.Switchboard as boards
-use Rattle.dm_onekernel.specs.Switchboard.{goes_over}
-use Rattle.dm_procman.specs.declared.pending.Pending.{Pending}
-use Rattle.dm_procman.specs.Managing.{Managing, at_home, plain_child, plain_manager, plain_pending}
-use Rattle.dm_procman.specs.Making.{answer_over, control_link}
 use Rattle.dm_procman.specs.Taking as take
-use Rattle.dm_procman.specs.Taking.{Taken, child_numbered, pending_numbered}
-use Rattle.dm_procman.proofs.Plain.{plain_bear, plain_pending_numbered, plain_without}
 use Rattle.dm_switchboard.specs.Taking as board
-use Rattle.dm_laws.proofs.Equal.{id_eq-same}
-use Rattle.dm_laws.proofs.Steps.{bind-is}
-use Rattle.dm_rule.specs.View.{View}
 use Rattle.dm_rule.specs.Addresses as addresses
-use Rattle.dm_rule.specs.Addresses.{Addresses, Gets, gets, given, gives, Receiver, Sender, Enclosed, Child, Name, Answer, unmoved, board_takes, manager_answers, manager_sends, manager_takes}
-use Rattle.dm_rule.proofs.Homes.Rows.{SameProcess, SameMessage}
-use Rattle.dm_places.specs.Placed.{Placed, Mirrors, MirrorsKernel, MirrorsMessage, enclosed}
 use Rattle.dm_places.specs.PlacedStep as placed
-use Rattle.dm_places.specs.PlacedStep.{board_took, manager_took, without_message}
 use Rattle.dm_places.proofs.Keeps.{came_places, kernel_out, kernel_sent, parts, places_out, process_same, there_of}
 use Rattle.dm_places.proofs.Acts.{Follows}
 use Rattle.dm_places.proofs.Boards.{board_row}
@@ -195,7 +166,7 @@ manager_step l id n w = bind (take.takes l.manager n w) (λ (z : Taken). Some (m
 
 manager_row : (s t : OneKernel) (v : View) (a : Addresses) (l : Placed) (id : MsgId) (m : Message) (k : PlainMessage) (u : PlainWhat) → m.id ≡ k.id → plain_what m.what ≡ Some u → MirrorsMessage a id m → v.acting ≡ 0 → InOrder l.manager → Mirrors s v a l
     → bind (one.takes s.manager s.machines (length s.images) k u) (λ (z : one.Took). Some (service.manager_took s id z)) ≡ Some t → Follows t v (manager_gives s v a k u) (manager_step l id m.id.n m.what)
-manager_row s t v a l id m k (said.User code channel bytes ls) name says hm at order h e =
+manager_row s t v a l id m k (PlainWhat.User code channel bytes ls) name says hm at order h e =
     let w = user_what m.what code channel bytes ls says in
     let body = w.body.items in
     let links = w.links.items in
@@ -210,7 +181,7 @@ manager_row s t v a l id m k (said.User code channel bytes ls) name says hm at o
           (user_mirrors s v a l id k.id code body links
           (λ n x g. ap (λ (i : MsgId). a (Enclosed i n)) (sym name ∙ hm.id) ∙ hm.enclosed n x (ap (λ (y : What). slice_get (enclosed y) n) w.is ∙ g)) at order h)),
     )
-manager_row s t v a l id m k (said.Created child) name says hm at order h e =
+manager_row s t v a l id m k (PlainWhat.Created child) name says hm at order h e =
     let n = k.id.n in
     let o = one.takes_created s.manager n child (one.pending_numbered n s.manager.pending) in
     let (z, took, last) = bind-is o (λ (x : one.Took). Some (service.manager_took s id x)) t e in
@@ -220,10 +191,10 @@ manager_row s t v a l id m k (said.Created child) name says hm at order h e =
     let on = manager_took (without_message l id) r.t in (
       on,
       (λ i. manager_step l id (name i).n (created_what m.what child says i)) ∙ ap (λ (x : Option Taken). bind x (λ (y : Taken). Some (manager_took (without_message l id) y))) r.takes,
-      subst (λ (x : OneKernel). Mirrors x v (given a (manager_takes s v a k (said.Created child) o)) on) f
-          (subst (λ (x : Option one.Took). Mirrors (service.manager_took s id z) v (given a (manager_takes s v a k (said.Created child) x)) on) (sym took) r.mirrors),
+      subst (λ (x : OneKernel). Mirrors x v (given a (manager_takes s v a k (PlainWhat.Created child) o)) on) f
+          (subst (λ (x : Option one.Took). Mirrors (service.manager_took s id z) v (given a (manager_takes s v a k (PlainWhat.Created child) x)) on) (sym took) r.mirrors),
     )
-manager_row s t v a l id m k said.NoRoom name says hm at order h e =
+manager_row s t v a l id m k PlainWhat.NoRoom name says hm at order h e =
     let n = k.id.n in
     let o = one.takes_no_room s.manager n (one.pending_numbered n s.manager.pending) in
     let (z, took, last) = bind-is o (λ (x : one.Took). Some (service.manager_took s id x)) t e in
@@ -233,8 +204,8 @@ manager_row s t v a l id m k said.NoRoom name says hm at order h e =
     let on = manager_took (without_message l id) r.t in (
       on,
       (λ i. manager_step l id (name i).n (no_room_what m.what says i)) ∙ ap (λ (x : Option Taken). bind x (λ (y : Taken). Some (manager_took (without_message l id) y))) r.takes,
-      subst (λ (x : OneKernel). Mirrors x v (given a (manager_takes s v a k said.NoRoom o)) on) f
-          (subst (λ (x : Option one.Took). Mirrors (service.manager_took s id z) v (given a (manager_takes s v a k said.NoRoom x)) on) (sym took) r.mirrors),
+      subst (λ (x : OneKernel). Mirrors x v (given a (manager_takes s v a k PlainWhat.NoRoom o)) on) f
+          (subst (λ (x : Option one.Took). Mirrors (service.manager_took s id z) v (given a (manager_takes s v a k PlainWhat.NoRoom x)) on) (sym took) r.mirrors),
     )
 manager_row s t v a l id m k u name says hm at order h e = cc
 
@@ -255,8 +226,8 @@ takes_by s t v a l id m k false true says hm at order h e = let g = parts m k sa
 takes_by s t v a l id m k false false says hm at order h e = cc
 
 -- took: the servers are on machine 0
-pub took_follows : (s t : OneKernel) (v : View) (a : Addresses) (l : Placed) (id : MsgId) → kernel.step s (label.Took id) ≡ Some t → v.acting ≡ 0 → InOrder l.manager → Mirrors s v a l
-    → Follows t v (given a (gives s v a (label.Took id))) (bind (l.bag id) (placed.takes (without_message l id)))
+pub took_follows : (s t : OneKernel) (v : View) (a : Addresses) (l : Placed) (id : MsgId) → kernel.step s (Label.Took id) ≡ Some t → v.acting ≡ 0 → InOrder l.manager → Mirrors s v a l
+    → Follows t v (given a (gives s v a (Label.Took id))) (bind (l.bag id) (placed.takes (without_message l id)))
 took_follows s t v a l id is at order h =
     let (k, there, rest) = bind-is (s.bag id) (service.takes s id) t is in
     let (m, found, says) = there_of s l id k h.plain there in

@@ -1,48 +1,16 @@
 -- The holders of a process or a server that is told where another process is: their addresses follow where they know fewer moves.
-use Rattle.std.proofs.Common.{◌≡◌, ℕ, zero, suc, ◌==◌, ◌&&◌, Bool, true, false, List, [], ◌∷◌, map, refl, ap, ◌∙◌, sym, subst, inl, inr}
-use Rattle.std.specs.Prelude.{if◌then◌else◌, nat_lt, option_map, slice_get}
-use Rattle.std.specs.declared.option.Option.{Option}
-use Rattle.std.specs.declared.option.Option.TheVariants.{None, Some}
-use Rattle.std.proofs.lemmas.Bool.{cases_Bool}
-use Rattle.std.proofs.lemmas.Option.{slice_get-map}
-use Rattle.dm_link.specs.declared.Pid.{Pid}
-use Rattle.dm_link.specs.declared.Addr.{Addr}
-use Rattle.dm_link.specs.declared.Link.{Link}
-use Rattle.dm_link.specs.Names.{Place, pid_eq, place_of}
+use Rattle.dm_places.proofs.Names.{◌≡◌, ℕ, zero, suc, ◌==◌, ◌&&◌, Bool, true, false, List, [], ◌∷◌, map, refl, ap, ◌∙◌, sym, subst, inl, inr, if◌then◌else◌, nat_lt, option_map, slice_get, Option, None, Some, cases_Bool, slice_get-map, Pid}
+use Rattle.dm_places.proofs.Names.{Addr, Link, Place, pid_eq, place_of, relocated, retargeted, retargeted_link, plain_link, link_at, plain_map_retargeted, applied, status_after, MsgId, Process, Status, Line, manager, switchboard, Manager}
+use Rattle.dm_places.proofs.Names.{NamedLink, OneKernel, Switchboard, plain_process, plain_status, PlainProcess, Moving, Named, plain_named, retargeted_named, Pending, plain_child, plain_pending, retargeted_manager, retargeted_pending}
+use Rattle.dm_places.proofs.Names.{child_numbered, pending_numbered, pid_eq-is, pid_eq-same, pid_eq-swap, About, Told, View, view_after, Addresses, Answer, Child, Holder, Name, Owner, Slot, answer_link, belongs_to, is_pid, leads_to}
+use Rattle.dm_places.proofs.Names.{link_to, name_link, owner_in, owner_of, place_told, slot_of, updated, updated_to, Point, moved, SameMessage, SameProcess, Placed, Mirrors, MirrorsProcess, owner_at, MirrorsPoint, with_process}
 use Rattle.dm_link.specs.Places as places
-use Rattle.dm_link.specs.Places.{relocated, retargeted, retargeted_link}
-use Rattle.dm_link.specs.Plain.{plain_link}
-use Rattle.dm_linktable.specs.Slots.{link_at}
-use Rattle.dm_linktable.proofs.Plain.{plain_map_retargeted}
-use Rattle.dm_linkupdate.specs.Applied.{applied, status_after}
-use Rattle.dm_message.specs.declared.MsgId.{MsgId}
-use Rattle.dm_process.specs.declared.process.Process.{Process}
-use Rattle.dm_process.specs.declared.process.Status.{Status}
-use Rattle.dm_process.specs.declared.process.Status.TheVariants as status
-use Rattle.dm_onekernel.specs.Boot.{manager, switchboard}
-use Rattle.dm_onekernel.specs.Kernel.{Manager, NamedLink, OneKernel, Switchboard}
 use Rattle.dm_onekernel.specs.Kernel as one
 use Rattle.dm_onekernel.specs.Manager as manage
-use Rattle.dm_onekernel.specs.Plain.{plain_process, plain_status}
-use Rattle.dm_onekernel.specs.PlainProcess.{PlainProcess, Moving}
 use Rattle.dm_onekernel.specs.Step as kernel
-use Rattle.dm_switchboard.specs.Board.{Named, plain_named, retargeted_named}
 use Rattle.dm_switchboard.proofs.Plain as board
-use Rattle.dm_procman.specs.declared.pending.Pending.{Pending}
-use Rattle.dm_procman.specs.Managing.{plain_child, plain_pending, retargeted_manager, retargeted_pending}
-use Rattle.dm_procman.specs.Taking.{child_numbered, pending_numbered}
 use Rattle.dm_procman.proofs.Plain as managing
-use Rattle.dm_laws.proofs.Equal.{pid_eq-is, pid_eq-same, pid_eq-swap}
-use Rattle.dm_line.specs.declared.line.Line.TheVariants as line
-use Rattle.dm_rule.specs.View as view
-use Rattle.dm_rule.specs.View.{About, Told, View, view_after}
 use Rattle.dm_rule.specs.Addresses as addresses
-use Rattle.dm_rule.specs.Addresses.{Addresses, Answer, Child, Holder, Name, Owner, Slot, answer_link, belongs_to, is_pid, leads_to, link_to, name_link, owner_in, owner_of, place_told, slot_of, updated, updated_to}
-use Rattle.dm_rule.specs.Point.{Point, moved}
-use Rattle.dm_rule.proofs.Homes.Rows.{SameMessage, SameProcess}
-use Rattle.dm_places.specs.Placed.{Placed, Mirrors, MirrorsProcess, owner_at}
-use Rattle.dm_places.specs.Following.{MirrorsPoint}
-use Rattle.dm_places.specs.PlacedStep.{with_process}
 use Rattle.dm_places.proofs.Keeps.{message_same, of_map, process_same}
 use Rattle.dm_places.proofs.Followed.{kernel_process_again}
 use Rattle.dm_places.proofs.Lines.{mirrors_view}
@@ -94,9 +62,9 @@ slot_leads s q x k o alive there =
 
 owner_follows : (s : OneKernel) (a : Addresses) (q r : Pid) (at moves : ℕ) (st : Status) (o : Addr) → leads_to s (Owner q) ≡ owner_in (plain_status st) → ((p : Addr) → owner_at st ≡ Some p → a (Owner q) ≡ place_of p)
     → owner_at (status_after r at moves st) ≡ Some o → told_of s a q r at moves (Owner q) ≡ place_of o
-owner_follows s a q r at moves status.Ready o leads h e = cc
-owner_follows s a q r at moves (status.Waiting mask base size) o leads h e = cc
-owner_follows s a q r at moves (status.Moving dir owner base own left pending) o leads h e =
+owner_follows s a q r at moves Status.Ready o leads h e = cc
+owner_follows s a q r at moves (Status.Waiting mask base size) o leads h e = cc
+owner_follows s a q r at moves (Status.Moving dir owner base own left pending) o leads h e =
     let f : retargeted r at moves owner ≡ o = cc in
     led s a q r at moves (Owner q) owner (pid_eq-same q) leads (h owner refl) ∙ ap place_of f
 
@@ -117,9 +85,9 @@ retargeted_pid r at moves o true = refl
 retargeted_pid r at moves o false = refl
 
 plain_status_after : (r : Pid) (at moves : ℕ) (st : Status) → plain_status (status_after r at moves st) ≡ plain_status st
-plain_status_after r at moves status.Ready = refl
-plain_status_after r at moves (status.Waiting mask base size) = refl
-plain_status_after r at moves (status.Moving dir owner base own left pending) =
+plain_status_after r at moves Status.Ready = refl
+plain_status_after r at moves (Status.Waiting mask base size) = refl
+plain_status_after r at moves (Status.Moving dir owner base own left pending) =
     ap (λ (p : Pid). Moving dir p base own left pending) (retargeted_pid r at moves owner (places.is_behind r moves owner))
 
 pub plain_applied : (r : Pid) (at moves : ℕ) (x : Process) → plain_process (applied r at moves x) ≡ plain_process x
@@ -270,38 +238,38 @@ children_told s v a l r at moves none h =
     }
 
 -- the line
-updated_is : (s : OneKernel) (v : View) (a : Addresses) (id : MsgId) (t : Told) (q r : Pid) (at moves : ℕ) → v.told id ≡ Some t → t.about ≡ view.Place r at moves → t.receiver ≡ q → updated s v a (v.told id) ≡ told_of s a q r at moves
+updated_is : (s : OneKernel) (v : View) (a : Addresses) (id : MsgId) (t : Told) (q r : Pid) (at moves : ℕ) → v.told id ≡ Some t → t.about ≡ About.Place r at moves → t.receiver ≡ q → updated s v a (v.told id) ≡ told_of s a q r at moves
 updated_is s v a id t q r at moves told about to =
     let first : updated s v a (v.told id) ≡ (λ (h : Holder). updated_to s a (Some t.receiver) (place_told t.about) h) = λ i h. updated s v a (told i) h in
     let second : (λ (h : Holder). updated_to s a (Some t.receiver) (place_told t.about) h) ≡ told_of s a q r at moves = λ i h. updated_to s a (Some (to i)) (place_told (about i)) h in
     first ∙ second
 
-line_told : (pt : Point) (l : Placed) (id : MsgId) (n : ℕ) (t : Told) (q r : Pid) (at moves : ℕ) → pt.view.told id ≡ Some t → t.about ≡ view.Place r at moves → t.receiver ≡ q → Mirrors pt.kernel pt.view (told_of pt.kernel pt.addresses q r at moves) l
-    → MirrorsPoint (moved pt (line.Updated id n) pt.kernel) l
+line_told : (pt : Point) (l : Placed) (id : MsgId) (n : ℕ) (t : Told) (q r : Pid) (at moves : ℕ) → pt.view.told id ≡ Some t → t.about ≡ About.Place r at moves → t.receiver ≡ q → Mirrors pt.kernel pt.view (told_of pt.kernel pt.addresses q r at moves) l
+    → MirrorsPoint (moved pt (Line.Updated id n) pt.kernel) l
 line_told pt l id n t q r at moves told about to h =
-    let w = view_after pt.view (line.Updated id n) in
+    let w = view_after pt.view (Line.Updated id n) in
     subst (λ (b : Addresses). Mirrors pt.kernel w b l) (sym (updated_is pt.kernel pt.view pt.addresses id t q r at moves told about to))
     (mirrors_view pt.kernel pt.view w (told_of pt.kernel pt.addresses q r at moves) l refl h)
 
-pub updated_mirrors : (pt : Point) (l : Placed) (id : MsgId) (n : ℕ) (t : Told) (r : Pid) (at moves : ℕ) (x : Process) → MirrorsPoint pt l → pt.view.told id ≡ Some t → t.about ≡ view.Place r at moves → pid_eq t.receiver switchboard ≡ false → pid_eq t.receiver manager ≡ false
-    → l.processes t.receiver ≡ Some x → MirrorsPoint (moved pt (line.Updated id n) pt.kernel) (with_process l t.receiver (Some (applied r at moves x)))
+pub updated_mirrors : (pt : Point) (l : Placed) (id : MsgId) (n : ℕ) (t : Told) (r : Pid) (at moves : ℕ) (x : Process) → MirrorsPoint pt l → pt.view.told id ≡ Some t → t.about ≡ About.Place r at moves → pid_eq t.receiver switchboard ≡ false → pid_eq t.receiver manager ≡ false
+    → l.processes t.receiver ≡ Some x → MirrorsPoint (moved pt (Line.Updated id n) pt.kernel) (with_process l t.receiver (Some (applied r at moves x)))
 updated_mirrors pt l id n t r at moves x h told about no_board no_manager there =
     line_told pt (with_process l t.receiver (Some (applied r at moves x))) id n t t.receiver r at moves told about refl
     (process_told pt.kernel pt.view pt.addresses l t.receiver r at moves x no_board no_manager there h)
 
 -- at a process that has ended
-pub updated_ended_mirrors : (pt : Point) (l : Placed) (id : MsgId) (n : ℕ) (t : Told) (r : Pid) (at moves : ℕ) → MirrorsPoint pt l → pt.view.told id ≡ Some t → t.about ≡ view.Place r at moves → pid_eq t.receiver switchboard ≡ false → pid_eq t.receiver manager ≡ false
-    → l.processes t.receiver ≡ None → MirrorsPoint (moved pt (line.Updated id n) pt.kernel) l
+pub updated_ended_mirrors : (pt : Point) (l : Placed) (id : MsgId) (n : ℕ) (t : Told) (r : Pid) (at moves : ℕ) → MirrorsPoint pt l → pt.view.told id ≡ Some t → t.about ≡ About.Place r at moves → pid_eq t.receiver switchboard ≡ false → pid_eq t.receiver manager ≡ false
+    → l.processes t.receiver ≡ None → MirrorsPoint (moved pt (Line.Updated id n) pt.kernel) l
 updated_ended_mirrors pt l id n t r at moves h told about no_board no_manager none =
     line_told pt l id n t t.receiver r at moves told about refl (ended_told pt.kernel pt.view pt.addresses l t.receiver r at moves no_board no_manager none h)
 
 -- at the servers, which are no processes
-pub updated_board_mirrors : (pt : Point) (l : Placed) (id : MsgId) (n : ℕ) (t : Told) (r : Pid) (at moves : ℕ) → MirrorsPoint pt l → pt.view.told id ≡ Some t → t.about ≡ view.Place r at moves → t.receiver ≡ switchboard → l.processes switchboard ≡ None
-    → MirrorsPoint (moved pt (line.Updated id n) pt.kernel) (board_told l r at moves)
+pub updated_board_mirrors : (pt : Point) (l : Placed) (id : MsgId) (n : ℕ) (t : Told) (r : Pid) (at moves : ℕ) → MirrorsPoint pt l → pt.view.told id ≡ Some t → t.about ≡ About.Place r at moves → t.receiver ≡ switchboard → l.processes switchboard ≡ None
+    → MirrorsPoint (moved pt (Line.Updated id n) pt.kernel) (board_told l r at moves)
 updated_board_mirrors pt l id n t r at moves h told about to none =
     line_told pt (board_told l r at moves) id n t switchboard r at moves told about to (switchboard_told pt.kernel pt.view pt.addresses l r at moves none h)
 
-pub updated_manager_mirrors : (pt : Point) (l : Placed) (id : MsgId) (n : ℕ) (t : Told) (r : Pid) (at moves : ℕ) → MirrorsPoint pt l → pt.view.told id ≡ Some t → t.about ≡ view.Place r at moves → t.receiver ≡ manager → l.processes manager ≡ None
-    → MirrorsPoint (moved pt (line.Updated id n) pt.kernel) (manager_told l r at moves)
+pub updated_manager_mirrors : (pt : Point) (l : Placed) (id : MsgId) (n : ℕ) (t : Told) (r : Pid) (at moves : ℕ) → MirrorsPoint pt l → pt.view.told id ≡ Some t → t.about ≡ About.Place r at moves → t.receiver ≡ manager → l.processes manager ≡ None
+    → MirrorsPoint (moved pt (Line.Updated id n) pt.kernel) (manager_told l r at moves)
 updated_manager_mirrors pt l id n t r at moves h told about to none =
     line_told pt (manager_told l r at moves) id n t manager r at moves told about to (children_told pt.kernel pt.view pt.addresses l r at moves none h)

@@ -1,35 +1,12 @@
 -- How many addresses an update changes: as many as know fewer moves among those of its receiver.
-use Rattle.std.proofs.Common.{◌≡◌, ℕ, zero, suc, ◌+◌, ◌≤◌, ◌==◌, ◌&&◌, Bool, true, false, List, [], ◌∷◌, ◌++◌, map, cond, count_by, refl, ap, ◌∙◌, sym, subst, arith}
-use Rattle.std.specs.Prelude.{if◌then◌else◌, nat_le, nat_lt, option_map, slice_get}
-use Rattle.std.specs.declared.option.Option.{Option}
-use Rattle.std.specs.declared.option.Option.TheVariants.{None, Some}
-use Rattle.std.proofs.lemmas.Bool.Decides.{nat_tests}
-use Rattle.std.proofs.lemmas.List.Sums.{sum_by-cons}
-use Rattle.dm_link.specs.declared.Pid.{Pid}
-use Rattle.dm_link.specs.declared.Link.{Link}
-use Rattle.dm_link.specs.Names.{pid_eq}
+use Rattle.dm_places.proofs.Names.{◌≡◌, ℕ, zero, suc, ◌+◌, ◌≤◌, ◌==◌, ◌&&◌, Bool, true, false, List, [], ◌∷◌, ◌++◌, map, cond, count_by, refl, ap, ◌∙◌, sym, subst, arith, if◌then◌else◌, nat_le, nat_lt, slice_get, Option, None, Some}
+use Rattle.dm_places.proofs.Names.{nat_tests, sum_by-cons, Pid, Link, pid_eq, PlainLink, link_at, plain_slot, slot_is_behind, Process, manager, switchboard, Manager, OneKernel, Switchboard, named_is_behind, plain_named, Pending}
+use Rattle.dm_places.proofs.Names.{pending_is_behind, plain_child, plain_pending, pending_numbered, pid_eq-same, About, View, Addresses, Answer, Child, Holder, Name, Slot, is_pid, place_told, ascends, answers_in, behind_among, behind_count}
+use Rattle.dm_places.proofs.Names.{holders_of, numbered, slots_from, slots_in, and-both, Placed, Mirrors}
 use Rattle.dm_link.specs.Places as places
-use Rattle.dm_link.specs.Plain.{PlainLink}
-use Rattle.dm_linktable.specs.Slots.{link_at, plain_slot, slot_is_behind}
-use Rattle.dm_process.specs.declared.process.Process.{Process}
-use Rattle.dm_onekernel.specs.Boot.{manager, switchboard}
-use Rattle.dm_onekernel.specs.Kernel.{Manager, OneKernel, Switchboard}
 use Rattle.dm_onekernel.specs.Kernel as one
-use Rattle.dm_onekernel.specs.Plain.{plain_process}
 use Rattle.dm_onekernel.specs.Step as kernel
-use Rattle.dm_switchboard.specs.Board.{named_is_behind, plain_named}
-use Rattle.dm_procman.specs.declared.pending.Pending.{Pending}
-use Rattle.dm_procman.specs.Managing.{pending_is_behind, plain_child, plain_pending}
-use Rattle.dm_procman.specs.Taking.{pending_numbered}
-use Rattle.dm_laws.proofs.Equal.{pid_eq-same}
-use Rattle.dm_rule.specs.View as view
-use Rattle.dm_rule.specs.View.{About, Told, View}
 use Rattle.dm_rule.specs.Addresses as addresses
-use Rattle.dm_rule.specs.Addresses.{Addresses, Answer, Child, Holder, Name, Slot, belongs_to, is_pid, leads_to, place_told}
-use Rattle.dm_rule.specs.Homes.{ascends}
-use Rattle.dm_rule.specs.Migrating.{answers_in, behind_among, behind_count, holders_of, numbered, slots_from, slots_in}
-use Rattle.dm_rule.proofs.Homes.Servers.{and-both}
-use Rattle.dm_places.specs.Placed.{Placed, Mirrors}
 use Rattle.dm_places.proofs.Updated.{alive_is, answer_leads, behind_led, child_leads, name_leads, slot_leads}
 
 count_cons : {X : Type 0} (p : X → Bool) (x : X) (xs : List X) → count_by p (x ∷ xs) ≡ cond (p x) 1 0 + count_by p xs
@@ -86,7 +63,7 @@ holders_if : (s : OneKernel) (q : Pid) (hs gs os : List Holder) (b c : Bool) →
 holders_if s q hs gs os b c e f = ap (λ (x : Bool). if x then hs else if c then gs else os) e ∙ ap (λ (x : Bool). if x then gs else os) f
 
 -- what the line of an update at a process counts
-pub updated_count : (s : OneKernel) (v : View) (a : Addresses) (l : Placed) (q r : Pid) (at moves : ℕ) (about : About) (x : Process) → Mirrors s v a l → about ≡ view.Place r at moves → pid_eq q switchboard ≡ false → pid_eq q manager ≡ false → l.processes q ≡ Some x
+pub updated_count : (s : OneKernel) (v : View) (a : Addresses) (l : Placed) (q r : Pid) (at moves : ℕ) (about : About) (x : Process) → Mirrors s v a l → about ≡ About.Place r at moves → pid_eq q switchboard ≡ false → pid_eq q manager ≡ false → l.processes q ≡ Some x
     → behind_count s a q (place_told about) ≡ count_by (slot_is_behind r moves) x.table
 updated_count s v a l q r at moves about x h is no_board no_manager there =
     let f = addresses.is_behind s a q r moves in
@@ -100,19 +77,8 @@ updated_count s v a l q r at moves about x h is no_board no_manager there =
     ∙ among_numbered f (Slot q) plain_slot (slot_is_behind r moves) 0 x.table
     (λ j o there_. let k : 0 + j ≡ j = omega arith in ap (λ (n : ℕ). f (Slot q n)) k ∙ slot_behind s v a l q r moves x j o h there (slot_there x.table j o there_))
 
--- at a process that has ended
-pub updated_ended_count : (s : OneKernel) (v : View) (a : Addresses) (l : Placed) (q r : Pid) (at moves : ℕ) (about : About) → Mirrors s v a l → about ≡ view.Place r at moves → pid_eq q switchboard ≡ false → pid_eq q manager ≡ false → l.processes q ≡ None
-    → behind_count s a q (place_told about) ≡ 0
-updated_ended_count s v a l q r at moves about h is no_board no_manager none =
-    let f = addresses.is_behind s a q r moves in
-    let gone : kernel.alive (s.processes q) ≡ None = h.plain.processes q ∙ ap (option_map plain_process) none in
-    ap (λ (w : About). behind_count s a q (place_told w)) is
-    ∙ ap (behind_among f)
-    (holders_if s q (numbered Name 0 s.switchboard.names) (numbered Child 1 s.manager.children ++ answers_in s.manager.pending) (slots_in q (kernel.alive (s.processes q))) (pid_eq q switchboard) (pid_eq q manager) no_board no_manager
-    ∙ ap (slots_in q) gone)
-
 -- at the switchboard
-pub updated_board_count : (s : OneKernel) (v : View) (a : Addresses) (l : Placed) (q r : Pid) (at moves : ℕ) (about : About) → Mirrors s v a l → about ≡ view.Place r at moves → q ≡ switchboard
+pub updated_board_count : (s : OneKernel) (v : View) (a : Addresses) (l : Placed) (q r : Pid) (at moves : ℕ) (about : About) → Mirrors s v a l → about ≡ About.Place r at moves → q ≡ switchboard
     → behind_count s a q (place_told about) ≡ count_by (named_is_behind r moves) l.board.names
 updated_board_count s v a l q r at moves about h is to =
     let f = addresses.is_behind s a switchboard r moves in
@@ -139,7 +105,7 @@ own_number (p ∷ ps) from to (suc j) y order there =
     let apart : (p.n == y.n) ≡ false = grind (arith, nat_tests) in
     (ap (λ (b : Bool). if b then Some p else pending_numbered y.n ps) apart ∙ found, omega (arith, least, above))
 
-pub updated_manager_count : (s : OneKernel) (v : View) (a : Addresses) (l : Placed) (q r : Pid) (at moves : ℕ) (about : About) → Mirrors s v a l → about ≡ view.Place r at moves → q ≡ manager → ascends 0 s.manager.pending s.manager.sent ≡ true
+pub updated_manager_count : (s : OneKernel) (v : View) (a : Addresses) (l : Placed) (q r : Pid) (at moves : ℕ) (about : About) → Mirrors s v a l → about ≡ About.Place r at moves → q ≡ manager → ascends 0 s.manager.pending s.manager.sent ≡ true
     → behind_count s a q (place_told about) ≡ count_by (places.is_behind r moves) l.manager.children + count_by (pending_is_behind r moves) l.manager.pending
 updated_manager_count s v a l q r at moves about h is to order =
     let f = addresses.is_behind s a manager r moves in

@@ -1,27 +1,6 @@
 -- The steps with places, computed on worked cases.
-use Rattle.std.proofs.Common.{◌≡◌, ℕ, List, [], ◌∷◌, refl, take, drop}
-use Rattle.std.specs.Prelude.{option_map}
-use Rattle.std.specs.declared.option.Option.{Option}
-use Rattle.std.specs.declared.option.Option.TheVariants.{None, Some}
-use Rattle.dm_link.specs.declared.Addr.{Addr}
-use Rattle.dm_link.specs.declared.Link.{Link}
-use Rattle.dm_link.specs.Names.{pid_of}
-use Rattle.dm_linktable.specs.Slots.{link_at}
-use Rattle.dm_message.specs.declared.Message.{Message}
-use Rattle.dm_message.specs.declared.What.TheVariants as what
-use Rattle.dm_message.specs.Ids.{id_of}
-use Rattle.dm_process.specs.declared.process.Process.{Process}
-use Rattle.dm_process.specs.Begun.{begun}
-use Rattle.dm_processor.specs.Instructions.{instruction}
-use Rattle.dm_onekernel.specs.declared.boot.Format.TheVariants.{One}
-use Rattle.dm_onekernel.specs.declared.label.Label.{Label}
-use Rattle.dm_onekernel.specs.declared.label.Label.TheVariants as label
-use Rattle.dm_onekernel.specs.declared.label.Reply.TheVariants as reply
-use Rattle.dm_onekernel.specs.Options.{bind}
-use Rattle.dm_rule.proofs.Worked.{hi}
-use Rattle.dm_places.specs.Placed.{Placed}
-use Rattle.dm_places.specs.PlacedStart.{placed_start}
-use Rattle.dm_places.specs.PlacedStep.{placed_step}
+use Rattle.dm_places.proofs.Names.{◌≡◌, ℕ, List, [], ◌∷◌, refl, take, drop, option_map, Option, None, Some, Addr, Link, pid_of, link_at, Message, What, Reply, id_of, Process, begun, instruction, One, Label, bind, hi, Placed, placed_start}
+use Rattle.dm_places.proofs.Names.{placed_step}
 
 -- labels in order, each on its machine
 abbrev steps : Placed → List (ℕ × Label) → Option Placed
@@ -30,7 +9,7 @@ steps l (e ∷ es) = bind (placed_step e.0 One hi.images l e.1) (λ m. steps m e
 
 -- a process of machine 0 has sent "hi" to one of machine 1: the message says both places
 abbrev first_half : List (ℕ × Label)
-first_half = (0, label.Ran (pid_of 0 3) 2) ∷ (0, label.Send (pid_of 0 3) (id_of (pid_of 0 3) 0)) ∷ []
+first_half = (0, Label.Ran (pid_of 0 3) 2) ∷ (0, Label.Send (pid_of 0 3) (id_of (pid_of 0 3) 0)) ∷ []
 
 abbrev sent : Message
 sent =
@@ -38,7 +17,7 @@ sent =
       id = id_of (pid_of 0 3) 0;
       to = record { pid = pid_of 1 3; at = 1; moves = 0 };
       sender = record { pid = pid_of 0 3; at = 0; moves = 0 };
-      what = what.User 7 0 (record { items = 104 ∷ 105 ∷ [] }) (record { items = [] });
+      what = What.User 7 0 (record { items = 104 ∷ 105 ∷ [] }) (record { items = [] });
     }
 
 pub message_has_places : bind (steps (placed_start hi) first_half) (λ l. l.bag (id_of (pid_of 0 3) 0)) ≡ Some sent
@@ -48,7 +27,7 @@ message_has_places = refl
 -- the other receives it
 abbrev second_half : List (ℕ × Label)
 second_half =
-    (1, label.Ran (pid_of 1 3) 3) ∷ (1, label.Wait (pid_of 1 3)) ∷ (1, label.Receive (pid_of 1 3) (id_of (pid_of 0 3) 0)) ∷ []
+    (1, Label.Ran (pid_of 1 3) 3) ∷ (1, Label.Wait (pid_of 1 3)) ∷ (1, Label.Receive (pid_of 1 3) (id_of (pid_of 0 3) 0)) ∷ []
 
 abbrev bytes_there : Option Process → Option (List ℕ)
 bytes_there o = option_map (λ x. take 2 (drop 64 x.memory)) o
@@ -71,6 +50,6 @@ alone = record (placed_start hi) { processes = λ p. Some moved_process }
 abbrev address_in : Option Link → Option Addr
 address_in o = option_map (λ w. w.addr) o
 
-pub made_link_leads_here : bind (placed_step 2 One [] alone (label.Call (pid_of 0 3) 3 reply.Done)) (λ l. bind (l.processes (pid_of 0 3)) (λ x. address_in (link_at x.table 0))) ≡ Some (record { pid = pid_of 0 3; at = 2; moves = 5 })
+pub made_link_leads_here : bind (placed_step 2 One [] alone (Label.Call (pid_of 0 3) 3 Reply.Done)) (λ l. bind (l.processes (pid_of 0 3)) (λ x. address_in (link_at x.table 0))) ≡ Some (record { pid = pid_of 0 3; at = 2; moves = 5 })
 unfolding instruction
 made_link_leads_here = refl

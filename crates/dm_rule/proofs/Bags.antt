@@ -1,40 +1,15 @@
 -- What each step does to the bag: the message that goes, and the one that enters.
-use Rattle.std.proofs.Common.{◌≡◌, ℕ, ◌≤◌, Bool, true, false, zero, suc, refl, ap, ◌∙◌, sym, subst, nat_lt, arith, length, ◌⊎◌, inl, inr}
-use Rattle.std.specs.Prelude.{if◌then◌else◌, slice_get, take, drop}
-use Rattle.std.specs.declared.option.Option.{Option}
-use Rattle.std.specs.declared.option.Option.TheVariants.{None, Some}
-use Rattle.std.proofs.lemmas.Bool.{cases_Bool}
-use Rattle.std.proofs.lemmas.Bool.Decides.{nat_tests}
-use Rattle.dm_link.specs.declared.Pid.{Pid}
-use Rattle.dm_link.specs.Names.{pid_eq}
-use Rattle.dm_message.specs.declared.MsgId.{MsgId}
-use Rattle.dm_message.specs.Ids.{id_eq, id_of}
-use Rattle.dm_message.specs.Plain as what
-use Rattle.dm_message.specs.Plain.{PlainMessage, PlainWhat}
-use Rattle.dm_onekernel.specs.declared.label.Label.{Label}
-use Rattle.dm_onekernel.specs.declared.label.Label.TheVariants as label
-use Rattle.dm_onekernel.specs.declared.label.Why.{Why}
-use Rattle.dm_onekernel.specs.declared.label.Why.TheVariants as why
-use Rattle.dm_onekernel.specs.Boot.{switchboard, manager}
-use Rattle.dm_onekernel.specs.Options.{bind}
-use Rattle.dm_onekernel.specs.PlainProcess.{PlainProcess}
-use Rattle.dm_onekernel.specs.Kernel.{Alive, Ended, OneKernel, with_process, with_sent}
-use Rattle.dm_onekernel.specs.Calls as calls
+use Rattle.dm_rule.proofs.Names.{◌≡◌, ℕ, ◌≤◌, Bool, true, false, zero, suc, refl, ap, ◌∙◌, sym, subst, nat_lt, arith, length, ◌⊎◌, inl, inr, if◌then◌else◌, slice_get, take, drop, Option, None, Some, cases_Bool, nat_tests, Pid, pid_eq}
+use Rattle.dm_rule.proofs.Names.{MsgId, id_eq, id_of, Called, PlainMessage, PlainWhat, Label, Why, switchboard, manager, bind, PlainProcess, Alive, OneKernel, with_process, with_sent, answer_id, answer_to, without_message, is_of_memory}
+use Rattle.dm_rule.proofs.Names.{id_eq-is, id_eq-same, Entered, request_id, counts, is_counted, unentered, asks, Sound, not_server, counts_process, bind-is, when-is, alive-is, nexts, Nexts, LandsSo, lands-is, ServerSends, in_bag}
+use Rattle.dm_onekernel.specs.Kernel.{Ended}
 use Rattle.dm_onekernel.specs.Pieces as pieces
-use Rattle.dm_onekernel.specs.Pieces.{answer_id, answer_to}
 use Rattle.dm_onekernel.specs.Receiving as receiving
 use Rattle.dm_onekernel.specs.Switchboard as board
 use Rattle.dm_onekernel.specs.Manager as manage
 use Rattle.dm_onekernel.specs.Service as service
-use Rattle.dm_onekernel.specs.Service.{without_message, is_of_memory}
 use Rattle.dm_onekernel.specs.Step as step
-use Rattle.dm_laws.proofs.Equal.{id_eq-is, id_eq-same}
-use Rattle.dm_laws.proofs.Entered.{Entered, request_id, counts, is_counted, unentered, asks}
-use Rattle.dm_laws.proofs.Sound.{Sound, not_server, counts_process}
-use Rattle.dm_laws.proofs.Steps.{bind-is, when-is, alive-is, nexts, Nexts}
-use Rattle.dm_laws.proofs.Services.{LandsSo, lands-is}
-use Rattle.dm_laws.proofs.Servers.{ServerSends, board_takes, manager_takes}
-use Rattle.dm_laws.specs.Laws.{in_bag}
+use Rattle.dm_laws.proofs.Servers.{board_takes, manager_takes}
 use Rattle.dm_rule.proofs.Lines.{hidden}
 
 -- one message may go, and one may enter: it is there then, and never was before
@@ -46,10 +21,6 @@ pub record BagStep (e : MsgId → ℕ) (s t : OneKernel) (out put : Option MsgId
 -- nothing enters
 pub steps_out : (e : MsgId → ℕ) (s t : OneKernel) (out : Option MsgId) → ((i : MsgId) → t.bag i ≡ hidden out s.bag i) → BagStep e s t out None
 steps_out e s t out same = record { same = same; there = λ j k. cc; fresh = λ j k. cc }
-
-if_twice : (b c : Bool) (m x y : Option PlainMessage) → (b ≡ true → (if c then None else y) ≡ None) → (if b then None else (if b then m else (if c then None else y))) ≡ (if c then None else y)
-if_twice true c m x y h = sym (h refl)
-if_twice false c m x y h = refl
 
 entered_at : (s : OneKernel) (m : PlainMessage) → (with_sent s (Some m)).bag m.id ≡ Some m
 entered_at s m = ap (λ (b : Bool). if b then Some m else s.bag m.id) (id_eq-same m.id)
@@ -86,20 +57,14 @@ steps_in r e s u out m same zero_ h = record {
 
 -- what goes, and what enters
 abbrev pub out_of : Label → Option MsgId
-out_of (label.Ran p k) = None
-out_of (label.Call p n c) = None
-out_of (label.Send p id) = None
-out_of (label.Wait p) = None
-out_of (label.Out p w) = None
-out_of (label.End p y) = None
-out_of (label.Receive p id) = Some id
-out_of (label.Refuse p id c) = None
-out_of (label.Dropped id) = Some id
-out_of (label.Served id) = Some id
-out_of (label.Gone id) = Some id
-out_of (label.Took id) = Some id
-out_of (label.Created id p) = Some id
-out_of (label.NoSpace id a b) = Some id
+out_of (Label.Receive p id) = Some id
+out_of (Label.Dropped id) = Some id
+out_of (Label.Served id) = Some id
+out_of (Label.Gone id) = Some id
+out_of (Label.Took id) = Some id
+out_of (Label.Created id p) = Some id
+out_of (Label.NoSpace id a b) = Some id
+out_of _ = None
 
 abbrev pub landed_id : Option pieces.Landed → Option MsgId
 landed_id None = None
@@ -107,20 +72,12 @@ landed_id (Some (pieces.Next request x)) = Some request.id
 landed_id (Some (pieces.Done reply x)) = None
 
 abbrev pub served_id : MsgId → PlainMessage → PlainProcess → PlainWhat → Option MsgId
-served_id id m x (what.Read base len) = Some (answer_id id)
-served_id id m x (what.Write base bytes) = Some (answer_id id)
-served_id id m x (what.Block bytes) = landed_id (pieces.lands m.to x m x.status)
-served_id id m x what.Written = landed_id (pieces.lands m.to x m x.status)
-served_id id m x what.Gone = landed_id (pieces.lands m.to x m x.status)
-served_id id m x what.Stop = None
-served_id id m x what.Resume = None
-served_id id m x what.Kill = None
-served_id id m x (what.User a b c d) = None
-served_id id m x (what.Create a b) = None
-served_id id m x (what.Created a) = None
-served_id id m x what.NoRoom = None
-served_id id m x (what.Move a) = None
-served_id id m x (what.Moved a) = None
+served_id id m x (PlainWhat.Read base len) = Some (answer_id id)
+served_id id m x (PlainWhat.Write base bytes) = Some (answer_id id)
+served_id id m x (PlainWhat.Block bytes) = landed_id (pieces.lands m.to x m x.status)
+served_id id m x PlainWhat.Written = landed_id (pieces.lands m.to x m x.status)
+served_id id m x PlainWhat.Gone = landed_id (pieces.lands m.to x m x.status)
+served_id id m x _ = None
 
 abbrev pub id_in : Option PlainMessage → Option MsgId
 id_in None = None
@@ -148,81 +105,81 @@ own_fresh r e s p x n is same h =
     unentered r e s (id_of p n) h.entered (k ∙ (let z : nat_lt n x.sent ≡ false = grind (arith, nat_tests) in z))
 
 bag_sends_next : (r e : MsgId → ℕ) (s t : OneKernel) (p : Pid) (id : MsgId) (next : step.Next) → Nexts s p next → step.sends s p id next ≡ Some t → Sound r e s → BagStep e s t None (Some id)
-bag_sends_next r e s t p id (step.Calls number (calls.Sends m y)) w is h =
+bag_sends_next r e s t p id (step.Calls number (Called.Sends m y)) w is h =
     let (z, sent, pending, counted) = w.counts in
     let k = when-is _ (with_sent (step.goes_on s p y) (Some m)) t is in
     let name : id ≡ m.id = id_eq-is id m.id k.0 in
     let zero_ : e m.id ≡ 0 = ap e counted.id ∙ own_fresh r e s p w.x z.sent w.is.alive sent h in
     subst (λ v. BagStep e s v None (Some id)) k.1 (subst (λ v. BagStep e s (with_sent (step.goes_on s p y) (Some m)) None (Some v)) (sym name) (steps_in r e s (step.goes_on s p y) None m (λ i. refl) zero_ h.entered))
-bag_sends_next r e s t p id (step.Calls number (calls.Replies reply y)) w is h = cc
-bag_sends_next r e s t p id (step.Calls number (calls.Waits y)) w is h = cc
-bag_sends_next r e s t p id (step.Calls number (calls.Outputs word y)) w is h = cc
-bag_sends_next r e s t p id (step.Calls number (calls.Ends because)) w is h = cc
+bag_sends_next r e s t p id (step.Calls number (Called.Replies reply y)) w is h = cc
+bag_sends_next r e s t p id (step.Calls number (Called.Waits y)) w is h = cc
+bag_sends_next r e s t p id (step.Calls number (Called.Outputs word y)) w is h = cc
+bag_sends_next r e s t p id (step.Calls number (Called.Ends because)) w is h = cc
 bag_sends_next r e s t p id (step.Faults fault) w is h = cc
 
 -- a process that sends
-pub bag_sends : (r e : MsgId → ℕ) (s t : OneKernel) (p : Pid) (id : MsgId) → step.step s (label.Send p id) ≡ Some t → Sound r e s → BagStep e s t None (Some id)
+pub bag_sends : (r e : MsgId → ℕ) (s t : OneKernel) (p : Pid) (id : MsgId) → step.step s (Label.Send p id) ≡ Some t → Sound r e s → BagStep e s t None (Some id)
 bag_sends r e s t p id is h = let (x, next, rest) = bind-is (step.next s p) (step.sends s p id) t is in bag_sends_next r e s t p id x (nexts s p x next) rest h
 
 -- nothing goes and nothing enters: steps of processes that send nothing
 quiet_is : (e : MsgId → ℕ) (s t u : OneKernel) → u ≡ t → ((i : MsgId) → u.bag i ≡ s.bag i) → BagStep e s t None None
 quiet_is e s t u is same = subst (λ v. BagStep e s v None None) is (steps_out e s u None same)
 
-pub bag_ran : (e : MsgId → ℕ) (s t : OneKernel) (p : Pid) (k : ℕ) → step.step s (label.Ran p k) ≡ Some t → BagStep e s t None None
+pub bag_ran : (e : MsgId → ℕ) (s t : OneKernel) (p : Pid) (k : ℕ) → step.step s (Label.Ran p k) ≡ Some t → BagStep e s t None None
 bag_ran e s t p k is =
     let (x, running, rest) = bind-is (step.running s p) (λ v. bind (step.plain_steps k (step.machine_of v)) (λ m. Some (step.goes_on s p (step.with_machine v m)))) t is in
     let (m, plain, last) = bind-is (step.plain_steps k (step.machine_of x)) (λ m. Some (step.goes_on s p (step.with_machine x m))) t rest in
     quiet_is e s t (step.goes_on s p (step.with_machine x m)) (let f : step.goes_on s p (step.with_machine x m) ≡ t = cc in f) (λ i. refl)
 
 replies_quiet : (e : MsgId → ℕ) (s t : OneKernel) (p : Pid) (n : ℕ) (c : _) (next : step.Next) → step.replies s p n c next ≡ Some t → BagStep e s t None None
-replies_quiet e s t p n c (step.Calls number (calls.Replies reply y)) is = quiet_is e s t (step.goes_on s p y) (when-is _ (step.goes_on s p y) t is).1 (λ i. refl)
-replies_quiet e s t p n c (step.Calls number (calls.Sends m y)) is = cc
-replies_quiet e s t p n c (step.Calls number (calls.Waits y)) is = cc
-replies_quiet e s t p n c (step.Calls number (calls.Outputs word y)) is = cc
-replies_quiet e s t p n c (step.Calls number (calls.Ends because)) is = cc
+replies_quiet e s t p n c (step.Calls number (Called.Replies reply y)) is = quiet_is e s t (step.goes_on s p y) (when-is _ (step.goes_on s p y) t is).1 (λ i. refl)
+replies_quiet e s t p n c (step.Calls number (Called.Sends m y)) is = cc
+replies_quiet e s t p n c (step.Calls number (Called.Waits y)) is = cc
+replies_quiet e s t p n c (step.Calls number (Called.Outputs word y)) is = cc
+replies_quiet e s t p n c (step.Calls number (Called.Ends because)) is = cc
 replies_quiet e s t p n c (step.Faults fault) is = cc
 
 waits_quiet : (e : MsgId → ℕ) (s t : OneKernel) (p : Pid) (next : step.Next) → step.waits s p next ≡ Some t → BagStep e s t None None
-waits_quiet e s t p (step.Calls number (calls.Waits y)) is = quiet_is e s t (step.goes_on s p y) (let f : step.goes_on s p y ≡ t = cc in f) (λ i. refl)
-waits_quiet e s t p (step.Calls number (calls.Replies reply y)) is = cc
-waits_quiet e s t p (step.Calls number (calls.Sends m y)) is = cc
-waits_quiet e s t p (step.Calls number (calls.Outputs word y)) is = cc
-waits_quiet e s t p (step.Calls number (calls.Ends because)) is = cc
+waits_quiet e s t p (step.Calls number (Called.Waits y)) is = quiet_is e s t (step.goes_on s p y) (let f : step.goes_on s p y ≡ t = cc in f) (λ i. refl)
+waits_quiet e s t p (step.Calls number (Called.Replies reply y)) is = cc
+waits_quiet e s t p (step.Calls number (Called.Sends m y)) is = cc
+waits_quiet e s t p (step.Calls number (Called.Outputs word y)) is = cc
+waits_quiet e s t p (step.Calls number (Called.Ends because)) is = cc
 waits_quiet e s t p (step.Faults fault) is = cc
 
 outputs_quiet : (e : MsgId → ℕ) (s t : OneKernel) (p : Pid) (w : ℕ) (next : step.Next) → step.outputs s p w next ≡ Some t → BagStep e s t None None
-outputs_quiet e s t p w (step.Calls number (calls.Outputs word y)) is = quiet_is e s t (step.goes_on s p y) (when-is _ (step.goes_on s p y) t is).1 (λ i. refl)
-outputs_quiet e s t p w (step.Calls number (calls.Replies reply y)) is = cc
-outputs_quiet e s t p w (step.Calls number (calls.Sends m y)) is = cc
-outputs_quiet e s t p w (step.Calls number (calls.Waits y)) is = cc
-outputs_quiet e s t p w (step.Calls number (calls.Ends because)) is = cc
+outputs_quiet e s t p w (step.Calls number (Called.Outputs word y)) is = quiet_is e s t (step.goes_on s p y) (when-is _ (step.goes_on s p y) t is).1 (λ i. refl)
+outputs_quiet e s t p w (step.Calls number (Called.Replies reply y)) is = cc
+outputs_quiet e s t p w (step.Calls number (Called.Sends m y)) is = cc
+outputs_quiet e s t p w (step.Calls number (Called.Waits y)) is = cc
+outputs_quiet e s t p w (step.Calls number (Called.Ends because)) is = cc
 outputs_quiet e s t p w (step.Faults fault) is = cc
 
 ends_quiet : (e : MsgId → ℕ) (s t : OneKernel) (p : Pid) (y : Why) (next : step.Next) → step.ends s p y next ≡ Some t → BagStep e s t None None
-ends_quiet e s t p y (step.Calls number (calls.Ends because)) is = quiet_is e s t (with_process s p (Ended y)) (when-is _ (with_process s p (Ended y)) t is).1 (λ i. refl)
+ends_quiet e s t p y (step.Calls number (Called.Ends because)) is = quiet_is e s t (with_process s p (Ended y)) (when-is _ (with_process s p (Ended y)) t is).1 (λ i. refl)
 ends_quiet e s t p y (step.Faults fault) is = quiet_is e s t (with_process s p (Ended y)) (when-is _ (with_process s p (Ended y)) t is).1 (λ i. refl)
-ends_quiet e s t p y (step.Calls number (calls.Replies reply x)) is = cc
-ends_quiet e s t p y (step.Calls number (calls.Sends m x)) is = cc
-ends_quiet e s t p y (step.Calls number (calls.Waits x)) is = cc
-ends_quiet e s t p y (step.Calls number (calls.Outputs word x)) is = cc
+ends_quiet e s t p y (step.Calls number (Called.Replies reply x)) is = cc
+ends_quiet e s t p y (step.Calls number (Called.Sends m x)) is = cc
+ends_quiet e s t p y (step.Calls number (Called.Waits x)) is = cc
+ends_quiet e s t p y (step.Calls number (Called.Outputs word x)) is = cc
 
-pub bag_call : (e : MsgId → ℕ) (s t : OneKernel) (p : Pid) (n : ℕ) (c : _) → step.step s (label.Call p n c) ≡ Some t → BagStep e s t None None
+pub bag_call : (e : MsgId → ℕ) (s t : OneKernel) (p : Pid) (n : ℕ) (c : _) → step.step s (Label.Call p n c) ≡ Some t → BagStep e s t None None
 bag_call e s t p n c is = let (x, next, rest) = bind-is (step.next s p) (step.replies s p n c) t is in replies_quiet e s t p n c x rest
 
-pub bag_wait : (e : MsgId → ℕ) (s t : OneKernel) (p : Pid) → step.step s (label.Wait p) ≡ Some t → BagStep e s t None None
+pub bag_wait : (e : MsgId → ℕ) (s t : OneKernel) (p : Pid) → step.step s (Label.Wait p) ≡ Some t → BagStep e s t None None
 bag_wait e s t p is = let (x, next, rest) = bind-is (step.next s p) (step.waits s p) t is in waits_quiet e s t p x rest
 
-pub bag_out : (e : MsgId → ℕ) (s t : OneKernel) (p : Pid) (w : ℕ) → step.step s (label.Out p w) ≡ Some t → BagStep e s t None None
+pub bag_out : (e : MsgId → ℕ) (s t : OneKernel) (p : Pid) (w : ℕ) → step.step s (Label.Out p w) ≡ Some t → BagStep e s t None None
 bag_out e s t p w is = let (x, next, rest) = bind-is (step.next s p) (step.outputs s p w) t is in outputs_quiet e s t p w x rest
 
-pub bag_end : (e : MsgId → ℕ) (s t : OneKernel) (p : Pid) (y : Why) → step.step s (label.End p y) ≡ Some t → BagStep e s t None None
+pub bag_end : (e : MsgId → ℕ) (s t : OneKernel) (p : Pid) (y : Why) → step.step s (Label.End p y) ≡ Some t → BagStep e s t None None
 bag_end e s t p y is = let (x, next, rest) = bind-is (step.next s p) (step.ends s p y) t is in ends_quiet e s t p y x rest
 
 refuses_quiet : (e : MsgId → ℕ) (s t : OneKernel) (p : Pid) (c : _) (done : receiving.Completed) → step.refuses s p c done ≡ Some t → BagStep e s t None None
 refuses_quiet e s t p c (receiving.Receives x) is = cc
 refuses_quiet e s t p c (receiving.Refuses reply x) is = quiet_is e s t (step.goes_on s p x) (when-is _ (step.goes_on s p x) t is).1 (λ i. refl)
 
-pub bag_refuse : (e : MsgId → ℕ) (s t : OneKernel) (p : Pid) (id : MsgId) (c : _) → step.step s (label.Refuse p id c) ≡ Some t → BagStep e s t None None
+pub bag_refuse : (e : MsgId → ℕ) (s t : OneKernel) (p : Pid) (id : MsgId) (c : _) → step.step s (Label.Refuse p id c) ≡ Some t → BagStep e s t None None
 bag_refuse e s t p id c is = let (x, done, rest) = bind-is (step.completing s p id) (step.refuses s p c) t is in refuses_quiet e s t p c x rest
 
 -- a message goes
@@ -233,21 +190,21 @@ receives_out : (e : MsgId → ℕ) (s t : OneKernel) (p : Pid) (id : MsgId) (don
 receives_out e s t p id (receiving.Receives x) is = out_is e s t (step.goes_on (without_message s id) p x) id (let f : step.goes_on (without_message s id) p x ≡ t = cc in f) (λ i. refl)
 receives_out e s t p id (receiving.Refuses reply x) is = cc
 
-pub bag_receive : (e : MsgId → ℕ) (s t : OneKernel) (p : Pid) (id : MsgId) → step.step s (label.Receive p id) ≡ Some t → BagStep e s t (Some id) None
+pub bag_receive : (e : MsgId → ℕ) (s t : OneKernel) (p : Pid) (id : MsgId) → step.step s (Label.Receive p id) ≡ Some t → BagStep e s t (Some id) None
 bag_receive e s t p id is = let (x, done, rest) = bind-is (step.completing s p id) (step.receives s p id) t is in receives_out e s t p id x rest
 
-pub bag_dropped : (e : MsgId → ℕ) (s t : OneKernel) (id : MsgId) → step.step s (label.Dropped id) ≡ Some t → BagStep e s t (Some id) None
+pub bag_dropped : (e : MsgId → ℕ) (s t : OneKernel) (id : MsgId) → step.step s (Label.Dropped id) ≡ Some t → BagStep e s t (Some id) None
 bag_dropped e s t id is =
     let (m, there, rest) = bind-is (s.bag id) (λ v. bind (step.ended (s.processes v.to)) (step.drops s id v)) t is in
     let (y, gone, last) = bind-is (step.ended (s.processes m.to)) (step.drops s id m) t rest in
     out_is e s t (without_message s id) id (when-is (service.is_dropped m.what) (without_message s id) t last).1 (λ i. refl)
 
 -- an answer takes the place of its request
-cases_zero : (n : ℕ) → (n ≡ 0) ⊎ (1 ≤ n)
+pub cases_zero : (n : ℕ) → (n ≡ 0) ⊎ (1 ≤ n)
 cases_zero zero = inl refl
 cases_zero (suc n) = inr (omega arith)
 
-zero_if : (n : ℕ) → (1 ≤ n → ⊥) → n ≡ 0
+pub zero_if : (n : ℕ) → (1 ≤ n → ⊥) → n ≡ 0
 zero_if n h = elim (cases_zero n) [
   | inl is ↦ is
   | inr least ↦ absurd (h least)
@@ -268,68 +225,34 @@ answers_in r e s t u id m w is same there asking h =
     (subst (λ j. BagStep e s (with_sent u (Some (answer_to m w))) (Some id) (Some j)) name (steps_in r e s u (Some id) (answer_to m w) same zero_ h.entered))
 
 memory_asks : (w : PlainWhat) → is_of_memory w ≡ true → asks w ≡ true
-memory_asks (what.User a b c d) e = cc
-memory_asks what.Stop e = cc
-memory_asks what.Resume e = cc
-memory_asks what.Kill e = cc
-memory_asks (what.Read a b) e = refl
-memory_asks (what.Write a b) e = refl
-memory_asks (what.Block a) e = cc
-memory_asks what.Written e = cc
-memory_asks what.Gone e = cc
-memory_asks (what.Create a b) e = refl
-memory_asks (what.Created a) e = cc
-memory_asks what.NoRoom e = cc
-memory_asks (what.Move a) e = cc
-memory_asks (what.Moved a) e = cc
+memory_asks (PlainWhat.Read a b) e = refl
+memory_asks (PlainWhat.Write a b) e = refl
+memory_asks (PlainWhat.Create a b) e = refl
+memory_asks _ e = cc
 
-pub bag_gone : (r e : MsgId → ℕ) (s t : OneKernel) (id : MsgId) → step.step s (label.Gone id) ≡ Some t → Sound r e s → BagStep e s t (Some id) (Some (answer_id id))
+pub bag_gone : (r e : MsgId → ℕ) (s t : OneKernel) (id : MsgId) → step.step s (Label.Gone id) ≡ Some t → Sound r e s → BagStep e s t (Some id) (Some (answer_id id))
 bag_gone r e s t id is h =
     let (m, there, rest) = bind-is (s.bag id) (λ v. bind (step.ended (s.processes v.to)) (step.says_gone s id v)) t is in
     let (y, gone, last) = bind-is (step.ended (s.processes m.to)) (step.says_gone s id m) t rest in
-    let k = when-is (is_of_memory m.what) (with_sent (without_message s id) (Some (answer_to m what.Gone))) t last in
-    answers_in r e s t (without_message s id) id m what.Gone k.1 (λ i. refl) there (memory_asks m.what k.0) h
+    let k = when-is (is_of_memory m.what) (with_sent (without_message s id) (Some (answer_to m PlainWhat.Gone))) t last in
+    answers_in r e s t (without_message s id) id m PlainWhat.Gone k.1 (λ i. refl) there (memory_asks m.what k.0) h
 
 no_room_in : (r e : MsgId → ℕ) (s t : OneKernel) (id : MsgId) (m : PlainMessage) (w : PlainWhat) → m.what ≡ w → s.bag id ≡ Some m → service.has_no_room s id m w ≡ Some t → Sound r e s → BagStep e s t (Some id) (Some (answer_id id))
-no_room_in r e s t id m (what.Create image links) w there is h =
-    answers_in r e s t (without_message s id) id m what.NoRoom (when-is _ (with_sent (without_message s id) (Some (answer_to m what.NoRoom))) t is).1 (λ i. refl) there (ap asks w) h
-no_room_in r e s t id m (what.User a b c d) w there is h = cc
-no_room_in r e s t id m what.Stop w there is h = cc
-no_room_in r e s t id m what.Resume w there is h = cc
-no_room_in r e s t id m what.Kill w there is h = cc
-no_room_in r e s t id m (what.Read a b) w there is h = cc
-no_room_in r e s t id m (what.Write a b) w there is h = cc
-no_room_in r e s t id m (what.Block a) w there is h = cc
-no_room_in r e s t id m what.Written w there is h = cc
-no_room_in r e s t id m what.Gone w there is h = cc
-no_room_in r e s t id m (what.Created a) w there is h = cc
-no_room_in r e s t id m what.NoRoom w there is h = cc
-no_room_in r e s t id m (what.Move a) w there is h = cc
-no_room_in r e s t id m (what.Moved a) w there is h = cc
+no_room_in r e s t id m (PlainWhat.Create image links) w there is h =
+    answers_in r e s t (without_message s id) id m PlainWhat.NoRoom (when-is _ (with_sent (without_message s id) (Some (answer_to m PlainWhat.NoRoom))) t is).1 (λ i. refl) there (ap asks w) h
+no_room_in r e s t id m _ w there is h = cc
 
-pub bag_no_space : (r e : MsgId → ℕ) (s t : OneKernel) (id : MsgId) (a b : ℕ) → step.step s (label.NoSpace id a b) ≡ Some t → Sound r e s → BagStep e s t (Some id) (Some (answer_id id))
+pub bag_no_space : (r e : MsgId → ℕ) (s t : OneKernel) (id : MsgId) (a b : ℕ) → step.step s (Label.NoSpace id a b) ≡ Some t → Sound r e s → BagStep e s t (Some id) (Some (answer_id id))
 bag_no_space r e s t id a b is h = let (m, there, rest) = bind-is (s.bag id) (λ v. service.has_no_room s id v v.what) t is in no_room_in r e s t id m m.what refl there rest h
 
 creates_in : (r e : MsgId → ℕ) (s t : OneKernel) (id : MsgId) (m : PlainMessage) (child : Pid) (w : PlainWhat) → m.what ≡ w → s.bag id ≡ Some m → service.creates s id m child w ≡ Some t → Sound r e s → BagStep e s t (Some id) (Some (answer_id id))
-creates_in r e s t id m child (what.Create image links) w there is h =
+creates_in r e s t id m child (PlainWhat.Create image links) w there is h =
     let (i, found, rest) = bind-is (slice_get s.images image) (service.creates_of s id m child links) t is in
     let u = service.with_child (without_message s id) child i links in
-    answers_in r e s t u id m (what.Created child) (when-is _ (with_sent u (Some (answer_to m (what.Created child)))) t rest).1 (λ j. refl) there (ap asks w) h
-creates_in r e s t id m child (what.User a b c d) w there is h = cc
-creates_in r e s t id m child what.Stop w there is h = cc
-creates_in r e s t id m child what.Resume w there is h = cc
-creates_in r e s t id m child what.Kill w there is h = cc
-creates_in r e s t id m child (what.Read a b) w there is h = cc
-creates_in r e s t id m child (what.Write a b) w there is h = cc
-creates_in r e s t id m child (what.Block a) w there is h = cc
-creates_in r e s t id m child what.Written w there is h = cc
-creates_in r e s t id m child what.Gone w there is h = cc
-creates_in r e s t id m child (what.Created a) w there is h = cc
-creates_in r e s t id m child what.NoRoom w there is h = cc
-creates_in r e s t id m child (what.Move a) w there is h = cc
-creates_in r e s t id m child (what.Moved a) w there is h = cc
+    answers_in r e s t u id m (PlainWhat.Created child) (when-is _ (with_sent u (Some (answer_to m (PlainWhat.Created child)))) t rest).1 (λ j. refl) there (ap asks w) h
+creates_in r e s t id m child _ w there is h = cc
 
-pub bag_created : (r e : MsgId → ℕ) (s t : OneKernel) (id : MsgId) (child : Pid) → step.step s (label.Created id child) ≡ Some t → Sound r e s → BagStep e s t (Some id) (Some (answer_id id))
+pub bag_created : (r e : MsgId → ℕ) (s t : OneKernel) (id : MsgId) (child : Pid) → step.step s (Label.Created id child) ≡ Some t → Sound r e s → BagStep e s t (Some id) (Some (answer_id id))
 bag_created r e s t id child is h = let (m, there, rest) = bind-is (s.bag id) (λ v. service.creates s id v child v.what) t is in creates_in r e s t id m child m.what refl there rest h
 
 -- an answer has landed: the next request enters, or nothing
@@ -344,35 +267,30 @@ lands_in : (r e : MsgId → ℕ) (s t : OneKernel) (id : MsgId) (m : PlainMessag
 lands_in r e s t id m x None is last alive h = cc
 lands_in r e s t id m x (Some c) is last alive h = landed_in r e s t id m x c (let f : service.landed s id m c ≡ t = cc in f) alive (lands-is m.to x m x.status c is) h
 
-if_some-is : {A : Type 0} (b : Bool) (x y : A) → (if b then Some x else None) ≡ Some y → x ≡ y
+pub if_some-is : {A : Type 0} (b : Bool) (x y : A) → (if b then Some x else None) ≡ Some y → x ≡ y
 if_some-is true x y e = cc
 if_some-is false x y e = cc
 
 served_in : (r e : MsgId → ℕ) (s t : OneKernel) (id : MsgId) (m : PlainMessage) (x : PlainProcess) (w : PlainWhat) → m.what ≡ w → s.bag id ≡ Some m → s.processes m.to ≡ Some (Alive x) → service.serves s id m x w ≡ Some t → Sound r e s
     → BagStep e s t (Some id) (served_id id m x w)
-served_in r e s t id m x what.Stop w there alive is h = out_is e s t (service.changed s id m (record x { stopped = true })) id (let f : service.changed s id m (record x { stopped = true }) ≡ t = cc in f) (λ i. refl)
-served_in r e s t id m x what.Resume w there alive is h = out_is e s t (service.changed s id m (record x { stopped = false })) id (let f : service.changed s id m (record x { stopped = false }) ≡ t = cc in f) (λ i. refl)
-served_in r e s t id m x what.Kill w there alive is h = out_is e s t (with_process (without_message s id) m.to (Ended why.Killed)) id (let f : with_process (without_message s id) m.to (Ended why.Killed) ≡ t = cc in f) (λ i. refl)
-served_in r e s t id m x (what.Read base len) w there alive is h =
+served_in r e s t id m x PlainWhat.Stop w there alive is h = out_is e s t (service.changed s id m (record x { stopped = true })) id (let f : service.changed s id m (record x { stopped = true }) ≡ t = cc in f) (λ i. refl)
+served_in r e s t id m x PlainWhat.Resume w there alive is h = out_is e s t (service.changed s id m (record x { stopped = false })) id (let f : service.changed s id m (record x { stopped = false }) ≡ t = cc in f) (λ i. refl)
+served_in r e s t id m x PlainWhat.Kill w there alive is h = out_is e s t (with_process (without_message s id) m.to (Ended Why.Killed)) id (let f : with_process (without_message s id) m.to (Ended Why.Killed) ≡ t = cc in f) (λ i. refl)
+served_in r e s t id m x (PlainWhat.Read base len) w there alive is h =
     let (c, served, last) = bind-is (pieces.reads x m base len) (λ v. Some (service.answered s id m v)) t is in
-    let k = if_some-is _ (record { process = x; answer = answer_to m (what.Block (take len (drop base x.memory))) }) c served in
+    let k = if_some-is _ (record { process = x; answer = answer_to m (PlainWhat.Block (take len (drop base x.memory))) }) c served in
     let f : service.answered s id m c ≡ t = cc in
-    answers_in r e s t (service.changed s id m x) id m (what.Block (take len (drop base x.memory))) (ap (service.answered s id m) k ∙ f) (λ i. refl) there (ap asks w) h
-served_in r e s t id m x (what.Write base bytes) w there alive is h =
+    answers_in r e s t (service.changed s id m x) id m (PlainWhat.Block (take len (drop base x.memory))) (ap (service.answered s id m) k ∙ f) (λ i. refl) there (ap asks w) h
+served_in r e s t id m x (PlainWhat.Write base bytes) w there alive is h =
     let (c, served, last) = bind-is (pieces.writes x m base bytes) (λ v. Some (service.answered s id m v)) t is in
     let y = record x { memory = pieces.written_at x.memory base bytes } in
-    let k = if_some-is _ (record { process = y; answer = answer_to m what.Written }) c served in
+    let k = if_some-is _ (record { process = y; answer = answer_to m PlainWhat.Written }) c served in
     let f : service.answered s id m c ≡ t = cc in
-    answers_in r e s t (service.changed s id m y) id m what.Written (ap (service.answered s id m) k ∙ f) (λ i. refl) there (ap asks w) h
-served_in r e s t id m x (what.Block bytes) w there alive is h = lands_in r e s t id m x (pieces.lands m.to x m x.status) refl is alive h
-served_in r e s t id m x what.Written w there alive is h = lands_in r e s t id m x (pieces.lands m.to x m x.status) refl is alive h
-served_in r e s t id m x what.Gone w there alive is h = lands_in r e s t id m x (pieces.lands m.to x m x.status) refl is alive h
-served_in r e s t id m x (what.User a b c d) w there alive is h = cc
-served_in r e s t id m x (what.Create a b) w there alive is h = cc
-served_in r e s t id m x (what.Created a) w there alive is h = cc
-served_in r e s t id m x what.NoRoom w there alive is h = cc
-served_in r e s t id m x (what.Move a) w there alive is h = cc
-served_in r e s t id m x (what.Moved a) w there alive is h = cc
+    answers_in r e s t (service.changed s id m y) id m PlainWhat.Written (ap (service.answered s id m) k ∙ f) (λ i. refl) there (ap asks w) h
+served_in r e s t id m x (PlainWhat.Block bytes) w there alive is h = lands_in r e s t id m x (pieces.lands m.to x m x.status) refl is alive h
+served_in r e s t id m x PlainWhat.Written w there alive is h = lands_in r e s t id m x (pieces.lands m.to x m x.status) refl is alive h
+served_in r e s t id m x PlainWhat.Gone w there alive is h = lands_in r e s t id m x (pieces.lands m.to x m x.status) refl is alive h
+served_in r e s t id m x _ w there alive is h = cc
 
 -- what a served message is, and what enters for it
 pub record ServedStep (e : MsgId → ℕ) (s t : OneKernel) (id : MsgId) : Type 0 where
@@ -382,7 +300,7 @@ pub record ServedStep (e : MsgId → ℕ) (s t : OneKernel) (id : MsgId) : Type 
   pub alive : s.processes m.to ≡ Some (Alive x)
   pub is : BagStep e s t (Some id) (served_id id m x m.what)
 
-pub bag_served : (r e : MsgId → ℕ) (s t : OneKernel) (id : MsgId) → step.step s (label.Served id) ≡ Some t → Sound r e s → ServedStep e s t id
+pub bag_served : (r e : MsgId → ℕ) (s t : OneKernel) (id : MsgId) → step.step s (Label.Served id) ≡ Some t → Sound r e s → ServedStep e s t id
 bag_served r e s t id is h =
     let (m, there, rest) = bind-is (s.bag id) (λ v. bind (step.alive (s.processes v.to)) (λ p. service.serves s id v p v.what)) t is in
     let (x, alive, last) = bind-is (step.alive (s.processes m.to)) (λ p. service.serves s id m p m.what) t rest in
@@ -425,7 +343,7 @@ pub record TookStep (e : MsgId → ℕ) (s t : OneKernel) (id : MsgId) : Type 0 
   pub there : s.bag id ≡ Some m
   pub is : BagStep e s t (Some id) (took_id s m)
 
-pub bag_took : (r e : MsgId → ℕ) (s t : OneKernel) (id : MsgId) → step.step s (label.Took id) ≡ Some t → Sound r e s → TookStep e s t id
+pub bag_took : (r e : MsgId → ℕ) (s t : OneKernel) (id : MsgId) → step.step s (Label.Took id) ≡ Some t → Sound r e s → TookStep e s t id
 bag_took r e s t id is h =
     let (m, there, rest) = bind-is (s.bag id) (service.takes s id) t is in
     record { m = m; there = there; is = took_by r e s t id m (pid_eq m.to switchboard) (pid_eq m.to manager) rest h }

@@ -1,48 +1,15 @@
 -- What deliveries and ticks say keeps that each message stands once; and so does every group.
-use Rattle.std.proofs.Common.{◌≡◌, ◌≢◌, ℕ, zero, suc, ◌+◌, ◌-◌, ◌≤◌, ◌==◌, Bool, true, false, not, filter, List, [], ◌∷◌, ◌++◌, refl, ap, ◌∙◌, sym, subst, nat_lt, arith, length}
-use Rattle.std.specs.Prelude.{⊤, if◌then◌else◌, slice_get}
-use Rattle.std.specs.declared.option.Option.{Option}
-use Rattle.std.specs.declared.option.Option.TheVariants.{None, Some}
-use Rattle.std.proofs.lemmas.Bool.{false≢true}
-use Rattle.std.proofs.lemmas.Bool.Decides.{nat_tests}
-use Rattle.dm_message.specs.declared.MsgId.{MsgId}
-use Rattle.dm_onekernel.specs.Options.{bind}
-use Rattle.dm_onekernel.specs.Kernel.{OneKernel}
-use Rattle.dm_schedule.specs.declared.Step.{Step}
-use Rattle.dm_schedule.specs.declared.Step.TheVariants as step
-use Rattle.dm_line.specs.declared.line.Line.{Line}
-use Rattle.dm_line.specs.declared.line.Line.TheVariants as line
-use Rattle.dm_line.specs.declared.line.Load.{Load}
-use Rattle.dm_line.specs.declared.line.Load.TheVariants as load
-use Rattle.dm_rule.specs.View.{View, Pair, Told, view_after, handled, receiver_of}
+use Rattle.dm_rule.proofs.Names.{◌≡◌, ◌≢◌, ℕ, zero, suc, ◌+◌, ◌-◌, ◌≤◌, ◌==◌, Bool, true, false, not, filter, List, [], ◌∷◌, ◌++◌, refl, ap, ◌∙◌, sym, subst, nat_lt, arith, length, ⊤, if◌then◌else◌, slice_get, Option, None, Some}
+use Rattle.dm_rule.proofs.Names.{false≢true, nat_tests, MsgId, bind, OneKernel, Step, Line, Load, View, Pair, view_after, Point, label_of, kernel_after, moved, after_line, Part, Says, Routes, Again, Owns, Transmits, Spelled, packet_line}
+use Rattle.dm_rule.proofs.Names.{spelled, Spot, Queue, Untaken, ids_at, standing, bind-is, Boot, group_of, IsValid, Sent, after_head, window, first_point, Leads, StandsOnceAlways, first_view, start-sound, inl, inr, Pid, PlainMessage, to_of}
+use Rattle.dm_rule.proofs.Names.{migrates, StandsAsBag, StandsOutside, StandsRight, is_kernels}
 use Rattle.dm_rule.specs.View as view
-use Rattle.dm_rule.specs.Point.{Point, label_of, kernel_after, moved, after_line}
-use Rattle.dm_rule.specs.Parts.{Part, Says, Routes, Again, Owns, Transmits, Spelled, packet_line, spelled}
-use Rattle.dm_rule.specs.Spots.{Spot, Queue, Held, Inbox, Untaken, ids_at, standing}
-use Rattle.dm_laws.proofs.Steps.{bind-is}
 use Rattle.dm_rule.proofs.Lines.{Stands-stays, Stands-taken, pair_keeps}
-use Rattle.dm_onekernel.specs.declared.boot.Boot.{Boot}
 use Rattle.dm_rule.specs.Rule as rule
-use Rattle.dm_rule.specs.Rule.{says, drops, group_of}
 use Rattle.dm_rule.proofs.States.{State, says_next, transmits_next, said, State-at, by_line, by_packet, PairsFit}
-use Rattle.dm_schedule.specs.declared.Step.{Step}
-use Rattle.dm_onekernel.specs.Boot.{IsValid}
-use Rattle.dm_rule.specs.View.{Sent, after_head}
-use Rattle.dm_rule.specs.Parts.{window}
-use Rattle.dm_rule.specs.Point.{first_point}
-use Rattle.dm_rule.specs.Laws.{Leads, StandsOnceAlways}
-use Rattle.dm_rule.specs.View.{first_view}
-use Rattle.dm_laws.proofs.Runs.{start-sound}
 use Rattle.dm_rule.proofs.Handled.{turns_row}
 use Rattle.dm_rule.proofs.Pairs.{Pairs-group, Pairs-start, pair_stands, pair_home}
 use Rattle.dm_rule.proofs.Pairs.{Pairs}
-use Rattle.std.proofs.Common.{inl, inr}
-use Rattle.dm_link.specs.declared.Pid.{Pid}
-use Rattle.dm_message.specs.Plain.{PlainMessage}
-use Rattle.dm_rule.specs.Homes.{to_of}
-use Rattle.dm_rule.specs.Migrating.{migrates}
-use Rattle.dm_rule.specs.Spots.{StandsAsBag, StandsOutside, StandsRight}
-use Rattle.dm_rule.specs.View.{is_kernels}
 use Rattle.dm_rule.proofs.Letters.{letters, letter_of}
 use Rattle.dm_rule.proofs.Moves.Rows.{migrates_row}
 
@@ -54,20 +21,18 @@ eq_refl m = grind (arith, nat_tests)
 
 -- lines of deliveries and ticks
 abbrev pub IsNetLine : Line → Type 0
-IsNetLine (line.Taken a b n) = ⊤
-IsNetLine (line.Old a b n) = ⊤
-IsNetLine (line.Early a b n) = ⊤
-IsNetLine (line.Acked a b n) = ⊤
-IsNetLine line.Nothing = ⊤
-IsNetLine (line.Resent m n) = ⊤
+IsNetLine (Line.Taken a b n) = ⊤
+IsNetLine (Line.Old a b n) = ⊤
+IsNetLine (Line.Early a b n) = ⊤
+IsNetLine (Line.Acked a b n) = ⊤
+IsNetLine Line.Nothing = ⊤
+IsNetLine (Line.Resent m n) = ⊤
 IsNetLine l = ⊥
 
 abbrev pub IsNetPart : Part → Type 0
 IsNetPart (Says l) = IsNetLine l
-IsNetPart (Routes i) = ⊥
-IsNetPart (Again i b) = ⊥
-IsNetPart (Owns k q b) = ⊥
 IsNetPart (Transmits a b l) = ⊤
+IsNetPart _ = ⊥
 
 abbrev pub IsNet : List Part → Type 0
 IsNet [] = ⊤
@@ -78,57 +43,36 @@ taken_told v b None i = refl
 taken_told v b (Some j) i = refl
 
 pub early_off : (v : View) (a b n : ℕ) (z : Spot) → ids_at (view.after_early v a b n) z ≡ ids_at v z
-early_off v a b n (Queue m p) = refl
-early_off v a b n (Held m p) = refl
-early_off v a b n (Inbox m) = refl
 early_off v a b n (Untaken c d) = pair_keeps v.pair a b (record (v.pair a b) { kept = n ∷ filter (λ k. not (k == n)) (v.pair a b).kept }) refl c d
+early_off v a b n _ = refl
 
 pub acked_off : (v : View) (a b n : ℕ) (z : Spot) → ids_at (view.after_acked v a b n) z ≡ ids_at v z
-acked_off v a b n (Queue m p) = refl
-acked_off v a b n (Held m p) = refl
-acked_off v a b n (Inbox m) = refl
 acked_off v a b n (Untaken c d) = pair_keeps v.pair b a (record (v.pair b a) { acked = view.at_least (v.pair b a).acked n }) refl c d
+acked_off v a b n _ = refl
 
 net_line : (pt : Point) (l : Line) → IsNetLine l → State None pt → (s : OneKernel) → kernel_after pt.kernel (label_of l) ≡ Some s → State None (moved pt l s)
-net_line pt (line.Taken a b n) is h s k =
+net_line pt (Line.Taken a b n) is h s k =
     let g : pt.kernel ≡ s = cc in
-    State-at None (moved pt (line.Taken a b n) pt.kernel) (moved pt (line.Taken a b n) s) (ap (moved pt (line.Taken a b n)) g)
-    (by_line None pt (line.Taken a b n) refl h (Stands-taken (letters h.own pt.kernel.bag) pt.view a b n h.stands) (λ i. taken_told (view.with_pair pt.view a b (record (pt.view.pair a b) { taken = (pt.view.pair a b).taken + 1; kept = filter (λ k. not (k == n)) (pt.view.pair a b).kept })) b (view.oldest (pt.view.pair a b)) i))
-net_line pt (line.Old a b n) is h s k =
+    State-at None (moved pt (Line.Taken a b n) pt.kernel) (moved pt (Line.Taken a b n) s) (ap (moved pt (Line.Taken a b n)) g)
+    (by_line None pt (Line.Taken a b n) refl h (Stands-taken (letters h.own pt.kernel.bag) pt.view a b n h.stands) (λ i. taken_told (view.with_pair pt.view a b (record (pt.view.pair a b) { taken = (pt.view.pair a b).taken + 1; kept = filter (λ k. not (k == n)) (pt.view.pair a b).kept })) b (view.oldest (pt.view.pair a b)) i))
+net_line pt (Line.Old a b n) is h s k =
     let g : pt.kernel ≡ s = cc in
-    State-at None (moved pt (line.Old a b n) pt.kernel) (moved pt (line.Old a b n) s) (ap (moved pt (line.Old a b n)) g) (by_line None pt (line.Old a b n) refl h h.stands (λ i. refl))
-net_line pt (line.Early a b n) is h s k =
+    State-at None (moved pt (Line.Old a b n) pt.kernel) (moved pt (Line.Old a b n) s) (ap (moved pt (Line.Old a b n)) g) (by_line None pt (Line.Old a b n) refl h h.stands (λ i. refl))
+net_line pt (Line.Early a b n) is h s k =
     let g : pt.kernel ≡ s = cc in
-    State-at None (moved pt (line.Early a b n) pt.kernel) (moved pt (line.Early a b n) s) (ap (moved pt (line.Early a b n)) g)
-    (by_line None pt (line.Early a b n) refl h (Stands-stays (letters h.own pt.kernel.bag) pt.view (view_after pt.view (line.Early a b n)) (λ z. early_off pt.view a b n z) (λ i. refl) h.stands) (λ i. refl))
-net_line pt (line.Acked a b n) is h s k =
+    State-at None (moved pt (Line.Early a b n) pt.kernel) (moved pt (Line.Early a b n) s) (ap (moved pt (Line.Early a b n)) g)
+    (by_line None pt (Line.Early a b n) refl h (Stands-stays (letters h.own pt.kernel.bag) pt.view (view_after pt.view (Line.Early a b n)) (λ z. early_off pt.view a b n z) (λ i. refl) h.stands) (λ i. refl))
+net_line pt (Line.Acked a b n) is h s k =
     let g : pt.kernel ≡ s = cc in
-    State-at None (moved pt (line.Acked a b n) pt.kernel) (moved pt (line.Acked a b n) s) (ap (moved pt (line.Acked a b n)) g)
-    (by_line None pt (line.Acked a b n) refl h (Stands-stays (letters h.own pt.kernel.bag) pt.view (view_after pt.view (line.Acked a b n)) (λ z. acked_off pt.view a b n z) (λ i. refl) h.stands) (λ i. refl))
-net_line pt line.Nothing is h s k =
+    State-at None (moved pt (Line.Acked a b n) pt.kernel) (moved pt (Line.Acked a b n) s) (ap (moved pt (Line.Acked a b n)) g)
+    (by_line None pt (Line.Acked a b n) refl h (Stands-stays (letters h.own pt.kernel.bag) pt.view (view_after pt.view (Line.Acked a b n)) (λ z. acked_off pt.view a b n z) (λ i. refl) h.stands) (λ i. refl))
+net_line pt Line.Nothing is h s k =
     let g : pt.kernel ≡ s = cc in
-    State-at None (moved pt line.Nothing pt.kernel) (moved pt line.Nothing s) (ap (moved pt line.Nothing) g) (by_line None pt line.Nothing refl h h.stands (λ i. refl))
-net_line pt (line.Resent m n) is h s k =
+    State-at None (moved pt Line.Nothing pt.kernel) (moved pt Line.Nothing s) (ap (moved pt Line.Nothing) g) (by_line None pt Line.Nothing refl h h.stands (λ i. refl))
+net_line pt (Line.Resent m n) is h s k =
     let g : pt.kernel ≡ s = cc in
-    State-at None (moved pt (line.Resent m n) pt.kernel) (moved pt (line.Resent m n) s) (ap (moved pt (line.Resent m n)) g) (by_line None pt (line.Resent m n) refl h h.stands (λ i. refl))
-net_line pt (line.Head d) is h s k = absurd is
-net_line pt (line.Idle m) is h s k = absurd is
-net_line pt (line.Label l) is h s k = absurd is
-net_line pt (line.Put a b i c q) is h s k = absurd is
-net_line pt (line.Packet a b c l) is h s k = absurd is
-net_line pt (line.Queued i) is h s k = absurd is
-net_line pt (line.Held i) is h s k = absurd is
-net_line pt (line.Forwarded i m) is h s k = absurd is
-net_line pt (line.Updated i n) is h s k = absurd is
-net_line pt (line.Migration st p) is h s k = absurd is
-net_line pt (line.SentOn p n) is h s k = absurd is
-net_line pt (line.Lacks p a b) is h s k = absurd is
-net_line pt (line.Stays p) is h s k = absurd is
-net_line pt (line.Here i) is h s k = absurd is
-net_line pt (line.NoMove i) is h s k = absurd is
-net_line pt (line.Proto i) is h s k = absurd is
-net_line pt (line.NoChild p) is h s k = absurd is
-net_line pt (line.Pinned p) is h s k = absurd is
+    State-at None (moved pt (Line.Resent m n) pt.kernel) (moved pt (Line.Resent m n) s) (ap (moved pt (Line.Resent m n)) g) (by_line None pt (Line.Resent m n) refl h h.stands (λ i. refl))
+net_line pt _ is h s k = absurd is
 
 net_row : (parts : List Part) (pt : Point) (w : Spelled) → IsNet parts → State None pt → spelled pt parts ≡ Some w → State None w.point
 net_row [] pt w is h e = State-at None pt w.point (said pt w e) h
@@ -155,14 +99,14 @@ takes_net : (a b : ℕ) (ns : List ℕ) → IsNet (rule.takes a b ns)
 takes_net a b [] = tt
 takes_net a b (n ∷ ns) = (tt, takes_net a b ns)
 
-data_net : (a b : ℕ) (p : Pair) (n : ℕ) (c d : Bool) → IsNet (if c then Says (line.Old a b n) ∷ Transmits b a (load.Ack p.taken) ∷ [] else if d then Says (line.Early a b n) ∷ Transmits b a (load.Ack p.taken) ∷ [] else rule.takes_on a b n (rule.kept_from p.kept (n + 1) window))
+data_net : (a b : ℕ) (p : Pair) (n : ℕ) (c d : Bool) → IsNet (if c then Says (Line.Old a b n) ∷ Transmits b a (Load.Ack p.taken) ∷ [] else if d then Says (Line.Early a b n) ∷ Transmits b a (Load.Ack p.taken) ∷ [] else rule.takes_on a b n (rule.kept_from p.kept (n + 1) window))
 data_net a b p n true d = (tt, (tt, tt))
 data_net a b p n false true = (tt, (tt, tt))
-data_net a b p n false false = net-append (rule.takes a b (n ∷ rule.kept_from p.kept (n + 1) window)) (Transmits b a (load.Ack (n + 1 + length (rule.kept_from p.kept (n + 1) window))) ∷ []) (takes_net a b (n ∷ rule.kept_from p.kept (n + 1) window)) (tt, tt)
+data_net a b p n false false = net-append (rule.takes a b (n ∷ rule.kept_from p.kept (n + 1) window)) (Transmits b a (Load.Ack (n + 1 + length (rule.kept_from p.kept (n + 1) window))) ∷ []) (takes_net a b (n ∷ rule.kept_from p.kept (n + 1) window)) (tt, tt)
 
 comes_net : (a b : ℕ) (p q : Pair) (l : Load) → IsNet (rule.comes a b p q l)
-comes_net a b p q (load.Data n) = data_net a b p n (nat_lt n p.taken) (nat_lt p.taken n)
-comes_net a b p q (load.Ack n) = (tt, repeats_net b a (rule.let_go q (rule.more n q.acked)))
+comes_net a b p q (Load.Data n) = data_net a b p n (nat_lt n p.taken) (nat_lt p.taken n)
+comes_net a b p q (Load.Ack n) = (tt, repeats_net b a (rule.let_go q (rule.more n q.acked)))
 
 pub arrives_net : (a b : ℕ) (p q : Pair) (o : Option Sent) → IsNet (rule.arrives a b p q o)
 arrives_net a b p q None = (tt, tt)
@@ -177,85 +121,75 @@ resends_net v m zero = tt
 resends_net v m (suc b) = net-append (rule.resends v m b) (if m == b then [] else rule.repeats m b (rule.numbers_from (v.pair m b).acked ((v.pair m b).gone - (v.pair m b).acked))) (resends_net v m b) (if_net (m == b) (rule.repeats m b (rule.numbers_from (v.pair m b).acked ((v.pair m b).gone - (v.pair m b).acked))) (repeats_net m b (rule.numbers_from (v.pair m b).acked ((v.pair m b).gone - (v.pair m b).acked))))
 
 -- the head of a group moves no message
-pub deliver_off : (v : View) (a b k : ℕ) (z : Spot) → ids_at (after_head v (step.Deliver a b k)) z ≡ ids_at v z
-deliver_off v a b k (Queue m p) = refl
-deliver_off v a b k (Held m p) = refl
-deliver_off v a b k (Inbox m) = refl
+pub deliver_off : (v : View) (a b k : ℕ) (z : Spot) → ids_at (after_head v (Step.Deliver a b k)) z ≡ ids_at v z
 deliver_off v a b k (Untaken c d) = pair_keeps v.pair a b (view.marked (v.pair a b) k) refl c d
+deliver_off v a b k _ = refl
 
-pub turn_off : (v : View) (m : ℕ) (z : Spot) → ids_at (after_head v (step.Turn m)) z ≡ ids_at v z
+pub turn_off : (v : View) (m : ℕ) (z : Spot) → ids_at (after_head v (Step.Turn m)) z ≡ ids_at v z
 turn_off v m (Queue n p) = refl
-turn_off v m (Held n p) = refl
-turn_off v m (Inbox n) = refl
-turn_off v m (Untaken c d) = refl
+turn_off v m _ = refl
 
-pub tick_off : (v : View) (m : ℕ) (z : Spot) → ids_at (after_head v (step.Tick m)) z ≡ ids_at v z
+pub tick_off : (v : View) (m : ℕ) (z : Spot) → ids_at (after_head v (Step.Tick m)) z ≡ ids_at v z
 tick_off v m (Queue n p) = refl
-tick_off v m (Held n p) = refl
-tick_off v m (Inbox n) = refl
-tick_off v m (Untaken c d) = refl
+tick_off v m _ = refl
 
-pub migrate_off : (v : View) (p : Pid) (m : ℕ) (z : Spot) → ids_at (after_head v (step.Migrate p m)) z ≡ ids_at v z
+pub migrate_off : (v : View) (p : Pid) (m : ℕ) (z : Spot) → ids_at (after_head v (Step.Migrate p m)) z ≡ ids_at v z
 migrate_off v p m (Queue n q) = refl
-migrate_off v p m (Held n q) = refl
-migrate_off v p m (Inbox n) = refl
-migrate_off v p m (Untaken c d) = refl
+migrate_off v p m _ = refl
 
-pub begun : (pt : Point) (d : Step) → State None pt → ((z : Spot) → ids_at (after_head pt.view d) z ≡ ids_at pt.view z) → ((i : MsgId) → (after_head pt.view d).told i ≡ pt.view.told i) → State None (moved pt (line.Head d) pt.kernel)
-begun pt d h off told = by_line None pt (line.Head d) refl h (Stands-stays (letters h.own pt.kernel.bag) pt.view (view_after pt.view (line.Head d)) off told h.stands) told
+pub begun : (pt : Point) (d : Step) → State None pt → ((z : Spot) → ids_at (after_head pt.view d) z ≡ ids_at pt.view z) → ((i : MsgId) → (after_head pt.view d).told i ≡ pt.view.told i) → State None (moved pt (Line.Head d) pt.kernel)
+begun pt d h off told = by_line None pt (Line.Head d) refl h (Stands-stays (letters h.own pt.kernel.bag) pt.view (view_after pt.view (Line.Head d)) off told h.stands) told
 
 -- a group is its head and what is spelled behind it
 pub record GroupIs (b : Boot) (pt : Point) (d : Step) (w : Spelled) : Type 0 where
   pub parts : List Part
   pub is : rule.outcome b pt d ≡ Some parts
   pub rest : Spelled
-  pub said : spelled (moved pt (line.Head d) pt.kernel) parts ≡ Some rest
+  pub said : spelled (moved pt (Line.Head d) pt.kernel) parts ≡ Some rest
   pub point : rest.point ≡ w.point
 
 pub group_is : (b : Boot) (pt : Point) (d : Step) (w : Spelled) → group_of b pt d ≡ Some w → GroupIs b pt d w
 group_is b pt d w e =
-    let (parts, is, more) = bind-is (rule.outcome b pt d) (λ parts. bind (after_line pt (line.Head d)) (λ begun. bind (spelled begun parts) (λ w. Some (rule.headed (line.Head d) w)))) w e in
-    let (start, head, last) = bind-is (after_line pt (line.Head d)) (λ begun. bind (spelled begun parts) (λ w. Some (rule.headed (line.Head d) w))) w more in
-    let (rest, told, end) = bind-is (spelled start parts) (λ w. Some (rule.headed (line.Head d) w)) w last in
-    let f : moved pt (line.Head d) pt.kernel ≡ start = cc in
-    let g : rule.headed (line.Head d) rest ≡ w = cc in
+    let (parts, is, more) = bind-is (rule.outcome b pt d) (λ parts. bind (after_line pt (Line.Head d)) (λ begun. bind (spelled begun parts) (λ w. Some (rule.headed (Line.Head d) w)))) w e in
+    let (start, head, last) = bind-is (after_line pt (Line.Head d)) (λ begun. bind (spelled begun parts) (λ w. Some (rule.headed (Line.Head d) w))) w more in
+    let (rest, told, end) = bind-is (spelled start parts) (λ w. Some (rule.headed (Line.Head d) w)) w last in
+    let f : moved pt (Line.Head d) pt.kernel ≡ start = cc in
+    let g : rule.headed (Line.Head d) rest ≡ w = cc in
     record { parts = parts; is = is; rest = rest; said = ap (λ p. spelled p parts) f ∙ told; point = ap (λ (x : Spelled). x.point) g }
 
 -- every group keeps that each message stands once
 pub State-group : (b : Boot) (pt : Point) (d : Step) (w : Spelled) → group_of b pt d ≡ Some w → PairsFit pt.view → State None pt → State None w.point
-State-group b pt (step.Turn m) w e fits h =
-    let g = group_is b pt (step.Turn m) w e in
+State-group b pt (Step.Turn m) w e fits h =
+    let g = group_is b pt (Step.Turn m) w e in
     State-at None g.rest.point w.point g.point
-    (turns_row b pt (moved pt (line.Head (step.Turn m)) pt.kernel) m (pt.view.inbox m) g.parts g.rest (begun pt (step.Turn m) h (λ z. turn_off pt.view m z) (λ i. refl))
+    (turns_row b pt (moved pt (Line.Head (Step.Turn m)) pt.kernel) m (pt.view.inbox m) g.parts g.rest (begun pt (Step.Turn m) h (λ z. turn_off pt.view m z) (λ i. refl))
     (record { within = fits.within; home = fits.home }) refl (record { kernel = refl; queue = λ q. refl; held = λ q. refl }) g.is g.said)
-State-group b pt (step.Tick m) w e fits h =
-    let g = group_is b pt (step.Tick m) w e in
-    let f : Says (line.Resent m (rule.outstanding pt.view m pt.kernel.machines)) ∷ rule.resends pt.view m pt.kernel.machines ≡ g.parts = let k = g.is in cc in
-    let start = moved pt (line.Head (step.Tick m)) pt.kernel in
+State-group b pt (Step.Tick m) w e fits h =
+    let g = group_is b pt (Step.Tick m) w e in
+    let f : Says (Line.Resent m (rule.outstanding pt.view m pt.kernel.machines)) ∷ rule.resends pt.view m pt.kernel.machines ≡ g.parts = let k = g.is in cc in
+    let start = moved pt (Line.Head (Step.Tick m)) pt.kernel in
     State-at None g.rest.point w.point g.point
-    (net_row (Says (line.Resent m (rule.outstanding pt.view m pt.kernel.machines)) ∷ rule.resends pt.view m pt.kernel.machines) start g.rest (tt, resends_net pt.view m pt.kernel.machines)
-    (begun pt (step.Tick m) h (λ z. tick_off pt.view m z) (λ i. refl)) (ap (spelled start) f ∙ g.said))
-State-group b pt (step.Deliver a c k) w e fits h =
-    let g = group_is b pt (step.Deliver a c k) w e in
+    (net_row (Says (Line.Resent m (rule.outstanding pt.view m pt.kernel.machines)) ∷ rule.resends pt.view m pt.kernel.machines) start g.rest (tt, resends_net pt.view m pt.kernel.machines)
+    (begun pt (Step.Tick m) h (λ z. tick_off pt.view m z) (λ i. refl)) (ap (spelled start) f ∙ g.said))
+State-group b pt (Step.Deliver a c k) w e fits h =
+    let g = group_is b pt (Step.Deliver a c k) w e in
     let parts = rule.arrives a c (pt.view.pair a c) (pt.view.pair c a) (slice_get (pt.view.pair a c).wire k) in
     let f : parts ≡ g.parts = let t = g.is in cc in
-    let start = moved pt (line.Head (step.Deliver a c k)) pt.kernel in
+    let start = moved pt (Line.Head (Step.Deliver a c k)) pt.kernel in
     State-at None g.rest.point w.point g.point
     (net_row parts start g.rest (arrives_net a c (pt.view.pair a c) (pt.view.pair c a) (slice_get (pt.view.pair a c).wire k))
-    (begun pt (step.Deliver a c k) h (λ z. deliver_off pt.view a c k z) (λ i. refl)) (ap (spelled start) f ∙ g.said))
-State-group b pt (step.Migrate p m) w e fits h =
-    let g = group_is b pt (step.Migrate p m) w e in
+    (begun pt (Step.Deliver a c k) h (λ z. deliver_off pt.view a c k z) (λ i. refl)) (ap (spelled start) f ∙ g.said))
+State-group b pt (Step.Migrate p m) w e fits h =
+    let g = group_is b pt (Step.Migrate p m) w e in
     let f : migrates pt p ≡ g.parts = let k = g.is in cc in
-    let start = moved pt (line.Head (step.Migrate p m)) pt.kernel in
+    let start = moved pt (Line.Head (Step.Migrate p m)) pt.kernel in
     State-at None g.rest.point w.point g.point
-    (migrates_row pt start p g.rest (begun pt (step.Migrate p m) h (λ z. migrate_off pt.view p m z) (λ i. refl)) (record { within = fits.within; home = fits.home }) (ap (spelled start) f ∙ g.said))
+    (migrates_row pt start p g.rest (begun pt (Step.Migrate p m) h (λ z. migrate_off pt.view p m z) (λ i. refl)) (record { within = fits.within; home = fits.home }) (ap (spelled start) f ∙ g.said))
 
 -- where a run begins
 untaken_none : (z : Spot) (b : Boot) (i : MsgId) → standing (first_view b) i z ≡ 0
 untaken_none (Queue m p) b i = refl
-untaken_none (Held m p) b i = refl
-untaken_none (Inbox m) b i = refl
-untaken_none (Untaken c d) b i = refl
+untaken_none _ b i = refl
 
 abbrev nobody : Option Pid
 nobody = None

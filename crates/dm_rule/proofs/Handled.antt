@@ -1,46 +1,18 @@
 -- What a turn says keeps that each message stands once.
-use Rattle.std.proofs.Common.{◌≡◌, ℕ, ◌+◌, ◌≤◌, ◌==◌, Bool, true, false, List, [], ◌∷◌, refl, ap, ◌∙◌, sym, subst, arith, length}
-use Rattle.std.specs.Prelude.{if◌then◌else◌, slice_get}
-use Rattle.std.specs.declared.option.Option.{Option}
-use Rattle.std.specs.declared.option.Option.TheVariants.{None, Some}
-use Rattle.dm_link.specs.declared.Pid.{Pid}
-use Rattle.dm_link.specs.Names.{pid_eq}
-use Rattle.dm_message.specs.declared.MsgId.{MsgId}
-use Rattle.dm_message.specs.Plain as what
-use Rattle.dm_message.specs.Plain.{PlainMessage, PlainWhat}
-use Rattle.dm_onekernel.specs.declared.label.Label.TheVariants as label
-use Rattle.dm_onekernel.specs.Options.{bind}
-use Rattle.dm_onekernel.specs.Kernel.{OneKernel}
+use Rattle.dm_rule.proofs.Names.{◌≡◌, ℕ, ◌+◌, ◌≤◌, ◌==◌, Bool, true, false, List, [], ◌∷◌, refl, ap, ◌∙◌, sym, subst, arith, length, if◌then◌else◌, slice_get, Option, None, Some, Pid, pid_eq, MsgId, Label, PlainMessage, PlainWhat, bind}
+use Rattle.dm_rule.proofs.Names.{OneKernel, Line, at_record, without_id, View, view_after, handled, receiver_of, Point, label_of, kernel_after, moved, Part, Says, Routes, Spelled, spelled, Spot, Queue, Held, Inbox, Untaken, times, ids_at}
+use Rattle.dm_rule.proofs.Names.{id_eq-same, bind-is, Boot, BootImage, Why, first_number, switchboard, manager, PlainProcess, PlainStatus, Ready, Waiting, Moving, answer_id, pid_of, forwards_on, says, drops, plain_kind, instruction}
 use Rattle.dm_onekernel.specs.Step as kernel
-use Rattle.dm_line.specs.declared.line.Line.{Line}
-use Rattle.dm_line.specs.declared.line.Line.TheVariants as line
-use Rattle.dm_line.specs.Sets.{at_record, without_id}
-use Rattle.dm_rule.specs.View.{View, Pair, Told, view_after, handled, receiver_of}
 use Rattle.dm_rule.specs.View as view
-use Rattle.dm_rule.specs.Point.{Point, label_of, kernel_after, moved}
-use Rattle.dm_rule.specs.Parts.{Part, Says, Routes, Spelled, spelled}
-use Rattle.dm_rule.specs.Spots.{Spot, Queue, Held, Inbox, Untaken, times, ids_at}
-use Rattle.dm_laws.proofs.Equal.{id_eq-same}
-use Rattle.dm_laws.proofs.Steps.{bind-is}
 use Rattle.dm_rule.proofs.Lines.{Stands-queued, Stands-dequeued, without_counts}
 use Rattle.dm_rule.proofs.Bags.{BagStep}
 use Rattle.dm_rule.proofs.Once.{one_of}
-use Rattle.dm_onekernel.specs.declared.boot.Boot.{Boot}
-use Rattle.dm_onekernel.specs.declared.boot.BootImage.{BootImage}
-use Rattle.dm_onekernel.specs.declared.label.Why.{Why}
-use Rattle.dm_onekernel.specs.declared.label.Why.TheVariants as why
-use Rattle.dm_onekernel.specs.Boot.{first_number, switchboard, manager}
-use Rattle.dm_onekernel.specs.PlainProcess.{PlainProcess, PlainStatus, Ready, Waiting, Moving}
 use Rattle.dm_onekernel.specs.Calls as calls
 use Rattle.dm_onekernel.specs.Pieces as pieces
-use Rattle.dm_onekernel.specs.Pieces.{answer_id}
 use Rattle.dm_onekernel.specs.Receiving as receiving
 use Rattle.dm_onekernel.specs.Switchboard as board
 use Rattle.dm_onekernel.specs.Manager as manage
-use Rattle.dm_link.specs.Names.{pid_of}
-use Rattle.dm_rule.specs.Migrating.{forwards_on}
 use Rattle.dm_rule.specs.Rule as rule
-use Rattle.dm_rule.specs.Rule.{says, drops, group_of}
 use Rattle.dm_rule.proofs.Bags.{served_id, landed_id, board_id, manager_id, took_id, id_in, bag_ran, bag_call, bag_sends, bag_wait, bag_out, bag_end, bag_receive, bag_refuse, bag_dropped, bag_served, bag_gone, bag_took, bag_created, bag_no_space}
 use Rattle.dm_rule.proofs.States.{State, says_next, said, State-at, by_label, by_line, PairsFit}
 use Rattle.dm_rule.proofs.Bags.{BagStep}
@@ -48,8 +20,6 @@ use Rattle.dm_rule.proofs.Turns.{served_keeps, serving_off, created_off, quiet_l
 use Rattle.dm_rule.proofs.Letters.{letters, letter_of}
 use Rattle.dm_rule.proofs.Said.{fits_as, one_line, line_and_route}
 use Rattle.dm_rule.proofs.Moves.Rows.{held_row, forwards_row, hears_row, SeesSame}
-use Rattle.dm_message.specs.Kinds.{plain_kind}
-use Rattle.dm_processor.specs.Instructions.{instruction}
 
 -- a message may enter by a line, and is routed if it does
 line_and_maybe : (pt : Point) (l : Line) (o : Option PlainMessage) (w : Spelled) → spelled pt (Says l ∷ rule.routes o) ≡ Some w → (view_after pt.view l).pair ≡ pt.view.pair → PairsFit pt.view
@@ -58,31 +28,31 @@ line_and_maybe pt l None w e pair fits h = one_line pt l w e h
 line_and_maybe pt l (Some m) w e pair fits h = line_and_route pt l m.id w e pair fits h
 
 -- a process ends, and its queue is dropped
-ends_row : (pt : Point) (p : Pid) (y : Why) (queue : List MsgId) (w : Spelled) → State None pt → pt.view.queue pt.view.acting p ≡ queue → spelled pt (says (label.End p y) ∷ drops queue) ≡ Some w → State None w.point
+ends_row : (pt : Point) (p : Pid) (y : Why) (queue : List MsgId) (w : Spelled) → State None pt → pt.view.queue pt.view.acting p ≡ queue → spelled pt (says (Label.End p y) ∷ drops queue) ≡ Some w → State None w.point
 ends_row pt p y queue w h is e =
-    let l = label.End p y in
-    let k = says_next pt (line.Label l) (drops queue) w e in
-    let next = moved pt (line.Label l) k.s in
+    let l = Label.End p y in
+    let k = says_next pt (Line.Label l) (drops queue) w e in
+    let next = moved pt (Line.Label l) k.s in
     let there = quiet_label pt l k.s None h k.is (bag_end h.e pt.kernel k.s p y k.is) (λ z. ended_off pt.view p z) (λ i. refl) in
     State-at None k.rest.point w.point k.point (all_dropped queue next p k.rest there is k.more)
 
 -- what a call comes to
 called_row : (pt : Point) (p : Pid) (n : ℕ) (queue : List MsgId) (c : calls.Called) (w : Spelled) → State None pt → PairsFit pt.view → pt.view.queue pt.view.acting p ≡ queue → spelled pt (rule.called p n queue c) ≡ Some w → State None w.point
 called_row pt p n queue (calls.Replies reply x) w h fits is e =
-    one_line pt (line.Label (label.Call p n reply)) w e (λ s k. quiet_label pt (label.Call p n reply) s None h k (bag_call h.e pt.kernel s p n reply k) (λ z. refl) (λ i. refl))
+    one_line pt (Line.Label (Label.Call p n reply)) w e (λ s k. quiet_label pt (Label.Call p n reply) s None h k (bag_call h.e pt.kernel s p n reply k) (λ z. refl) (λ i. refl))
 called_row pt p n queue (calls.Sends m x) w h fits is e =
-    line_and_route pt (line.Label (label.Send p m.id)) m.id w e refl fits
-    (λ s k. quiet_label pt (label.Send p m.id) s (Some m.id) h k (bag_sends h.r h.e pt.kernel s p m.id k h.sound) (λ z. refl) (λ i. refl))
+    line_and_route pt (Line.Label (Label.Send p m.id)) m.id w e refl fits
+    (λ s k. quiet_label pt (Label.Send p m.id) s (Some m.id) h k (bag_sends h.r h.e pt.kernel s p m.id k h.sound) (λ z. refl) (λ i. refl))
 called_row pt p n queue (calls.Waits x) w h fits is e =
-    one_line pt (line.Label (label.Wait p)) w e (λ s k. quiet_label pt (label.Wait p) s None h k (bag_wait h.e pt.kernel s p k) (λ z. refl) (λ i. refl))
+    one_line pt (Line.Label (Label.Wait p)) w e (λ s k. quiet_label pt (Label.Wait p) s None h k (bag_wait h.e pt.kernel s p k) (λ z. refl) (λ i. refl))
 called_row pt p n queue (calls.Outputs word x) w h fits is e =
-    one_line pt (line.Label (label.Out p word)) w e (λ s k. quiet_label pt (label.Out p word) s None h k (bag_out h.e pt.kernel s p word k) (λ z. refl) (λ i. refl))
+    one_line pt (Line.Label (Label.Out p word)) w e (λ s k. quiet_label pt (Label.Out p word) s None h k (bag_out h.e pt.kernel s p word k) (λ z. refl) (λ i. refl))
 called_row pt p n queue (calls.Ends because) w h fits is e = ends_row pt p because queue w h is e
 
 stops_row : (pt : Point) (p : Pid) (queue : List MsgId) (o : Option kernel.Next) (w : Spelled) → State None pt → PairsFit pt.view → pt.view.queue pt.view.acting p ≡ queue → spelled pt (rule.stops p queue o) ≡ Some w → State None w.point
 stops_row pt p queue None w h fits is e = State-at None pt w.point (said pt w e) h
 stops_row pt p queue (Some (kernel.Calls n c)) w h fits is e = called_row pt p n queue c w h fits is e
-stops_row pt p queue (Some (kernel.Faults fault)) w h fits is e = ends_row pt p (why.Fault fault) queue w h is e
+stops_row pt p queue (Some (kernel.Faults fault)) w h fits is e = ends_row pt p (Why.Fault fault) queue w h is e
 
 maybe_stops : (pt : Point) (p : Pid) (queue : List MsgId) (full : Bool) (o : Option kernel.Next) (w : Spelled) → State None pt → PairsFit pt.view → pt.view.queue pt.view.acting p ≡ queue → spelled pt (if full then [] else rule.stops p queue o) ≡ Some w → State None w.point
 maybe_stops pt p queue true o w h fits is e = State-at None pt w.point (said pt w e) h
@@ -90,10 +60,10 @@ maybe_stops pt p queue false o w h fits is e = stops_row pt p queue o w h fits i
 
 executes_row : (pt : Point) (quantum : ℕ) (p : Pid) (queue : List MsgId) (x : PlainProcess) (r : rule.Ran) (w : Spelled) → State None pt → PairsFit pt.view → pt.view.queue pt.view.acting p ≡ queue → spelled pt (rule.executes quantum p queue x r) ≡ Some w → State None w.point
 executes_row pt quantum p queue x r w h fits is e =
-    let l = label.Ran p r.count in
+    let l = Label.Ran p r.count in
     let others = if r.count == quantum then [] else rule.stops p queue (kernel.next_row p (kernel.with_machine x r.machine) (instruction r.machine.regs r.machine.bytes)) in
-    let k = says_next pt (line.Label l) others w e in
-    let next = moved pt (line.Label l) k.s in
+    let k = says_next pt (Line.Label l) others w e in
+    let next = moved pt (Line.Label l) k.s in
     let there = quiet_label pt l k.s None h k.is (bag_ran h.e pt.kernel k.s p r.count k.is) (λ z. serving_off pt.view p z) (λ i. refl) in
     State-at None k.rest.point w.point k.point
     (maybe_stops next p queue (r.count == quantum) (kernel.next_row p (kernel.with_machine x r.machine) (instruction r.machine.regs r.machine.bytes)) k.rest there (fits_as pt.view next.view refl fits) is k.more)
@@ -118,12 +88,12 @@ received_off v p rest (Untaken a b) = refl
 
 completes_row : (pt : Point) (p : Pid) (id : MsgId) (c : receiving.Completed) (w : Spelled) → State None pt → 1 ≤ times id (pt.view.queue pt.view.acting p) → spelled pt (rule.completes p id c) ≡ Some w → State None w.point
 completes_row pt p id (receiving.Receives x) w h there e =
-    one_line pt (line.Label (label.Receive p id)) w e
-    (λ s k. by_label pt (label.Receive p id) s (Some id) None h k (gone_out pt (label.Receive p id) s id h k refl) (bag_receive h.e pt.kernel s p id k)
-    (Stands-dequeued (letters h.own pt.kernel.bag) pt.view (view_after pt.view (line.Label (label.Receive p id))) id p (without_id id (pt.view.queue pt.view.acting p)) (λ j. without_counts j id (pt.view.queue pt.view.acting p) there)
+    one_line pt (Line.Label (Label.Receive p id)) w e
+    (λ s k. by_label pt (Label.Receive p id) s (Some id) None h k (gone_out pt (Label.Receive p id) s id h k refl) (bag_receive h.e pt.kernel s p id k)
+    (Stands-dequeued (letters h.own pt.kernel.bag) pt.view (view_after pt.view (Line.Label (Label.Receive p id))) id p (without_id id (pt.view.queue pt.view.acting p)) (λ j. without_counts j id (pt.view.queue pt.view.acting p) there)
     (λ z. received_off pt.view p (without_id id (pt.view.queue pt.view.acting p)) z) (λ i. refl) h.stands) (λ i. refl))
 completes_row pt p id (receiving.Refuses reply x) w h there e =
-    one_line pt (line.Label (label.Refuse p id reply)) w e (λ s k. quiet_label pt (label.Refuse p id reply) s None h k (bag_refuse h.e pt.kernel s p id reply k) (λ z. serving_off pt.view p z) (λ i. refl))
+    one_line pt (Line.Label (Label.Refuse p id reply)) w e (λ s k. quiet_label pt (Label.Refuse p id reply) s None h k (bag_refuse h.e pt.kernel s p id reply k) (λ z. serving_off pt.view p z) (λ i. refl))
 
 receives_row : (pt : Point) (p : Pid) (x : PlainProcess) (mask : ℕ) (o : Option MsgId) (parts : List Part) (w : Spelled) → State None pt → rule.first_awaited pt.kernel mask (pt.view.queue pt.view.acting p) ≡ o → rule.receives pt.kernel p x o ≡ Some parts → spelled pt parts ≡ Some w → State None w.point
 receives_row pt p x mask None parts w h first is e = cc
@@ -141,34 +111,34 @@ serves_row pt quantum p x (Waiting mask base size) parts w h fits is e = receive
 serves_row pt quantum p x (Moving dir owner base own left pending) parts w h fits is e = cc
 
 -- labels that answer the message at the inbox's front
-gone_row : (pt : Point) (i : MsgId) (is : List MsgId) (w : Spelled) → State None pt → PairsFit pt.view → pt.view.inbox pt.view.acting ≡ i ∷ is → spelled pt (says (label.Gone i) ∷ Routes (answer_id i) ∷ []) ≡ Some w → State None w.point
+gone_row : (pt : Point) (i : MsgId) (is : List MsgId) (w : Spelled) → State None pt → PairsFit pt.view → pt.view.inbox pt.view.acting ≡ i ∷ is → spelled pt (says (Label.Gone i) ∷ Routes (answer_id i) ∷ []) ≡ Some w → State None w.point
 gone_row pt i is w h fits front e =
-    line_and_route pt (line.Label (label.Gone i)) (answer_id i) w e refl fits
-    (λ s k. front_label pt (label.Gone i) s i is (Some (answer_id i)) h front k refl (bag_gone h.r h.e pt.kernel s i k h.sound) (λ z. refl) (λ j. refl))
+    line_and_route pt (Line.Label (Label.Gone i)) (answer_id i) w e refl fits
+    (λ s k. front_label pt (Label.Gone i) s i is (Some (answer_id i)) h front k refl (bag_gone h.r h.e pt.kernel s i k h.sound) (λ z. refl) (λ j. refl))
 
-dropped_row : (pt : Point) (i : MsgId) (is : List MsgId) (w : Spelled) → State None pt → pt.view.inbox pt.view.acting ≡ i ∷ is → spelled pt (says (label.Dropped i) ∷ []) ≡ Some w → State None w.point
+dropped_row : (pt : Point) (i : MsgId) (is : List MsgId) (w : Spelled) → State None pt → pt.view.inbox pt.view.acting ≡ i ∷ is → spelled pt (says (Label.Dropped i) ∷ []) ≡ Some w → State None w.point
 dropped_row pt i is w h front e =
-    one_line pt (line.Label (label.Dropped i)) w e
-    (λ s k. front_label pt (label.Dropped i) s i is None h front k refl (bag_dropped h.e pt.kernel s i k) (λ z. dropped_off pt.view i (receiver_of (pt.view.told i)) (front_unqueued pt i is h front) z) (λ j. dropped_told pt.view i (receiver_of (pt.view.told i)) j))
+    one_line pt (Line.Label (Label.Dropped i)) w e
+    (λ s k. front_label pt (Label.Dropped i) s i is None h front k refl (bag_dropped h.e pt.kernel s i k) (λ z. dropped_off pt.view i (receiver_of (pt.view.told i)) (front_unqueued pt i is h front) z) (λ j. dropped_told pt.view i (receiver_of (pt.view.told i)) j))
 
-created_row : (pt : Point) (i : MsgId) (is : List MsgId) (child : Pid) (w : Spelled) → State None pt → PairsFit pt.view → pt.view.inbox pt.view.acting ≡ i ∷ is → spelled pt (says (label.Created i child) ∷ Routes (answer_id i) ∷ []) ≡ Some w → State None w.point
+created_row : (pt : Point) (i : MsgId) (is : List MsgId) (child : Pid) (w : Spelled) → State None pt → PairsFit pt.view → pt.view.inbox pt.view.acting ≡ i ∷ is → spelled pt (says (Label.Created i child) ∷ Routes (answer_id i) ∷ []) ≡ Some w → State None w.point
 created_row pt i is child w h fits front e =
-    line_and_route pt (line.Label (label.Created i child)) (answer_id i) w e refl fits
-    (λ s k. front_label pt (label.Created i child) s i is (Some (answer_id i)) h front k refl (bag_created h.r h.e pt.kernel s i child k h.sound) (λ z. created_off pt.view i child z) (λ j. refl))
+    line_and_route pt (Line.Label (Label.Created i child)) (answer_id i) w e refl fits
+    (λ s k. front_label pt (Label.Created i child) s i is (Some (answer_id i)) h front k refl (bag_created h.r h.e pt.kernel s i child k h.sound) (λ z. created_off pt.view i child z) (λ j. refl))
 
-no_space_row : (pt : Point) (i : MsgId) (is : List MsgId) (a b : ℕ) (w : Spelled) → State None pt → PairsFit pt.view → pt.view.inbox pt.view.acting ≡ i ∷ is → spelled pt (says (label.NoSpace i a b) ∷ Routes (answer_id i) ∷ []) ≡ Some w → State None w.point
+no_space_row : (pt : Point) (i : MsgId) (is : List MsgId) (a b : ℕ) (w : Spelled) → State None pt → PairsFit pt.view → pt.view.inbox pt.view.acting ≡ i ∷ is → spelled pt (says (Label.NoSpace i a b) ∷ Routes (answer_id i) ∷ []) ≡ Some w → State None w.point
 no_space_row pt i is a b w h fits front e =
-    line_and_route pt (line.Label (label.NoSpace i a b)) (answer_id i) w e refl fits
-    (λ s k. front_label pt (label.NoSpace i a b) s i is (Some (answer_id i)) h front k refl (bag_no_space h.r h.e pt.kernel s i a b k h.sound) (λ z. refl) (λ j. refl))
+    line_and_route pt (Line.Label (Label.NoSpace i a b)) (answer_id i) w e refl fits
+    (λ s k. front_label pt (Label.NoSpace i a b) s i is (Some (answer_id i)) h front k refl (bag_no_space h.r h.e pt.kernel s i a b k h.sound) (λ z. refl) (λ j. refl))
 
 -- a served message: what its line leaves as it is
-served_label : (pt : Point) (i : MsgId) (is : List MsgId) (put : Option MsgId) (s : OneKernel) (h : State None pt) → pt.view.inbox pt.view.acting ≡ i ∷ is → kernel.step pt.kernel (label.Served i) ≡ Some s → BagStep h.e pt.kernel s (Some i) put → State put (moved pt (line.Label (label.Served i)) s)
+served_label : (pt : Point) (i : MsgId) (is : List MsgId) (put : Option MsgId) (s : OneKernel) (h : State None pt) → pt.view.inbox pt.view.acting ≡ i ∷ is → kernel.step pt.kernel (Label.Served i) ≡ Some s → BagStep h.e pt.kernel s (Some i) put → State put (moved pt (Line.Label (Label.Served i)) s)
 served_label pt i is put s h front k bag =
     let keeps = served_keeps (handled pt.view i) (pt.view.told i) in
-    front_label pt (label.Served i) s i is put h front k refl bag keeps.0 keeps.1
+    front_label pt (Label.Served i) s i is put h front k refl bag keeps.0 keeps.1
 
 -- the same message, and the same process, as the rule saw
-served_put : (pt : Point) (i : MsgId) (m : PlainMessage) (x : PlainProcess) (s : OneKernel) (h : State None pt) → pt.kernel.bag i ≡ Some m → kernel.alive (pt.kernel.processes m.to) ≡ Some x → kernel.step pt.kernel (label.Served i) ≡ Some s
+served_put : (pt : Point) (i : MsgId) (m : PlainMessage) (x : PlainProcess) (s : OneKernel) (h : State None pt) → pt.kernel.bag i ≡ Some m → kernel.alive (pt.kernel.processes m.to) ≡ Some x → kernel.step pt.kernel (Label.Served i) ≡ Some s
     → BagStep h.e pt.kernel s (Some i) (served_id i m x m.what)
 served_put pt i m x s h there alive k =
     let q = bag_served h.r h.e pt.kernel s i k h.sound in
@@ -178,32 +148,32 @@ served_put pt i m x s h there alive k =
     subst (λ y. BagStep h.e pt.kernel s (Some i) (served_id i m y m.what)) also (subst (λ (n : PlainMessage). BagStep h.e pt.kernel s (Some i) (served_id i n q.x n.what)) same q.is)
 
 served_alone : (pt : Point) (i : MsgId) (is : List MsgId) (m : PlainMessage) (x : PlainProcess) (w : Spelled) (h : State None pt) → pt.view.inbox pt.view.acting ≡ i ∷ is → pt.kernel.bag i ≡ Some m → kernel.alive (pt.kernel.processes m.to) ≡ Some x
-    → served_id i m x m.what ≡ None → spelled pt (says (label.Served i) ∷ []) ≡ Some w → State None w.point
+    → served_id i m x m.what ≡ None → spelled pt (says (Label.Served i) ∷ []) ≡ Some w → State None w.point
 served_alone pt i is m x w h front there alive none e =
-    one_line pt (line.Label (label.Served i)) w e (λ s k. served_label pt i is None s h front k (subst (BagStep h.e pt.kernel s (Some i)) none (served_put pt i m x s h there alive k)))
+    one_line pt (Line.Label (Label.Served i)) w e (λ s k. served_label pt i is None s h front k (subst (BagStep h.e pt.kernel s (Some i)) none (served_put pt i m x s h there alive k)))
 
 served_routes : (pt : Point) (i : MsgId) (is : List MsgId) (m : PlainMessage) (x : PlainProcess) (j : MsgId) (w : Spelled) (h : State None pt) → PairsFit pt.view → pt.view.inbox pt.view.acting ≡ i ∷ is → pt.kernel.bag i ≡ Some m → kernel.alive (pt.kernel.processes m.to) ≡ Some x
-    → served_id i m x m.what ≡ Some j → spelled pt (says (label.Served i) ∷ Routes j ∷ []) ≡ Some w → State None w.point
+    → served_id i m x m.what ≡ Some j → spelled pt (says (Label.Served i) ∷ Routes j ∷ []) ≡ Some w → State None w.point
 served_routes pt i is m x j w h fits front there alive put e =
     let keeps = served_keeps (handled pt.view i) (pt.view.told i) in
-    line_and_route pt (line.Label (label.Served i)) j w e keeps.2 fits (λ s k. served_label pt i is (Some j) s h front k (subst (BagStep h.e pt.kernel s (Some i)) put (served_put pt i m x s h there alive k)))
+    line_and_route pt (Line.Label (Label.Served i)) j w e keeps.2 fits (λ s k. served_label pt i is (Some j) s h front k (subst (BagStep h.e pt.kernel s (Some i)) put (served_put pt i m x s h there alive k)))
 
 lands_row : (pt : Point) (i : MsgId) (is : List MsgId) (m : PlainMessage) (x : PlainProcess) (o : Option pieces.Landed) (parts : List Part) (w : Spelled) (h : State None pt) → PairsFit pt.view → pt.view.inbox pt.view.acting ≡ i ∷ is → pt.kernel.bag i ≡ Some m → kernel.alive (pt.kernel.processes m.to) ≡ Some x
     → served_id i m x m.what ≡ landed_id o → rule.lands i o ≡ Some parts → spelled pt parts ≡ Some w → State None w.point
 lands_row pt i is m x None parts w h fits front there alive put e k = cc
 lands_row pt i is m x (Some (pieces.Next request y)) parts w h fits front there alive put e k =
-    let f : says (label.Served i) ∷ Routes request.id ∷ [] ≡ parts = cc in
+    let f : says (Label.Served i) ∷ Routes request.id ∷ [] ≡ parts = cc in
     served_routes pt i is m x request.id w h fits front there alive put (ap (spelled pt) f ∙ k)
 lands_row pt i is m x (Some (pieces.Done reply y)) parts w h fits front there alive put e k =
-    let f : says (label.Served i) ∷ [] ≡ parts = cc in
+    let f : says (Label.Served i) ∷ [] ≡ parts = cc in
     served_alone pt i is m x w h front there alive put (ap (spelled pt) f ∙ k)
 
 killed_row : (pt : Point) (i : MsgId) (is : List MsgId) (m : PlainMessage) (x : PlainProcess) (w : Spelled) (h : State None pt) → pt.view.inbox pt.view.acting ≡ i ∷ is → pt.kernel.bag i ≡ Some m → kernel.alive (pt.kernel.processes m.to) ≡ Some x
-    → served_id i m x m.what ≡ None → spelled pt (says (label.Served i) ∷ drops (pt.view.queue pt.view.acting m.to)) ≡ Some w → State None w.point
+    → served_id i m x m.what ≡ None → spelled pt (says (Label.Served i) ∷ drops (pt.view.queue pt.view.acting m.to)) ≡ Some w → State None w.point
 killed_row pt i is m x w h front there alive none e =
-    let l = label.Served i in
-    let k = says_next pt (line.Label l) (drops (pt.view.queue pt.view.acting m.to)) w e in
-    let next = moved pt (line.Label l) k.s in
+    let l = Label.Served i in
+    let k = says_next pt (Line.Label l) (drops (pt.view.queue pt.view.acting m.to)) w e in
+    let next = moved pt (Line.Label l) k.s in
     let keeps = served_keeps (handled pt.view i) (pt.view.told i) in
     let there_ = served_label pt i is None k.s h front k.is (subst (BagStep h.e pt.kernel k.s (Some i)) none (served_put pt i m x k.s h there alive k.is)) in
     let queue : next.view.queue next.view.acting m.to ≡ pt.view.queue pt.view.acting m.to = ap (λ a. next.view.queue a m.to) keeps.3 ∙ ap (λ f. f pt.view.acting m.to) keeps.4 in
@@ -213,50 +183,40 @@ queued_told : (v : View) (i : MsgId) (o : Option Pid) (j : MsgId) → (view.queu
 queued_told v i None j = refl
 queued_told v i (Some p) j = refl
 
-queued_row : (pt : Point) (i : MsgId) (is : List MsgId) (m : PlainMessage) (w : Spelled) → State None pt → pt.view.inbox pt.view.acting ≡ i ∷ is → pt.kernel.bag i ≡ Some m → spelled pt (Says (line.Queued i) ∷ []) ≡ Some w → State None w.point
+queued_row : (pt : Point) (i : MsgId) (is : List MsgId) (m : PlainMessage) (w : Spelled) → State None pt → pt.view.inbox pt.view.acting ≡ i ∷ is → pt.kernel.bag i ≡ Some m → spelled pt (Says (Line.Queued i) ∷ []) ≡ Some w → State None w.point
 queued_row pt i is m w h front there e =
-    one_line pt (line.Queued i) w e (λ s k.
+    one_line pt (Line.Queued i) w e (λ s k.
     let same : pt.kernel ≡ s = cc in
-    State-at None (moved pt (line.Queued i) pt.kernel) (moved pt (line.Queued i) s) (ap (moved pt (line.Queued i)) same)
-    (by_line None pt (line.Queued i) refl h (Stands-queued (letters h.own pt.kernel.bag) pt.view (view_after pt.view (line.Queued i)) i is m.to front (letter_of h.r h.e h.own pt.kernel i m there h.sound) refl h.stands) (λ j. queued_told pt.view i (receiver_of (pt.view.told i)) j)))
+    State-at None (moved pt (Line.Queued i) pt.kernel) (moved pt (Line.Queued i) s) (ap (moved pt (Line.Queued i)) same)
+    (by_line None pt (Line.Queued i) refl h (Stands-queued (letters h.own pt.kernel.bag) pt.view (view_after pt.view (Line.Queued i)) i is m.to front (letter_of h.r h.e h.own pt.kernel i m there h.sound) refl h.stands) (λ j. queued_told pt.view i (receiver_of (pt.view.told i)) j)))
 
 -- a message for a process that is here, by its kind; the rule saw the point before the head, which has the same kernel and queues
 here_row : (o pt : Point) (m : ℕ) (i : MsgId) (is : List MsgId) (msg : PlainMessage) (x : PlainProcess) (k : PlainWhat) (parts : List Part) (w : Spelled) (h : State None pt) → PairsFit pt.view → pt.view.inbox pt.view.acting ≡ i ∷ is → pt.kernel.bag i ≡ Some msg
     → kernel.alive (pt.kernel.processes msg.to) ≡ Some x → msg.what ≡ k → o.view.queue m msg.to ≡ pt.view.queue pt.view.acting msg.to → rule.here_handles o m i msg x k ≡ Some parts → spelled pt parts ≡ Some w → State None w.point
-here_row o pt m i is msg x (what.User a b c d) parts w h fits front there alive k queue e n = let f : Says (line.Queued i) ∷ [] ≡ parts = cc in queued_row pt i is msg w h front there (ap (spelled pt) f ∙ n)
-here_row o pt m i is msg x what.Stop parts w h fits front there alive k queue e n = let f : says (label.Served i) ∷ [] ≡ parts = cc in served_alone pt i is msg x w h front there alive (ap (served_id i msg x) k) (ap (spelled pt) f ∙ n)
-here_row o pt m i is msg x what.Resume parts w h fits front there alive k queue e n = let f : says (label.Served i) ∷ [] ≡ parts = cc in served_alone pt i is msg x w h front there alive (ap (served_id i msg x) k) (ap (spelled pt) f ∙ n)
-here_row o pt m i is msg x what.Kill parts w h fits front there alive k queue e n =
-    let f : says (label.Served i) ∷ drops (o.view.queue m msg.to) ≡ parts = cc in
-    killed_row pt i is msg x w h front there alive (ap (served_id i msg x) k) (ap (λ q. spelled pt (says (label.Served i) ∷ drops q)) (sym queue) ∙ ap (spelled pt) f ∙ n)
-here_row o pt m i is msg x (what.Read a b) parts w h fits front there alive k queue e n =
-    let f : says (label.Served i) ∷ Routes (answer_id i) ∷ [] ≡ parts = cc in served_routes pt i is msg x (answer_id i) w h fits front there alive (ap (served_id i msg x) k) (ap (spelled pt) f ∙ n)
-here_row o pt m i is msg x (what.Write a b) parts w h fits front there alive k queue e n =
-    let f : says (label.Served i) ∷ Routes (answer_id i) ∷ [] ≡ parts = cc in served_routes pt i is msg x (answer_id i) w h fits front there alive (ap (served_id i msg x) k) (ap (spelled pt) f ∙ n)
-here_row o pt m i is msg x (what.Block a) parts w h fits front there alive k queue e n = lands_row pt i is msg x (pieces.lands msg.to x msg x.status) parts w h fits front there alive (ap (served_id i msg x) k) e n
-here_row o pt m i is msg x what.Written parts w h fits front there alive k queue e n = lands_row pt i is msg x (pieces.lands msg.to x msg x.status) parts w h fits front there alive (ap (served_id i msg x) k) e n
-here_row o pt m i is msg x what.Gone parts w h fits front there alive k queue e n = lands_row pt i is msg x (pieces.lands msg.to x msg x.status) parts w h fits front there alive (ap (served_id i msg x) k) e n
-here_row o pt m i is msg x (what.Create a b) parts w h fits front there alive k queue e n = cc
-here_row o pt m i is msg x (what.Created a) parts w h fits front there alive k queue e n = cc
-here_row o pt m i is msg x what.NoRoom parts w h fits front there alive k queue e n = cc
-here_row o pt m i is msg x (what.Move a) parts w h fits front there alive k queue e n = cc
-here_row o pt m i is msg x (what.Moved a) parts w h fits front there alive k queue e n = cc
+here_row o pt m i is msg x (PlainWhat.User a b c d) parts w h fits front there alive k queue e n = let f : Says (Line.Queued i) ∷ [] ≡ parts = cc in queued_row pt i is msg w h front there (ap (spelled pt) f ∙ n)
+here_row o pt m i is msg x PlainWhat.Stop parts w h fits front there alive k queue e n = let f : says (Label.Served i) ∷ [] ≡ parts = cc in served_alone pt i is msg x w h front there alive (ap (served_id i msg x) k) (ap (spelled pt) f ∙ n)
+here_row o pt m i is msg x PlainWhat.Resume parts w h fits front there alive k queue e n = let f : says (Label.Served i) ∷ [] ≡ parts = cc in served_alone pt i is msg x w h front there alive (ap (served_id i msg x) k) (ap (spelled pt) f ∙ n)
+here_row o pt m i is msg x PlainWhat.Kill parts w h fits front there alive k queue e n =
+    let f : says (Label.Served i) ∷ drops (o.view.queue m msg.to) ≡ parts = cc in
+    killed_row pt i is msg x w h front there alive (ap (served_id i msg x) k) (ap (λ q. spelled pt (says (Label.Served i) ∷ drops q)) (sym queue) ∙ ap (spelled pt) f ∙ n)
+here_row o pt m i is msg x (PlainWhat.Read a b) parts w h fits front there alive k queue e n =
+    let f : says (Label.Served i) ∷ Routes (answer_id i) ∷ [] ≡ parts = cc in served_routes pt i is msg x (answer_id i) w h fits front there alive (ap (served_id i msg x) k) (ap (spelled pt) f ∙ n)
+here_row o pt m i is msg x (PlainWhat.Write a b) parts w h fits front there alive k queue e n =
+    let f : says (Label.Served i) ∷ Routes (answer_id i) ∷ [] ≡ parts = cc in served_routes pt i is msg x (answer_id i) w h fits front there alive (ap (served_id i msg x) k) (ap (spelled pt) f ∙ n)
+here_row o pt m i is msg x (PlainWhat.Block a) parts w h fits front there alive k queue e n = lands_row pt i is msg x (pieces.lands msg.to x msg x.status) parts w h fits front there alive (ap (served_id i msg x) k) e n
+here_row o pt m i is msg x PlainWhat.Written parts w h fits front there alive k queue e n = lands_row pt i is msg x (pieces.lands msg.to x msg x.status) parts w h fits front there alive (ap (served_id i msg x) k) e n
+here_row o pt m i is msg x PlainWhat.Gone parts w h fits front there alive k queue e n = lands_row pt i is msg x (pieces.lands msg.to x msg x.status) parts w h fits front there alive (ap (served_id i msg x) k) e n
+here_row o pt m i is msg x _ parts w h fits front there alive k queue e n = cc
 
 ended_row : (pt : Point) (i : MsgId) (is : List MsgId) (k : PlainWhat) (parts : List Part) (w : Spelled) → State None pt → PairsFit pt.view → pt.view.inbox pt.view.acting ≡ i ∷ is → rule.ended_handles i k ≡ Some parts → spelled pt parts ≡ Some w → State None w.point
-ended_row pt i is (what.Read a b) parts w h fits front e n = let f : says (label.Gone i) ∷ Routes (answer_id i) ∷ [] ≡ parts = cc in gone_row pt i is w h fits front (ap (spelled pt) f ∙ n)
-ended_row pt i is (what.Write a b) parts w h fits front e n = let f : says (label.Gone i) ∷ Routes (answer_id i) ∷ [] ≡ parts = cc in gone_row pt i is w h fits front (ap (spelled pt) f ∙ n)
-ended_row pt i is (what.User a b c d) parts w h fits front e n = let f : says (label.Dropped i) ∷ [] ≡ parts = cc in dropped_row pt i is w h front (ap (spelled pt) f ∙ n)
-ended_row pt i is what.Stop parts w h fits front e n = let f : says (label.Dropped i) ∷ [] ≡ parts = cc in dropped_row pt i is w h front (ap (spelled pt) f ∙ n)
-ended_row pt i is what.Resume parts w h fits front e n = let f : says (label.Dropped i) ∷ [] ≡ parts = cc in dropped_row pt i is w h front (ap (spelled pt) f ∙ n)
-ended_row pt i is what.Kill parts w h fits front e n = let f : says (label.Dropped i) ∷ [] ≡ parts = cc in dropped_row pt i is w h front (ap (spelled pt) f ∙ n)
-ended_row pt i is (what.Block a) parts w h fits front e n = let f : says (label.Dropped i) ∷ [] ≡ parts = cc in dropped_row pt i is w h front (ap (spelled pt) f ∙ n)
-ended_row pt i is what.Written parts w h fits front e n = let f : says (label.Dropped i) ∷ [] ≡ parts = cc in dropped_row pt i is w h front (ap (spelled pt) f ∙ n)
-ended_row pt i is what.Gone parts w h fits front e n = let f : says (label.Dropped i) ∷ [] ≡ parts = cc in dropped_row pt i is w h front (ap (spelled pt) f ∙ n)
-ended_row pt i is (what.Create a b) parts w h fits front e n = cc
-ended_row pt i is (what.Created a) parts w h fits front e n = cc
-ended_row pt i is what.NoRoom parts w h fits front e n = cc
-ended_row pt i is (what.Move a) parts w h fits front e n = cc
-ended_row pt i is (what.Moved a) parts w h fits front e n = cc
+ended_row pt i is (PlainWhat.Read a b) parts w h fits front e n = let f : says (Label.Gone i) ∷ Routes (answer_id i) ∷ [] ≡ parts = cc in gone_row pt i is w h fits front (ap (spelled pt) f ∙ n)
+ended_row pt i is (PlainWhat.Write a b) parts w h fits front e n = let f : says (Label.Gone i) ∷ Routes (answer_id i) ∷ [] ≡ parts = cc in gone_row pt i is w h fits front (ap (spelled pt) f ∙ n)
+ended_row pt i is (PlainWhat.Create a b) parts w h fits front e n = cc
+ended_row pt i is (PlainWhat.Created a) parts w h fits front e n = cc
+ended_row pt i is PlainWhat.NoRoom parts w h fits front e n = cc
+ended_row pt i is (PlainWhat.Move a) parts w h fits front e n = cc
+ended_row pt i is (PlainWhat.Moved a) parts w h fits front e n = cc
+ended_row pt i is _ parts w h fits front e n = let f : says (Label.Dropped i) ∷ [] ≡ parts = cc in dropped_row pt i is w h front (ap (spelled pt) f ∙ n)
 
 process_row : (o pt : Point) (m : ℕ) (i : MsgId) (is : List MsgId) (msg : PlainMessage) (k : view.Known) (parts : List Part) (w : Spelled) (h : State None pt) → PairsFit pt.view → pt.view.inbox pt.view.acting ≡ i ∷ is → pt.kernel.bag i ≡ Some msg → o.kernel ≡ pt.kernel
     → o.view.queue m msg.to ≡ pt.view.queue pt.view.acting msg.to → rule.process_handles o m i msg k ≡ Some parts → spelled pt parts ≡ Some w → State None w.point
@@ -264,59 +224,46 @@ process_row o pt m i is msg view.Unknown parts w h fits front there same queue e
 process_row o pt m i is msg view.Here parts w h fits front there same queue e n =
     let (x, alive, rest) = bind-is (kernel.alive (o.kernel.processes msg.to)) (λ x. rule.here_handles o m i msg x msg.what) parts e in
     here_row o pt m i is msg x msg.what parts w h fits front there (ap (λ (s : OneKernel). kernel.alive (s.processes msg.to)) (sym same) ∙ alive) refl queue rest n
-process_row o pt m i is msg (view.Frozen to) parts w h fits front there same queue e n = let f : Says (line.Held i) ∷ [] ≡ parts = cc in held_row pt i is w h front (ap (spelled pt) f ∙ n)
-process_row o pt m i is msg (view.Incoming from) parts w h fits front there same queue e n = let f : Says (line.Held i) ∷ [] ≡ parts = cc in held_row pt i is w h front (ap (spelled pt) f ∙ n)
 process_row o pt m i is msg (view.Forward at moves) parts w h fits front there same queue e n =
     let f : forwards_on o.addresses i (plain_kind msg.what) msg.sender at ≡ parts = cc in
     forwards_row pt o.addresses i is (plain_kind msg.what) msg.sender at w h fits front (ap (spelled pt) f ∙ n)
 process_row o pt m i is msg view.Ended parts w h fits front there same queue e n = ended_row pt i is msg.what parts w h fits front e n
+process_row o pt m i is msg _ parts w h fits front there same queue e n = let f : Says (Line.Held i) ∷ [] ≡ parts = cc in held_row pt i is w h front (ap (spelled pt) f ∙ n)
 
 -- a server's work
 took_row : (pt : Point) (i : MsgId) (is : List MsgId) (m : PlainMessage) (o : Option PlainMessage) (w : Spelled) (h : State None pt) → PairsFit pt.view → pt.view.inbox pt.view.acting ≡ i ∷ is → pt.kernel.bag i ≡ Some m → took_id pt.kernel m ≡ id_in o
-    → spelled pt (says (label.Took i) ∷ rule.routes o) ≡ Some w → State None w.point
+    → spelled pt (says (Label.Took i) ∷ rule.routes o) ≡ Some w → State None w.point
 took_row pt i is m o w h fits front there put e =
-    line_and_maybe pt (line.Label (label.Took i)) o w e refl fits (λ s k.
+    line_and_maybe pt (Line.Label (Label.Took i)) o w e refl fits (λ s k.
     let q = bag_took h.r h.e pt.kernel s i k h.sound in
     let same : q.m ≡ m = let t = q.there in let u : Some q.m ≡ Some m = sym t ∙ there in cc in
-    front_label pt (label.Took i) s i is (id_in o) h front k refl (subst (BagStep h.e pt.kernel s (Some i)) put (subst (λ (n : PlainMessage). BagStep h.e pt.kernel s (Some i) (took_id pt.kernel n)) same q.is)) (λ z. refl) (λ j. refl))
+    front_label pt (Label.Took i) s i is (id_in o) h front k refl (subst (BagStep h.e pt.kernel s (Some i)) put (subst (λ (n : PlainMessage). BagStep h.e pt.kernel s (Some i) (took_id pt.kernel n)) same q.is)) (λ z. refl) (λ j. refl))
 
 board_row : (pt : Point) (i : MsgId) (is : List MsgId) (m : PlainMessage) (t : Option board.Took) (parts : List Part) (w : Spelled) (h : State None pt) → PairsFit pt.view → pt.view.inbox pt.view.acting ≡ i ∷ is → pt.kernel.bag i ≡ Some m → took_id pt.kernel m ≡ board_id t
     → rule.board_took i t ≡ Some parts → spelled pt parts ≡ Some w → State None w.point
 board_row pt i is m None parts w h fits front there put e n = cc
-board_row pt i is m (Some t) parts w h fits front there put e n = let f : says (label.Took i) ∷ rule.routes t.answer ≡ parts = cc in took_row pt i is m t.answer w h fits front there put (ap (spelled pt) f ∙ n)
+board_row pt i is m (Some t) parts w h fits front there put e n = let f : says (Label.Took i) ∷ rule.routes t.answer ≡ parts = cc in took_row pt i is m t.answer w h fits front there put (ap (spelled pt) f ∙ n)
 
 manager_row : (pt : Point) (i : MsgId) (is : List MsgId) (m : PlainMessage) (t : Option manage.Took) (parts : List Part) (w : Spelled) (h : State None pt) → PairsFit pt.view → pt.view.inbox pt.view.acting ≡ i ∷ is → pt.kernel.bag i ≡ Some m → took_id pt.kernel m ≡ manager_id t
     → rule.manager_took i t ≡ Some parts → spelled pt parts ≡ Some w → State None w.point
 manager_row pt i is m None parts w h fits front there put e n = cc
-manager_row pt i is m (Some t) parts w h fits front there put e n = let f : says (label.Took i) ∷ rule.routes t.message ≡ parts = cc in took_row pt i is m t.message w h fits front there put (ap (spelled pt) f ∙ n)
+manager_row pt i is m (Some t) parts w h fits front there put e n = let f : says (Label.Took i) ∷ rule.routes t.message ≡ parts = cc in took_row pt i is m t.message w h fits front there put (ap (spelled pt) f ∙ n)
 
 -- a kernel's work
 creates_row : (o pt : Point) (m : ℕ) (i : MsgId) (is : List MsgId) (b : Bool) (room : rule.Room) (w : Spelled) (h : State None pt) → PairsFit pt.view → pt.view.inbox pt.view.acting ≡ i ∷ is
-    → spelled pt ((if b then says (label.Created i (pid_of m (first_number + o.kernel.made m))) else says (label.NoSpace i room.slots room.blocks)) ∷ Routes (answer_id i) ∷ []) ≡ Some w → State None w.point
+    → spelled pt ((if b then says (Label.Created i (pid_of m (first_number + o.kernel.made m))) else says (Label.NoSpace i room.slots room.blocks)) ∷ Routes (answer_id i) ∷ []) ≡ Some w → State None w.point
 creates_row o pt m i is true room w h fits front e = created_row pt i is (pid_of m (first_number + o.kernel.made m)) w h fits front e
 creates_row o pt m i is false room w h fits front e = no_space_row pt i is room.slots room.blocks w h fits front e
 
 creates_of : (o pt : Point) (m : ℕ) (i : MsgId) (is : List MsgId) (room : rule.Room) (image : Option BootImage) (parts : List Part) (w : Spelled) (h : State None pt) → PairsFit pt.view → pt.view.inbox pt.view.acting ≡ i ∷ is → rule.creates o m i room image ≡ Some parts → spelled pt parts ≡ Some w → State None w.point
 creates_of o pt m i is room None parts w h fits front e n = cc
 creates_of o pt m i is room (Some g) parts w h fits front e n =
-    let f : (if rule.has_room room g.blocks then says (label.Created i (pid_of m (first_number + o.kernel.made m))) else says (label.NoSpace i room.slots room.blocks)) ∷ Routes (answer_id i) ∷ [] ≡ parts = cc in
+    let f : (if rule.has_room room g.blocks then says (Label.Created i (pid_of m (first_number + o.kernel.made m))) else says (Label.NoSpace i room.slots room.blocks)) ∷ Routes (answer_id i) ∷ [] ≡ parts = cc in
     creates_row o pt m i is (rule.has_room room g.blocks) room w h fits front (ap (spelled pt) f ∙ n)
 
 kernel_row : (b : Boot) (o pt : Point) (m : ℕ) (i : MsgId) (is : List MsgId) (k : PlainWhat) (parts : List Part) (w : Spelled) (h : State None pt) → PairsFit pt.view → pt.view.inbox pt.view.acting ≡ i ∷ is → rule.kernel_handles b o m i k ≡ Some parts → spelled pt parts ≡ Some w → State None w.point
-kernel_row b o pt m i is (what.Create image links) parts w h fits front e n = creates_of o pt m i is (rule.free_room b o m) (slice_get b.images image) parts w h fits front e n
-kernel_row b o pt m i is (what.User c d f g) parts w h fits front e n = cc
-kernel_row b o pt m i is what.Stop parts w h fits front e n = cc
-kernel_row b o pt m i is what.Resume parts w h fits front e n = cc
-kernel_row b o pt m i is what.Kill parts w h fits front e n = cc
-kernel_row b o pt m i is (what.Read c d) parts w h fits front e n = cc
-kernel_row b o pt m i is (what.Write c d) parts w h fits front e n = cc
-kernel_row b o pt m i is (what.Block c) parts w h fits front e n = cc
-kernel_row b o pt m i is what.Written parts w h fits front e n = cc
-kernel_row b o pt m i is what.Gone parts w h fits front e n = cc
-kernel_row b o pt m i is (what.Created c) parts w h fits front e n = cc
-kernel_row b o pt m i is what.NoRoom parts w h fits front e n = cc
-kernel_row b o pt m i is (what.Move c) parts w h fits front e n = cc
-kernel_row b o pt m i is (what.Moved c) parts w h fits front e n = cc
+kernel_row b o pt m i is (PlainWhat.Create image links) parts w h fits front e n = creates_of o pt m i is (rule.free_room b o m) (slice_get b.images image) parts w h fits front e n
+kernel_row b o pt m i is _ parts w h fits front e n = cc
 
 -- the receiver is a kernel, a server or a process
 handles_by : (b : Boot) (o pt : Point) (m : ℕ) (i : MsgId) (is : List MsgId) (msg : PlainMessage) (k l n : Bool) (parts : List Part) (w : Spelled) (h : State None pt) → PairsFit pt.view → pt.view.inbox pt.view.acting ≡ i ∷ is → pt.kernel.bag i ≡ Some msg → o.kernel ≡ pt.kernel
@@ -341,8 +288,8 @@ handles_by b o pt m i is msg false false false parts w h fits front there same q
 -- a turn: what the rule saw before the head, said after it
 goes_round_row : (b : Boot) (o pt : Point) (m : ℕ) (p : Option Pid) (parts : List Part) (w : Spelled) (h : State None pt) → PairsFit pt.view → o.kernel ≡ pt.kernel → ((q : Pid) → o.view.queue m q ≡ pt.view.queue pt.view.acting q) → rule.goes_round b o m p ≡ Some parts → spelled pt parts ≡ Some w → State None w.point
 goes_round_row b o pt m None parts w h fits same queue e n =
-    let f : Says (line.Idle m) ∷ [] ≡ parts = cc in
-    one_line pt (line.Idle m) w (ap (spelled pt) f ∙ n) (λ s k. let g : pt.kernel ≡ s = cc in State-at None (moved pt (line.Idle m) pt.kernel) (moved pt (line.Idle m) s) (ap (moved pt (line.Idle m)) g) (by_line None pt (line.Idle m) refl h h.stands (λ i. refl)))
+    let f : Says (Line.Idle m) ∷ [] ≡ parts = cc in
+    one_line pt (Line.Idle m) w (ap (spelled pt) f ∙ n) (λ s k. let g : pt.kernel ≡ s = cc in State-at None (moved pt (Line.Idle m) pt.kernel) (moved pt (Line.Idle m) s) (ap (moved pt (Line.Idle m)) g) (by_line None pt (Line.Idle m) refl h h.stands (λ i. refl)))
 goes_round_row b o pt m (Some p) parts w h fits same queue e n =
     let (x, alive, rest) = bind-is (kernel.alive (o.kernel.processes p)) (λ x. rule.serves_status b.quantum o.kernel p (o.view.queue m p) x x.status) parts e in
     let here : rule.serves_status b.quantum pt.kernel p (pt.view.queue pt.view.acting p) x x.status ≡ Some parts =

@@ -14,22 +14,10 @@ pub mod Lines
 pub mod Parts
 pub mod Groups
 pub mod Turns
-use Rattle.std.proofs.Common.{◌≡◌, ℕ, true, refl, ap, ◌∙◌, sym, subst}
-use Rattle.std.specs.Prelude.{slice_get}
-use Rattle.std.specs.declared.option.Option.{Option}
-use Rattle.std.specs.declared.option.Option.TheVariants.{None, Some}
-use Rattle.dm_link.specs.declared.Pid.{Pid}
-use Rattle.dm_link.specs.Names.{Place}
-use Rattle.dm_link.specs.Plain.{PlainLink}
-use Rattle.dm_linktable.specs.Slots.{link_at}
-use Rattle.dm_message.specs.declared.MsgId.{MsgId}
-use Rattle.dm_message.specs.Plain.{PlainMessage}
-use Rattle.dm_onekernel.specs.PlainProcess.{PlainProcess}
-use Rattle.dm_onekernel.specs.Kernel.{NamedLink, Pending, OneKernel}
+use Rattle.dm_rule.proofs.Names.{◌≡◌, ℕ, true, refl, ap, ◌∙◌, sym, subst, slice_get, Option, None, Some, Pid, Place, PlainLink, link_at, MsgId, PlainMessage, PlainProcess, NamedLink, Pending, OneKernel, links_in, to_of, sender_of}
+use Rattle.dm_rule.proofs.Names.{enclosed_of, names, ascends, Addresses, Holder, Slot, Owner, Receiver, Sender, Enclosed, Child, Name, Answer, unmoved, link_to, slot_of, owner_in, owner_of, name_link, answer_link}
 use Rattle.dm_onekernel.specs.Manager as manage
 use Rattle.dm_onekernel.specs.Step as kernel
-use Rattle.dm_rule.specs.Homes.{links_in, to_of, sender_of, enclosed_of, names, ascends}
-use Rattle.dm_rule.specs.Addresses.{Addresses, Holder, Slot, Owner, Receiver, Sender, Enclosed, Child, Name, Answer, unmoved, link_to, slot_of, owner_in, owner_of, name_link, answer_link}
 
 -- an address that is another's, of a process that is another
 pub place_as : (P : Pid → Place → Type 0) {q : Pid} {x y : Place} → x ≡ y → P q y → P q x

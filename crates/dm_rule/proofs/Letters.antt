@@ -1,30 +1,9 @@
 -- The messages that are under way: those of the bag, and the kernels' own.
-use Rattle.std.proofs.Common.{◌≡◌, ℕ, Bool, true, false, refl, ap, ◌∙◌, sym, arith, is_some, inl, inr}
-use Rattle.std.specs.Prelude.{if◌then◌else◌}
-use Rattle.std.specs.declared.option.Option.{Option}
-use Rattle.std.specs.declared.option.Option.TheVariants.{None, Some}
-use Rattle.std.proofs.lemmas.Bool.{cases_Bool, false≢true}
-use Rattle.std.proofs.lemmas.Bool.Decides.{nat_tests}
-use Rattle.dm_link.specs.declared.Pid.{Pid}
-use Rattle.dm_link.specs.Names.{pid_eq}
-use Rattle.dm_message.specs.declared.MsgId.{MsgId}
-use Rattle.dm_message.specs.Ids.{id_eq}
-use Rattle.dm_message.specs.Plain.{PlainMessage}
-use Rattle.dm_onekernel.specs.declared.label.Label.{Label}
-use Rattle.dm_onekernel.specs.declared.label.Label.TheVariants as label
-use Rattle.dm_onekernel.specs.Boot.{switchboard, manager}
-use Rattle.dm_onekernel.specs.Options.{bind}
-use Rattle.dm_onekernel.specs.Kernel.{Life, OneKernel}
+use Rattle.dm_rule.proofs.Names.{◌≡◌, ℕ, Bool, true, false, refl, ap, ◌∙◌, sym, arith, is_some, inl, inr, if◌then◌else◌, Option, None, Some, cases_Bool, false≢true, nat_tests, Pid, pid_eq, MsgId, id_eq, PlainMessage, Label, switchboard}
+use Rattle.dm_rule.proofs.Names.{manager, bind, Life, OneKernel, is_kernels, to_of, in_bag, id_eq-is, Made, counts, is_counted, unentered, Sound, bind-is}
 use Rattle.dm_onekernel.specs.Receiving as receiving
 use Rattle.dm_onekernel.specs.Service as service
 use Rattle.dm_onekernel.specs.Step as step
-use Rattle.dm_rule.specs.View.{is_kernels}
-use Rattle.dm_rule.specs.Homes.{to_of}
-use Rattle.dm_laws.specs.Laws.{in_bag}
-use Rattle.dm_laws.proofs.Equal.{id_eq-is}
-use Rattle.dm_laws.proofs.Entered.{Made, counts, is_counted, unentered}
-use Rattle.dm_laws.proofs.Sound.{Sound}
-use Rattle.dm_laws.proofs.Steps.{bind-is}
 use Rattle.dm_rule.proofs.Lines.{Bag, hidden}
 use Rattle.dm_rule.proofs.Bags.{BagStep, out_of}
 
@@ -43,7 +22,7 @@ no_life : (s : OneKernel) (p : Pid) (n : ℕ) (o : Option Life) → s.processes 
 no_life s p n None e z h = refl
 no_life s p n (Some life) e z h = absurd (let k = h.least p (ap is_some e) in grind (arith, nat_tests))
 
-from_kernel : (i : MsgId) → is_kernels i ≡ true → i.from.num ≡ 0
+pub from_kernel : (i : MsgId) → is_kernels i ≡ true → i.from.num ≡ 0
 from_kernel i e = grind (arith, nat_tests)
 
 not_counted : (s : OneKernel) (i : MsgId) → i.from.num ≡ 0 → Made s → counts s i ≡ false
@@ -76,25 +55,19 @@ in_first : (s t : OneKernel) (i : MsgId) (go : PlainMessage → Option OneKernel
 in_first s t i go j is e = let (m, there, rest) = bind-is (s.bag i) go t is in record { message = m; there = ap s.bag (sym e) ∙ there }
 
 pub gone_in : (s t : OneKernel) (l : Label) (j : MsgId) → step.step s l ≡ Some t → out_of l ≡ Some j → InBag s j
-gone_in s t (label.Receive p id) j is e =
+gone_in s t (Label.Receive p id) j is e =
     let (done, completing, last) = bind-is (step.completing s p id) (step.receives s p id) t is in
     let (x, alive, more) = bind-is (step.alive (s.processes p)) (λ x. bind (s.bag id) (receiving.completes_with p x)) done completing in
     let (m, there, rest) = bind-is (s.bag id) (receiving.completes_with p x) done more in
     let f : id ≡ j = cc in
     record { message = m; there = ap s.bag (sym f) ∙ there }
-gone_in s t (label.Dropped id) j is e = in_first s t id (λ m. bind (step.ended (s.processes m.to)) (step.drops s id m)) j is (let f : id ≡ j = cc in f)
-gone_in s t (label.Served id) j is e = in_first s t id (λ m. bind (step.alive (s.processes m.to)) (λ p. service.serves s id m p m.what)) j is (let f : id ≡ j = cc in f)
-gone_in s t (label.Gone id) j is e = in_first s t id (λ m. bind (step.ended (s.processes m.to)) (step.says_gone s id m)) j is (let f : id ≡ j = cc in f)
-gone_in s t (label.Took id) j is e = in_first s t id (service.takes s id) j is (let f : id ≡ j = cc in f)
-gone_in s t (label.Created id p) j is e = in_first s t id (λ m. service.creates s id m p m.what) j is (let f : id ≡ j = cc in f)
-gone_in s t (label.NoSpace id a b) j is e = in_first s t id (λ m. service.has_no_room s id m m.what) j is (let f : id ≡ j = cc in f)
-gone_in s t (label.Ran p k) j is e = cc
-gone_in s t (label.Call p n c) j is e = cc
-gone_in s t (label.Send p id) j is e = cc
-gone_in s t (label.Wait p) j is e = cc
-gone_in s t (label.Out p w) j is e = cc
-gone_in s t (label.End p y) j is e = cc
-gone_in s t (label.Refuse p id c) j is e = cc
+gone_in s t (Label.Dropped id) j is e = in_first s t id (λ m. bind (step.ended (s.processes m.to)) (step.drops s id m)) j is (let f : id ≡ j = cc in f)
+gone_in s t (Label.Served id) j is e = in_first s t id (λ m. bind (step.alive (s.processes m.to)) (λ p. service.serves s id m p m.what)) j is (let f : id ≡ j = cc in f)
+gone_in s t (Label.Gone id) j is e = in_first s t id (λ m. bind (step.ended (s.processes m.to)) (step.says_gone s id m)) j is (let f : id ≡ j = cc in f)
+gone_in s t (Label.Took id) j is e = in_first s t id (service.takes s id) j is (let f : id ≡ j = cc in f)
+gone_in s t (Label.Created id p) j is e = in_first s t id (λ m. service.creates s id m p m.what) j is (let f : id ≡ j = cc in f)
+gone_in s t (Label.NoSpace id a b) j is e = in_first s t id (λ m. service.has_no_room s id m m.what) j is (let f : id ≡ j = cc in f)
+gone_in s t _ j is e = cc
 
 -- a step, seen in the messages that are under way
 hidden_keeps : (o : Option MsgId) (bag : Bag) (i : MsgId) → ((j : MsgId) → o ≡ Some j → is_kernels j ≡ false) → is_kernels i ≡ true → hidden o bag i ≡ bag i

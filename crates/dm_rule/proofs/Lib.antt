@@ -1,3 +1,4 @@
+pub mod Names
 pub mod Worked
 pub mod QuietWorked
 pub mod QuietTests

@@ -1,22 +1,8 @@
 -- What each kind of line does to the lists that messages stand in.
-use Rattle.std.proofs.Common.{◌≡◌, ◌≢◌, ℕ, ◌+◌, ◌≤◌, ◌==◌, ◌&&◌, Bool, true, false, zero, suc, not, filter, List, [], ◌∷◌, ◌++◌, refl, ap, ◌∙◌, sym, subst, arith, length, inl, inr}
-use Rattle.std.specs.Prelude.{if◌then◌else◌, drop, slice_get}
-use Rattle.std.specs.declared.option.Option.{Option}
-use Rattle.std.specs.declared.option.Option.TheVariants.{None, Some}
-use Rattle.std.proofs.lemmas.Bool.{cases_Bool, false≢true}
-use Rattle.std.proofs.lemmas.List.{drop-append-le, length-append}
-use Rattle.std.proofs.Math.Seq.{drop-length}
-use Rattle.std.proofs.lemmas.Bool.Decides.{nat_tests}
-use Rattle.dm_link.specs.declared.Pid.{Pid}
-use Rattle.dm_link.specs.Names.{pid_eq}
-use Rattle.dm_message.specs.declared.MsgId.{MsgId}
-use Rattle.dm_message.specs.declared.kind.MessageKind.{MessageKind}
-use Rattle.dm_message.specs.Ids.{id_eq}
-use Rattle.dm_line.specs.Sets.{at_machine, at_pair, at_id, at_record, without_id, without_front}
-use Rattle.dm_rule.specs.View.{View, Pair, Told, handled, receiver_of}
+use Rattle.dm_rule.proofs.Names.{◌≡◌, ◌≢◌, ℕ, ◌+◌, ◌≤◌, ◌==◌, ◌&&◌, Bool, true, false, zero, suc, not, filter, List, [], ◌∷◌, ◌++◌, refl, ap, ◌∙◌, sym, subst, arith, length, inl, inr, if◌then◌else◌, drop, slice_get, Option, None, Some}
+use Rattle.dm_rule.proofs.Names.{cases_Bool, false≢true, drop-append-le, length-append, drop-length, nat_tests, Pid, pid_eq, MsgId, MessageKind, id_eq, at_machine, at_pair, at_id, at_record, without_id, without_front, View, Pair, Told}
+use Rattle.dm_rule.proofs.Names.{handled, receiver_of, Spot, Queue, Held, Inbox, Untaken, times, untaken, ids_at, standing, StandsAsBag, pid_eq-is, pid_eq-same, id_eq-is, id_eq-same}
 use Rattle.dm_rule.specs.View as view
-use Rattle.dm_rule.specs.Spots.{Spot, Queue, Held, Inbox, Untaken, times, untaken, ids_at, standing, StandsAsBag}
-use Rattle.dm_laws.proofs.Equal.{pid_eq-is, pid_eq-same, id_eq-is, id_eq-same}
 use Rattle.dm_rule.proofs.Standing.{times-append}
 use Rattle.dm_rule.proofs.Once.{Kept, SameBut, one_of, once_stays, once_comes, once_goes, once_moves}
 
@@ -88,13 +74,8 @@ pub front_goes : (v : View) (i : MsgId) (is : List MsgId) → v.inbox v.acting �
 front_goes v i is e = ap (without_front i) e ∙ ap (λ (c : Bool). if c then is else i ∷ is) (id_eq-same i)
 
 pub handled_off : (v : View) (i : MsgId) (z : Spot) → z ≢ Inbox v.acting → ids_at (handled v i) z ≡ ids_at v z
-handled_off v i (Queue m p) apart = refl
-handled_off v i (Held m p) apart = refl
 handled_off v i (Inbox m) apart = at_machine_off v.inbox v.acting m (without_front i (v.inbox v.acting)) (inbox_apart v.acting m apart)
-handled_off v i (Untaken a b) apart = refl
-
-one_flip : (i j : MsgId) → (if id_eq i j then 1 else 0) ≡ one_of i j
-one_flip i j = refl
+handled_off v i _ apart = refl
 
 pub handled_at : (v : View) (i : MsgId) (is : List MsgId) (j : MsgId) → v.inbox v.acting ≡ i ∷ is → times j (ids_at v (Inbox v.acting)) ≡ times j (ids_at (handled v i) (Inbox v.acting)) + one_of j i
 handled_at v i is j e =
@@ -127,10 +108,8 @@ Stands-handled bag v w i is front same told h =
     })
 
 abbrev is_inbox : Spot → Bool
-is_inbox (Queue m p) = false
-is_inbox (Held m p) = false
 is_inbox (Inbox m) = true
-is_inbox (Untaken a b) = false
+is_inbox _ = false
 
 -- a message goes from the front of the inbox to the back of its receiver's queue
 
@@ -141,9 +120,8 @@ queued_is v i p None e = cc
 queued_off : (v : View) (i : MsgId) (p : Pid) (z : Spot) → z ≢ Inbox v.acting → z ≢ Queue v.acting p
     → ids_at (record (handled v i) { queue = at_record v.queue v.acting p (v.queue v.acting p ++ i ∷ []) }) z ≡ ids_at v z
 queued_off v i p (Queue m q) a b = at_record_off v.queue v.acting m p q (v.queue v.acting p ++ i ∷ []) (queue_apart v.acting m p q b)
-queued_off v i p (Held m q) a b = refl
 queued_off v i p (Inbox m) a b = at_machine_off v.inbox v.acting m (without_front i (v.inbox v.acting)) (inbox_apart v.acting m a)
-queued_off v i p (Untaken c d) a b = refl
+queued_off v i p _ a b = refl
 
 spots_differ : (m n : ℕ) (p : Pid) → Inbox m ≢ Queue n p
 spots_differ m n p e = let k : true ≡ false = ap is_inbox e in false≢true (sym k)
@@ -276,13 +254,6 @@ pair_keeps f a b p same c d = elim (cases_Bool ((a == c) && (b == d))) [
   | inr apart ↦ ap untaken (pair_off f a b c d p apart)
 ]
 
--- a message comes to an inbox
-inbox_off : (v : View) (b : ℕ) (i : MsgId) (z : Spot) → z ≢ Inbox b → ids_at (record v { inbox = at_machine v.inbox b (v.inbox b ++ i ∷ []) }) z ≡ ids_at v z
-inbox_off v b i (Queue m q) a = refl
-inbox_off v b i (Held m q) a = refl
-inbox_off v b i (Inbox m) a = at_machine_off v.inbox b m (v.inbox b ++ i ∷ []) (inbox_apart b m a)
-inbox_off v b i (Untaken c d) a = refl
-
 -- the bag with a message under its name
 abbrev pub having : MsgId → Pid → Bag → Bag
 having i x bag j = if id_eq i j then Some x else bag j
@@ -351,10 +322,9 @@ put_home_untaken m p i full =
 
 put_home_off : (v : View) (m : ℕ) (i : MsgId) (k : MessageKind) (q : Pid) (z : Spot) → z ≢ Inbox m → (view.after_put v m m i k q).inbox ≡ at_machine v.inbox m (v.inbox m ++ i ∷ [])
     → untaken (view.routed_on m m (v.pair m m) i) ≡ untaken (v.pair m m) → ids_at (view.after_put v m m i k q) z ≡ ids_at v z
-put_home_off v m i k q (Queue n p) apart inbox same = refl
-put_home_off v m i k q (Held n p) apart inbox same = refl
 put_home_off v m i k q (Inbox n) apart inbox same = ap (λ f. f n) inbox ∙ at_machine_off v.inbox m n (v.inbox m ++ i ∷ []) (inbox_apart m n apart)
 put_home_off v m i k q (Untaken c d) apart inbox same = pair_keeps v.pair m m (view.routed_on m m (v.pair m m) i) same c d
+put_home_off v m i k q _ apart inbox same = refl
 
 put_away_untaken : (a b : ℕ) (p : Pair) (i : MsgId) → (a == b) ≡ false → p.taken ≤ length p.ids → untaken (view.routed_on a b p i) ≡ untaken p ++ i ∷ []
 put_away_untaken a b p i apart within =
@@ -362,10 +332,9 @@ put_away_untaken a b p i apart within =
     ap (λ n. drop n (p.ids ++ i ∷ [])) taken ∙ drop-append-le p.taken p.ids (i ∷ []) within
 
 put_away_off : (v : View) (a b : ℕ) (i : MsgId) (k : MessageKind) (q : Pid) (z : Spot) → z ≢ Untaken a b → (view.after_put v a b i k q).inbox ≡ v.inbox → ids_at (view.after_put v a b i k q) z ≡ ids_at v z
-put_away_off v a b i k q (Queue n p) apart inbox = refl
-put_away_off v a b i k q (Held n p) apart inbox = refl
 put_away_off v a b i k q (Inbox n) apart inbox = ap (λ f. f n) inbox
 put_away_off v a b i k q (Untaken c d) apart inbox = ap untaken (pair_off v.pair a b c d (view.routed_on a b (v.pair a b) i) (untaken_apart a b c d apart))
+put_away_off v a b i k q _ apart inbox = refl
 
 pub Stands-put-home : (bag : Bag) (v : View) (m : ℕ) (i : MsgId) (k : MessageKind) (x : Pid) → bag i ≡ None → (view.first_told (v.told i) (record { kind = k; receiver = x; about = v.topic })).receiver ≡ x → (v.pair m m).taken ≡ length (v.pair m m).ids
     → Stands bag v → Stands (having i x bag) (view.after_put v m m i k x)
@@ -404,10 +373,8 @@ taken_off v a b n i (Inbox m) x y = at_machine_off v.inbox b m (v.inbox b ++ i �
 taken_off v a b n i (Untaken c d) x y = ap untaken (pair_off v.pair a b c d (taken_pair (v.pair a b) n) (untaken_apart a b c d x))
 
 taken_none_off : (v : View) (a b n : ℕ) (z : Spot) → untaken (taken_pair (v.pair a b) n) ≡ untaken (v.pair a b) → ids_at (view.with_pair v a b (taken_pair (v.pair a b) n)) z ≡ ids_at v z
-taken_none_off v a b n (Queue m p) same = refl
-taken_none_off v a b n (Held m p) same = refl
-taken_none_off v a b n (Inbox m) same = refl
 taken_none_off v a b n (Untaken c d) same = pair_keeps v.pair a b (taken_pair (v.pair a b) n) same c d
+taken_none_off v a b n _ same = refl
 
 taken_by : (bag : Bag) (v : View) (a b n : ℕ) (o : Option MsgId) → slice_get (v.pair a b).ids (v.pair a b).taken ≡ o → Stands bag v → Stands bag (view.taken_id (view.with_pair v a b (taken_pair (v.pair a b) n)) b o)
 taken_by bag v a b n None is h =

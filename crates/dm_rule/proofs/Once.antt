@@ -1,17 +1,6 @@
 -- Each message still stands once after one has come, gone or moved.
-use Rattle.std.proofs.Common.{◌≡◌, ◌≢◌, ℕ, ◌+◌, true, false, ap, ◌∙◌, sym, arith, subst}
-use Rattle.std.specs.Prelude.{if◌then◌else◌}
-use Rattle.std.proofs.lemmas.Bool.{cases_Bool}
-use Rattle.std.proofs.Common.{inl, inr}
-use Rattle.std.proofs.lemmas.Bool.Decides.{nat_tests}
-use Rattle.std.specs.declared.option.Option.{Option}
-use Rattle.std.specs.declared.option.Option.TheVariants.{None, Some}
-use Rattle.dm_message.specs.declared.MsgId.{MsgId}
-use Rattle.dm_message.specs.Ids.{id_eq}
-use Rattle.dm_link.specs.declared.Pid.{Pid}
-use Rattle.dm_rule.specs.View.{View}
-use Rattle.dm_rule.specs.Spots.{Spot, times, ids_at, standing, StandsOnce, StandsNowhere, StandsAsBag}
-use Rattle.dm_laws.proofs.Equal.{id_eq-same, id_eq-is, id_eq-swap}
+use Rattle.dm_rule.proofs.Names.{◌≡◌, ◌≢◌, ℕ, ◌+◌, true, false, ap, ◌∙◌, sym, arith, subst, if◌then◌else◌, cases_Bool, inl, inr, nat_tests, Option, None, Some, MsgId, id_eq, Pid, View, Spot, times, ids_at, standing, StandsOnce}
+use Rattle.dm_rule.proofs.Names.{StandsNowhere, StandsAsBag, id_eq-same, id_eq-is, id_eq-swap}
 use Rattle.dm_rule.proofs.Standing.{comes, goes, moves, spot_cases, once_as, StandsAsBag-same, StandsAsBag-once}
 
 -- 1 for the message itself
@@ -28,7 +17,7 @@ Kept bag v = (i : MsgId) → StandsAsBag (bag i) (standing v i)
 one_of-off : (i id : MsgId) → id_eq id i ≡ false → one_of i id ≡ 0
 one_of-off i id e = let h : id_eq i id ≡ false = id_eq-swap i id ∙ e in grind (arith, nat_tests)
 
-one_of-same : (id : MsgId) → one_of id id ≡ 1
+pub one_of-same : (id : MsgId) → one_of id id ≡ 1
 one_of-same id = let h : id_eq id id ≡ true = id_eq-same id in grind (arith, nat_tests)
 
 some_once : (m : Option Pid) (pm : Pid) (f : Spot → ℕ) → m ≡ Some pm → StandsOnce f → StandsAsBag m f

@@ -5,31 +5,14 @@ pub mod Lines
 pub mod Migrating
 pub mod Turns
 pub mod Comes
-use Rattle.std.proofs.Common.{◌≡◌, ℕ, ◌≤◌, ◌==◌, ◌&&◌, Bool, true, false, List, [], ◌∷◌, refl, ap, ◌∙◌, sym, subst, arith}
-use Rattle.std.specs.Prelude.{◌≢◌, slice_get}
-use Rattle.std.specs.declared.option.Option.TheVariants.{Some}
-use Rattle.std.proofs.lemmas.Bool.{false≢true}
-use Rattle.std.proofs.lemmas.Bool.Decides.{nat_tests}
-use Rattle.dm_onekernel.specs.declared.boot.Boot.{Boot}
-use Rattle.dm_onekernel.specs.Options.{bind}
-use Rattle.dm_schedule.specs.declared.Step.{Step}
-use Rattle.dm_schedule.specs.declared.Step.TheVariants as step
-use Rattle.dm_line.specs.declared.line.Line.TheVariants as line
-use Rattle.dm_line.specs.Sets.{at_pair}
-use Rattle.dm_rule.specs.View.{View, Pair, first_view, marked}
-use Rattle.dm_rule.specs.Point.{Point, after_line, first_point}
-use Rattle.dm_rule.specs.Parts.{Part, Says, Spelled, spelled}
-use Rattle.dm_rule.specs.Rule.{outstanding, resends, arrives, outcome, headed, group_of}
-use Rattle.dm_rule.specs.Pairs.{PairStands, HomeStands}
-use Rattle.dm_rule.specs.Laws.{IsStep, Leads, PairsStandAlways}
+use Rattle.dm_rule.proofs.Names.{◌≡◌, ℕ, ◌≤◌, ◌==◌, ◌&&◌, Bool, true, false, List, [], ◌∷◌, refl, ap, ◌∙◌, sym, subst, arith, ◌≢◌, slice_get, Some, false≢true, nat_tests, Boot, bind, Step, Line, at_pair, View, Pair, first_view, marked}
+use Rattle.dm_rule.proofs.Names.{Point, after_line, first_point, Part, Says, Spelled, spelled, outstanding, resends, arrives, outcome, headed, group_of, PairStands, HomeStands, IsStep, Leads, PairsStandAlways, migrates, Pid}
 use Rattle.dm_rule.proofs.Pairs.Stand.{LoadStands, WireStands-at, set_same, set_other}
 use Rattle.dm_rule.proofs.Pairs.Moves.{Paired, marked_goes}
 use Rattle.dm_rule.proofs.Pairs.Lines.{bind-is, line_view, AllFit, keeps}
 use Rattle.dm_rule.proofs.Pairs.Turns.{turns_fit, resends_fit}
 use Rattle.dm_rule.proofs.Pairs.Comes.{arrives_keep}
 use Rattle.dm_rule.proofs.Pairs.Migrating.{migrates_fit}
-use Rattle.dm_rule.specs.Migrating.{migrates}
-use Rattle.dm_link.specs.declared.Pid.{Pid}
 
 abbrev pub Pairs : View → Type 0
 Pairs v = Paired v.pair
@@ -44,7 +27,7 @@ Pairs-start b = record {
 }
 
 -- on a machine's pair with itself nothing is out, and on others no more was acknowledged than went out
-acked_out_by : (v : View) (m b : ℕ) (same : Bool) → (m == b) ≡ same → Pairs v → (v.pair m b).acked ≤ (v.pair m b).gone
+pub acked_out_by : (v : View) (m b : ℕ) (same : Bool) → (m == b) ≡ same → Pairs v → (v.pair m b).acked ≤ (v.pair m b).gone
 acked_out_by v m b false e h = let x = h.stand.apart m b e in let y = x.acked in let z = x.taken in omega arith
 acked_out_by v m b true e h =
     let is : m ≡ b = grind (arith, nat_tests) in
@@ -57,41 +40,41 @@ record Group (b : Boot) (pt : Point) (e : Step) (w : Spelled) : Type 0 where
   parts : List Part
   follows : outcome b pt e ≡ Some parts
   begun : Point
-  begins : after_line pt (line.Head e) ≡ Some begun
+  begins : after_line pt (Line.Head e) ≡ Some begun
   rest : Spelled
   on : spelled begun parts ≡ Some rest
   end : rest.point ≡ w.point
 
 group : (b : Boot) (pt : Point) (e : Step) (w : Spelled) → group_of b pt e ≡ Some w → Group b pt e w
 group b pt e w is =
-    let (parts, follows, more) = bind-is (outcome b pt e) (λ parts. bind (after_line pt (line.Head e)) (λ begun. bind (spelled begun parts) (λ w. Some (headed (line.Head e) w)))) w is in
-    let (begun, begins, last) = bind-is (after_line pt (line.Head e)) (λ begun. bind (spelled begun parts) (λ w. Some (headed (line.Head e) w))) w more in
-    let (rest, on, all) = bind-is (spelled begun parts) (λ w. Some (headed (line.Head e) w)) w last in
-    let f : headed (line.Head e) rest ≡ w = cc in
+    let (parts, follows, more) = bind-is (outcome b pt e) (λ parts. bind (after_line pt (Line.Head e)) (λ begun. bind (spelled begun parts) (λ w. Some (headed (Line.Head e) w)))) w is in
+    let (begun, begins, last) = bind-is (after_line pt (Line.Head e)) (λ begun. bind (spelled begun parts) (λ w. Some (headed (Line.Head e) w))) w more in
+    let (rest, on, all) = bind-is (spelled begun parts) (λ w. Some (headed (Line.Head e) w)) w last in
+    let f : headed (Line.Head e) rest ≡ w = cc in
     record { parts = parts; follows = follows; begun = begun; begins = begins; rest = rest; on = on; end = ap (λ (x : Spelled). x.point) f }
 
-turn_keeps : (b : Boot) (pt : Point) (m : ℕ) (w : Spelled) → Group b pt (step.Turn m) w → Pairs pt.view → Pairs w.point.view
+turn_keeps : (b : Boot) (pt : Point) (m : ℕ) (w : Spelled) → Group b pt (Step.Turn m) w → Pairs pt.view → Pairs w.point.view
 turn_keeps b pt m w g h =
-    let is : g.begun.view.pair ≡ pt.view.pair = ap (λ (v : View). v.pair) (line_view pt g.begun (line.Head (step.Turn m)) g.begins) in
+    let is : g.begun.view.pair ≡ pt.view.pair = ap (λ (v : View). v.pair) (line_view pt g.begun (Line.Head (Step.Turn m)) g.begins) in
     let k : Pairs g.rest.point.view = keeps g.parts g.begun g.rest (turns_fit g.begun.view.pair b pt m (pt.view.inbox m) g.parts g.follows) (subst Paired (sym is) h) g.on in
     subst (λ (q : Point). Pairs q.view) g.end k
 
-tick_keeps : (b : Boot) (pt : Point) (m : ℕ) (w : Spelled) → Group b pt (step.Tick m) w → Pairs pt.view → Pairs w.point.view
+tick_keeps : (b : Boot) (pt : Point) (m : ℕ) (w : Spelled) → Group b pt (Step.Tick m) w → Pairs pt.view → Pairs w.point.view
 tick_keeps b pt m w g h =
-    let is : g.begun.view.pair ≡ pt.view.pair = ap (λ (v : View). v.pair) (line_view pt g.begun (line.Head (step.Tick m)) g.begins) in
-    let parts : Says (line.Resent m (outstanding pt.view m pt.kernel.machines)) ∷ resends pt.view m pt.kernel.machines ≡ g.parts = let f = g.follows in cc in
-    let fit : AllFit pt.view.pair (Says (line.Resent m (outstanding pt.view m pt.kernel.machines)) ∷ resends pt.view m pt.kernel.machines) =
+    let is : g.begun.view.pair ≡ pt.view.pair = ap (λ (v : View). v.pair) (line_view pt g.begun (Line.Head (Step.Tick m)) g.begins) in
+    let parts : Says (Line.Resent m (outstanding pt.view m pt.kernel.machines)) ∷ resends pt.view m pt.kernel.machines ≡ g.parts = let f = g.follows in cc in
+    let fit : AllFit pt.view.pair (Says (Line.Resent m (outstanding pt.view m pt.kernel.machines)) ∷ resends pt.view m pt.kernel.machines) =
     (refl, resends_fit pt.view m pt.kernel.machines (λ n. acked_out_by pt.view m n (m == n) refl h)) in
     let fits : AllFit g.begun.view.pair g.parts = subst (λ (f : ℕ → ℕ → Pair). AllFit f g.parts) (sym is) (subst (AllFit pt.view.pair) parts fit) in
     let k : Pairs g.rest.point.view = keeps g.parts g.begun g.rest fits (subst Paired (sym is) h) g.on in
     subst (λ (q : Point). Pairs q.view) g.end k
 
-deliver_keeps : (b : Boot) (pt : Point) (a c k : ℕ) (w : Spelled) → a ≢ c → Group b pt (step.Deliver a c k) w → Pairs pt.view → Pairs w.point.view
+deliver_keeps : (b : Boot) (pt : Point) (a c k : ℕ) (w : Spelled) → a ≢ c → Group b pt (Step.Deliver a c k) w → Pairs pt.view → Pairs w.point.view
 deliver_keeps b pt a c k w apart g h =
     let ac : (a == c) ≡ false = grind (arith, nat_tests) in
     let ca : (c == a) ≡ false = grind (arith, nat_tests) in
     let f = pt.view.pair in
-    let is : g.begun.view.pair ≡ at_pair f a c (marked (f a c) k) = ap (λ (v : View). v.pair) (line_view pt g.begun (line.Head (step.Deliver a c k)) g.begins) in
+    let is : g.begun.view.pair ≡ at_pair f a c (marked (f a c) k) = ap (λ (v : View). v.pair) (line_view pt g.begun (Line.Head (Step.Deliver a c k)) g.begins) in
     let goes = marked_goes f a c k ac h in
     let there : g.begun.view.pair a c ≡ marked (f a c) k = ap (λ (p : ℕ → ℕ → Pair). p a c) is ∙ set_same f a c (marked (f a c) k) in
     let off : ((a == c) && (c == a)) ≡ false = grind (arith, nat_tests) in
@@ -101,19 +84,19 @@ deliver_keeps b pt a c k w apart g h =
     let r : Pairs g.rest.point.view = arrives_keep g.begun a c k (f a c) (f c a) (slice_get (f a c).wire k) g.rest refl ac ca there back (h.stand.apart a c ac) (subst Paired (sym is) goes.paired) on in
     subst (λ (q : Point). Pairs q.view) g.end r
 
-migrate_keeps : (b : Boot) (pt : Point) (p : Pid) (m : ℕ) (w : Spelled) → Group b pt (step.Migrate p m) w → Pairs pt.view → Pairs w.point.view
+migrate_keeps : (b : Boot) (pt : Point) (p : Pid) (m : ℕ) (w : Spelled) → Group b pt (Step.Migrate p m) w → Pairs pt.view → Pairs w.point.view
 migrate_keeps b pt p m w g h =
-    let is : g.begun.view.pair ≡ pt.view.pair = ap (λ (v : View). v.pair) (line_view pt g.begun (line.Head (step.Migrate p m)) g.begins) in
+    let is : g.begun.view.pair ≡ pt.view.pair = ap (λ (v : View). v.pair) (line_view pt g.begun (Line.Head (Step.Migrate p m)) g.begins) in
     let parts : migrates pt p ≡ g.parts = let f = g.follows in cc in
     let fits : AllFit g.begun.view.pair g.parts = subst (AllFit g.begun.view.pair) parts (migrates_fit g.begun.view.pair pt p) in
     let k : Pairs g.rest.point.view = keeps g.parts g.begun g.rest fits (subst Paired (sym is) h) g.on in
     subst (λ (q : Point). Pairs q.view) g.end k
 
 pub Pairs-group : (b : Boot) (pt : Point) (e : Step) (w : Spelled) → IsStep pt.kernel.machines e → group_of b pt e ≡ Some w → Pairs pt.view → Pairs w.point.view
-Pairs-group b pt (step.Turn m) w fits is h = turn_keeps b pt m w (group b pt (step.Turn m) w is) h
-Pairs-group b pt (step.Tick m) w fits is h = tick_keeps b pt m w (group b pt (step.Tick m) w is) h
-Pairs-group b pt (step.Deliver a c k) w fits is h = deliver_keeps b pt a c k w fits.2 (group b pt (step.Deliver a c k) w is) h
-Pairs-group b pt (step.Migrate p m) w fits is h = migrate_keeps b pt p m w (group b pt (step.Migrate p m) w is) h
+Pairs-group b pt (Step.Turn m) w fits is h = turn_keeps b pt m w (group b pt (Step.Turn m) w is) h
+Pairs-group b pt (Step.Tick m) w fits is h = tick_keeps b pt m w (group b pt (Step.Tick m) w is) h
+Pairs-group b pt (Step.Deliver a c k) w fits is h = deliver_keeps b pt a c k w fits.2 (group b pt (Step.Deliver a c k) w is) h
+Pairs-group b pt (Step.Migrate p m) w fits is h = migrate_keeps b pt p m w (group b pt (Step.Migrate p m) w is) h
 
 Pairs-on : (b : Boot) (es : List Step) (pt end : Point) → Leads b pt es end → Pairs pt.view → Pairs end.view
 Pairs-on b [] pt end leads h = subst (λ (q : Point). Pairs q.view) leads h

@@ -1,27 +1,15 @@
 -- The test for quiet decides whether all is quiet.
-use Rattle.std.proofs.Common.{◌≡◌, ◌≢◌, ℕ, ◌<◌, ◌==◌, ◌&&◌, Bool, true, false, not, List, [], ◌∷◌, length, nat_lt, refl, ap, ◌∙◌, sym, arith}
-use Rattle.std.specs.Prelude.{◌||◌}
-use Rattle.std.proofs.lemmas.Bool.{false≢true}
-use Rattle.std.proofs.lemmas.Bool.Decides.{nat_tests}
-use Rattle.dm_message.specs.declared.MsgId.{MsgId}
-use Rattle.dm_line.specs.Each.{all_below}
-use Rattle.dm_line.proofs.Below.{all_of_each, both_true, each_of_all, left_true, right_true}
-use Rattle.dm_rule.specs.Laws.{QuietIsTested}
-use Rattle.dm_rule.specs.Quiet.{IsQuiet, has_mail, is_quiet, pair_is_quiet}
-use Rattle.dm_rule.specs.View.{Pair, View}
+use Rattle.dm_rule.proofs.Names.{◌≡◌, ◌≢◌, ℕ, ◌<◌, ◌==◌, ◌&&◌, Bool, true, false, not, List, [], ◌∷◌, length, nat_lt, refl, ap, ◌∙◌, sym, arith, ◌||◌, false≢true, nat_tests, MsgId, all_below, all_of_each, both_true, each_of_all, left_true}
+use Rattle.dm_rule.proofs.Names.{right_true, QuietIsTested, IsQuiet, has_mail, is_quiet, pair_is_quiet, Pair, View}
 
-eq_is : (m n : ℕ) → m ≡ n → (m == n) ≡ true
+pub eq_is : (m n : ℕ) → m ≡ n → (m == n) ≡ true
 eq_is m n e = grind (arith, nat_tests)
 
 is_eq : (m n : ℕ) → (m == n) ≡ true → m ≡ n
 is_eq m n e = grind (arith, nat_tests)
 
-eq_not : (m n : ℕ) → m ≢ n → (m == n) ≡ false
+pub eq_not : (m n : ℕ) → m ≢ n → (m == n) ≡ false
 eq_not m n e = grind (arith, nat_tests)
-
-or_true : (x : Bool) → (x || true) ≡ true
-or_true true = refl
-or_true false = refl
 
 heard_by : (same : Bool) (p : Pair) → (same ≡ false → p.acked ≡ length p.ids) → (same || (p.acked == length p.ids)) ≡ true
 heard_by true p h = refl

@@ -1,13 +1,5 @@
 -- A small system is quiet at its start, and not while a message is on its way.
-use Rattle.std.proofs.Common.{◌≡◌, ℕ, length, refl, ap, sym, ◌∙◌, lit<}
-use Rattle.std.specs.declared.option.Option.{Option}
-use Rattle.std.specs.declared.option.Option.TheVariants.{None, Some}
-use Rattle.dm_processor.specs.Instructions.{instruction}
-use Rattle.dm_schedule.specs.declared.Step.TheVariants as directive
-use Rattle.dm_rule.specs.Parts.{Spelled}
-use Rattle.dm_rule.specs.Point.{first_point}
-use Rattle.dm_rule.specs.Quiet.{IsQuiet}
-use Rattle.dm_rule.specs.Rule.{group_of}
+use Rattle.dm_rule.proofs.Names.{◌≡◌, ℕ, length, refl, ap, sym, ◌∙◌, lit<, Option, None, Some, instruction, Step, Spelled, first_point, IsQuiet, group_of}
 use Rattle.dm_rule.proofs.Worked.{hi}
 
 pub quiet_at_start : IsQuiet 2 (first_point hi).view
@@ -22,16 +14,16 @@ abbrev taken : Option Spelled → ℕ
 taken None = 0
 taken (Some w) = (w.point.view.pair 0 1).taken
 
-one_routed : routed (group_of hi (first_point hi) (directive.Turn 0)) ≡ 1
+one_routed : routed (group_of hi (first_point hi) (Step.Turn 0)) ≡ 1
 unfolding instruction
 one_routed = refl
 
-none_taken : taken (group_of hi (first_point hi) (directive.Turn 0)) ≡ 0
+none_taken : taken (group_of hi (first_point hi) (Step.Turn 0)) ≡ 0
 unfolding instruction
 none_taken = refl
 
 -- behind the first turn the message "hi" is on its way
-pub not_quiet_after_send : (w : Spelled) → group_of hi (first_point hi) (directive.Turn 0) ≡ Some w → IsQuiet 2 w.point.view → ⊥
+pub not_quiet_after_send : (w : Spelled) → group_of hi (first_point hi) (Step.Turn 0) ≡ Some w → IsQuiet 2 w.point.view → ⊥
 not_quiet_after_send w e quiet =
     let one : routed (Some w) ≡ 1 = ap routed (sym e) ∙ one_routed in
     let none : taken (Some w) ≡ 0 = ap taken (sym e) ∙ none_taken in

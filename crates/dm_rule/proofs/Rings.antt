@@ -1,12 +1,6 @@
 -- What the ring of a machine lists is here.
-use Rattle.std.proofs.Common.{◌≡◌, ℕ, ◌==◌, ◌&&◌, Bool, true, false, not, List, [], ◌∷◌, ◌++◌, refl, ap, ◌∙◌, sym, subst, inl, inr}
-use Rattle.std.specs.Prelude.{⊤, if◌then◌else◌}
-use Rattle.std.proofs.lemmas.Bool.{cases_Bool, false≢true}
-use Rattle.dm_link.specs.declared.Pid.{Pid}
-use Rattle.dm_link.specs.Names.{pid_eq}
-use Rattle.dm_line.specs.Sets.{at_machine, at_record, without, moved_back}
-use Rattle.dm_rule.specs.View.{View, Known, Here}
-use Rattle.dm_laws.proofs.Equal.{pid_eq-is, pid_eq-same}
+use Rattle.dm_rule.proofs.Names.{◌≡◌, ℕ, ◌==◌, ◌&&◌, Bool, true, false, not, List, [], ◌∷◌, ◌++◌, refl, ap, ◌∙◌, sym, subst, inl, inr, ⊤, if◌then◌else◌, cases_Bool, false≢true, Pid, pid_eq, at_machine, at_record, without, moved_back, View}
+use Rattle.dm_rule.proofs.Names.{Known, Here, pid_eq-is, pid_eq-same}
 use Rattle.dm_rule.proofs.Lines.{eq_is}
 
 abbrev pub AllHere : (Pid → Known) → List Pid → Type 0

@@ -1,12 +1,5 @@
 -- A line is said, alone or before a message that is routed.
-use Rattle.std.proofs.Common.{◌≡◌, ℕ, ◌≤◌, [], ◌∷◌, sym, subst, length}
-use Rattle.std.specs.declared.option.Option.TheVariants.{None, Some}
-use Rattle.dm_message.specs.declared.MsgId.{MsgId}
-use Rattle.dm_onekernel.specs.Kernel.{OneKernel}
-use Rattle.dm_line.specs.declared.line.Line.{Line}
-use Rattle.dm_rule.specs.View.{View, Pair, view_after}
-use Rattle.dm_rule.specs.Point.{Point, label_of, kernel_after, moved}
-use Rattle.dm_rule.specs.Parts.{Says, Routes, Spelled, spelled}
+use Rattle.dm_rule.proofs.Names.{◌≡◌, ℕ, ◌≤◌, [], ◌∷◌, sym, subst, length, None, Some, MsgId, OneKernel, Line, View, Pair, view_after, Point, label_of, kernel_after, moved, Says, Routes, Spelled, spelled}
 use Rattle.dm_rule.proofs.States.{State, says_next, said, State-at, PairsFit, routes_next}
 
 pub fits_as : (v w : View) → w.pair ≡ v.pair → PairsFit v → PairsFit w

@@ -1,15 +1,6 @@
 -- Messages that come, move and go stand once.
-use Rattle.std.proofs.Common.{refl, ◌≡◌, ◌≢◌, ℕ, ◌+◌, ◌≤◌, Bool, true, false, ◌==◌, ◌&&◌, List, [], ◌∷◌, ◌++◌, ap, ◌∙◌, sym, arith, subst}
-use Rattle.std.proofs.lemmas.Bool.{cases_Bool, false≢true}
-use Rattle.std.proofs.Common.{◌⊎◌, inl, inr}
-use Rattle.std.proofs.lemmas.Bool.Decides.{nat_tests}
-use Rattle.std.specs.declared.option.Option.{Option}
-use Rattle.std.specs.declared.option.Option.TheVariants.{None, Some}
-use Rattle.dm_link.specs.Names.{pid_eq}
-use Rattle.dm_message.specs.declared.MsgId.{MsgId}
-use Rattle.dm_message.specs.Ids.{id_eq}
-use Rattle.dm_rule.specs.Spots.{Spot, Queue, Held, Inbox, Untaken, times, StandsOnce, StandsNowhere, StandsAsBag}
-use Rattle.dm_laws.proofs.Equal.{pid_eq-is, pid_eq-same}
+use Rattle.dm_rule.proofs.Names.{◌≡◌, ◌≢◌, ℕ, ◌+◌, ◌≤◌, Bool, true, false, ◌==◌, ◌&&◌, List, [], ◌∷◌, ◌++◌, ap, ◌∙◌, sym, arith, subst, cases_Bool, false≢true, ◌⊎◌, inl, inr, nat_tests, Option, None, Some, pid_eq, MsgId, Spot, Queue, Held}
+use Rattle.dm_rule.proofs.Names.{Inbox, Untaken, times, StandsOnce, StandsNowhere, StandsAsBag, pid_eq-is, pid_eq-same, left_true, right_true, both_true}
 
 pub same_spot : Spot → Spot → Bool
 same_spot (Queue m p) (Queue n q) = (m == n) && pid_eq p q
@@ -18,23 +9,15 @@ same_spot (Inbox m) (Inbox n) = m == n
 same_spot (Untaken a b) (Untaken c d) = (a == c) && (b == d)
 same_spot x y = false
 
-and_left : (a b : Bool) → (a && b) ≡ true → a ≡ true
-and_left true b e = refl
-and_left false b e = cc
-
-and_right : (a b : Bool) → (a && b) ≡ true → b ≡ true
-and_right true b e = e
-and_right false b e = cc
-
 eq_is : (m n : ℕ) → (m == n) ≡ true → m ≡ n
 eq_is m n e = grind (arith, nat_tests)
 
 same_spot-is : (x y : Spot) → same_spot x y ≡ true → x ≡ y
 unfolding same_spot
-same_spot-is (Queue m p) (Queue n q) e = ap (λ k. Queue k p) (eq_is m n (and_left (m == n) (pid_eq p q) e)) ∙ ap (Queue n) (pid_eq-is p q (and_right (m == n) (pid_eq p q) e))
-same_spot-is (Held m p) (Held n q) e = ap (λ k. Held k p) (eq_is m n (and_left (m == n) (pid_eq p q) e)) ∙ ap (Held n) (pid_eq-is p q (and_right (m == n) (pid_eq p q) e))
+same_spot-is (Queue m p) (Queue n q) e = ap (λ k. Queue k p) (eq_is m n (left_true (m == n) (pid_eq p q) e)) ∙ ap (Queue n) (pid_eq-is p q (right_true (m == n) (pid_eq p q) e))
+same_spot-is (Held m p) (Held n q) e = ap (λ k. Held k p) (eq_is m n (left_true (m == n) (pid_eq p q) e)) ∙ ap (Held n) (pid_eq-is p q (right_true (m == n) (pid_eq p q) e))
 same_spot-is (Inbox m) (Inbox n) e = ap Inbox (eq_is m n e)
-same_spot-is (Untaken a b) (Untaken c d) e = ap (λ k. Untaken k b) (eq_is a c (and_left (a == c) (b == d) e)) ∙ ap (Untaken c) (eq_is b d (and_right (a == c) (b == d) e))
+same_spot-is (Untaken a b) (Untaken c d) e = ap (λ k. Untaken k b) (eq_is a c (left_true (a == c) (b == d) e)) ∙ ap (Untaken c) (eq_is b d (right_true (a == c) (b == d) e))
 same_spot-is (Queue m p) (Held n q) e = cc
 same_spot-is (Queue m p) (Inbox n) e = cc
 same_spot-is (Queue m p) (Untaken c d) e = cc
@@ -51,16 +34,12 @@ same_spot-is (Untaken a b) (Inbox n) e = cc
 eq_same : (m : ℕ) → (m == m) ≡ true
 eq_same m = grind (arith, nat_tests)
 
-both : (a b : Bool) → a ≡ true → b ≡ true → (a && b) ≡ true
-both true b e f = f
-both false b e f = cc
-
 same_spot-same : (x : Spot) → same_spot x x ≡ true
 unfolding same_spot
-same_spot-same (Queue m p) = both (m == m) (pid_eq p p) (eq_same m) (pid_eq-same p)
-same_spot-same (Held m p) = both (m == m) (pid_eq p p) (eq_same m) (pid_eq-same p)
+same_spot-same (Queue m p) = both_true (m == m) (pid_eq p p) (eq_same m) (pid_eq-same p)
+same_spot-same (Held m p) = both_true (m == m) (pid_eq p p) (eq_same m) (pid_eq-same p)
 same_spot-same (Inbox m) = eq_same m
-same_spot-same (Untaken a b) = both (a == a) (b == b) (eq_same a) (eq_same b)
+same_spot-same (Untaken a b) = both_true (a == a) (b == b) (eq_same a) (eq_same b)
 
 pub spot_cases : (x y : Spot) → (x ≡ y) ⊎ (x ≢ y)
 spot_cases x y = elim (cases_Bool (same_spot x y)) [
@@ -123,6 +102,3 @@ StandsAsBag-one m f x least h = (once_at f x (StandsAsBag-once m f x least h) le
 pub times-append : (i : MsgId) (xs ys : List MsgId) → times i (xs ++ ys) ≡ times i xs + times i ys
 times-append i [] ys = grind arith
 times-append i (x ∷ xs) ys = grind (arith, times-append i xs ys)
-
-pub times-zero : (i j : MsgId) (js : List MsgId) → times i (j ∷ js) ≡ 0 → (id_eq i j ≡ false) × (times i js ≡ 0)
-times-zero i j js e = (grind (arith, nat_tests), grind (arith, nat_tests))

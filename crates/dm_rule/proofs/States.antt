@@ -1,40 +1,9 @@
 -- Each group keeps that each message stands once.
-use Rattle.std.proofs.Common.{◌≡◌, ℕ, ◌+◌, ◌≤◌, ◌==◌, Bool, true, false, List, [], ◌∷◌, refl, ap, ◌∙◌, sym, subst, arith, length, inl, inr}
-use Rattle.std.specs.Prelude.{if◌then◌else◌}
-use Rattle.std.specs.declared.option.Option.{Option}
-use Rattle.std.specs.declared.option.Option.TheVariants.{None, Some}
-use Rattle.std.proofs.lemmas.Bool.{cases_Bool}
-use Rattle.std.proofs.lemmas.Bool.Decides.{nat_tests}
-use Rattle.dm_link.specs.declared.Pid.{Pid}
-use Rattle.dm_message.specs.declared.MsgId.{MsgId}
-use Rattle.dm_message.specs.declared.kind.MessageKind.{MessageKind}
-use Rattle.dm_message.specs.Kinds.{plain_kind}
-use Rattle.dm_message.specs.Ids.{id_eq}
-use Rattle.dm_message.specs.Plain.{PlainMessage}
-use Rattle.dm_onekernel.specs.declared.label.Label.{Label}
-use Rattle.dm_onekernel.specs.Options.{bind}
-use Rattle.dm_onekernel.specs.Kernel.{OneKernel}
+use Rattle.dm_rule.proofs.Names.{◌≡◌, ℕ, ◌+◌, ◌≤◌, ◌==◌, Bool, true, false, List, [], ◌∷◌, refl, ap, ◌∙◌, sym, subst, arith, length, inl, inr, if◌then◌else◌, Option, None, Some, cases_Bool, nat_tests, Pid, MsgId, MessageKind, plain_kind}
+use Rattle.dm_rule.proofs.Names.{id_eq, PlainMessage, Label, bind, OneKernel, Line, Load, View, Told, view_after, Receiver, Point, label_of, kernel_after, moved, after_line, after, Part, Says, Routes, Transmits, Spelled, lines_of, puts}
+use Rattle.dm_rule.proofs.Names.{goes_out, packet_line, behind, spelled, Spot, Untaken, ids_at, entry, in_bag, reception, id_eq-is, id_eq-same, Sound, bind-is, after_step, false≢true, pid_of, id_of, at_machine, is_kernels}
 use Rattle.dm_onekernel.specs.Step as kernel
-use Rattle.dm_line.specs.declared.line.Line.{Line}
-use Rattle.dm_line.specs.declared.line.Line.TheVariants as line
-use Rattle.dm_line.specs.declared.line.Load.{Load}
-use Rattle.dm_line.specs.declared.line.Load.TheVariants as load
-use Rattle.dm_rule.specs.View.{View, Pair, Told, view_after, handled, receiver_of}
 use Rattle.dm_rule.specs.View as view
-use Rattle.dm_rule.specs.Addresses.{Receiver}
-use Rattle.dm_rule.specs.Point.{Point, label_of, kernel_after, moved, after_line, after}
-use Rattle.dm_rule.specs.Parts.{Part, Says, Routes, Transmits, Spelled, lines_of, puts, goes_out, packet_line, behind, spelled}
-use Rattle.dm_rule.specs.Spots.{Spot, Queue, Held, Inbox, Untaken, ids_at}
-use Rattle.dm_laws.specs.Laws.{entry, in_bag, reception}
-use Rattle.dm_laws.proofs.Equal.{id_eq-is, id_eq-same}
-use Rattle.dm_laws.proofs.Sound.{Sound}
-use Rattle.dm_laws.proofs.Steps.{bind-is}
-use Rattle.dm_laws.proofs.Runs.{after_step}
-use Rattle.std.proofs.lemmas.Bool.{false≢true}
-use Rattle.dm_link.specs.Names.{pid_of}
-use Rattle.dm_message.specs.Ids.{id_of}
-use Rattle.dm_line.specs.Sets.{at_machine}
-use Rattle.dm_rule.specs.View.{is_kernels}
 use Rattle.dm_rule.proofs.Hushed.{is_put, hushed}
 use Rattle.dm_rule.proofs.Letters.{letters, letters_step, letter_of, not_kernels}
 use Rattle.dm_rule.proofs.Lines.{Bag, hidden, hidden_off, having, Stands, Stands-same, Stands-stays, Stands-put-home, Stands-put-away, untold_tells, pair_keeps}
@@ -59,18 +28,18 @@ numbered_as v w c t h m n le = ap (λ (f : MsgId → Option Told). f (id_of (pid
 
 -- a step of the kernel that one message goes by, and one enters
 pub by_label : (pt : Point) (l : Label) (s : OneKernel) (out put : Option MsgId) (h : State None pt) → kernel.step pt.kernel l ≡ Some s → ((j : MsgId) → out ≡ Some j → is_kernels j ≡ false) → BagStep h.e pt.kernel s out put
-    → Stands (hidden out (letters h.own pt.kernel.bag)) (view_after pt.view (line.Label l)) → ((i : MsgId) → (view_after pt.view (line.Label l)).told i ≡ pt.view.told i) → State put (moved pt (line.Label l) s)
+    → Stands (hidden out (letters h.own pt.kernel.bag)) (view_after pt.view (Line.Label l)) → ((i : MsgId) → (view_after pt.view (Line.Label l)).told i ≡ pt.view.told i) → State put (moved pt (Line.Label l) s)
 by_label pt l s out put h is gone bag stands told =
     let a = after_step h.r h.e pt.kernel s l is h.sound in
     let put_in : (j : MsgId) → put ≡ Some j → is_kernels j ≡ false = λ j k. (let (x, there) = bag.there j k in not_kernels (λ i. h.r i + reception i l) (λ i. h.e i + entry i pt.kernel s) s j x there a.sound) in
-    let hush = hushed pt.view (line.Label l) refl in
+    let hush = hushed pt.view (Line.Label l) refl in
     record {
       own = h.own;
-      numbered = numbered_as pt.view (view_after pt.view (line.Label l)) hush.count hush.told h.numbered;
+      numbered = numbered_as pt.view (view_after pt.view (Line.Label l)) hush.count hush.told h.numbered;
       r = λ i. h.r i + reception i l;
       e = λ i. h.e i + entry i pt.kernel s;
       sound = a.sound;
-      stands = Stands-same (hidden out (letters h.own pt.kernel.bag)) (hidden put (letters h.own s.bag)) (view_after pt.view (line.Label l)) (letters_step h.e h.own pt.kernel s out put bag gone put_in) stands;
+      stands = Stands-same (hidden out (letters h.own pt.kernel.bag)) (hidden put (letters h.own s.bag)) (view_after pt.view (Line.Label l)) (letters_step h.e h.own pt.kernel s out put bag gone put_in) stands;
       untold = λ i zero_ other. told i ∙ h.untold i (omega (arith, zero_)) other;
       pending = λ j k. told j ∙ h.untold j (bag.fresh j k) (put_in j k);
       there = bag.there;
@@ -132,15 +101,13 @@ pub State-at : (pend : Option MsgId) (pt next : Point) → pt ≡ next → State
 State-at pend pt next e h = subst (State pend) e h
 
 -- a packet moves no message
-packet_off : (v : View) (a b k : ℕ) (l : Load) (z : Spot) → ids_at (view_after v (line.Packet a b k l)) z ≡ ids_at v z
-packet_off v a b k l (Queue m p) = refl
-packet_off v a b k l (Held m p) = refl
-packet_off v a b k l (Inbox m) = refl
+packet_off : (v : View) (a b k : ℕ) (l : Load) (z : Spot) → ids_at (view_after v (Line.Packet a b k l)) z ≡ ids_at v z
 packet_off v a b k l (Untaken c d) = pair_keeps v.pair a b _ refl c d
+packet_off v a b k l _ = refl
 
-pub by_packet : (pend : Option MsgId) (pt : Point) (a b k : ℕ) (l : Load) → State pend pt → State pend (moved pt (line.Packet a b k l) pt.kernel)
+pub by_packet : (pend : Option MsgId) (pt : Point) (a b k : ℕ) (l : Load) → State pend pt → State pend (moved pt (Line.Packet a b k l) pt.kernel)
 by_packet pend pt a b k l h =
-    by_line pend pt (line.Packet a b k l) refl h (Stands-stays (hidden pend (letters h.own pt.kernel.bag)) pt.view (view_after pt.view (line.Packet a b k l)) (λ z. packet_off pt.view a b k l z) (λ i. refl) h.stands) (λ i. refl)
+    by_line pend pt (Line.Packet a b k l) refl h (Stands-stays (hidden pend (letters h.own pt.kernel.bag)) pt.view (view_after pt.view (Line.Packet a b k l)) (λ z. packet_off pt.view a b k l z) (λ i. refl) h.stands) (λ i. refl)
 
 -- each pair has taken at most what was routed, and a machine's pair with itself all of it
 pub record PairsFit (v : View) : Type 0 where
@@ -194,9 +161,9 @@ numbered_put v a b i k q other untold h m n le =
     let count : (view.after_put v a b i k q).count ≡ v.count = ap (λ (c : Bool). if c then at_machine v.count i.from.home (v.count i.from.home + 1) else v.count) (not_own i (v.told i) other untold) in
     put_told_off v a b i (id_of (pid_of m 0) n) k q (kernels_id i m n other) ∙ h m n (subst (λ (f : ℕ → ℕ). f m ≤ n) count le)
 
-pub by_put : (pt : Point) (b : ℕ) (i : MsgId) (x : PlainMessage) → pt.kernel.bag i ≡ Some x → PairsFit pt.view → State (Some i) pt → State None (moved pt (line.Put pt.view.acting b i (plain_kind x.what) x.to) pt.kernel)
+pub by_put : (pt : Point) (b : ℕ) (i : MsgId) (x : PlainMessage) → pt.kernel.bag i ≡ Some x → PairsFit pt.view → State (Some i) pt → State None (moved pt (Line.Put pt.view.acting b i (plain_kind x.what) x.to) pt.kernel)
 by_put pt b i x is fits h =
-    let l = line.Put pt.view.acting b i (plain_kind x.what) x.to in
+    let l = Line.Put pt.view.acting b i (plain_kind x.what) x.to in
     let v = pt.view in
     let bag = letters h.own pt.kernel.bag in
     let untold : v.told i ≡ None = h.pending i refl in
@@ -224,10 +191,10 @@ pub record PutNext (P : Point → Type 0) (ps : List Part) (w : Spelled) : Type 
   pub point : rest.point ≡ w.point
 
 abbrev pub PacketsKeep : (Point → Type 0) → Type 0
-PacketsKeep P = (q : Point) (a b k : ℕ) (l : Load) → P q → P (moved q (line.Packet a b k l) q.kernel)
+PacketsKeep P = (q : Point) (a b k : ℕ) (l : Load) → P q → P (moved q (Line.Packet a b k l) q.kernel)
 
 packets_or_none : (P : Point → Type 0) (keep : PacketsKeep P) (v : View) (b : ℕ) (ls : List Line) (ps : List Part) (w : Spelled) (mid : Point) (c d : Bool) → P mid
-    → bind (after mid (if c then [] else if d then packet_line v v.acting b (load.Data (length (v.pair v.acting b).ids)) ∷ [] else [])) (λ n. bind (spelled n ps) (λ r. Some (behind ls r))) ≡ Some w
+    → bind (after mid (if c then [] else if d then packet_line v v.acting b (Load.Data (length (v.pair v.acting b).ids)) ∷ [] else [])) (λ n. bind (spelled n ps) (λ r. Some (behind ls r))) ≡ Some w
     → PutNext P ps w
 packets_or_none P keep v b ls ps w mid true d h e =
     let (r, more, last) = bind-is (spelled mid ps) (λ r. Some (behind ls r)) w e in
@@ -238,20 +205,20 @@ packets_or_none P keep v b ls ps w mid false false h e =
     let f : behind ls r ≡ w = cc in
     record { next = mid; stands = h; rest = r; more = more; point = ap (λ (t : Spelled). t.point) f }
 packets_or_none P keep v b ls ps w mid false true h e =
-    let l = packet_line v v.acting b (load.Data (length (v.pair v.acting b).ids)) in
+    let l = packet_line v v.acting b (Load.Data (length (v.pair v.acting b).ids)) in
     let (n, took, rest) = bind-is (after mid (l ∷ [])) (λ n. bind (spelled n ps) (λ r. Some (behind ls r))) w e in
     let (r, more, last) = bind-is (spelled n ps) (λ r. Some (behind ls r)) w rest in
     let (s, is, same_) = line_is mid l n took in
     let f : behind ls r ≡ w = cc in
     let kept : mid.kernel ≡ s = let k = is in cc in
     let at : moved mid l mid.kernel ≡ n = ap (moved mid l) kept ∙ same_ in
-    record { next = n; stands = subst P at (keep mid v.acting b (length (v.pair v.acting b).wire) (load.Data (length (v.pair v.acting b).ids)) h); rest = r; more = more; point = ap (λ (t : Spelled). t.point) f }
+    record { next = n; stands = subst P at (keep mid v.acting b (length (v.pair v.acting b).wire) (Load.Data (length (v.pair v.acting b).ids)) h); rest = r; more = more; point = ap (λ (t : Spelled). t.point) f }
 
 pub puts_next : (P : Point → Type 0) (keep : PacketsKeep P) (pt : Point) (part : Part) (b : ℕ) (i : MsgId) (k : MessageKind) (q : Pid) (ps : List Part) (w : Spelled) → lines_of pt part ≡ Some (puts pt.view b i k q)
-    → P (moved pt (line.Put pt.view.acting b i k q) pt.kernel) → spelled pt (part ∷ ps) ≡ Some w → PutNext P ps w
+    → P (moved pt (Line.Put pt.view.acting b i k q) pt.kernel) → spelled pt (part ∷ ps) ≡ Some w → PutNext P ps w
 puts_next P keep pt part b i k q ps w lines h e =
     let whole : bind (Some (puts pt.view b i k q)) (λ ls. bind (after pt ls) (λ n. bind (spelled n ps) (λ r. Some (behind ls r)))) ≡ Some w = ap (λ o. bind o (λ ls. bind (after pt ls) (λ n. bind (spelled n ps) (λ r. Some (behind ls r))))) (sym lines) ∙ e in
-    packets_or_none P keep pt.view b (puts pt.view b i k q) ps w (moved pt (line.Put pt.view.acting b i k q) pt.kernel) (pt.view.acting == b) (goes_out (pt.view.pair pt.view.acting b)) h whole
+    packets_or_none P keep pt.view b (puts pt.view b i k q) ps w (moved pt (Line.Put pt.view.acting b i k q) pt.kernel) (pt.view.acting == b) (goes_out (pt.view.pair pt.view.acting b)) h whole
 
 -- a message of the bag is routed
 pub routes_next : (pt : Point) (i : MsgId) (ps : List Part) (w : Spelled) → State (Some i) pt → PairsFit pt.view → spelled pt (Routes i ∷ ps) ≡ Some w → PutNext (State None) ps w

@@ -1,52 +1,16 @@
 -- First puts tell what is so, wherever the rule leads.
-use Rattle.std.proofs.Common.{◌≡◌, ℕ, ◌+◌, ◌≤◌, ◌==◌, ◌&&◌, Bool, true, false, List, [], ◌∷◌, length, is_some, is_none, refl, ap, ◌∙◌, sym, subst, inl, inr, arith}
-use Rattle.std.specs.Prelude.{⊤, if◌then◌else◌}
-use Rattle.std.specs.declared.option.Option.{Option}
-use Rattle.std.specs.declared.option.Option.TheVariants.{None, Some}
-use Rattle.std.proofs.lemmas.Bool.{cases_Bool, false≢true}
-use Rattle.dm_link.specs.declared.Pid.{Pid}
-use Rattle.dm_message.specs.declared.MsgId.{MsgId}
-use Rattle.dm_message.specs.declared.kind.MessageKind.{MessageKind}
-use Rattle.dm_message.specs.Ids.{id_eq}
-use Rattle.dm_message.specs.Kinds.{plain_kind}
-use Rattle.dm_message.specs.Plain as what
-use Rattle.dm_message.specs.Plain.{PlainMessage, PlainWhat}
-use Rattle.dm_onekernel.specs.declared.boot.Boot.{Boot}
-use Rattle.dm_onekernel.specs.declared.label.Label.{Label}
-use Rattle.dm_onekernel.specs.Boot.{IsValid}
-use Rattle.dm_onekernel.specs.Kernel.{OneKernel}
-use Rattle.dm_onekernel.specs.Options.{bind}
+use Rattle.dm_rule.proofs.Names.{◌≡◌, ℕ, ◌+◌, ◌≤◌, ◌==◌, ◌&&◌, Bool, true, false, List, [], ◌∷◌, length, is_some, refl, ap, ◌∙◌, sym, subst, inl, inr, arith, ⊤, if◌then◌else◌, Option, None, Some, cases_Bool, false≢true, Pid, MsgId}
+use Rattle.dm_rule.proofs.Names.{MessageKind, id_eq, plain_kind, Load, PlainMessage, PlainWhat, Boot, Label, IsValid, OneKernel, bind, Step, Line, View, Pair, Told, view_after, is_kernels, own_id, Receiver, Point, label_of, kernel_after}
+use Rattle.dm_rule.proofs.Names.{moved, after_line, after, first_point, Part, Says, Routes, Again, Owns, Transmits, Spelled, lines_of, puts, goes_out, packet_line, behind, spelled, group_of, outcome, Leads, TellsRightAlways, is_between}
+use Rattle.dm_rule.proofs.Names.{TellsRight, entry, in_bag, reception, id_eq-is, id_eq-same, Sound, bind-is, after_step, start-sound, at_machine, pid_of, id_of, slice_get, zero, suc, ◌⊎◌, migrates}
+use Rattle.std.proofs.Common.{is_none}
 use Rattle.dm_onekernel.specs.Step as kernel
-use Rattle.dm_schedule.specs.declared.Step.{Step}
-use Rattle.dm_schedule.specs.declared.Step.TheVariants as step
-use Rattle.dm_line.specs.declared.line.Line.{Line}
-use Rattle.dm_line.specs.declared.line.Line.TheVariants as line
-use Rattle.dm_line.specs.declared.line.Load.TheVariants as load
-use Rattle.dm_rule.specs.View.{View, Pair, Told, view_after, is_kernels, own_id}
 use Rattle.dm_rule.specs.View as view
-use Rattle.dm_rule.specs.Addresses.{Receiver}
-use Rattle.dm_rule.specs.Point.{Point, label_of, kernel_after, moved, after_line, after, first_point}
-use Rattle.dm_rule.specs.Parts.{Part, Says, Routes, Again, Owns, Transmits, Spelled, lines_of, puts, goes_out, packet_line, behind, spelled}
-use Rattle.dm_rule.specs.Rule.{group_of, outcome, headed}
-use Rattle.dm_rule.specs.Laws.{Leads, TellsRightAlways}
-use Rattle.dm_rule.specs.Phases.{is_between}
-use Rattle.dm_rule.specs.Tells.{TellsRight}
-use Rattle.dm_laws.specs.Laws.{entry, in_bag, reception}
-use Rattle.dm_laws.proofs.Equal.{id_eq-is, id_eq-same}
-use Rattle.dm_laws.proofs.Sound.{Sound}
-use Rattle.dm_laws.proofs.Steps.{bind-is}
-use Rattle.dm_laws.proofs.Runs.{after_step, start-sound}
 use Rattle.dm_rule.proofs.Letters.{not_kernels}
 use Rattle.dm_rule.proofs.Hushed.{is_put, hushed}
 use Rattle.dm_rule.proofs.States.{put_told_off, numbered_as, numbered_put}
 use Rattle.dm_rule.proofs.Moves.States.{not_first, own_numbered}
-use Rattle.dm_line.specs.Sets.{at_machine}
-use Rattle.dm_link.specs.Names.{pid_of}
-use Rattle.dm_message.specs.Ids.{id_of}
-use Rattle.std.specs.Prelude.{slice_get}
-use Rattle.std.proofs.Common.{zero, suc, ◌⊎◌}
 use Rattle.dm_rule.specs.Rule as rule
-use Rattle.dm_rule.specs.Migrating.{migrates}
 use Rattle.dm_rule.proofs.Pairs.Lines.{touches, AllFit}
 use Rattle.dm_rule.proofs.Pairs.Turns.{turns_fit}
 use Rattle.dm_rule.proofs.Pairs.Migrating.{migrates_fit}
@@ -65,7 +29,7 @@ pub record Sane (pt : Point) : Type 0 where
   pub numbered : Numbered pt.view
 
 -- a message that is in the bag behind a step was there before, the same, or enters, and nothing was told of it
-came_from : (a b : Option PlainMessage) (e : ℕ) (x : PlainMessage) → e + (if is_none a && is_some b then 1 else 0) ≤ 1 → b ≡ Some x → ((y : PlainMessage) → a ≡ Some y → y ≡ x) → (e ≡ 0 → a ≡ Some x) → a ≡ Some x
+pub came_from : (a b : Option PlainMessage) (e : ℕ) (x : PlainMessage) → e + (if is_none a && is_some b then 1 else 0) ≤ 1 → b ≡ Some x → ((y : PlainMessage) → a ≡ Some y → y ≡ x) → (e ≡ 0 → a ≡ Some x) → a ≡ Some x
 came_from (Some y) b e x once there same none = ap Some (same y refl)
 came_from None None e x once there same none = cc
 came_from None (Some z) e x once there same none = none (omega (arith, once))
@@ -141,7 +105,7 @@ put_by : (pt : Point) (i : MsgId) (k : MessageKind) (q : Pid) (o : Option Told) 
 put_by pt i k q None t P is e was now = let f : record { kind = k; receiver = q; about = pt.view.topic } ≡ t = cc in subst P f now
 put_by pt i k q (Some u) t P is e was now = let f : u ≡ t = cc in subst P f (was u is)
 
-pub sane_put : (pt : Point) (a b : ℕ) (i : MsgId) (k : MessageKind) (q : Pid) (h : Sane pt) → PutRight pt h.e i k q → Sane (moved pt (line.Put a b i k q) pt.kernel)
+pub sane_put : (pt : Point) (a b : ℕ) (i : MsgId) (k : MessageKind) (q : Pid) (h : Sane pt) → PutRight pt h.e i k q → Sane (moved pt (Line.Put a b i k q) pt.kernel)
 sane_put pt a b i k q h right =
     let v = pt.view in
     let w = view.after_put v a b i k q in
@@ -174,20 +138,8 @@ sane_put pt a b i k q h right =
 
 -- the three kinds of put
 pub plain_not : (w : PlainWhat) → is_between (plain_kind w) ≡ false
-plain_not (what.User x1 x2 x3 x4) = refl
-plain_not what.Stop = refl
-plain_not what.Resume = refl
-plain_not what.Kill = refl
-plain_not (what.Read x1 x2) = refl
-plain_not (what.Write x1 x2) = refl
-plain_not (what.Block x1) = refl
-plain_not what.Written = refl
-plain_not what.Gone = refl
-plain_not (what.Create x1 x2) = refl
-plain_not (what.Created x1) = refl
-plain_not what.NoRoom = refl
-plain_not (what.Move x1) = refl
-plain_not (what.Moved x1) = refl
+plain_not (PlainWhat.User x1 x2 x3 x4) = refl
+plain_not _ = refl
 
 -- a message that was told of before is not counted, and one that is no kernel's own neither
 numbered_some : (v : View) (a b : ℕ) (i : MsgId) (k : MessageKind) (q : Pid) (t : Told) → v.told i ≡ Some t → Numbered v → Numbered (view.after_put v a b i k q)
@@ -245,14 +197,14 @@ owns_right pt k q h = record {
 
 -- a put with its packet
 puts_sane : (pt next : Point) (b : ℕ) (i : MsgId) (k : MessageKind) (q : Pid) (c d : Bool) (h : Sane pt) → PutRight pt h.e i k q
-    → after pt (line.Put pt.view.acting b i k q ∷ (if c then [] else if d then packet_line pt.view pt.view.acting b (load.Data (length (pt.view.pair pt.view.acting b).ids)) ∷ [] else [])) ≡ Some next → Sane next
+    → after pt (Line.Put pt.view.acting b i k q ∷ (if c then [] else if d then packet_line pt.view pt.view.acting b (Load.Data (length (pt.view.pair pt.view.acting b).ids)) ∷ [] else [])) ≡ Some next → Sane next
 puts_sane pt next b i k q true d h right is =
-    let f : moved pt (line.Put pt.view.acting b i k q) pt.kernel ≡ next = cc in subst Sane f (sane_put pt pt.view.acting b i k q h right)
+    let f : moved pt (Line.Put pt.view.acting b i k q) pt.kernel ≡ next = cc in subst Sane f (sane_put pt pt.view.acting b i k q h right)
 puts_sane pt next b i k q false false h right is =
-    let f : moved pt (line.Put pt.view.acting b i k q) pt.kernel ≡ next = cc in subst Sane f (sane_put pt pt.view.acting b i k q h right)
+    let f : moved pt (Line.Put pt.view.acting b i k q) pt.kernel ≡ next = cc in subst Sane f (sane_put pt pt.view.acting b i k q h right)
 puts_sane pt next b i k q false true h right is =
-    let l = packet_line pt.view pt.view.acting b (load.Data (length (pt.view.pair pt.view.acting b).ids)) in
-    let mid = moved pt (line.Put pt.view.acting b i k q) pt.kernel in
+    let l = packet_line pt.view pt.view.acting b (Load.Data (length (pt.view.pair pt.view.acting b).ids)) in
+    let mid = moved pt (Line.Put pt.view.acting b i k q) pt.kernel in
     let f : moved mid l mid.kernel ≡ next = cc in
     subst Sane f (sane_quiet mid l refl (sane_put pt pt.view.acting b i k q h right))
 
@@ -264,10 +216,7 @@ puts_lead pt next b i k q ls h right is leads =
 -- no part says a put by itself
 abbrev pub Sayable : Part → Type 0
 Sayable (Says l) = is_put l ≡ false
-Sayable (Routes i) = ⊤
-Sayable (Again i b) = ⊤
-Sayable (Owns k q b) = ⊤
-Sayable (Transmits a b l) = ⊤
+Sayable _ = ⊤
 
 abbrev pub AllSayable : List Part → Type 0
 AllSayable [] = ⊤
@@ -302,30 +251,13 @@ parts_sane (p ∷ ps) pt w ok is h =
 
 -- what keeps pairs, and what deliveries say, is no put
 quiet_of : (l : Line) → touches l ≡ false → is_put l ≡ false
-quiet_of (line.Head s) e = cc
-quiet_of (line.Idle m) e = refl
-quiet_of (line.Label x) e = refl
-quiet_of (line.Put a b i k q) e = cc
-quiet_of (line.Packet a b k l) e = cc
-quiet_of (line.Taken a b n) e = cc
-quiet_of (line.Old a b n) e = refl
-quiet_of (line.Early a b n) e = cc
-quiet_of (line.Acked a b n) e = cc
-quiet_of (line.Resent m n) e = refl
-quiet_of (line.Queued i) e = refl
-quiet_of (line.Held i) e = refl
-quiet_of (line.Forwarded i m) e = refl
-quiet_of (line.Updated i n) e = refl
-quiet_of (line.Migration s p) e = refl
-quiet_of (line.SentOn p n) e = refl
-quiet_of (line.Lacks p a b) e = refl
-quiet_of (line.Stays p) e = refl
-quiet_of (line.Here i) e = refl
-quiet_of (line.NoMove i) e = refl
-quiet_of (line.Proto i) e = refl
-quiet_of (line.NoChild p) e = refl
-quiet_of (line.Pinned p) e = refl
-quiet_of line.Nothing e = refl
+quiet_of (Line.Head s) e = cc
+quiet_of (Line.Put a b i k q) e = cc
+quiet_of (Line.Packet a b k l) e = cc
+quiet_of (Line.Taken a b n) e = cc
+quiet_of (Line.Early a b n) e = cc
+quiet_of (Line.Acked a b n) e = cc
+quiet_of _ e = refl
 
 fit_sayable : (f : ℕ → ℕ → Pair) (ps : List Part) → AllFit f ps → AllSayable ps
 fit_sayable f [] h = tt
@@ -336,30 +268,13 @@ fit_sayable f (Owns k q b ∷ ps) h = (tt, fit_sayable f ps h.1)
 fit_sayable f (Transmits a b l ∷ ps) h = (tt, fit_sayable f ps h.1)
 
 net_quiet : (l : Line) → IsNetLine l → is_put l ≡ false
-net_quiet (line.Head s) h = absurd h
-net_quiet (line.Idle m) h = absurd h
-net_quiet (line.Label x) h = absurd h
-net_quiet (line.Put a b i k q) h = absurd h
-net_quiet (line.Packet a b k l) h = absurd h
-net_quiet (line.Taken a b n) h = refl
-net_quiet (line.Old a b n) h = refl
-net_quiet (line.Early a b n) h = refl
-net_quiet (line.Acked a b n) h = refl
-net_quiet (line.Resent m n) h = refl
-net_quiet (line.Queued i) h = absurd h
-net_quiet (line.Held i) h = absurd h
-net_quiet (line.Forwarded i m) h = absurd h
-net_quiet (line.Updated i n) h = absurd h
-net_quiet (line.Migration s p) h = absurd h
-net_quiet (line.SentOn p n) h = absurd h
-net_quiet (line.Lacks p a b) h = absurd h
-net_quiet (line.Stays p) h = absurd h
-net_quiet (line.Here i) h = absurd h
-net_quiet (line.NoMove i) h = absurd h
-net_quiet (line.Proto i) h = absurd h
-net_quiet (line.NoChild p) h = absurd h
-net_quiet (line.Pinned p) h = absurd h
-net_quiet line.Nothing h = refl
+net_quiet (Line.Taken a b n) h = refl
+net_quiet (Line.Old a b n) h = refl
+net_quiet (Line.Early a b n) h = refl
+net_quiet (Line.Acked a b n) h = refl
+net_quiet (Line.Resent m n) h = refl
+net_quiet Line.Nothing h = refl
+net_quiet _ h = absurd h
 
 net_sayable : (ps : List Part) → IsNet ps → AllSayable ps
 net_sayable [] h = tt
@@ -370,21 +285,21 @@ net_sayable (Owns k q b ∷ ps) h = absurd h.0
 net_sayable (Transmits a b l ∷ ps) h = (tt, net_sayable ps h.1)
 
 pub outcome_sayable : (b : Boot) (pt : Point) (d : Step) (ps : List Part) → outcome b pt d ≡ Some ps → AllSayable ps
-outcome_sayable b pt (step.Turn m) ps is = fit_sayable pt.view.pair ps (turns_fit pt.view.pair b pt m (pt.view.inbox m) ps is)
-outcome_sayable b pt (step.Tick m) ps is =
-    let qs = Says (line.Resent m (rule.outstanding pt.view m pt.kernel.machines)) ∷ rule.resends pt.view m pt.kernel.machines in
+outcome_sayable b pt (Step.Turn m) ps is = fit_sayable pt.view.pair ps (turns_fit pt.view.pair b pt m (pt.view.inbox m) ps is)
+outcome_sayable b pt (Step.Tick m) ps is =
+    let qs = Says (Line.Resent m (rule.outstanding pt.view m pt.kernel.machines)) ∷ rule.resends pt.view m pt.kernel.machines in
     let f : qs ≡ ps = cc in
     subst AllSayable f (refl, net_sayable (rule.resends pt.view m pt.kernel.machines) (resends_net pt.view m pt.kernel.machines))
-outcome_sayable b pt (step.Deliver a c k) ps is =
+outcome_sayable b pt (Step.Deliver a c k) ps is =
     let qs = rule.arrives a c (pt.view.pair a c) (pt.view.pair c a) (slice_get (pt.view.pair a c).wire k) in
     let f : qs ≡ ps = cc in
     subst AllSayable f (net_sayable qs (arrives_net a c (pt.view.pair a c) (pt.view.pair c a) (slice_get (pt.view.pair a c).wire k)))
-outcome_sayable b pt (step.Migrate p m) ps is = let f : migrates pt p ≡ ps = cc in subst AllSayable f (fit_sayable pt.view.pair (migrates pt p) (migrates_fit pt.view.pair pt p))
+outcome_sayable b pt (Step.Migrate p m) ps is = let f : migrates pt p ≡ ps = cc in subst AllSayable f (fit_sayable pt.view.pair (migrates pt p) (migrates_fit pt.view.pair pt p))
 
 pub sane_group : (b : Boot) (pt : Point) (d : Step) (w : Spelled) → group_of b pt d ≡ Some w → Sane pt → Sane w.point
 sane_group b pt d w is h =
     let g = group_is b pt d w is in
-    subst Sane g.point (parts_sane g.parts (moved pt (line.Head d) pt.kernel) g.rest (outcome_sayable b pt d g.parts g.is) g.said (sane_quiet pt (line.Head d) refl h))
+    subst Sane g.point (parts_sane g.parts (moved pt (Line.Head d) pt.kernel) g.rest (outcome_sayable b pt d g.parts g.is) g.said (sane_quiet pt (Line.Head d) refl h))
 
 pub sane_start : (b : Boot) → IsValid b → Sane (first_point b)
 sane_start b valid = record {

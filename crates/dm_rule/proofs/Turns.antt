@@ -1,74 +1,25 @@
 -- Each turn, delivery and tick keeps that each message stands once.
-use Rattle.std.proofs.Common.{◌≡◌, ◌≢◌, ℕ, ◌≤◌, ◌==◌, ◌&&◌, Bool, true, false, List, [], ◌∷◌, refl, ap, ◌∙◌, sym, subst, arith, inl, inr}
-use Rattle.std.specs.Prelude.{if◌then◌else◌}
-use Rattle.std.specs.declared.option.Option.{Option}
-use Rattle.std.specs.declared.option.Option.TheVariants.{None, Some}
-use Rattle.std.proofs.lemmas.Bool.{cases_Bool, false≢true}
-use Rattle.std.proofs.lemmas.Bool.Decides.{nat_tests}
-use Rattle.dm_link.specs.declared.Pid.{Pid}
-use Rattle.dm_link.specs.Names.{pid_eq}
-use Rattle.dm_message.specs.declared.MsgId.{MsgId}
-use Rattle.dm_message.specs.declared.kind.MessageKind.{MessageKind}
-use Rattle.dm_message.specs.declared.kind.MessageKind.TheVariants as kind
-use Rattle.dm_message.specs.Ids.{id_eq}
-use Rattle.dm_onekernel.specs.declared.label.Label.{Label}
-use Rattle.dm_onekernel.specs.declared.label.Label.TheVariants as label
-use Rattle.dm_onekernel.specs.Options.{bind}
-use Rattle.dm_onekernel.specs.Kernel.{OneKernel}
+use Rattle.dm_rule.proofs.Names.{◌≡◌, ◌≢◌, ℕ, ◌≤◌, ◌==◌, ◌&&◌, Bool, true, false, List, [], ◌∷◌, refl, ap, ◌∙◌, sym, subst, arith, inl, inr, if◌then◌else◌, Option, None, Some, cases_Bool, false≢true, nat_tests, Pid, pid_eq, MsgId}
+use Rattle.dm_rule.proofs.Names.{MessageKind, Line, id_eq, Label, bind, OneKernel, at_machine, at_record, without_front, View, Told, view_after, handled, receiver_of, Point, moved, Spelled, spelled, Spot, Queue, Held, Inbox, Untaken, times}
+use Rattle.dm_rule.proofs.Names.{ids_at, standing, pid_eq-is, pid_eq-same, id_eq-same, bind-is, is_kernels, drops}
 use Rattle.dm_onekernel.specs.Step as kernel
-use Rattle.dm_line.specs.declared.line.Line.TheVariants as line
-use Rattle.dm_line.specs.Sets.{at_machine, at_record, without_front}
-use Rattle.dm_rule.specs.View.{View, Pair, Told, view_after, handled, receiver_of}
 use Rattle.dm_rule.specs.View as view
-use Rattle.dm_rule.specs.Point.{Point, moved}
-use Rattle.dm_rule.specs.Parts.{Spelled, spelled}
-use Rattle.dm_rule.specs.Spots.{Spot, Queue, Held, Inbox, Untaken, times, ids_at, standing}
-use Rattle.dm_laws.proofs.Equal.{pid_eq-is, pid_eq-same, id_eq-same}
-use Rattle.dm_laws.proofs.Steps.{bind-is}
 use Rattle.dm_rule.proofs.Standing.{StandsAsBag-elsewhere}
 use Rattle.dm_rule.proofs.Lines.{Stands-stays, Stands-handled, Stands-dequeued, front_counts}
 use Rattle.dm_rule.proofs.Bags.{BagStep, out_of}
-use Rattle.dm_rule.specs.View.{is_kernels}
 use Rattle.dm_rule.proofs.Letters.{letters, letter_of, not_kernels, gone_in}
 use Rattle.dm_rule.proofs.Once.{one_of}
-use Rattle.dm_rule.specs.Rule.{drops}
 use Rattle.dm_rule.proofs.Bags.{bag_dropped}
 use Rattle.dm_rule.proofs.States.{State, says_next, said, State-at, by_label}
 
 pub ended_off : (v : View) (p : Pid) (z : Spot) → ids_at (view.ended v p) z ≡ ids_at v z
 ended_off v p (Queue m q) = refl
-ended_off v p (Held m q) = refl
-ended_off v p (Inbox m) = refl
-ended_off v p (Untaken a b) = refl
+ended_off v p _ = refl
 
 -- what a label line leaves as it is
 kills_keeps : (k : MessageKind) (v : View) (p : Pid) → ((z : Spot) → ids_at (view.kills k v (Some p)) z ≡ ids_at v z) × ((i : MsgId) → (view.kills k v (Some p)).told i ≡ v.told i) × ((view.kills k v (Some p)).pair ≡ v.pair) × ((view.kills k v (Some p)).acting ≡ v.acting) × ((view.kills k v (Some p)).queue ≡ v.queue)
-kills_keeps kind.User v p = (λ z. refl, λ i. refl, refl, refl, refl)
-kills_keeps kind.Stop v p = (λ z. refl, λ i. refl, refl, refl, refl)
-kills_keeps kind.Resume v p = (λ z. refl, λ i. refl, refl, refl, refl)
-kills_keeps kind.Kill v p = (λ z. ended_off v p z, λ i. refl, refl, refl, refl)
-kills_keeps kind.Read v p = (λ z. refl, λ i. refl, refl, refl, refl)
-kills_keeps kind.Write v p = (λ z. refl, λ i. refl, refl, refl, refl)
-kills_keeps kind.Block v p = (λ z. refl, λ i. refl, refl, refl, refl)
-kills_keeps kind.Written v p = (λ z. refl, λ i. refl, refl, refl, refl)
-kills_keeps kind.Gone v p = (λ z. refl, λ i. refl, refl, refl, refl)
-kills_keeps kind.Create v p = (λ z. refl, λ i. refl, refl, refl, refl)
-kills_keeps kind.Created v p = (λ z. refl, λ i. refl, refl, refl, refl)
-kills_keeps kind.NoRoom v p = (λ z. refl, λ i. refl, refl, refl, refl)
-kills_keeps kind.Migrate v p = (λ z. refl, λ i. refl, refl, refl, refl)
-kills_keeps kind.Update v p = (λ z. refl, λ i. refl, refl, refl, refl)
-kills_keeps kind.Ask v p = (λ z. refl, λ i. refl, refl, refl, refl)
-kills_keeps kind.Refuse v p = (λ z. refl, λ i. refl, refl, refl, refl)
-kills_keeps kind.PullState v p = (λ z. refl, λ i. refl, refl, refl, refl)
-kills_keeps kind.State v p = (λ z. refl, λ i. refl, refl, refl, refl)
-kills_keeps kind.PullBlock v p = (λ z. refl, λ i. refl, refl, refl, refl)
-kills_keeps kind.Memory v p = (λ z. refl, λ i. refl, refl, refl, refl)
-kills_keeps kind.AllTaken v p = (λ z. refl, λ i. refl, refl, refl, refl)
-kills_keeps kind.Restart v p = (λ z. refl, λ i. refl, refl, refl, refl)
-kills_keeps kind.Move v p = (λ z. refl, λ i. refl, refl, refl, refl)
-kills_keeps kind.Moved v p = (λ z. refl, λ i. refl, refl, refl, refl)
-kills_keeps kind.CallOff v p = (λ z. refl, λ i. refl, refl, refl, refl)
-kills_keeps kind.Bury v p = (λ z. refl, λ i. refl, refl, refl, refl)
+kills_keeps MessageKind.Kill v p = (λ z. ended_off v p z, λ i. refl, refl, refl, refl)
+kills_keeps _ v p = (λ z. refl, λ i. refl, refl, refl, refl)
 
 -- what a line changes, but for where messages stand
 pub record Leaves (v w : View) : Type 0 where
@@ -82,20 +33,16 @@ served_keeps v (Some t) = kills_keeps t.kind v t.receiver
 
 pub serving_off : (v : View) (p : Pid) (z : Spot) → ids_at (view.serving v p) z ≡ ids_at v z
 serving_off v p (Queue m q) = refl
-serving_off v p (Held m q) = refl
-serving_off v p (Inbox m) = refl
-serving_off v p (Untaken a b) = refl
+serving_off v p _ = refl
 
-pub created_off : (v : View) (i : MsgId) (p : Pid) (z : Spot) → ids_at (view_after v (line.Label (label.Created i p))) z ≡ ids_at (handled v i) z
+pub created_off : (v : View) (i : MsgId) (p : Pid) (z : Spot) → ids_at (view_after v (Line.Label (Label.Created i p))) z ≡ ids_at (handled v i) z
 created_off v i p (Queue m q) = refl
-created_off v i p (Held m q) = refl
-created_off v i p (Inbox m) = refl
-created_off v i p (Untaken a b) = refl
+created_off v i p _ = refl
 
 -- labels of processes that move no message
 pub quiet_label : (pt : Point) (l : Label) (s : OneKernel) (put : Option MsgId) (h : State None pt) → kernel.step pt.kernel l ≡ Some s → BagStep h.e pt.kernel s None put
-    → ((z : Spot) → ids_at (view_after pt.view (line.Label l)) z ≡ ids_at pt.view z) → ((i : MsgId) → (view_after pt.view (line.Label l)).told i ≡ pt.view.told i) → State put (moved pt (line.Label l) s)
-quiet_label pt l s put h is bag off told = by_label pt l s None put h is (λ j k. cc) bag (Stands-stays (letters h.own pt.kernel.bag) pt.view (view_after pt.view (line.Label l)) off told h.stands) told
+    → ((z : Spot) → ids_at (view_after pt.view (Line.Label l)) z ≡ ids_at pt.view z) → ((i : MsgId) → (view_after pt.view (Line.Label l)).told i ≡ pt.view.told i) → State put (moved pt (Line.Label l) s)
+quiet_label pt l s put h is bag off told = by_label pt l s None put h is (λ j k. cc) bag (Stands-stays (letters h.own pt.kernel.bag) pt.view (view_after pt.view (Line.Label l)) off told h.stands) told
 
 -- what goes by a label is no kernel's own message
 pub gone_out : (pt : Point) (l : Label) (s : OneKernel) (i : MsgId) (h : State None pt) → kernel.step pt.kernel l ≡ Some s → out_of l ≡ Some i → (j : MsgId) → Some i ≡ Some j → is_kernels j ≡ false
@@ -106,11 +53,11 @@ gone_out pt l s i h is goes j e =
 
 -- labels that handle the message at the front of the inbox
 pub front_label : (pt : Point) (l : Label) (s : OneKernel) (i : MsgId) (is : List MsgId) (put : Option MsgId) (h : State None pt) → pt.view.inbox pt.view.acting ≡ i ∷ is → kernel.step pt.kernel l ≡ Some s → out_of l ≡ Some i → BagStep h.e pt.kernel s (Some i) put
-    → ((z : Spot) → ids_at (view_after pt.view (line.Label l)) z ≡ ids_at (handled pt.view i) z) → ((j : MsgId) → (view_after pt.view (line.Label l)).told j ≡ pt.view.told j) → State put (moved pt (line.Label l) s)
+    → ((z : Spot) → ids_at (view_after pt.view (Line.Label l)) z ≡ ids_at (handled pt.view i) z) → ((j : MsgId) → (view_after pt.view (Line.Label l)).told j ≡ pt.view.told j) → State put (moved pt (Line.Label l) s)
 front_label pt l s i is put h front step_ goes bag off told =
-    by_label pt l s (Some i) put h step_ (gone_out pt l s i h step_ goes) bag (Stands-handled (letters h.own pt.kernel.bag) pt.view (view_after pt.view (line.Label l)) i is front off told h.stands) told
+    by_label pt l s (Some i) put h step_ (gone_out pt l s i h step_ goes) bag (Stands-handled (letters h.own pt.kernel.bag) pt.view (view_after pt.view (Line.Label l)) i is front off told h.stands) told
 
-without_front_none : (i : MsgId) (xs : List MsgId) → times i xs ≡ 0 → without_front i xs ≡ xs
+pub without_front_none : (i : MsgId) (xs : List MsgId) → times i xs ≡ 0 → without_front i xs ≡ xs
 without_front_none i [] e = refl
 without_front_none i (x ∷ xs) e = elim (cases_Bool (id_eq i x)) [
   | inl same ↦ absurd (let one : one_of i x ≡ 1 = ap (λ (c : Bool). if c then 1 else 0) same in omega (arith, e, one))
@@ -124,7 +71,7 @@ both_parts false b e = cc
 eq_num : (m n : ℕ) → (m == n) ≡ true → m ≡ n
 eq_num m n e = grind (arith, nat_tests)
 
-at_record_same : (f : ℕ → Pid → List MsgId) (m : ℕ) (p : Pid) (x : List MsgId) → x ≡ f m p → (n : ℕ) (q : Pid) → at_record f m p x n q ≡ f n q
+pub at_record_same : (f : ℕ → Pid → List MsgId) (m : ℕ) (p : Pid) (x : List MsgId) → x ≡ f m p → (n : ℕ) (q : Pid) → at_record f m p x n q ≡ f n q
 at_record_same f m p x e n q = elim (cases_Bool ((m == n) && pid_eq p q)) [
   | inl same ↦
       let k = both_parts (m == n) (pid_eq p q) same in
@@ -133,10 +80,8 @@ at_record_same f m p x e n q = elim (cases_Bool ((m == n) && pid_eq p q)) [
 ]
 
 abbrev is_box : Spot → Bool
-is_box (Queue m p) = false
-is_box (Held m p) = false
 is_box (Inbox m) = true
-is_box (Untaken a b) = false
+is_box _ = false
 
 inbox_spot : (m n : ℕ) (p : Pid) → Inbox m ≢ Queue n p
 inbox_spot m n p e = false≢true (sym (ap is_box e))
@@ -162,7 +107,7 @@ front_unqueued pt i is h front m p =
     let one : 1 ≤ standing pt.view i (Inbox pt.view.acting) = (let a : times i (pt.view.inbox pt.view.acting) ≡ times i (i ∷ is) = ap (times i) front in let b : one_of i i ≡ 1 = ap (λ (c : Bool). if c then 1 else 0) (id_eq-same i) in omega (arith, a, b)) in
     StandsAsBag-elsewhere (letters h.own pt.kernel.bag i) (standing pt.view i) (Inbox pt.view.acting) (Queue m p) one (queue_spot m pt.view.acting p) (h.stands.kept i)
 
-machine_same : (f : ℕ → List MsgId) (m : ℕ) (x : List MsgId) → x ≡ f m → (n : ℕ) → at_machine f m x n ≡ f n
+pub machine_same : (f : ℕ → List MsgId) (m : ℕ) (x : List MsgId) → x ≡ f m → (n : ℕ) → at_machine f m x n ≡ f n
 machine_same f m x e n = elim (cases_Bool (m == n)) [
   | inl same ↦ ap (λ (c : Bool). if c then x else f n) same ∙ e ∙ ap f (eq_num m n same)
   | inr apart ↦ ap (λ (c : Bool). if c then x else f n) apart
@@ -178,7 +123,7 @@ dequeued_off v j p (Some q) e none (Inbox m) = machine_same v.inbox v.acting (wi
 dequeued_off v j p (Some q) e none (Untaken a b) = refl
 
 -- one message of the queue of a process that has ended is dropped
-queue_front : (pt : Point) (s : OneKernel) (j : MsgId) (js : List MsgId) (p : Pid) (h : State None pt) → pt.view.queue pt.view.acting p ≡ j ∷ js → kernel.step pt.kernel (label.Dropped j) ≡ Some s → State None (moved pt (line.Label (label.Dropped j)) s)
+queue_front : (pt : Point) (s : OneKernel) (j : MsgId) (js : List MsgId) (p : Pid) (h : State None pt) → pt.view.queue pt.view.acting p ≡ j ∷ js → kernel.step pt.kernel (Label.Dropped j) ≡ Some s → State None (moved pt (Line.Label (Label.Dropped j)) s)
 queue_front pt s j js p h front is =
     let v = pt.view in
     let one : 1 ≤ times j (v.queue v.acting p) = (let a : times j (v.queue v.acting p) ≡ times j (j ∷ js) = ap (times j) front in let b : one_of j j ≡ 1 = ap (λ (c : Bool). if c then 1 else 0) (id_eq-same j) in omega (arith, a, b)) in
@@ -188,8 +133,8 @@ queue_front pt s j js p h front is =
     let told : receiver_of (v.told j) ≡ Some p = h.stands.told j x.to letter ∙ ap Some mine in
     let no_inbox : times j (v.inbox v.acting) ≡ 0 = StandsAsBag-elsewhere (letters h.own pt.kernel.bag j) (standing v j) (Queue v.acting p) (Inbox v.acting) one (inbox_spot v.acting v.acting p) (h.stands.kept j) in
     let rest_ = without_front j (v.queue v.acting p) in
-    by_label pt (label.Dropped j) s (Some j) None h is (gone_out pt (label.Dropped j) s j h is refl) (bag_dropped h.e pt.kernel s j is)
-    (Stands-dequeued (letters h.own pt.kernel.bag) v (view_after v (line.Label (label.Dropped j))) j p rest_ (λ i. front_counts i j (v.queue v.acting p) js front)
+    by_label pt (Label.Dropped j) s (Some j) None h is (gone_out pt (Label.Dropped j) s j h is refl) (bag_dropped h.e pt.kernel s j is)
+    (Stands-dequeued (letters h.own pt.kernel.bag) v (view_after v (Line.Label (Label.Dropped j))) j p rest_ (λ i. front_counts i j (v.queue v.acting p) js front)
     (λ z. dequeued_off v j p (receiver_of (v.told j)) told no_inbox z) (λ i. dropped_told v j (receiver_of (v.told j)) i) h.stands)
     (λ i. dropped_told v j (receiver_of (v.told j)) i)
 
@@ -209,7 +154,7 @@ dropped_acting : (v : View) (j : MsgId) (o : Option Pid) → (view.dropped_for (
 dropped_acting v j None = refl
 dropped_acting v j (Some p) = refl
 
-queue_told : (pt : Point) (j : MsgId) (js : List MsgId) (p : Pid) (s : OneKernel) → State None pt → pt.view.queue pt.view.acting p ≡ j ∷ js → kernel.step pt.kernel (label.Dropped j) ≡ Some s → receiver_of (pt.view.told j) ≡ Some p
+queue_told : (pt : Point) (j : MsgId) (js : List MsgId) (p : Pid) (s : OneKernel) → State None pt → pt.view.queue pt.view.acting p ≡ j ∷ js → kernel.step pt.kernel (Label.Dropped j) ≡ Some s → receiver_of (pt.view.told j) ≡ Some p
 queue_told pt j js p s h front is =
     let v = pt.view in
     let one : 1 ≤ times j (v.queue v.acting p) = (let a : times j (v.queue v.acting p) ≡ times j (j ∷ js) = ap (times j) front in let b : one_of j j ≡ 1 = ap (λ (c : Bool). if c then 1 else 0) (id_eq-same j) in omega (arith, a, b)) in
@@ -221,9 +166,9 @@ queue_told pt j js p s h front is =
 pub all_dropped : (js : List MsgId) (pt : Point) (p : Pid) (w : Spelled) → State None pt → pt.view.queue pt.view.acting p ≡ js → spelled pt (drops js) ≡ Some w → State None w.point
 all_dropped [] pt p w h front e = State-at None pt w.point (said pt w e) h
 all_dropped (j ∷ js) pt p w h front e =
-    let k = says_next pt (line.Label (label.Dropped j)) (drops js) w e in
-    let is : kernel.step pt.kernel (label.Dropped j) ≡ Some k.s = k.is in
-    let next = moved pt (line.Label (label.Dropped j)) k.s in
+    let k = says_next pt (Line.Label (Label.Dropped j)) (drops js) w e in
+    let is : kernel.step pt.kernel (Label.Dropped j) ≡ Some k.s = k.is in
+    let next = moved pt (Line.Label (Label.Dropped j)) k.s in
     let told = queue_told pt j js p k.s h front is in
     let acting : next.view.acting ≡ pt.view.acting = dropped_acting pt.view j (receiver_of (pt.view.told j)) in
     let left : next.view.queue next.view.acting p ≡ js = ap (λ m. next.view.queue m p) acting ∙ dropped_queue pt.view j js p (receiver_of (pt.view.told j)) told front in

@@ -1,23 +1,5 @@
 -- The rule, computed on worked cases.
-use Rattle.std.proofs.Common.{◌≡◌, List, [], ◌∷◌, refl, false}
-use Rattle.std.specs.declared.option.Option.{Option}
-use Rattle.std.specs.declared.option.Option.TheVariants.{Some}
-use Rattle.dm_link.specs.declared.Kind.TheVariants.{General}
-use Rattle.dm_link.specs.Names.{pid_of}
-use Rattle.dm_message.specs.Ids.{id_of}
-use Rattle.dm_message.specs.declared.kind.MessageKind.TheVariants as kind
-use Rattle.dm_processor.specs.Instructions.{instruction}
-use Rattle.dm_onekernel.specs.declared.boot.Boot.{Boot}
-use Rattle.dm_onekernel.specs.declared.boot.Format.TheVariants.{One}
-use Rattle.dm_onekernel.specs.declared.label.Label.TheVariants as label
-use Rattle.dm_onekernel.specs.Options.{bind}
-use Rattle.dm_schedule.specs.declared.Step.{Step}
-use Rattle.dm_schedule.specs.declared.Step.TheVariants as directive
-use Rattle.dm_line.specs.declared.line.Line.{Line}
-use Rattle.dm_line.specs.declared.line.Line.TheVariants as line
-use Rattle.dm_line.specs.declared.line.Load.TheVariants as load
-use Rattle.dm_rule.specs.Point.{Point, first_point}
-use Rattle.dm_rule.specs.Rule.{group_of}
+use Rattle.dm_rule.proofs.Names.{◌≡◌, List, [], ◌∷◌, refl, false, Option, Some, General, pid_of, id_of, MessageKind, Label, Load, instruction, Boot, One, bind, Step, Line, Point, first_point, group_of}
 
 -- the groups of these directives, one after the other
 abbrev pub groups : Boot → Point → List Step → Option (List (List Line))
@@ -44,22 +26,22 @@ hi = record {
 -- one packet, delivered three times; its acknowledgement; and the message is received
 abbrev pub directives : List Step
 directives =
-    directive.Turn 0 ∷ directive.Deliver 0 1 0 ∷ directive.Deliver 0 1 0 ∷ directive.Deliver 0 1 0 ∷ directive.Deliver 1 0 0 ∷ directive.Tick 0
-    ∷ directive.Turn 1 ∷ directive.Turn 1 ∷ directive.Turn 1 ∷ directive.Turn 1 ∷ directive.Deliver 0 1 5 ∷ []
+    Step.Turn 0 ∷ Step.Deliver 0 1 0 ∷ Step.Deliver 0 1 0 ∷ Step.Deliver 0 1 0 ∷ Step.Deliver 1 0 0 ∷ Step.Tick 0
+    ∷ Step.Turn 1 ∷ Step.Turn 1 ∷ Step.Turn 1 ∷ Step.Turn 1 ∷ Step.Deliver 0 1 5 ∷ []
 
 abbrev pub said : List (List Line)
 said =
-    (line.Head (directive.Turn 0) ∷ line.Label (label.Ran (pid_of 0 3) 2) ∷ line.Label (label.Send (pid_of 0 3) (id_of (pid_of 0 3) 0)) ∷ line.Put 0 1 (id_of (pid_of 0 3) 0) kind.User (pid_of 1 3) ∷ line.Packet 0 1 0 (load.Data 0) ∷ [])
-    ∷ (line.Head (directive.Deliver 0 1 0) ∷ line.Taken 0 1 0 ∷ line.Packet 1 0 0 (load.Ack 1) ∷ [])
-    ∷ (line.Head (directive.Deliver 0 1 0) ∷ line.Old 0 1 0 ∷ line.Packet 1 0 1 (load.Ack 1) ∷ [])
-    ∷ (line.Head (directive.Deliver 0 1 0) ∷ line.Old 0 1 0 ∷ line.Packet 1 0 2 (load.Ack 1) ∷ [])
-    ∷ (line.Head (directive.Deliver 1 0 0) ∷ line.Acked 1 0 1 ∷ [])
-    ∷ (line.Head (directive.Tick 0) ∷ line.Resent 0 0 ∷ [])
-    ∷ (line.Head (directive.Turn 1) ∷ line.Queued (id_of (pid_of 0 3) 0) ∷ [])
-    ∷ (line.Head (directive.Turn 1) ∷ line.Label (label.Ran (pid_of 1 3) 3) ∷ line.Label (label.Wait (pid_of 1 3)) ∷ [])
-    ∷ (line.Head (directive.Turn 1) ∷ line.Label (label.Receive (pid_of 1 3) (id_of (pid_of 0 3) 0)) ∷ [])
-    ∷ (line.Head (directive.Turn 1) ∷ line.Label (label.Ran (pid_of 1 3) 2) ∷ line.Label (label.Out (pid_of 1 3) 104) ∷ [])
-    ∷ (line.Head (directive.Deliver 0 1 5) ∷ line.Nothing ∷ [])
+    (Line.Head (Step.Turn 0) ∷ Line.Label (Label.Ran (pid_of 0 3) 2) ∷ Line.Label (Label.Send (pid_of 0 3) (id_of (pid_of 0 3) 0)) ∷ Line.Put 0 1 (id_of (pid_of 0 3) 0) MessageKind.User (pid_of 1 3) ∷ Line.Packet 0 1 0 (Load.Data 0) ∷ [])
+    ∷ (Line.Head (Step.Deliver 0 1 0) ∷ Line.Taken 0 1 0 ∷ Line.Packet 1 0 0 (Load.Ack 1) ∷ [])
+    ∷ (Line.Head (Step.Deliver 0 1 0) ∷ Line.Old 0 1 0 ∷ Line.Packet 1 0 1 (Load.Ack 1) ∷ [])
+    ∷ (Line.Head (Step.Deliver 0 1 0) ∷ Line.Old 0 1 0 ∷ Line.Packet 1 0 2 (Load.Ack 1) ∷ [])
+    ∷ (Line.Head (Step.Deliver 1 0 0) ∷ Line.Acked 1 0 1 ∷ [])
+    ∷ (Line.Head (Step.Tick 0) ∷ Line.Resent 0 0 ∷ [])
+    ∷ (Line.Head (Step.Turn 1) ∷ Line.Queued (id_of (pid_of 0 3) 0) ∷ [])
+    ∷ (Line.Head (Step.Turn 1) ∷ Line.Label (Label.Ran (pid_of 1 3) 3) ∷ Line.Label (Label.Wait (pid_of 1 3)) ∷ [])
+    ∷ (Line.Head (Step.Turn 1) ∷ Line.Label (Label.Receive (pid_of 1 3) (id_of (pid_of 0 3) 0)) ∷ [])
+    ∷ (Line.Head (Step.Turn 1) ∷ Line.Label (Label.Ran (pid_of 1 3) 2) ∷ Line.Label (Label.Out (pid_of 1 3) 104) ∷ [])
+    ∷ (Line.Head (Step.Deliver 0 1 5) ∷ Line.Nothing ∷ [])
     ∷ []
 
 pub one_packet_three_times : groups hi (first_point hi) directives ≡ Some said

@@ -1,15 +1,5 @@
 -- The rule decides what is printed.
-use Rattle.std.proofs.Common.{◌≡◌, ◌+◌, List, [], ◌∷◌, ◌++◌, length, refl, ap, ◌∙◌, sym, subst, arith}
-use Rattle.std.specs.declared.option.Option.{Option}
-use Rattle.std.specs.declared.option.Option.TheVariants.{Some}
-use Rattle.dm_onekernel.specs.declared.boot.Boot.{Boot}
-use Rattle.dm_line.specs.declared.line.Line.{Line}
-use Rattle.dm_line.specs.Todo.{Todo, Next}
-use Rattle.dm_rule.specs.Good.{next_step, IsRun}
-use Rattle.dm_rule.specs.Parts.{Spelled}
-use Rattle.dm_rule.specs.Point.{Point}
-use Rattle.dm_rule.specs.Rule.{group_of}
-use Rattle.dm_rulelaws.specs.Laws.{RuleDecides, ShorterBegins}
+use Rattle.dm_rulelaws.proofs.Names.{◌≡◌, ◌+◌, List, [], ◌∷◌, ◌++◌, length, refl, ap, ◌∙◌, sym, subst, arith, Option, Some, Boot, Line, Todo, Next, next_step, IsRun, Spelled, Point, group_of, RuleDecides, ShorterBegins}
 
 same_some : {A : Type 0} (o : Option A) (x y : A) → o ≡ Some x → o ≡ Some y → y ≡ x
 same_some o x y e f = let g : Some y ≡ Some x = sym f ∙ e in cc

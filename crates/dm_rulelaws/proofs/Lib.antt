@@ -1,3 +1,4 @@
+pub mod Names
 pub mod Queued
 pub mod Fits
 pub mod Tables

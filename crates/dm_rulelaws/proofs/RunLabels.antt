@@ -1,27 +1,7 @@
 -- The labels of a run's lines replay as steps of the kernel without machines; so all fits wherever the rule leads.
-use Rattle.std.proofs.Common.{◌≡◌, ℕ, ◌+◌, List, [], ◌∷◌, ◌++◌, refl, ap, ◌∙◌, sym, subst}
-use Rattle.std.specs.declared.option.Option.{Option}
-use Rattle.std.specs.declared.option.Option.TheVariants.{None, Some}
-use Rattle.dm_message.specs.declared.MsgId.{MsgId}
-use Rattle.dm_onekernel.specs.declared.boot.Boot.{Boot}
-use Rattle.dm_onekernel.specs.declared.label.Label.{Label}
-use Rattle.dm_onekernel.specs.Kernel.{OneKernel}
-use Rattle.dm_onekernel.specs.Options.{bind}
+use Rattle.dm_rulelaws.proofs.Names.{◌≡◌, ℕ, ◌+◌, List, [], ◌∷◌, ◌++◌, refl, ap, ◌∙◌, sym, subst, Option, None, Some, MsgId, Boot, Label, OneKernel, bind, replay, entry, reception, after_step, start-sound, Sound, bind-is, Step, Line, Point}
+use Rattle.dm_rulelaws.proofs.Names.{first_point, label_of, labels, with_label, kernel_after, after_line, after, moved, Part, Spelled, lines_of, behind, spelled, group_of, outcome, headed, Leads, KernelFits, FitsAlways}
 use Rattle.dm_onekernel.specs.Step as kernel
-use Rattle.dm_onekernel.specs.Step.{replay}
-use Rattle.dm_laws.specs.Laws.{entry, reception}
-use Rattle.dm_laws.proofs.Runs.{after_step, start-sound}
-use Rattle.dm_laws.proofs.Sound.{Sound}
-use Rattle.dm_laws.proofs.Steps.{bind-is}
-use Rattle.dm_schedule.specs.declared.Step.{Step}
-use Rattle.dm_line.specs.declared.line.Line.{Line}
-use Rattle.dm_line.specs.declared.line.Line.TheVariants as line
-use Rattle.dm_rule.specs.Point.{Point, first_point, label_of, labels, with_label, kernel_after, after_line, after, moved}
-use Rattle.dm_rule.specs.Parts.{Part, Spelled, lines_of, behind, spelled}
-use Rattle.dm_rule.specs.Rule.{group_of, outcome, headed}
-use Rattle.dm_rule.specs.Laws.{Leads}
-use Rattle.dm_rulelaws.specs.Fits.{KernelFits}
-use Rattle.dm_rulelaws.specs.Laws.{FitsAlways}
 use Rattle.dm_rulelaws.proofs.Fits.Start.{fits_step, start_fits}
 
 -- one line
@@ -67,11 +47,11 @@ spelled_replay (p ∷ ps) pt w e =
 -- a group
 pub group_replay : (b : Boot) (pt : Point) (d : Step) (w : Spelled) → group_of b pt d ≡ Some w → replay pt.kernel (labels w.lines) ≡ Some w.point.kernel
 group_replay b pt d w e =
-    let (parts, is, more) = bind-is (outcome b pt d) (λ (parts : List Part). bind (after_line pt (line.Head d)) (λ (begun : Point). bind (spelled begun parts) (λ (w : Spelled). Some (headed (line.Head d) w)))) w e in
-    let (start, head, last) = bind-is (after_line pt (line.Head d)) (λ (begun : Point). bind (spelled begun parts) (λ (w : Spelled). Some (headed (line.Head d) w))) w more in
-    let (rest, told, end) = bind-is (spelled start parts) (λ (w : Spelled). Some (headed (line.Head d) w)) w last in
-    let f : moved pt (line.Head d) pt.kernel ≡ start = cc in
-    let g : headed (line.Head d) rest ≡ w = cc in
+    let (parts, is, more) = bind-is (outcome b pt d) (λ (parts : List Part). bind (after_line pt (Line.Head d)) (λ (begun : Point). bind (spelled begun parts) (λ (w : Spelled). Some (headed (Line.Head d) w)))) w e in
+    let (start, head, last) = bind-is (after_line pt (Line.Head d)) (λ (begun : Point). bind (spelled begun parts) (λ (w : Spelled). Some (headed (Line.Head d) w))) w more in
+    let (rest, told, end) = bind-is (spelled start parts) (λ (w : Spelled). Some (headed (Line.Head d) w)) w last in
+    let f : moved pt (Line.Head d) pt.kernel ≡ start = cc in
+    let g : headed (Line.Head d) rest ≡ w = cc in
     let same : start.kernel ≡ pt.kernel = sym (ap (λ (v : Point). v.kernel) f) in
     subst (λ (v : Spelled). replay pt.kernel (labels v.lines) ≡ Some v.point.kernel) g (ap (λ (s : OneKernel). replay s (labels rest.lines)) (sym same) ∙ spelled_replay parts start rest told)
 

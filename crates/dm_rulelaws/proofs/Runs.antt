@@ -1,17 +1,5 @@
 -- All that holds wherever the rule leads, migrations included.
-use Rattle.std.specs.Prelude.{◌≡◌, ℕ, ◌≤◌, true, length}
-use Rattle.std.specs.declared.option.Option.TheVariants.{None, Some}
-use Rattle.dm_link.specs.declared.Pid.{Pid}
-use Rattle.dm_message.specs.declared.MsgId.{MsgId}
-use Rattle.dm_onekernel.specs.declared.boot.Boot.{Boot}
-use Rattle.dm_rule.specs.Homes.{ascends}
-use Rattle.dm_rule.specs.Point.{Point}
-use Rattle.dm_rule.specs.Spots.{times}
-use Rattle.dm_rule.specs.View.{Told}
-use Rattle.dm_rule.proofs.Phases.Always.{Phased}
-use Rattle.dm_rulelaws.specs.Fits.{KernelFits}
-use Rattle.dm_rulelaws.specs.Found.{Found, ListsStand}
-use Rattle.dm_rulelaws.specs.KnownStands.{KnownStands}
+use Rattle.dm_rulelaws.proofs.Names.{◌≡◌, ℕ, ◌≤◌, true, length, None, Some, Pid, MsgId, Boot, ascends, Point, times, Told, Phased, KernelFits, Found, ListsStand, KnownStands}
 use Rattle.dm_rulelaws.proofs.Queued.{IsQueued}
 use Rattle.dm_rulelaws.proofs.Found.Always.{FoundBy}
 

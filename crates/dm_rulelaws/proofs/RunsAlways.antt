@@ -1,12 +1,5 @@
 -- All that holds wherever the rule leads holds at the start and behind each group; and so the laws.
-use Rattle.std.proofs.Common.{List}
-use Rattle.dm_onekernel.specs.declared.boot.Boot.{Boot}
-use Rattle.dm_onekernel.specs.Boot.{IsValid}
-use Rattle.dm_schedule.specs.declared.Step.{Step}
-use Rattle.dm_rule.specs.Laws.{Leads}
-use Rattle.dm_rule.specs.Point.{Point, first_point}
-use Rattle.dm_rulelaws.specs.Laws.{FoundAlways, GoesOnAlways, KnownAlways}
-use Rattle.dm_rulelaws.specs.Order.{ReceivesInOrder}
+use Rattle.dm_rulelaws.proofs.Names.{List, Boot, IsValid, Step, Leads, Point, first_point, FoundAlways, GoesOnAlways, KnownAlways, ReceivesInOrder}
 use Rattle.dm_rulelaws.proofs.Based.Always.{based_start, based_group}
 use Rattle.dm_rulelaws.proofs.Found.Always.{FoundBy, found_start, found_group, found_of}
 use Rattle.dm_rulelaws.proofs.Goes.Runs.{Both, RunStarts, RunGoes, both_always, goes_on_by, known_by}

@@ -3,27 +3,14 @@ pub mod Calls
 pub mod Steps
 pub mod Servers
 pub mod Always
-use Rattle.std.proofs.Common.{◌≡◌, ◌≤◌, Bool, length, ap, ◌∙◌, sym, subst, inl, inr}
-use Rattle.std.specs.Prelude.{⊤, if◌then◌else◌}
-use Rattle.std.specs.declared.option.Option.TheVariants.{Some}
-use Rattle.std.proofs.lemmas.Bool.{cases_Bool}
-use Rattle.dm_link.specs.declared.Pid.{Pid}
-use Rattle.dm_link.specs.Names.{pid_eq}
-use Rattle.dm_message.specs.declared.MsgId.{MsgId}
-use Rattle.dm_message.specs.Plain as what
-use Rattle.dm_message.specs.Plain.{PlainMessage, PlainWhat}
-use Rattle.dm_onekernel.specs.declared.label.Why.{Why}
-use Rattle.dm_onekernel.specs.Boot.{slots_of}
-use Rattle.dm_onekernel.specs.PlainProcess.{PlainProcess}
-use Rattle.dm_onekernel.specs.Kernel.{Alive, Ended, OneKernel, with_process, with_sent}
+use Rattle.dm_rulelaws.proofs.Names.{◌≡◌, ◌≤◌, Bool, length, ap, ◌∙◌, sym, subst, inl, inr, ⊤, if◌then◌else◌, Some, cases_Bool, Pid, pid_eq, MsgId, PlainMessage, PlainWhat, Why, slots_of, PlainProcess, Alive, Ended, OneKernel, with_process}
+use Rattle.dm_rulelaws.proofs.Names.{with_sent, without_message, stayed, came}
 use Rattle.dm_onekernel.specs.Service as service
-use Rattle.dm_onekernel.specs.Service.{without_message}
-use Rattle.dm_laws.proofs.Movers.{stayed, came}
 
 -- a message to a process or a server, and a request to make a process, enclose at most four links
 abbrev pub FewLinks : PlainWhat → Type 0
-FewLinks (what.User code channel body links) = length links ≤ 4
-FewLinks (what.Create image links) = length links ≤ 4
+FewLinks (PlainWhat.User code channel body links) = length links ≤ 4
+FewLinks (PlainWhat.Create image links) = length links ≤ 4
 FewLinks w = ⊤
 
 pub record Tables (s : OneKernel) : Type 0 where

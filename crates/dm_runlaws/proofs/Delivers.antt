@@ -1,25 +1,8 @@
 -- A delivery leaves one packet fewer on its wire that was never delivered.
-use Rattle.std.proofs.Common.{◌≡◌, ◌≢◌, ℕ, suc, ◌+◌, ◌==◌, ◌&&◌, Bool, true, false, not, filter, nat_lt, List, [], ◌∷◌, ◌++◌, length, refl, ap, ◌∙◌, sym, subst, inl, inr, arith}
-use Rattle.std.specs.Prelude.{⊤, if◌then◌else◌, slice_get}
-use Rattle.std.specs.declared.option.Option.{Option}
-use Rattle.std.specs.declared.option.Option.TheVariants.{None, Some}
-use Rattle.std.proofs.lemmas.Bool.{cases_Bool}
-use Rattle.std.proofs.lemmas.Bool.Decides.{nat_tests}
-use Rattle.dm_onekernel.specs.declared.boot.Boot.{Boot}
-use Rattle.dm_schedule.specs.declared.Step.TheVariants as step
-use Rattle.dm_line.specs.declared.line.Line.{Line}
-use Rattle.dm_line.specs.declared.line.Line.TheVariants as line
-use Rattle.dm_line.specs.declared.line.Load.{Load}
-use Rattle.dm_line.specs.declared.line.Load.TheVariants as load
-use Rattle.dm_rule.specs.Good.{first_undelivered, undelivered}
-use Rattle.dm_rule.specs.Parts.{Part, Says, Routes, Again, Owns, Transmits, Spelled, spelled, window}
-use Rattle.dm_rule.specs.Point.{Point, moved}
+use Rattle.dm_runlaws.proofs.Names.{◌≡◌, ◌≢◌, ℕ, suc, ◌+◌, ◌==◌, ◌&&◌, Bool, true, false, not, filter, nat_lt, List, [], ◌∷◌, ◌++◌, length, refl, ap, ◌∙◌, sym, subst, inl, inr, arith, ⊤, if◌then◌else◌, slice_get, Option, None, Some}
+use Rattle.dm_runlaws.proofs.Names.{cases_Bool, nat_tests, Boot, Step, Line, Load, first_undelivered, undelivered, Part, Says, Routes, Again, Owns, Transmits, Spelled, spelled, window, Point, moved, group_of, View, Pair, Sent, view_after}
+use Rattle.dm_runlaws.proofs.Names.{after_head, after_packet, marked, marked_at, gone_after, at_least, IsNetLine, group_is, onward, says_view, transmits_view, said, mark_next}
 use Rattle.dm_rule.specs.Rule as rule
-use Rattle.dm_rule.specs.Rule.{group_of}
-use Rattle.dm_rule.specs.View.{View, Pair, Sent, view_after, after_head, after_packet, marked, marked_at, gone_after, at_least}
-use Rattle.dm_rule.proofs.Groups.{IsNetLine, group_is}
-use Rattle.dm_rule.proofs.Pairs.Lines.{onward, says_view, transmits_view}
-use Rattle.dm_rule.proofs.States.{said}
 use Rattle.dm_runlaws.proofs.Wires.{set_keeps, taken_keeps}
 
 -- how many packets of a wire were never delivered
@@ -37,15 +20,11 @@ waits v a b = waiting (wire_on v a b)
 pub record Marks (ss : List Sent) (n : ℕ) : Type 0 where
   pub fewer : suc (waiting (marked_at ss n (slice_get ss n))) ≡ waiting ss
 
-marked_behind : (s : Sent) (ss : List Sent) (n : ℕ) (o : Option Sent) → marked_at (s ∷ ss) (suc n) o ≡ s ∷ marked_at ss n o
-marked_behind s ss n None = refl
-marked_behind s ss n (Some x) = refl
-
 marks_behind : (s : Sent) (ss : List Sent) (n : ℕ) → s.delivered ≡ true → Marks ss n → Marks (s ∷ ss) (suc n)
 marks_behind s ss n seen h =
     let before : waiting (s ∷ ss) ≡ 0 + waiting ss = ap (λ (c : Bool). (if c then 0 else 1) + waiting ss) seen in
     let after_ : waiting (marked_at (s ∷ ss) (suc n) (slice_get ss n)) ≡ 0 + waiting (marked_at ss n (slice_get ss n)) =
-    ap waiting (marked_behind s ss n (slice_get ss n)) ∙ ap (λ (c : Bool). (if c then 0 else 1) + waiting (marked_at ss n (slice_get ss n))) seen in
+    ap waiting (mark_next s ss n (slice_get ss n)) ∙ ap (λ (c : Bool). (if c then 0 else 1) + waiting (marked_at ss n (slice_get ss n))) seen in
     let f = h.fewer in
     record { fewer = omega (arith, before, after_, f) }
 
@@ -74,12 +53,12 @@ first_marks ss k e =
 
 -- the lines of an arrival leave all wires, and what it transmits goes the other way
 wire_net : (v : View) (l : Line) (c d : ℕ) → IsNetLine l → wire_on (view_after v l) c d ≡ wire_on v c d
-wire_net v (line.Taken a b n) c d h = taken_keeps (λ (p : Pair). p.wire) v a b n c d refl
-wire_net v (line.Early a b n) c d h = set_keeps (λ (p : Pair). p.wire) v.pair a b (record (v.pair a b) { kept = n ∷ filter (λ k. not (k == n)) (v.pair a b).kept }) c d refl
-wire_net v (line.Acked a b n) c d h = set_keeps (λ (p : Pair). p.wire) v.pair b a (record (v.pair b a) { acked = at_least (v.pair b a).acked n }) c d refl
-wire_net v (line.Old a b n) c d h = refl
-wire_net v line.Nothing c d h = refl
-wire_net v (line.Resent m n) c d h = refl
+wire_net v (Line.Taken a b n) c d h = taken_keeps (λ (p : Pair). p.wire) v a b n c d refl
+wire_net v (Line.Early a b n) c d h = set_keeps (λ (p : Pair). p.wire) v.pair a b (record (v.pair a b) { kept = n ∷ filter (λ k. not (k == n)) (v.pair a b).kept }) c d refl
+wire_net v (Line.Acked a b n) c d h = set_keeps (λ (p : Pair). p.wire) v.pair b a (record (v.pair b a) { acked = at_least (v.pair b a).acked n }) c d refl
+wire_net v (Line.Old a b n) c d h = refl
+wire_net v Line.Nothing c d h = refl
+wire_net v (Line.Resent m n) c d h = refl
 wire_net v l c d h = absurd h
 
 wire_back : (v : View) (a c : ℕ) (l : Load) → a ≢ c → wire_on (after_packet v c a l) a c ≡ wire_on v a c
@@ -90,9 +69,7 @@ wire_back v a c l apart =
 abbrev PartBack : ℕ → ℕ → Part → Type 0
 PartBack a c (Says l) = IsNetLine l
 PartBack a c (Transmits x y l) = (x ≡ c) × (y ≡ a)
-PartBack a c (Routes i) = ⊥
-PartBack a c (Again i b) = ⊥
-PartBack a c (Owns k q b) = ⊥
+PartBack a c _ = ⊥
 
 abbrev AllBack : ℕ → ℕ → List Part → Type 0
 AllBack a c [] = ⊤
@@ -111,16 +88,16 @@ takes_back a c [] = tt
 takes_back a c (n ∷ ns) = (tt, takes_back a c ns)
 
 data_back : (a c : ℕ) (p : Pair) (n : ℕ) (x y : Bool)
-    → AllBack a c (if x then Says (line.Old a c n) ∷ Transmits c a (load.Ack p.taken) ∷ [] else if y then Says (line.Early a c n) ∷ Transmits c a (load.Ack p.taken) ∷ [] else rule.takes_on a c n (rule.kept_from p.kept (n + 1) window))
+    → AllBack a c (if x then Says (Line.Old a c n) ∷ Transmits c a (Load.Ack p.taken) ∷ [] else if y then Says (Line.Early a c n) ∷ Transmits c a (Load.Ack p.taken) ∷ [] else rule.takes_on a c n (rule.kept_from p.kept (n + 1) window))
 data_back a c p n true y = (tt, ((refl, refl), tt))
 data_back a c p n false true = (tt, ((refl, refl), tt))
 data_back a c p n false false =
     let ns = n ∷ rule.kept_from p.kept (n + 1) window in
-    both_back a c (rule.takes a c ns) (Transmits c a (load.Ack (n + 1 + length (rule.kept_from p.kept (n + 1) window))) ∷ []) (takes_back a c ns) ((refl, refl), tt)
+    both_back a c (rule.takes a c ns) (Transmits c a (Load.Ack (n + 1 + length (rule.kept_from p.kept (n + 1) window))) ∷ []) (takes_back a c ns) ((refl, refl), tt)
 
 comes_back : (a c : ℕ) (p q : Pair) (l : Load) → AllBack a c (rule.comes a c p q l)
-comes_back a c p q (load.Data n) = data_back a c p n (nat_lt n p.taken) (nat_lt p.taken n)
-comes_back a c p q (load.Ack n) = (tt, repeats_back a c (rule.let_go q (rule.more n q.acked)))
+comes_back a c p q (Load.Data n) = data_back a c p n (nat_lt n p.taken) (nat_lt p.taken n)
+comes_back a c p q (Load.Ack n) = (tt, repeats_back a c (rule.let_go q (rule.more n q.acked)))
 
 arrives_back : (a c : ℕ) (p q : Pair) (o : Option Sent) → AllBack a c (rule.arrives a c p q o)
 arrives_back a c p q None = (tt, tt)
@@ -139,19 +116,19 @@ parts_wire a c (Routes i ∷ ps) pt w apart h e = absurd h.0
 parts_wire a c (Again i b ∷ ps) pt w apart h e = absurd h.0
 parts_wire a c (Owns k q b ∷ ps) pt w apart h e = absurd h.0
 
-head_wire : (v : View) (a c k : ℕ) → wire_on (after_head v (step.Deliver a c k)) a c ≡ marked_at (wire_on v a c) k (slice_get (wire_on v a c) k)
+head_wire : (v : View) (a c k : ℕ) → wire_on (after_head v (Step.Deliver a c k)) a c ≡ marked_at (wire_on v a c) k (slice_get (wire_on v a c) k)
 head_wire v a c k =
     let here : ((a == a) && (c == c)) ≡ true = grind (arith, nat_tests) in
     ap (λ (t : Bool). (if t then marked (v.pair a c) k else v.pair a c).wire) here
 
 -- the first packet of a wire that was never delivered comes
-pub fewer_wait : (b : Boot) (pt : Point) (a c k : ℕ) (w : Spelled) → a ≢ c → undelivered pt.view a c ≡ Some k → group_of b pt (step.Deliver a c k) ≡ Some w → suc (waits w.point.view a c) ≡ waits pt.view a c
+pub fewer_wait : (b : Boot) (pt : Point) (a c k : ℕ) (w : Spelled) → a ≢ c → undelivered pt.view a c ≡ Some k → group_of b pt (Step.Deliver a c k) ≡ Some w → suc (waits w.point.view a c) ≡ waits pt.view a c
 fewer_wait b pt a c k w apart first e =
-    let g = group_is b pt (step.Deliver a c k) w e in
+    let g = group_is b pt (Step.Deliver a c k) w e in
     let s = slice_get (pt.view.pair a c).wire k in
     let qs = rule.arrives a c (pt.view.pair a c) (pt.view.pair c a) s in
     let f : qs ≡ g.parts = let t = g.is in cc in
-    let start = moved pt (line.Head (step.Deliver a c k)) pt.kernel in
+    let start = moved pt (Line.Head (Step.Deliver a c k)) pt.kernel in
     let same : wire_on w.point.view a c ≡ marked_at (wire_on pt.view a c) k s =
     ap (λ (q : Point). wire_on q.view a c) (sym g.point) ∙ parts_wire a c qs start g.rest apart (arrives_back a c (pt.view.pair a c) (pt.view.pair c a) s) (ap (spelled start) f ∙ g.said) ∙ head_wire pt.view a c k in
     ap (λ (ss : List Sent). suc (waiting ss)) same ∙ (first_marks (wire_on pt.view a c) k first).fewer

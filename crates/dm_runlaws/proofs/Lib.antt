@@ -1,3 +1,4 @@
+pub mod Names
 pub mod Still
 pub mod Wires
 pub mod Delivers

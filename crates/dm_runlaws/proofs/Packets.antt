@@ -1,40 +1,11 @@
 -- All packets of a number spell the message that was routed under it.
-use Rattle.std.proofs.Common.{◌≡◌, ◌≢◌, ℕ, zero, suc, ◌+◌, ◌-◌, ◌<◌, ◌≤◌, ◌==◌, ◌&&◌, Bool, true, false, not, filter, List, [], ◌∷◌, ◌++◌, map, drop, refl, ap, ◌∙◌, sym, subst, inl, inr, arith}
-use Rattle.std.specs.Prelude.{if◌then◌else◌, slice_get, option_map}
-use Rattle.std.specs.declared.option.Option.{Option}
-use Rattle.std.specs.declared.option.Option.TheVariants.{None, Some}
-use Rattle.std.proofs.lemmas.Bool.{cases_Bool}
-use Rattle.std.proofs.lemmas.Bool.Decides.{nat_tests}
-use Rattle.dm_message.specs.declared.Message.{Message}
-use Rattle.dm_message.specs.declared.MsgId.{MsgId}
+use Rattle.dm_runlaws.proofs.Names.{◌≡◌, ◌≢◌, ℕ, zero, suc, ◌+◌, ◌-◌, ◌<◌, ◌≤◌, ◌==◌, ◌&&◌, Bool, true, false, not, filter, List, [], ◌∷◌, ◌++◌, map, drop, refl, ap, ◌∙◌, sym, subst, inl, inr, arith, if◌then◌else◌, slice_get, option_map}
+use Rattle.dm_runlaws.proofs.Names.{Option, None, Some, cases_Bool, nat_tests, Message, MsgId, spelling, bytes_at, is_pair, load_at, Boot, Step, Line, bind-is, IsStep, Point, after, after_line, View, Pair, Sent, view_after, routed_on}
+use Rattle.dm_runlaws.proofs.Names.{marked, marked_at, gone_after, at_least, actor, pair_same, line_view, Placed, group_after, packet_of, WorldState, PutsFrom, marked_by, GoesOn, AreMessages, History, PairStands, Stands, StandsWith}
+use Rattle.dm_runlaws.proofs.Names.{bytes_of, line_of, load_of, id_of, acts_locally, machines_group, plainly_is, kernel_stays, HasNumber, number_in, number_of, GoesTo, Spells, PacketsSpell, PacketsAgree, head_less, bytes_marked}
 use Rattle.dm_packet.specs.declared.Packet.TheVariants as packet
-use Rattle.dm_packet.specs.Packets.{spelling}
 use Rattle.dm_wire.specs.Sent as wire
-use Rattle.dm_wire.specs.Sent.{bytes_at}
-use Rattle.dm_wire.specs.Wire.{is_pair}
 use Rattle.dm_stream.specs.Packets as stream
-use Rattle.dm_stream.specs.Packets.{load_at}
-use Rattle.dm_onekernel.specs.declared.boot.Boot.{Boot}
-use Rattle.dm_schedule.specs.declared.Step.{Step}
-use Rattle.dm_schedule.specs.declared.Step.TheVariants as step
-use Rattle.dm_line.specs.declared.line.Line.{Line}
-use Rattle.dm_line.specs.declared.line.Line.TheVariants as line
-use Rattle.dm_laws.proofs.Steps.{bind-is}
-use Rattle.dm_rule.specs.Laws.{IsStep}
-use Rattle.dm_rule.specs.Point.{Point, after, after_line}
-use Rattle.dm_rule.specs.View.{View, Pair, Sent, view_after, routed_on, marked, marked_at, gone_after, at_least, actor}
-use Rattle.dm_rule.proofs.Pairs.Lines.{pair_same, line_view}
-use Rattle.dm_places.specs.Placed.{Placed}
-use Rattle.dm_movelaws.proofs.After.{group_after}
-use Rattle.dm_node.specs.Out.{packet_of}
-use Rattle.dm_world.specs.World.{WorldState}
-use Rattle.dm_mirror.specs.Local.{PutsFrom, marked_by}
-use Rattle.dm_mirror.specs.Run.{GoesOn}
-use Rattle.dm_mirror.specs.Stands.{AreMessages, History, PairStands, Stands, StandsWith, bytes_of, line_of, load_of, id_of}
-use Rattle.dm_mirror.proofs.Local.{acts_locally}
-use Rattle.dm_mirror.proofs.Machines.{machines_group, plainly_is}
-use Rattle.dm_mirror.proofs.Staying.{kernel_stays}
-use Rattle.dm_runlaws.specs.Packets.{HasNumber, number_in, number_of, GoesTo, Spells, PacketsSpell, PacketsAgree}
 use Rattle.dm_runlaws.proofs.Wires.{set_keeps, taken_keeps}
 
 -- what stands at a place of a list that was made from another, or of its end
@@ -144,19 +115,19 @@ set_has v x y p a c k n keeps h = elim (cases_Bool ((x == a) && (y == c))) [
 ]
 
 line_has : (v : View) (l : Line) (a c k n : ℕ) → Has v a c k n → Has (view_after v l) a c k n
-line_has v (line.Packet x y i l) a c k n h =
+line_has v (Line.Packet x y i l) a c k n h =
     let p = v.pair x y in
     set_has v x y (record p { gone = gone_after l p.gone; wire = p.wire ++ record { load = l; delivered = false } ∷ [] }) a c k n (λ e. push_at p.wire (record { load = l; delivered = false }) k n e) h
-line_has v (line.Head (step.Deliver x y i)) a c k n h = set_has v x y (marked (v.pair x y) i) a c k n (λ e. mark_at (v.pair x y).wire i (slice_get (v.pair x y).wire i) k n refl e) h
-line_has v (line.Head (step.Turn m)) a c k n h = h
-line_has v (line.Head (step.Tick m)) a c k n h = h
-line_has v (line.Head (step.Migrate p m)) a c k n h = h
-line_has v (line.Put x y i m q) a c k n h = has_same v (view_after v (line.Put x y i m q)) a c k n (set_keeps (λ (p : Pair). p.wire) v.pair x y (routed_on x y (v.pair x y) i) a c refl) h
-line_has v (line.Taken x y i) a c k n h = has_same v (view_after v (line.Taken x y i)) a c k n (taken_keeps (λ (p : Pair). p.wire) v x y i a c refl) h
-line_has v (line.Early x y i) a c k n h =
-    has_same v (view_after v (line.Early x y i)) a c k n (set_keeps (λ (p : Pair). p.wire) v.pair x y (record (v.pair x y) { kept = i ∷ filter (λ j. not (j == i)) (v.pair x y).kept }) a c refl) h
-line_has v (line.Acked x y i) a c k n h =
-    has_same v (view_after v (line.Acked x y i)) a c k n (set_keeps (λ (p : Pair). p.wire) v.pair y x (record (v.pair y x) { acked = at_least (v.pair y x).acked i }) a c refl) h
+line_has v (Line.Head (Step.Deliver x y i)) a c k n h = set_has v x y (marked (v.pair x y) i) a c k n (λ e. mark_at (v.pair x y).wire i (slice_get (v.pair x y).wire i) k n refl e) h
+line_has v (Line.Head (Step.Turn m)) a c k n h = h
+line_has v (Line.Head (Step.Tick m)) a c k n h = h
+line_has v (Line.Head (Step.Migrate p m)) a c k n h = h
+line_has v (Line.Put x y i m q) a c k n h = has_same v (view_after v (Line.Put x y i m q)) a c k n (set_keeps (λ (p : Pair). p.wire) v.pair x y (routed_on x y (v.pair x y) i) a c refl) h
+line_has v (Line.Taken x y i) a c k n h = has_same v (view_after v (Line.Taken x y i)) a c k n (taken_keeps (λ (p : Pair). p.wire) v x y i a c refl) h
+line_has v (Line.Early x y i) a c k n h =
+    has_same v (view_after v (Line.Early x y i)) a c k n (set_keeps (λ (p : Pair). p.wire) v.pair x y (record (v.pair x y) { kept = i ∷ filter (λ j. not (j == i)) (v.pair x y).kept }) a c refl) h
+line_has v (Line.Acked x y i) a c k n h =
+    has_same v (view_after v (Line.Acked x y i)) a c k n (set_keeps (λ (p : Pair). p.wire) v.pair y x (record (v.pair y x) { acked = at_least (v.pair y x).acked i }) a c refl) h
 line_has v l a c k n h = has_same v (view_after v l) a c k n (ap (λ (g : ℕ → ℕ → Pair). (g a c).wire) (pair_same v l refl)) h
 
 lines_have : (ls : List Line) (pt q : Point) (a c k n : ℕ) → after pt ls ≡ Some q → Has pt.view a c k n → Has q.view a c k n
@@ -171,22 +142,13 @@ bytes_more [] more k x e = cc
 bytes_more (p ∷ ps) more zero x e = e
 bytes_more (p ∷ ps) more (suc k) x e = bytes_more ps more k x e
 
-bytes_marked : (ps : List wire.Sent) (i k : ℕ) → bytes_at (wire.marked ps i) k ≡ bytes_at ps k
-bytes_marked [] i k = refl
-bytes_marked (p ∷ ps) zero zero = refl
-bytes_marked (p ∷ ps) zero (suc k) = refl
-bytes_marked (p ∷ ps) (suc i) zero = refl
-bytes_marked (p ∷ ps) (suc i) (suc k) = bytes_marked ps i k
-
 bytes_by : (ps : List wire.Sent) (i k : ℕ) (here : Bool) → bytes_at (if here then wire.marked ps i else ps) k ≡ bytes_at ps k
 bytes_by ps i k true = bytes_marked ps i k
 bytes_by ps i k false = refl
 
 bytes_headed : (e : Step) (w : WorldState) (a c k : ℕ) → bytes_at ((marked_by e w).wires a c) k ≡ bytes_at (w.wires a c) k
-bytes_headed (step.Turn m) w a c k = refl
-bytes_headed (step.Tick m) w a c k = refl
-bytes_headed (step.Deliver x y i) w a c k = bytes_by (w.wires a c) i k (is_pair x y a c)
-bytes_headed (step.Migrate p m) w a c k = refl
+bytes_headed (Step.Deliver x y i) w a c k = bytes_by (w.wires a c) i k (is_pair x y a c)
+bytes_headed _ w a c k = refl
 
 bytes_put : (m : ℕ) (more : ℕ → List wire.Sent) (w u : WorldState) (a c k : ℕ) (x : List ℕ) (own : Bool) → (m == a) ≡ own → PutsFrom m more w u → bytes_at (w.wires a c) k ≡ Some x → bytes_at (u.wires a c) k ≡ Some x
 bytes_put m more w u a c k x true is h e =
@@ -197,16 +159,9 @@ bytes_put m more w u a c k x false is h e =
     let apart : a ≢ m = grind (arith, nat_tests) in
     ap (λ (ps : List wire.Sent). bytes_at ps k) (h.others a c apart) ∙ e
 
--- the machine that acts is one that there is
-actor_is : (machines : ℕ) (e : Step) → IsStep machines e → actor e < machines
-actor_is machines (step.Turn m) h = h
-actor_is machines (step.Tick m) h = h
-actor_is machines (step.Deliver a c k) h = h.1
-actor_is machines (step.Migrate p m) h = omega (arith, h)
-
 bytes_on : (b : Boot) (w : WorldState) (pt : Point) (e : Step) (g : GoesOn b w pt e) (a c k : ℕ) (x : List ℕ) → Stands b w pt → IsStep pt.kernel.machines e → bytes_at (w.wires a c) k ≡ Some x → bytes_at (g.said.state.wires a c) k ≡ Some x
 bytes_on b w pt e g a c k x ((l, h, s), counts) fit is =
-    let here = (s.nodes (actor e) (actor_is pt.kernel.machines e fit)).kernel.here in
+    let here = (s.nodes (actor e) (head_less pt.kernel.machines e fit)).kernel.here in
     let (more, puts) = acts_locally kernel_stays b w e g.said here g.happens in
     bytes_put (actor e) more (marked_by e w) g.said.state a c k x (actor e == a) refl puts (bytes_headed e w a c k ∙ is)
 

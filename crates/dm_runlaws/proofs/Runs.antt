@@ -1,35 +1,8 @@
 -- From wherever a run stands it comes to its end: rounds within a directive, machines and pairs within a round, and the packets of a pair
 -- that were never delivered, of which a delivery leaves one fewer, since what it puts on wires goes the other way.
-use Rattle.std.proofs.Common.{◌≡◌, ℕ, zero, suc, ◌≤◌, Bool, true, is_some, List, [], ◌∷◌, ◌++◌, length, refl, ap, ◌∙◌, sym, subst, arith}
-use Rattle.std.specs.List.{All}
-use Rattle.std.specs.declared.option.Option.{Option}
-use Rattle.std.specs.declared.option.Option.TheVariants.{None, Some}
-use Rattle.std.proofs.lemmas.Bool.{false≢true}
-use Rattle.std.proofs.lemmas.List.Elements.{All-head, All-tail}
-use Rattle.dm_onekernel.specs.declared.boot.Boot.{Boot}
-use Rattle.dm_onekernel.specs.Boot.{IsValid}
-use Rattle.dm_schedule.specs.declared.Step.{Step}
-use Rattle.dm_schedule.specs.declared.Step.TheVariants as step
-use Rattle.dm_schedule.specs.declared.Directive.{Directive}
-use Rattle.dm_schedule.specs.declared.Directive.TheVariants as directive
-use Rattle.dm_line.specs.declared.line.Line.{Line}
-use Rattle.dm_line.specs.declared.pass.Pass.TheVariants.{Round}
-use Rattle.dm_line.specs.Todo.{Two, Todo, Next, below, pairs_of, here_or_later, next_delivery, next_turn, takes_turn, in_pass, or, next_pass, following}
-use Rattle.dm_rule.specs.Good.{next_step, undelivered, IsKept, IsRun}
-use Rattle.dm_rule.specs.Laws.{IsStep, Leads}
-use Rattle.dm_rule.specs.Parts.{Spelled}
-use Rattle.dm_rule.specs.Point.{Point, first_point}
-use Rattle.dm_rule.specs.Quiet.{has_mail, is_quiet}
-use Rattle.dm_rule.specs.Rule.{group_of}
-use Rattle.dm_rule.specs.Worn.{worn_in}
-use Rattle.dm_rule.proofs.Groups.{stands_once_always}
-use Rattle.dm_rulelaws.proofs.RunsAlways.{goes_on_always}
-use Rattle.dm_movelaws.proofs.After.{group_after}
-use Rattle.dm_mirror.specs.Todo.{IsTwo, IsDirective}
-use Rattle.dm_mirror.proofs.Going.{leads_last}
-use Rattle.dm_mirror.proofs.Machines.{machines_group, some_machine}
-use Rattle.dm_mirror.proofs.Next.{IsBelow, all_below, all_pairs}
-use Rattle.dm_runlaws.specs.Through.{HasEnded, Over, Wears}
+use Rattle.dm_runlaws.proofs.Names.{◌≡◌, ℕ, zero, suc, ◌≤◌, Bool, true, is_some, List, [], ◌∷◌, ◌++◌, length, refl, ap, ◌∙◌, sym, subst, arith, All, Option, None, Some, false≢true, All-head, All-tail, Boot, IsValid, Step, Directive, Line}
+use Rattle.dm_runlaws.proofs.Names.{Round, Two, Todo, Next, below, pairs_of, here_or_later, next_delivery, next_turn, takes_turn, in_pass, or, next_pass, following, next_step, undelivered, IsKept, IsRun, IsStep, Leads, Spelled, Point}
+use Rattle.dm_runlaws.proofs.Names.{first_point, has_mail, is_quiet, group_of, worn_in, stands_once_always, goes_on_always, group_after, IsTwo, leads_last, machines_group, some_machine, IsBelow, all_below, all_pairs, HasEnded, Over, Wears}
 use Rattle.dm_runlaws.proofs.Wires.{Counts, lines_count}
 use Rattle.dm_runlaws.proofs.Delivers.{waits, fewer_wait}
 
@@ -114,7 +87,7 @@ same b pt t u s e f = same_by b pt f.end t u f.left f.groups (due b pt t (follow
 turns_out : (b : Boot) (ms : List ℕ) (k : ℕ) (ds : List Directive) → IsValid b → All (IsBelow (length b.machines)) ms → ((q : Point) → Stood b q → From b q (between k ds)) → (pt : Point) → Stood b pt → From b pt (todo [] ms k ds)
 turns_out b [] k ds valid fit rest pt s = rest pt s
 turns_out b (m ∷ ms) k ds valid fit rest pt s =
-    goes b pt (todo [] (m ∷ ms) k ds) (record { step = step.Turn m; left = todo [] ms k ds }) valid s refl (All-head (IsBelow (length b.machines)) m ms fit)
+    goes b pt (todo [] (m ∷ ms) k ds) (record { step = Step.Turn m; left = todo [] ms k ds }) valid s refl (All-head (IsBelow (length b.machines)) m ms fit)
     (λ w is next. turns_out b ms k ds valid (All-tail (IsBelow (length b.machines)) m ms fit) rest w.point next)
 
 -- whatever pairs there were
@@ -147,9 +120,9 @@ pair_step b p ps ms k ds pt None valid fit s first rest again =
     same b pt (todo (p ∷ ps) ms k ds) (todo ps ms k ds) s e rest
 pair_step b p ps ms k ds pt (Some j) valid fit s first rest again =
     let later = next_delivery (undelivered pt.view) ps in
-    let e : follows b pt (todo (p ∷ ps) ms k ds) ≡ Some (record { step = step.Deliver p.from p.to j; left = todo (p ∷ ps) ms k ds }) =
+    let e : follows b pt (todo (p ∷ ps) ms k ds) ≡ Some (record { step = Step.Deliver p.from p.to j; left = todo (p ∷ ps) ms k ds }) =
     ap (λ (o : Option ℕ). or (in_pass (has_mail pt.view) (todo (p ∷ ps) ms k ds) (here_or_later p ps o later)) (after b pt k ds)) first in
-    goes b pt (todo (p ∷ ps) ms k ds) (record { step = step.Deliver p.from p.to j; left = todo (p ∷ ps) ms k ds }) valid s e (fit.from, fit.to, fit.apart)
+    goes b pt (todo (p ∷ ps) ms k ds) (record { step = Step.Deliver p.from p.to j; left = todo (p ∷ ps) ms k ds }) valid s e (fit.from, fit.to, fit.apart)
     (λ w is next. again w.point next (fewer_wait b pt p.from p.to j w fit.apart first is))
 
 pair_out : (b : Boot) (p : Two) (ps : List Two) (ms : List ℕ) (k : ℕ) (ds : List Directive) (c : ℕ) → IsValid b → IsTwo (length b.machines) p → ((q : Point) → Stood b q → From b q (todo ps ms k ds)) → (pt : Point) → Stood b pt → waits_on pt p ≡ c
@@ -188,6 +161,6 @@ rounds_out b zero ds valid rest pt s = rest pt s
 rounds_out b (suc k) ds valid rest pt s = round_out b k ds valid (rounds_out b k ds valid rest) pt s
 
 -- the rounds of a spin
-pub spin_same : (b : Boot) (pt : Point) (n : ℕ) (ds : List Directive) → after b pt 0 (directive.Spin n ∷ ds) ≡ after b pt n ds
+pub spin_same : (b : Boot) (pt : Point) (n : ℕ) (ds : List Directive) → after b pt 0 (Directive.Spin n ∷ ds) ≡ after b pt n ds
 spin_same b pt zero ds = refl
 spin_same b pt (suc n) ds = refl

@@ -1,40 +1,8 @@
 -- The groups of a settle are steps of one, and so they put few messages where no process moves.
-use Rattle.std.proofs.Common.{◌≡◌, ℕ, zero, suc, ◌<◌, ◌≤◌, Bool, true, false, List, [], ◌∷◌, ◌++◌, length, refl, ap, ◌∙◌, sym, subst, inl, inr, arith}
-use Rattle.std.specs.Prelude.{if◌then◌else◌}
-use Rattle.std.specs.List.{All}
-use Rattle.std.specs.declared.option.Option.{Option}
-use Rattle.std.specs.declared.option.Option.TheVariants.{None, Some}
-use Rattle.std.proofs.lemmas.Bool.{cases_Bool, false≢true}
-use Rattle.std.proofs.lemmas.List.Elements.{All-nil}
-use Rattle.dm_onekernel.specs.declared.boot.Boot.{Boot}
-use Rattle.dm_onekernel.specs.Boot.{IsValid}
-use Rattle.dm_schedule.specs.declared.Directive.{Directive}
-use Rattle.dm_schedule.specs.declared.Directive.TheVariants as directive
-use Rattle.dm_schedule.specs.declared.Step.{Step}
-use Rattle.dm_line.specs.declared.line.Line.{Line}
-use Rattle.dm_line.specs.declared.pass.Pass.{Pass}
-use Rattle.dm_line.specs.declared.pass.Pass.TheVariants as pass
-use Rattle.dm_line.specs.Todo.{Next, Todo, all_of, begin_pass, below, in_pass, is_over, next_delivery, next_directive, next_pass, or, pairs_of, pass_begun}
-use Rattle.dm_rule.specs.Good.{IsRun, next_step, undelivered}
-use Rattle.dm_rule.specs.Laws.{IsStep, Leads}
-use Rattle.dm_rule.specs.Parts.{Spelled}
-use Rattle.dm_rule.specs.Point.{Point, first_point}
-use Rattle.dm_rule.specs.Quiet.{has_mail, is_quiet}
-use Rattle.dm_rule.specs.Rule.{group_of}
-use Rattle.dm_rule.specs.View.{View}
-use Rattle.dm_rule.proofs.QuietTests.{passes_quiet, quiet_passes}
-use Rattle.dm_rulelaws.proofs.RunsAlways.{run_always}
-use Rattle.dm_movelaws.specs.Ends.{count}
-use Rattle.dm_movelaws.proofs.Ends.Parts.{count-append}
-use Rattle.dm_movelaws.proofs.Promise.Finds.{leads_append}
-use Rattle.dm_mirror.specs.Todo.{IsDirective, IsTodo, IsTwo}
-use Rattle.dm_mirror.proofs.Next.{IsBelow, next_fits}
-use Rattle.dm_settlelaws.specs.Passes.{IsSettleStep}
-use Rattle.dm_settlelaws.specs.Puts.{SettlesBy, says_put}
-use Rattle.dm_settlelaws.proofs.EndsQuiet.{or_is, pass_stays, settles_is, unless_is}
-use Rattle.dm_settlelaws.proofs.FewPuts.{few_puts}
-use Rattle.dm_settlelaws.proofs.PassHas.{settles_always}
-use Rattle.dm_runlaws.specs.Settling.{SettleFew, puts_in}
+use Rattle.dm_runlaws.proofs.Names.{◌≡◌, ℕ, zero, suc, ◌<◌, ◌≤◌, Bool, true, false, List, [], ◌∷◌, ◌++◌, length, refl, ap, ◌∙◌, sym, subst, inl, inr, arith, if◌then◌else◌, All, Option, None, Some, cases_Bool, false≢true, All-nil, Boot}
+use Rattle.dm_runlaws.proofs.Names.{IsValid, Directive, Step, Line, Pass, Next, Todo, all_of, begin_pass, below, in_pass, is_over, next_delivery, next_directive, next_pass, or, pairs_of, pass_begun, IsRun, next_step, undelivered, IsStep}
+use Rattle.dm_runlaws.proofs.Names.{Leads, Spelled, Point, first_point, has_mail, is_quiet, group_of, View, passes_quiet, quiet_passes, run_always, count, count-append, leads_append, IsDirective, IsTodo, IsTwo, IsBelow, next_fits}
+use Rattle.dm_runlaws.proofs.Names.{IsSettleStep, SettlesBy, says_put, or_is, pass_stays, settles_is, unless_is, few_puts, settles_always, SettleFew, puts_in}
 
 -- a group takes a directive, or stays in a pass
 begun_same : (machines : ℕ) (first : ℕ → ℕ → Option ℕ) (mail : ℕ → Bool) (p : Pass) (ds : List Directive) (n : Next) → begin_pass machines first mail p ds ≡ Some n → n.left.directives ≡ ds
@@ -45,25 +13,25 @@ begun_shorter machines first mail p ds n e = let s = ap length (begun_same machi
 
 directive_shorter : (machines : ℕ) (first : ℕ → ℕ → Option ℕ) (mail : ℕ → Bool) (quiet : Bool) (ds : List Directive) (n : Next) → next_directive machines first mail quiet ds ≡ Some n → length n.left.directives < length ds
 directive_shorter machines first mail quiet [] n e = cc
-directive_shorter machines first mail quiet (directive.One s ∷ ds) n e =
+directive_shorter machines first mail quiet (Directive.One s ∷ ds) n e =
     let k : Next = record { step = s; left = all_of ds } in
     let f : k ≡ n = cc in
     subst (λ (x : Next). length x.left.directives < suc (length ds)) f (omega arith)
-directive_shorter machines first mail quiet (directive.Round ∷ ds) n e = let s = begun_shorter machines first mail (pass.Round 0) ds n e in omega (arith, s)
-directive_shorter machines first mail quiet (directive.Spin zero ∷ ds) n e = let s = directive_shorter machines first mail quiet ds n e in omega (arith, s)
-directive_shorter machines first mail quiet (directive.Spin (suc k) ∷ ds) n e = let s = begun_shorter machines first mail (pass.Round k) ds n e in omega (arith, s)
-directive_shorter machines first mail quiet (directive.Settle ∷ ds) n e =
-    elim (settles_is quiet (begin_pass machines first mail pass.Settle ds) (next_directive machines first mail quiet ds) n e) [
-      | inl begins ↦ let s = begun_shorter machines first mail pass.Settle ds n begins in omega (arith, s)
+directive_shorter machines first mail quiet (Directive.Round ∷ ds) n e = let s = begun_shorter machines first mail (Pass.Round 0) ds n e in omega (arith, s)
+directive_shorter machines first mail quiet (Directive.Spin zero ∷ ds) n e = let s = directive_shorter machines first mail quiet ds n e in omega (arith, s)
+directive_shorter machines first mail quiet (Directive.Spin (suc k) ∷ ds) n e = let s = begun_shorter machines first mail (Pass.Round k) ds n e in omega (arith, s)
+directive_shorter machines first mail quiet (Directive.Settle ∷ ds) n e =
+    elim (settles_is quiet (begin_pass machines first mail Pass.Settle ds) (next_directive machines first mail quiet ds) n e) [
+      | inl begins ↦ let s = begun_shorter machines first mail Pass.Settle ds n begins in omega (arith, s)
       | inr later ↦ let s = directive_shorter machines first mail quiet ds n later in omega (arith, s)
     ]
 
 later_shorter : (machines : ℕ) (first : ℕ → ℕ → Option ℕ) (mail : ℕ → Bool) (quiet : Bool) (p : Pass) (ds : List Directive) (n : Next) → next_pass machines first mail quiet p ds ≡ Some n → length n.left.directives ≤ length ds
-later_shorter machines first mail quiet (pass.Round zero) ds n e = let s = directive_shorter machines first mail quiet ds n e in omega (arith, s)
-later_shorter machines first mail quiet (pass.Round (suc k)) ds n e = begun_shorter machines first mail (pass.Round k) ds n e
-later_shorter machines first mail quiet pass.Settle ds n e =
-    elim (settles_is quiet (begin_pass machines first mail pass.Settle ds) (next_directive machines first mail quiet ds) n e) [
-      | inl begins ↦ begun_shorter machines first mail pass.Settle ds n begins
+later_shorter machines first mail quiet (Pass.Round zero) ds n e = let s = directive_shorter machines first mail quiet ds n e in omega (arith, s)
+later_shorter machines first mail quiet (Pass.Round (suc k)) ds n e = begun_shorter machines first mail (Pass.Round k) ds n e
+later_shorter machines first mail quiet Pass.Settle ds n e =
+    elim (settles_is quiet (begin_pass machines first mail Pass.Settle ds) (next_directive machines first mail quiet ds) n e) [
+      | inl begins ↦ begun_shorter machines first mail Pass.Settle ds n begins
       | inr later ↦ let s = directive_shorter machines first mail quiet ds n later in omega (arith, s)
     ]
 
@@ -100,7 +68,7 @@ more_stepped b pt end g gs d w fit is group said h = record {
   same = (let s = h.same in let both = count-append says_put w.lines h.lines in let one = ap (count says_put) said in omega (arith, s, both, one));
 }
 
-settling : (b : Boot) (gs : List (List Line)) (es : List Step) (pt end : Point) (t left : Todo) → IsValid b → Leads b (first_point b) es pt → IsTodo (length b.machines) t → t.pass ≡ pass.Settle → IsRun b pt t gs end left → length t.directives ≤ length left.directives
+settling : (b : Boot) (gs : List (List Line)) (es : List Step) (pt end : Point) (t left : Todo) → IsValid b → Leads b (first_point b) es pt → IsTodo (length b.machines) t → t.pass ≡ Pass.Settle → IsRun b pt t gs end left → length t.directives ≤ length left.directives
     → Stepped b pt gs end
 settling b [] es pt end t left valid way todo settle run long = none_stepped b pt end run.0
 settling b (g ∷ gs) es pt end t left valid way todo settle (n, w, due, group, said, kept, more) long =
@@ -121,7 +89,7 @@ settling b (g ∷ gs) es pt end t left valid way todo settle (n, w, due, group, 
           let same : goes.next ≡ n = cc in
           let fit : IsStep m n.step = subst (λ (k : ℕ). IsStep k n.step) (sym machines) fits.step in
           let is : IsSettleStep v n.step = subst (λ (x : Next). IsSettleStep v x.step) same goes.step in
-          let still : n.left.pass ≡ pass.Settle = subst (λ (x : Next). x.left.pass ≡ pass.Settle) same goes.pass in
+          let still : n.left.pass ≡ Pass.Settle = subst (λ (x : Next). x.left.pass ≡ Pass.Settle) same goes.pass in
           let behind : n.left.directives ≡ t.directives = subst (λ (x : Next). x.left.directives ≡ t.directives) same goes.behind in
           let long_ = ap length behind in
           let next : Leads b (first_point b) (es ++ n.step ∷ []) w.point = leads_append b es (n.step ∷ []) (first_point b) pt w.point way (w, fit, group, refl) in
@@ -133,14 +101,14 @@ none_if : (over : Bool) → ◌≡◌ {A = Option Next} (if over then None else 
 none_if true = refl
 none_if false = refl
 
-begins : (b : Boot) (gs : List (List Line)) (es : List Step) (pt end : Point) (ds : List Directive) (left : Todo) → IsValid b → All (IsDirective (length b.machines)) ds → Leads b (first_point b) es pt → IsRun b pt (all_of (directive.Settle ∷ ds)) gs end left
+begins : (b : Boot) (gs : List (List Line)) (es : List Step) (pt end : Point) (ds : List Directive) (left : Todo) → IsValid b → All (IsDirective (length b.machines)) ds → Leads b (first_point b) es pt → IsRun b pt (all_of (Directive.Settle ∷ ds)) gs end left
     → length ds ≤ length left.directives → Stepped b pt gs end
 begins b [] es pt end ds left valid fit way run long = none_stepped b pt end run.0
 begins b (g ∷ gs) es pt end ds left valid fit way (n, w, due, group, said, kept, more) long =
     let m = pt.kernel.machines in
-    let begun : Todo = record { pairs = []; machines = []; pass = pass.Settle; directives = ds } in
-    let later = next_pass m (undelivered pt.view) (has_mail pt.view) (is_quiet m pt.view) pass.Settle ds in
-    let e : next_step m pt.view (all_of (directive.Settle ∷ ds)) ≡ next_step m pt.view begun = sym (ap (λ (o : Option Next). or o later) (none_if (is_quiet m pt.view))) in
+    let begun : Todo = record { pairs = []; machines = []; pass = Pass.Settle; directives = ds } in
+    let later = next_pass m (undelivered pt.view) (has_mail pt.view) (is_quiet m pt.view) Pass.Settle ds in
+    let e : next_step m pt.view (all_of (Directive.Settle ∷ ds)) ≡ next_step m pt.view begun = sym (ap (λ (o : Option Next). or o later) (none_if (is_quiet m pt.view))) in
     let todo : IsTodo (length b.machines) begun = record { pairs = All-nil (IsTwo (length b.machines)); machines_ = All-nil (IsBelow (length b.machines)); directives = fit } in
     settling b (g ∷ gs) es pt end begun left valid way todo refl (n, w, sym e ∙ due, group, said, kept, more) long
 

@@ -1,32 +1,7 @@
 -- From wherever a run stands a settle comes to its end, and what is behind it follows.
-use Rattle.std.proofs.Common.{◌≡◌, ℕ, Bool, true, false, List, [], ◌∷◌, ◌++◌, length, refl, ap, ◌∙◌, sym, subst, inl, inr}
-use Rattle.std.specs.Prelude.{if◌then◌else◌}
-use Rattle.std.specs.List.{All}
-use Rattle.std.specs.declared.option.Option.{Option}
-use Rattle.std.specs.declared.option.Option.TheVariants.{None, Some}
-use Rattle.std.proofs.lemmas.Bool.{cases_Bool, false≢true}
-use Rattle.std.proofs.lemmas.List.Elements.{All-nil}
-use Rattle.dm_onekernel.specs.declared.boot.Boot.{Boot}
-use Rattle.dm_onekernel.specs.Boot.{IsValid}
-use Rattle.dm_schedule.specs.declared.Directive.{Directive}
-use Rattle.dm_schedule.specs.declared.Directive.TheVariants as directive
-use Rattle.dm_line.specs.declared.pass.Pass.TheVariants.{Settle}
-use Rattle.dm_line.specs.Todo.{Next, Todo, Two, next_pass, or}
-use Rattle.dm_rule.specs.Good.{IsKept, next_step, undelivered}
-use Rattle.dm_rule.specs.Laws.{IsStep}
-use Rattle.dm_rule.specs.Parts.{Spelled}
-use Rattle.dm_rule.specs.Point.{Point}
-use Rattle.dm_rule.specs.Quiet.{has_mail, is_quiet}
-use Rattle.dm_rule.specs.Rule.{group_of}
-use Rattle.dm_rule.proofs.Groups.{stands_once_always}
-use Rattle.dm_rule.proofs.QuietTests.{passes_quiet, quiet_passes}
-use Rattle.dm_mirror.specs.Todo.{IsDirective, IsTodo, IsTwo}
-use Rattle.dm_mirror.proofs.Next.{IsBelow, next_fits}
-use Rattle.dm_settlelaws.specs.Left.{IsLess, Left, left}
-use Rattle.dm_settlelaws.specs.Passes.{IsSettleStep}
-use Rattle.dm_settlelaws.proofs.LeftFalls.{left_falls}
-use Rattle.dm_settlelaws.proofs.Less.{Falls, by_left}
-use Rattle.dm_settlelaws.proofs.PassHas.{settles_always}
+use Rattle.dm_runlaws.proofs.Names.{◌≡◌, ℕ, Bool, true, false, List, [], ◌∷◌, length, refl, ap, ◌∙◌, sym, subst, inl, inr, if◌then◌else◌, All, Option, None, Some, cases_Bool, false≢true, All-nil, Boot, IsValid, Directive, Settle, Next}
+use Rattle.dm_runlaws.proofs.Names.{Todo, next_pass, or, IsKept, next_step, undelivered, IsStep, Spelled, Point, has_mail, is_quiet, group_of, stands_once_always, passes_quiet, quiet_passes, IsDirective, IsTodo, IsTwo, IsBelow, next_fits}
+use Rattle.dm_runlaws.proofs.Names.{IsLess, Left, left, IsSettleStep, left_falls, Falls, by_left, settles_always}
 use Rattle.dm_runlaws.proofs.Runs.{From, Stood, between, follows, goes, same, same_by}
 
 -- a settle, wherever it stands, with these directives behind it
@@ -78,12 +53,12 @@ none_if : (over : Bool) → ◌≡◌ {A = Option Next} (if over then None else 
 none_if true = refl
 none_if false = refl
 
-pub settle_out : (b : Boot) (ds : List Directive) → IsValid b → All (IsDirective (length b.machines)) ds → Rest b ds → (pt : Point) → Stood b pt → From b pt (between 0 (directive.Settle ∷ ds))
+pub settle_out : (b : Boot) (ds : List Directive) → IsValid b → All (IsDirective (length b.machines)) ds → Rest b ds → (pt : Point) → Stood b pt → From b pt (between 0 (Directive.Settle ∷ ds))
 settle_out b ds valid fit rest pt s =
     let n = length b.machines in
     let begun : Todo = record { pairs = []; machines = []; pass = Settle; directives = ds } in
     let fits : IsTodo n begun = record { pairs = All-nil (IsTwo n); machines_ = All-nil (IsBelow n); directives = fit } in
     let later = next_pass n (undelivered pt.view) (has_mail pt.view) (is_quiet n pt.view) Settle ds in
-    let e : follows b pt (between 0 (directive.Settle ∷ ds)) ≡ follows b pt begun = sym (ap (λ (o : Option Next). or o later) (none_if (is_quiet n pt.view))) in
-    same b pt (between 0 (directive.Settle ∷ ds)) begun s e
+    let e : follows b pt (between 0 (Directive.Settle ∷ ds)) ≡ follows b pt begun = sym (ap (λ (o : Option Next). or o later) (none_if (is_quiet n pt.view))) in
+    same b pt (between 0 (Directive.Settle ∷ ds)) begun s e
     (by_left (Comes b ds) (settle_on b ds valid rest) (left b.numbers pt.kernel.machines pt.view) pt begun s (record { fits = fits; pass = refl; behind = refl }) refl)

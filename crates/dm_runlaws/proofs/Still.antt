@@ -1,29 +1,7 @@
 -- Where no directive moves a process, neither does any elementary one of it.
-use Rattle.std.proofs.Common.{◌≡◌, ℕ, zero, suc, Bool, true, false, List, [], ◌∷◌, ◌++◌, length, refl, ap, ◌∙◌, sym, subst}
-use Rattle.std.specs.Prelude.{⊤, if◌then◌else◌}
-use Rattle.std.specs.declared.option.Option.{Option}
-use Rattle.std.specs.declared.option.Option.TheVariants.{None, Some}
-use Rattle.std.proofs.lemmas.List.Elements.{All-nil}
-use Rattle.dm_onekernel.specs.declared.boot.Boot.{Boot}
-use Rattle.dm_schedule.specs.declared.Step.{Step}
-use Rattle.dm_schedule.specs.declared.Directive.{Directive}
-use Rattle.dm_schedule.specs.declared.Directive.TheVariants as directive
-use Rattle.dm_line.specs.declared.line.Line.{Line}
-use Rattle.dm_schedule.specs.declared.Step.TheVariants as step
-use Rattle.dm_line.specs.declared.pass.Pass.{Pass}
-use Rattle.dm_line.specs.declared.pass.Pass.TheVariants as pass
-use Rattle.dm_line.specs.Todo.{Two, Todo, Next, next, all_of, below, pairs_of, here_or_later, next_delivery, pass_begun, takes_turn, next_turn, in_pass, or, begin_pass, settles, next_directive, next_pass, is_over, following}
-use Rattle.dm_rule.specs.Good.{next_step, undelivered, IsRun}
-use Rattle.dm_rule.specs.Laws.{IsStep, IsStill, AreStill}
-use Rattle.dm_rule.specs.Point.{Point, first_point}
-use Rattle.dm_rule.specs.Quiet.{has_mail, is_quiet}
-use Rattle.dm_rulelaws.specs.Order.{LeadsBy}
-use Rattle.dm_rulelaws.proofs.RunsAlways.{receives_in_order}
-use Rattle.dm_mirror.specs.Todo.{IsTwo, IsTodo}
-use Rattle.dm_mirror.specs.Run.{joined}
-use Rattle.dm_mirror.proofs.Machines.{machines_group}
-use Rattle.dm_mirror.proofs.Next.{next_fits}
-use Rattle.dm_runlaws.specs.Order.{MoveNothing, GoodInOrder}
+use Rattle.dm_runlaws.proofs.Names.{◌≡◌, ℕ, zero, suc, Bool, true, false, List, [], ◌∷◌, ◌++◌, length, refl, ap, ◌∙◌, sym, subst, ⊤, if◌then◌else◌, Option, None, Some, All-nil, Boot, Step, Directive, Line, Pass, Two, Todo, Next, next}
+use Rattle.dm_runlaws.proofs.Names.{all_of, below, pairs_of, here_or_later, next_delivery, pass_begun, takes_turn, next_turn, in_pass, or, begin_pass, settles, next_directive, next_pass, is_over, following, next_step, undelivered, IsRun}
+use Rattle.dm_runlaws.proofs.Names.{IsStep, IsStill, AreStill, Point, first_point, has_mail, is_quiet, LeadsBy, receives_in_order, IsTwo, IsTodo, joined, machines_group, next_fits, MoveNothing, GoodInOrder}
 
 -- what follows moves nothing, and neither does what is left then
 abbrev NextStill : Option Next → Type 0
@@ -42,7 +20,7 @@ delivery_still : (first : ℕ → ℕ → Option ℕ) (ps : List Two) → FirstS
 delivery_still first [] = tt
 delivery_still first (p ∷ ps) = here_still p ps (first p.from p.to) (next_delivery first ps) (delivery_still first ps)
 
-turn_or_later : (t : Todo) (m : ℕ) (ms : List ℕ) (b : Bool) (o : Option Next) → MoveNothing t.directives → NextStill o → NextStill (if b then next (step.Turn m) (record t { pairs = []; machines = ms }) else o)
+turn_or_later : (t : Todo) (m : ℕ) (ms : List ℕ) (b : Bool) (o : Option Next) → MoveNothing t.directives → NextStill o → NextStill (if b then next (Step.Turn m) (record t { pairs = []; machines = ms }) else o)
 turn_or_later t m ms true o h later = (tt, h)
 turn_or_later t m ms false o h later = later
 
@@ -68,18 +46,18 @@ settles_still false x y h k = or_still x y h k
 
 directive_still : (machines : ℕ) (first : ℕ → ℕ → Option ℕ) (mail : ℕ → Bool) (quiet : Bool) (ds : List Directive) → MoveNothing ds → NextStill (next_directive machines first mail quiet ds)
 directive_still machines first mail quiet [] h = tt
-directive_still machines first mail quiet (directive.One s ∷ ds) h = h
-directive_still machines first mail quiet (directive.Round ∷ ds) h = begun_still machines first mail (pass.Round 0) ds h.1
-directive_still machines first mail quiet (directive.Spin zero ∷ ds) h = directive_still machines first mail quiet ds h.1
-directive_still machines first mail quiet (directive.Spin (suc n) ∷ ds) h = begun_still machines first mail (pass.Round n) ds h.1
-directive_still machines first mail quiet (directive.Settle ∷ ds) h =
-    settles_still quiet (begin_pass machines first mail pass.Settle ds) (next_directive machines first mail quiet ds) (begun_still machines first mail pass.Settle ds h.1) (directive_still machines first mail quiet ds h.1)
+directive_still machines first mail quiet (Directive.One s ∷ ds) h = h
+directive_still machines first mail quiet (Directive.Round ∷ ds) h = begun_still machines first mail (Pass.Round 0) ds h.1
+directive_still machines first mail quiet (Directive.Spin zero ∷ ds) h = directive_still machines first mail quiet ds h.1
+directive_still machines first mail quiet (Directive.Spin (suc n) ∷ ds) h = begun_still machines first mail (Pass.Round n) ds h.1
+directive_still machines first mail quiet (Directive.Settle ∷ ds) h =
+    settles_still quiet (begin_pass machines first mail Pass.Settle ds) (next_directive machines first mail quiet ds) (begun_still machines first mail Pass.Settle ds h.1) (directive_still machines first mail quiet ds h.1)
 
 later_still : (machines : ℕ) (first : ℕ → ℕ → Option ℕ) (mail : ℕ → Bool) (quiet : Bool) (p : Pass) (ds : List Directive) → MoveNothing ds → NextStill (next_pass machines first mail quiet p ds)
-later_still machines first mail quiet (pass.Round zero) ds h = directive_still machines first mail quiet ds h
-later_still machines first mail quiet (pass.Round (suc k)) ds h = begun_still machines first mail (pass.Round k) ds h
-later_still machines first mail quiet pass.Settle ds h =
-    settles_still quiet (begin_pass machines first mail pass.Settle ds) (next_directive machines first mail quiet ds) (begun_still machines first mail pass.Settle ds h) (directive_still machines first mail quiet ds h)
+later_still machines first mail quiet (Pass.Round zero) ds h = directive_still machines first mail quiet ds h
+later_still machines first mail quiet (Pass.Round (suc k)) ds h = begun_still machines first mail (Pass.Round k) ds h
+later_still machines first mail quiet Pass.Settle ds h =
+    settles_still quiet (begin_pass machines first mail Pass.Settle ds) (next_directive machines first mail quiet ds) (begun_still machines first mail Pass.Settle ds h) (directive_still machines first mail quiet ds h)
 
 unless_still : (over : Bool) (o : Option Next) → NextStill o → NextStill (if over then None else o)
 unless_still true o h = tt

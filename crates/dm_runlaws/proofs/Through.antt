@@ -1,27 +1,7 @@
 -- Each run comes to its end, and each other is a beginning of it.
-use Rattle.std.proofs.Common.{◌≡◌, ◌⊎◌, ℕ, ◌≤◌, nat_le, List, [], ◌∷◌, ◌++◌, length, refl, ap, ◌∙◌, sym, subst, inl, inr, arith}
-use Rattle.std.specs.declared.option.Option.{Option}
-use Rattle.std.specs.declared.option.Option.TheVariants.{None, Some}
-use Rattle.std.proofs.lemmas.Bool.{cases_Bool}
-use Rattle.std.proofs.lemmas.Bool.Decides.{nat_tests}
-use Rattle.std.proofs.lemmas.List.{append-nil}
-use Rattle.dm_onekernel.specs.declared.boot.Boot.{Boot}
-use Rattle.dm_onekernel.specs.Boot.{IsValid}
-use Rattle.dm_onekernel.specs.Step.{replay}
-use Rattle.dm_laws.proofs.Runs.{received_once}
-use Rattle.dm_schedule.specs.declared.Directive.{Directive}
-use Rattle.dm_line.specs.declared.line.Line.{Line}
-use Rattle.dm_line.specs.Todo.{Todo, Next, all_of}
-use Rattle.dm_rule.specs.Good.{next_step, IsKept, IsRun}
-use Rattle.dm_rule.specs.Parts.{Spelled}
-use Rattle.dm_rule.specs.Point.{Point, first_point, labels}
-use Rattle.dm_rule.specs.Rule.{group_of}
-use Rattle.dm_rule.specs.Worn.{IsWorn}
-use Rattle.dm_rulelaws.proofs.Decided.{shorter_begins}
-use Rattle.dm_rulelaws.proofs.RunLabels.{labels-append, replay-append, group_replay}
-use Rattle.dm_movelaws.proofs.After.{group_after}
-use Rattle.dm_mirror.specs.Run.{IsGood, joined}
-use Rattle.dm_runlaws.specs.Through.{HasEnded, Over, Wears, RunsThrough, AllBegin}
+use Rattle.dm_runlaws.proofs.Names.{◌≡◌, ◌⊎◌, ℕ, ◌≤◌, nat_le, List, [], ◌∷◌, ◌++◌, length, refl, ap, ◌∙◌, sym, subst, inl, inr, arith, Option, None, Some, cases_Bool, nat_tests, append-nil, Boot, IsValid, replay, received_once, Directive}
+use Rattle.dm_runlaws.proofs.Names.{Line, Todo, Next, all_of, next_step, IsKept, IsRun, Spelled, Point, first_point, labels, group_of, IsWorn, shorter_begins, labels-append, replay-append, group_replay, group_after, IsGood, joined}
+use Rattle.dm_runlaws.proofs.Names.{HasEnded, Over, Wears, RunsThrough, AllBegin}
 use Rattle.dm_runlaws.proofs.AllOut.{all_out}
 use Rattle.dm_runlaws.proofs.Runs.{Stood}
 use Rattle.dm_runlaws.proofs.Wires.{lines_wear}

@@ -1,25 +1,7 @@
 -- What lines do to what was routed on a pair, and to its wire.
-use Rattle.std.proofs.Common.{◌≡◌, ◌⊎◌, ℕ, ◌+◌, ◌≤◌, ◌<◌, ◌==◌, ◌&&◌, Bool, true, false, not, filter, List, [], ◌∷◌, ◌++◌, length, refl, ap, ◌∙◌, sym, subst, inl, inr, arith}
-use Rattle.std.specs.Prelude.{if◌then◌else◌}
-use Rattle.std.specs.declared.option.Option.{Option}
-use Rattle.std.specs.declared.option.Option.TheVariants.{None, Some}
-use Rattle.std.proofs.lemmas.Bool.{cases_Bool}
-use Rattle.std.proofs.lemmas.Bool.Decides.{nat_tests}
-use Rattle.std.proofs.lemmas.List.{length-append}
-use Rattle.dm_link.specs.declared.Pid.{Pid}
-use Rattle.dm_message.specs.declared.MsgId.{MsgId}
-use Rattle.dm_message.specs.declared.kind.MessageKind.{MessageKind}
-use Rattle.dm_laws.proofs.Steps.{bind-is}
-use Rattle.dm_schedule.specs.declared.Step.TheVariants as step
-use Rattle.dm_line.specs.declared.line.Line.{Line}
-use Rattle.dm_line.specs.declared.line.Line.TheVariants as line
-use Rattle.dm_line.specs.Sets.{at_pair}
-use Rattle.dm_line.specs.Todo.{Two, or}
-use Rattle.dm_rule.specs.Point.{Point, after, after_line}
-use Rattle.dm_rule.specs.View.{View, Pair, view_after, after_put, marked, routed_on, gone_after, at_least, oldest, with_pair}
-use Rattle.dm_rule.specs.Worn.{is_full, full_pair, worn_in}
-use Rattle.dm_rule.proofs.Hushed.{is_put}
-use Rattle.dm_rule.proofs.Pairs.Lines.{pair_same, taken_pair, line_view}
+use Rattle.dm_runlaws.proofs.Names.{◌≡◌, ◌⊎◌, ℕ, ◌+◌, ◌≤◌, ◌<◌, ◌==◌, ◌&&◌, Bool, true, false, not, filter, List, [], ◌∷◌, ◌++◌, length, refl, ap, ◌∙◌, sym, subst, inl, inr, arith, if◌then◌else◌, Option, None, Some, cases_Bool, nat_tests}
+use Rattle.dm_runlaws.proofs.Names.{Pid, MsgId, MessageKind, bind-is, Step, Line, at_pair, Two, or, Point, after, after_line, View, Pair, view_after, after_put, marked, routed_on, gone_after, at_least, oldest, with_pair, is_full, full_pair}
+use Rattle.dm_runlaws.proofs.Names.{worn_in, is_put, pair_same, taken_pair, line_view, one_longer}
 
 -- a pair is set to one with the same value of something
 pub set_keeps : {X : Type 0} (f : Pair → X) (g : ℕ → ℕ → Pair) (a b : ℕ) (p : Pair) (c d : ℕ) → f p ≡ f (g a b) → f (at_pair g a b p c d) ≡ f (g c d)
@@ -31,7 +13,7 @@ set_keeps f g a b p c d same = elim (cases_Bool ((a == c) && (b == d))) [
   | inr apart ↦ ap (λ (t : Bool). f (if t then p else g c d)) apart
 ]
 
-pub taken_keeps : {X : Type 0} (f : Pair → X) (v : View) (a b n : ℕ) (c d : ℕ) → f (record (v.pair a b) { taken = (v.pair a b).taken + 1; kept = filter (λ k. not (k == n)) (v.pair a b).kept }) ≡ f (v.pair a b) → f ((view_after v (line.Taken a b n)).pair c d) ≡ f (v.pair c d)
+pub taken_keeps : {X : Type 0} (f : Pair → X) (v : View) (a b n : ℕ) (c d : ℕ) → f (record (v.pair a b) { taken = (v.pair a b).taken + 1; kept = filter (λ k. not (k == n)) (v.pair a b).kept }) ≡ f (v.pair a b) → f ((view_after v (Line.Taken a b n)).pair c d) ≡ f (v.pair c d)
 taken_keeps f v a b n c d same =
     let p = record (v.pair a b) { taken = (v.pair a b).taken + 1; kept = filter (λ k. not (k == n)) (v.pair a b).kept } in
     ap (λ (g : ℕ → ℕ → Pair). f (g c d)) (taken_pair (with_pair v a b p) b (oldest (v.pair a b))) ∙ set_keeps f v.pair a b p c d same
@@ -41,16 +23,16 @@ abbrev pub ids_on : View → ℕ → ℕ → List MsgId
 ids_on v a b = (v.pair a b).ids
 
 ids_same : (v : View) (l : Line) (c d : ℕ) → is_put l ≡ false → ids_on (view_after v l) c d ≡ ids_on v c d
-ids_same v (line.Put a b i k q) c d quiet = cc
-ids_same v (line.Head (step.Turn m)) c d quiet = refl
-ids_same v (line.Head (step.Tick m)) c d quiet = refl
-ids_same v (line.Head (step.Migrate p m)) c d quiet = refl
-ids_same v (line.Head (step.Deliver a b k)) c d quiet = set_keeps (λ (p : Pair). p.ids) v.pair a b (marked (v.pair a b) k) c d refl
-ids_same v (line.Packet a b k l) c d quiet =
+ids_same v (Line.Put a b i k q) c d quiet = cc
+ids_same v (Line.Head (Step.Turn m)) c d quiet = refl
+ids_same v (Line.Head (Step.Tick m)) c d quiet = refl
+ids_same v (Line.Head (Step.Migrate p m)) c d quiet = refl
+ids_same v (Line.Head (Step.Deliver a b k)) c d quiet = set_keeps (λ (p : Pair). p.ids) v.pair a b (marked (v.pair a b) k) c d refl
+ids_same v (Line.Packet a b k l) c d quiet =
     set_keeps (λ (p : Pair). p.ids) v.pair a b (record (v.pair a b) { gone = gone_after l (v.pair a b).gone; wire = (v.pair a b).wire ++ record { load = l; delivered = false } ∷ [] }) c d refl
-ids_same v (line.Taken a b n) c d quiet = taken_keeps (λ (p : Pair). p.ids) v a b n c d refl
-ids_same v (line.Early a b n) c d quiet = set_keeps (λ (p : Pair). p.ids) v.pair a b (record (v.pair a b) { kept = n ∷ filter (λ k. not (k == n)) (v.pair a b).kept }) c d refl
-ids_same v (line.Acked a b n) c d quiet = set_keeps (λ (p : Pair). p.ids) v.pair b a (record (v.pair b a) { acked = at_least (v.pair b a).acked n }) c d refl
+ids_same v (Line.Taken a b n) c d quiet = taken_keeps (λ (p : Pair). p.ids) v a b n c d refl
+ids_same v (Line.Early a b n) c d quiet = set_keeps (λ (p : Pair). p.ids) v.pair a b (record (v.pair a b) { kept = n ∷ filter (λ k. not (k == n)) (v.pair a b).kept }) c d refl
+ids_same v (Line.Acked a b n) c d quiet = set_keeps (λ (p : Pair). p.ids) v.pair b a (record (v.pair b a) { acked = at_least (v.pair b a).acked n }) c d refl
 ids_same v l c d quiet = ap (λ (g : ℕ → ℕ → Pair). (g c d).ids) (pair_same v l refl)
 
 put_at : (v : View) (a b : ℕ) (i : MsgId) (k : MessageKind) (q : Pid) (c d : ℕ) → ((a == c) && (b == d)) ≡ true → ids_on (after_put v a b i k q) c d ≡ ids_on v c d ++ i ∷ []
@@ -62,17 +44,14 @@ put_at v a b i k q c d here =
 put_off : (v : View) (a b : ℕ) (i : MsgId) (k : MessageKind) (q : Pid) (c d : ℕ) → ((a == c) && (b == d)) ≡ false → ids_on (after_put v a b i k q) c d ≡ ids_on v c d
 put_off v a b i k q c d apart = ap (λ (t : Bool). (if t then routed_on a b (v.pair a b) i else v.pair c d).ids) apart
 
-one_more : (xs : List MsgId) (i : MsgId) → length (xs ++ i ∷ []) ≡ length xs + 1
-one_more xs i = length-append xs (i ∷ [])
-
 put_grows : (v : View) (a b : ℕ) (i : MsgId) (k : MessageKind) (q : Pid) (c d : ℕ) → length (ids_on v c d) ≤ length (ids_on (after_put v a b i k q) c d)
 put_grows v a b i k q c d = elim (cases_Bool ((a == c) && (b == d))) [
-  | inl here ↦ let e : length (ids_on (after_put v a b i k q) c d) ≡ length (ids_on v c d ++ i ∷ []) = ap length (put_at v a b i k q c d here) in let m = one_more (ids_on v c d) i in omega (arith, e, m)
+  | inl here ↦ let e : length (ids_on (after_put v a b i k q) c d) ≡ length (ids_on v c d ++ i ∷ []) = ap length (put_at v a b i k q c d here) in let m = one_longer (ids_on v c d) i in omega (arith, e, m)
   | inr apart ↦ let e : length (ids_on (after_put v a b i k q) c d) ≡ length (ids_on v c d) = ap length (put_off v a b i k q c d apart) in omega (arith, e)
 ]
 
 line_grows : (v : View) (l : Line) (c d : ℕ) → length (ids_on v c d) ≤ length (ids_on (view_after v l) c d)
-line_grows v (line.Put a b i k q) c d = put_grows v a b i k q c d
+line_grows v (Line.Put a b i k q) c d = put_grows v a b i k q c d
 line_grows v l c d = let e : length (ids_on (view_after v l) c d) ≡ length (ids_on v c d) = ap length (ids_same v l c d refl) in omega (arith, e)
 
 lines_grow : (ls : List Line) (pt q : Point) (c d : ℕ) → after pt ls ≡ Some q → length (ids_on pt.view c d) ≤ length (ids_on q.view c d)
@@ -99,7 +78,7 @@ put_counts : (numbers : ℕ) (v : View) (a b : ℕ) (i : MsgId) (k : MessageKind
 put_counts numbers v a b i k q less h c d = elim (cases_Bool ((a == c) && (b == d))) [
   | inl here ↦
       let e : length (ids_on (after_put v a b i k q) c d) ≡ length (ids_on v c d ++ i ∷ []) = ap length (put_at v a b i k q c d here) in
-      let m = one_more (ids_on v c d) i in
+      let m = one_longer (ids_on v c d) i in
       let ac : a ≡ c = grind (arith, nat_tests) in
       let bd : b ≡ d = grind (arith, nat_tests) in
       let there : length (ids_on v c d) ≡ length (ids_on v a b) = ap (λ (x : ℕ). length (ids_on v x d)) (sym ac) ∙ ap (λ (x : ℕ). length (ids_on v a x)) (sym bd) in
@@ -114,7 +93,7 @@ quiet_counts : (numbers : ℕ) (v w : View) → ((c d : ℕ) → ids_on w c d �
 quiet_counts numbers v w same h c d = let e : length (ids_on w c d) ≡ length (ids_on v c d) = ap length (same c d) in let was = h c d in omega (arith, e, was)
 
 line_counts : (numbers : ℕ) (v : View) (l : Line) → full_pair numbers v l ≡ None → Counts numbers v → Counts numbers (view_after v l)
-line_counts numbers v (line.Put a b i k q) none h = put_counts numbers v a b i k q (not_full numbers v a b (is_full numbers v a b) refl none) h
+line_counts numbers v (Line.Put a b i k q) none h = put_counts numbers v a b i k q (not_full numbers v a b (is_full numbers v a b) refl none) h
 line_counts numbers v l none h = quiet_counts numbers v (view_after v l) (λ c d. ids_same v l c d refl) h
 
 or_none : (x y : Option Two) → or x y ≡ None → (x ≡ None) × (y ≡ None)
@@ -142,11 +121,11 @@ put_wears : (numbers : ℕ) (v : View) (a b : ℕ) (i : MsgId) (k : MessageKind)
 put_wears numbers v a b i k q p (is, full) =
     let here : ((a == a) && (b == b)) ≡ true = grind (arith, nat_tests) in
     let e : length (ids_on (after_put v a b i k q) a b) ≡ length (ids_on v a b ++ i ∷ []) = ap length (put_at v a b i k q a b here) in
-    let m = one_more (ids_on v a b) i in
+    let m = one_longer (ids_on v a b) i in
     subst (λ (x : Two). numbers < length (ids_on (after_put v a b i k q) x.from x.to)) is (omega (arith, e, m, full))
 
 line_wears : (numbers : ℕ) (v : View) (l : Line) (p : Two) → full_pair numbers v l ≡ Some p → numbers < length (ids_on (view_after v l) p.from p.to)
-line_wears numbers v (line.Put a b i k q) p e = put_wears numbers v a b i k q p (full_is numbers v a b p (is_full numbers v a b) refl e)
+line_wears numbers v (Line.Put a b i k q) p e = put_wears numbers v a b i k q p (full_is numbers v a b p (is_full numbers v a b) refl e)
 line_wears numbers v l p e = cc
 
 -- a put that wears a pair leaves it with more than it may count

@@ -1,32 +1,10 @@
 -- A packet that was never delivered comes: less is left for the wires, and no more of anything else.
-use Rattle.std.proofs.Common.{◌≡◌, ◌≢◌, ℕ, zero, suc, ◌+◌, ◌-◌, ◌<◌, ◌≤◌, ◌==◌, Bool, true, false, List, [], ◌∷◌, ◌++◌, drop, length, nat_lt, refl, ap, ◌∙◌, sym, subst, inl, inr, arith}
-use Rattle.std.specs.Prelude.{⊤, if◌then◌else◌, slice_get, slice_set}
-use Rattle.std.specs.declared.option.Option.{Option}
-use Rattle.std.specs.declared.option.Option.TheVariants.{None, Some}
-use Rattle.std.proofs.lemmas.Bool.Decides.{eqb_tells, nat_tests}
-use Rattle.dm_message.specs.declared.MsgId.{MsgId}
-use Rattle.dm_onekernel.specs.declared.boot.Boot.{Boot}
-use Rattle.dm_schedule.specs.declared.Step.TheVariants as step
-use Rattle.dm_schedule.specs.declared.Step.{Step}
-use Rattle.dm_line.specs.declared.line.Line.{Line}
-use Rattle.dm_line.specs.declared.line.Line.TheVariants as line
-use Rattle.dm_line.specs.declared.line.Load.{Load}
-use Rattle.dm_line.specs.declared.line.Load.TheVariants as load
-use Rattle.dm_line.specs.Each.{sum_below}
-use Rattle.dm_line.specs.Sets.{at_machine, at_pair}
-use Rattle.dm_rule.specs.Good.{first_undelivered, undelivered}
-use Rattle.dm_rule.specs.Laws.{Leads}
-use Rattle.dm_rule.specs.Parts.{Part, Says, Routes, Again, Owns, Transmits, Spelled, packet_line, spelled, window}
-use Rattle.dm_rule.specs.Point.{Point, first_point, moved}
-use Rattle.dm_rule.specs.Rule.{arrives, comes, group_of, kept_from, less, let_go, more, numbers_from, repeats, takes, takes_on}
-use Rattle.dm_rule.specs.Spots.{untaken}
-use Rattle.dm_rule.specs.View.{Pair, Sent, View, at_least, gone_after, marked, oldest, taken_id, view_after}
+use Rattle.dm_settlelaws.proofs.Names.{◌≡◌, ◌≢◌, ℕ, zero, suc, ◌+◌, ◌-◌, ◌<◌, ◌≤◌, ◌==◌, Bool, true, false, List, [], ◌∷◌, ◌++◌, drop, length, nat_lt, refl, ap, ◌∙◌, sym, subst, inl, inr, arith, ⊤, if◌then◌else◌, slice_get, slice_set}
+use Rattle.dm_settlelaws.proofs.Names.{Option, None, Some, eqb_tells, nat_tests, MsgId, Boot, Step, Line, Load, sum_below, at_machine, at_pair, first_undelivered, undelivered, Leads, Part, Says, Routes, Again, Owns, Transmits, Spelled}
+use Rattle.dm_settlelaws.proofs.Names.{packet_line, spelled, window, Point, first_point, moved, arrives, comes, group_of, kept_from, less, let_go, more, numbers_from, repeats, takes, takes_on, untaken, Pair, Sent, View, gone_after, marked}
+use Rattle.dm_settlelaws.proofs.Names.{oldest, taken_id, view_after, IsNet, IsNetLine, arrives_net, group_is, hushed, pairs_stand_always, onward, says_view, taken_pair, transmits_view, IsLess, Packets, left, load_left, one_each, one_let_go}
+use Rattle.dm_settlelaws.proofs.Names.{pair_left, weight, weight_of, weight_to, wire_left, less-left}
 use Rattle.dm_rule.specs.View as view
-use Rattle.dm_rule.proofs.Groups.{IsNet, IsNetLine, arrives_net, group_is}
-use Rattle.dm_rule.proofs.Hushed.{hushed}
-use Rattle.dm_rule.proofs.Pairs.{pairs_stand_always}
-use Rattle.dm_rule.proofs.Pairs.Lines.{onward, says_view, taken_pair, transmits_view}
-use Rattle.dm_settlelaws.specs.Left.{IsLess, Packets, left, load_left, one_each, one_let_go, pair_left, weight, weight_of, weight_to, wire_left}
 use Rattle.dm_settlelaws.proofs.Delivers.{parts_ids, set_ids}
 use Rattle.dm_settlelaws.proofs.Effects.{calm_to}
 use Rattle.dm_settlelaws.proofs.RestsComes.{early, net_pairs, pairs_parts, parts_both, took}
@@ -71,18 +49,18 @@ marked_left p k s e d =
     let h = mark_left p.wire k s e d in
     omega (arith, w, h)
 
-ack_left : (p : Pair) (t : ℕ) → pair_left (repeated (load.Ack t) p) ≤ pair_left p + 1
-ack_left p t = let h = put_left p.wire (load.Ack t) in omega (arith, h)
+ack_left : (p : Pair) (t : ℕ) → pair_left (repeated (Load.Ack t) p) ≤ pair_left p + 1
+ack_left p t = let h = put_left p.wire (Load.Ack t) in omega (arith, h)
 
-out_left : (p : Pair) → p.gone < length p.ids → pair_left (repeated (load.Data p.gone) p) ≤ pair_left p
+out_left : (p : Pair) → p.gone < length p.ids → pair_left (repeated (Load.Data p.gone) p) ≤ pair_left p
 out_left p h =
-    let w = put_left p.wire (load.Data p.gone) in
-    let g : gone_after (load.Data p.gone) p.gone ≡ p.gone + 1 = grind (arith, nat_tests) in
+    let w = put_left p.wire (Load.Data p.gone) in
+    let g : gone_after (Load.Data p.gone) p.gone ≡ p.gone + 1 = grind (arith, nat_tests) in
     omega (arith, h, w, g)
 
 -- the pairs behind the parts of a delivery
-ack_total : (n : ℕ) (f : ℕ → ℕ → Pair) (b a t : ℕ) → total pair_left n (at_pair f b a (repeated (load.Ack t) (f b a))) ≤ total pair_left n f + 1
-ack_total n f b a t = set_gains pair_left n f b a (repeated (load.Ack t) (f b a)) 1 (ack_left (f b a) t)
+ack_total : (n : ℕ) (f : ℕ → ℕ → Pair) (b a t : ℕ) → total pair_left n (at_pair f b a (repeated (Load.Ack t) (f b a))) ≤ total pair_left n f + 1
+ack_total n f b a t = set_gains pair_left n f b a (repeated (Load.Ack t) (f b a)) 1 (ack_left (f b a) t)
 
 takes_total : (n a b : ℕ) (ns : List ℕ) (f : ℕ → ℕ → Pair) → total pair_left n (pairs_parts f (takes a b ns)) ≤ total pair_left n f
 takes_total n a b [] f = omega arith
@@ -95,17 +73,17 @@ takes_total n a b (k ∷ ns) f =
 repeats_total : (n b a k g : ℕ) (f : ℕ → ℕ → Pair) → (f b a).gone ≡ g → g + k ≤ length (f b a).ids → total pair_left n (pairs_parts f (repeats b a (numbers_from g k))) ≤ total pair_left n f
 repeats_total n b a zero g f at most = omega arith
 repeats_total n b a (suc k) g f at most =
-    let p = repeated (load.Data g) (f b a) in
-    let out : pair_left p ≤ pair_left (f b a) = subst (λ (j : ℕ). pair_left (repeated (load.Data j) (f b a)) ≤ pair_left (f b a)) at (out_left (f b a) (omega (arith, at, most))) in
+    let p = repeated (Load.Data g) (f b a) in
+    let out : pair_left p ≤ pair_left (f b a) = subst (λ (j : ℕ). pair_left (repeated (Load.Data j) (f b a)) ≤ pair_left (f b a)) at (out_left (f b a) (omega (arith, at, most))) in
     let first = set_keeps pair_left n f b a p out in
     let same : at_pair f b a p b a ≡ p = here f b a p b a (let t : (b == b) ≡ true = grind (arith, nat_tests) in t) (let t : (a == a) ≡ true = grind (arith, nat_tests) in t) in
-    let next : gone_after (load.Data g) (f b a).gone ≡ g + 1 = grind (arith, nat_tests) in
+    let next : gone_after (Load.Data g) (f b a).gone ≡ g + 1 = grind (arith, nat_tests) in
     let rest = repeats_total n b a k (g + 1) (at_pair f b a p) (ap (λ (q : Pair). q.gone) same ∙ next) (let ids = ap (λ (q : Pair). length q.ids) same in omega (arith, most, ids)) in
     omega (arith, first, rest)
 
 -- a data packet: no more than its acknowledgement
 data_total : (n : ℕ) (g : ℕ → ℕ → Pair) (a b k t : ℕ) (p : Pair) (old ahead : Bool)
-    → total pair_left n (pairs_parts g (if old then Says (line.Old a b k) ∷ Transmits b a (load.Ack t) ∷ [] else if ahead then Says (line.Early a b k) ∷ Transmits b a (load.Ack t) ∷ [] else takes_on a b k (kept_from p.kept (k + 1) window))) ≤ total pair_left n g + 1
+    → total pair_left n (pairs_parts g (if old then Says (Line.Old a b k) ∷ Transmits b a (Load.Ack t) ∷ [] else if ahead then Says (Line.Early a b k) ∷ Transmits b a (Load.Ack t) ∷ [] else takes_on a b k (kept_from p.kept (k + 1) window))) ≤ total pair_left n g + 1
 data_total n g a b k t p true ahead = ack_total n g b a t
 data_total n g a b k t p false true =
     let h = at_pair g a b (early k (g a b)) in
@@ -114,18 +92,15 @@ data_total n g a b k t p false true =
     omega (arith, first, last)
 data_total n g a b k t p false false =
     let others = kept_from p.kept (k + 1) window in
-    let last = Transmits b a (load.Ack (k + 1 + length others)) ∷ [] in
+    let last = Transmits b a (Load.Ack (k + 1 + length others)) ∷ [] in
     let mid = pairs_parts g (takes a b (k ∷ others)) in
     let both : total pair_left n (pairs_parts g (takes a b (k ∷ others) ++ last)) ≡ total pair_left n (pairs_parts mid last) = ap (total pair_left n) (parts_both g (takes a b (k ∷ others)) last) in
     let first = takes_total n a b (k ∷ others) g in
     let ack = ack_total n mid b a (k + 1 + length others) in
     omega (arith, both, first, ack)
 
-less_most : (m n : ℕ) → less m n ≤ m
-less_most m n = grind (arith, nat_tests)
-
 -- an acknowledgement: what goes out then costs less than it did
-ack_comes : (n : ℕ) (g : ℕ → ℕ → Pair) (a b k top : ℕ) (q : Pair) → g b a ≡ q → q.gone ≤ length q.ids → total pair_left n (pairs_parts g (Says (line.Acked a b k) ∷ repeats b a (let_go q top))) ≤ total pair_left n g
+ack_comes : (n : ℕ) (g : ℕ → ℕ → Pair) (a b k top : ℕ) (q : Pair) → g b a ≡ q → q.gone ≤ length q.ids → total pair_left n (pairs_parts g (Says (Line.Acked a b k) ∷ repeats b a (let_go q top))) ≤ total pair_left n g
 ack_comes n g a b k top q is stands =
     let p = acknowledged k (g b a) in
     let mid = at_pair g b a p in
@@ -133,19 +108,19 @@ ack_comes n g a b k top q is stands =
     let same : mid b a ≡ p = here g b a p b a (let t : (b == b) ≡ true = grind (arith, nat_tests) in t) (let t : (a == a) ≡ true = grind (arith, nat_tests) in t) in
     let gone : (mid b a).gone ≡ q.gone = ap (λ (x : Pair). x.gone) same ∙ ap (λ (x : Pair). x.gone) is in
     let ids : length (mid b a).ids ≡ length q.ids = ap (λ (x : Pair). length x.ids) same ∙ ap (λ (x : Pair). length x.ids) is in
-    let most = less_most (length q.ids - q.gone) (top + window - q.gone) in
+    let most = less-left (length q.ids - q.gone) (top + window - q.gone) in
     let rest = repeats_total n b a (less (length q.ids - q.gone) (top + window - q.gone)) q.gone mid gone (omega (arith, most, stands, ids)) in
     omega (arith, first, rest)
 
 comes_total : (n : ℕ) (f : ℕ → ℕ → Pair) (a b k : ℕ) (s : Sent) (l : Load) → a < n → b < n → (a == b) ≡ false → slice_get (f a b).wire k ≡ Some s → s.delivered ≡ false → s.load ≡ l → (f b a).gone ≤ length (f b a).ids
     → total pair_left n (pairs_parts (at_pair f a b (marked (f a b) k)) (comes a b (f a b) (f b a) l)) < total pair_left n f
-comes_total n f a b k s (load.Data j) from to apart there new carries stands =
+comes_total n f a b k s (Load.Data j) from to apart there new carries stands =
     let g = at_pair f a b (marked (f a b) k) in
     let lost = set_loses pair_left n f a b (marked (f a b) k) (load_left s.load) from to (marked_left (f a b) k s there new) in
     let two : load_left s.load ≡ 2 = ap load_left carries in
     let more = data_total n g a b j (f a b).taken (f a b) (nat_lt j (f a b).taken) (nat_lt (f a b).taken j) in
     omega (arith, lost, two, more)
-comes_total n f a b k s (load.Ack j) from to apart there new carries stands =
+comes_total n f a b k s (Load.Ack j) from to apart there new carries stands =
     let g = at_pair f a b (marked (f a b) k) in
     let lost = set_loses pair_left n f a b (marked (f a b) k) (load_left s.load) from to (marked_left (f a b) k s there new) in
     let one : load_left s.load ≡ 1 = ap load_left carries in
@@ -202,7 +177,7 @@ untaken_loses f n g a b p x m small h = elim (eqb_tells b m) [
       omega (arith, s, k)
 ]
 
-taken_to : (f : MsgId → ℕ) (n : ℕ) (v : View) (a b k : ℕ) → a < n → (m : ℕ) → weight_to f n (view_after v (line.Taken a b k)) m ≤ weight_to f n v m
+taken_to : (f : MsgId → ℕ) (n : ℕ) (v : View) (a b k : ℕ) → a < n → (m : ℕ) → weight_to f n (view_after v (Line.Taken a b k)) m ≤ weight_to f n v m
 taken_to f n v a b k small m =
     let p = took k (v.pair a b) in
     let mid = view.with_pair v a b p in
@@ -234,7 +209,7 @@ taken_known v b (Some i) = refl
 
 -- what is taken is taken of a pair of machines that are there
 abbrev TakesIn : ℕ → Part → Type 0
-TakesIn n (Says (line.Taken a b k)) = a < n
+TakesIn n (Says (Line.Taken a b k)) = a < n
 TakesIn n p = ⊤
 
 abbrev AllTakeIn : ℕ → List Part → Type 0
@@ -242,16 +217,16 @@ AllTakeIn n [] = ⊤
 AllTakeIn n (p ∷ ps) = TakesIn n p × AllTakeIn n ps
 
 line_keeps : (n : ℕ) (v : View) (l : Line) → IsNetLine l → TakesIn n (Says l) → Keeps n v (view_after v l)
-line_keeps n v (line.Taken a b k) net small = record {
+line_keeps n v (Line.Taken a b k) net small = record {
   weight_ = λ f m. taken_to f n v a b k small m;
-  told = (hushed v (line.Taken a b k) refl).told;
+  told = (hushed v (Line.Taken a b k) refl).told;
   known = taken_known (view.with_pair v a b (took k (v.pair a b))) b (oldest (v.pair a b));
 }
-line_keeps n v (line.Old a b k) net small = keeps_all n v
-line_keeps n v (line.Early a b k) net small = record { weight_ = λ f m. calm_to f n v (line.Early a b k) refl refl m; told = refl; known = refl }
-line_keeps n v (line.Acked a b k) net small = record { weight_ = λ f m. calm_to f n v (line.Acked a b k) refl refl m; told = refl; known = refl }
-line_keeps n v line.Nothing net small = keeps_all n v
-line_keeps n v (line.Resent m k) net small = keeps_all n v
+line_keeps n v (Line.Old a b k) net small = keeps_all n v
+line_keeps n v (Line.Early a b k) net small = record { weight_ = λ f m. calm_to f n v (Line.Early a b k) refl refl m; told = refl; known = refl }
+line_keeps n v (Line.Acked a b k) net small = record { weight_ = λ f m. calm_to f n v (Line.Acked a b k) refl refl m; told = refl; known = refl }
+line_keeps n v Line.Nothing net small = keeps_all n v
+line_keeps n v (Line.Resent m k) net small = keeps_all n v
 line_keeps n v l net small = absurd net
 
 parts_keep : (n : ℕ) (ps : List Part) (pt : Point) (w : Spelled) → IsNet ps → AllTakeIn n ps → spelled pt ps ≡ Some w → Keeps n pt.view w.point.view
@@ -279,28 +254,28 @@ repeats_in n a b [] = tt
 repeats_in n a b (k ∷ ns) = (tt, repeats_in n a b ns)
 
 data_in : (n a b k t : ℕ) (others : List ℕ) (old ahead : Bool) → a < n
-    → AllTakeIn n (if old then Says (line.Old a b k) ∷ Transmits b a (load.Ack t) ∷ [] else if ahead then Says (line.Early a b k) ∷ Transmits b a (load.Ack t) ∷ [] else takes_on a b k others)
+    → AllTakeIn n (if old then Says (Line.Old a b k) ∷ Transmits b a (Load.Ack t) ∷ [] else if ahead then Says (Line.Early a b k) ∷ Transmits b a (Load.Ack t) ∷ [] else takes_on a b k others)
 data_in n a b k t others true ahead small = (tt, (tt, tt))
 data_in n a b k t others false true small = (tt, (tt, tt))
-data_in n a b k t others false false small = takes_in n a b (k ∷ others) (Transmits b a (load.Ack (k + 1 + length others)) ∷ []) small (tt, tt)
+data_in n a b k t others false false small = takes_in n a b (k ∷ others) (Transmits b a (Load.Ack (k + 1 + length others)) ∷ []) small (tt, tt)
 
 comes_in_ : (n a b : ℕ) (p q : Pair) (l : Load) → a < n → AllTakeIn n (comes a b p q l)
-comes_in_ n a b p q (load.Data k) small = data_in n a b k p.taken (kept_from p.kept (k + 1) window) (nat_lt k p.taken) (nat_lt p.taken k) small
-comes_in_ n a b p q (load.Ack k) small = (tt, repeats_in n b a (let_go q (more k q.acked)))
+comes_in_ n a b p q (Load.Data k) small = data_in n a b k p.taken (kept_from p.kept (k + 1) window) (nat_lt k p.taken) (nat_lt p.taken k) small
+comes_in_ n a b p q (Load.Ack k) small = (tt, repeats_in n b a (let_go q (more k q.acked)))
 
 arrives_in : (n a b : ℕ) (p q : Pair) (o : Option Sent) → a < n → AllTakeIn n (arrives a b p q o)
 arrives_in n a b p q None small = (tt, tt)
 arrives_in n a b p q (Some s) small = comes_in_ n a b p q s.load small
 
 -- a delivery of a packet that was never delivered
-head_keeps : (n : ℕ) (v : View) (a b k : ℕ) → Keeps n v (view.after_head v (step.Deliver a b k))
-head_keeps n v a b k = record { weight_ = λ f m. calm_to f n v (line.Head (step.Deliver a b k)) refl refl m; told = refl; known = refl }
+head_keeps : (n : ℕ) (v : View) (a b k : ℕ) → Keeps n v (view.after_head v (Step.Deliver a b k))
+head_keeps n v a b k = record { weight_ = λ f m. calm_to f n v (Line.Head (Step.Deliver a b k)) refl refl m; told = refl; known = refl }
 
-pub deliver_keeps : (b : Boot) (pt : Point) (n a c k : ℕ) (w : Spelled) → a < n → group_of b pt (step.Deliver a c k) ≡ Some w → Keeps n pt.view w.point.view
+pub deliver_keeps : (b : Boot) (pt : Point) (n a c k : ℕ) (w : Spelled) → a < n → group_of b pt (Step.Deliver a c k) ≡ Some w → Keeps n pt.view w.point.view
 deliver_keeps b pt n a c k w from e =
     let v = pt.view in
-    let g = group_is b pt (step.Deliver a c k) w e in
-    let start = moved pt (line.Head (step.Deliver a c k)) pt.kernel in
+    let g = group_is b pt (Step.Deliver a c k) w e in
+    let start = moved pt (Line.Head (Step.Deliver a c k)) pt.kernel in
     let parts = arrives a c (v.pair a c) (v.pair c a) (slice_get (v.pair a c).wire k) in
     let are : parts ≡ g.parts = let t = g.is in cc in
     let net = arrives_net a c (v.pair a c) (v.pair c a) (slice_get (v.pair a c).wire k) in
@@ -309,12 +284,12 @@ deliver_keeps b pt n a c k w from e =
     subst (λ (q : Point). Keeps n v q.view) g.point (keeps_on n v start.view g.rest.point.view (head_keeps n v a c k) kept)
 
 pub deliver_falls : (b : Boot) (es : List Step) (pt : Point) (a c k : ℕ) (w : Spelled) (numbers : ℕ) → Leads b (first_point b) es pt → a < pt.kernel.machines → c < pt.kernel.machines → a ≢ c → undelivered pt.view a c ≡ Some k
-    → group_of b pt (step.Deliver a c k) ≡ Some w → IsLess (left numbers pt.kernel.machines w.point.view) (left numbers pt.kernel.machines pt.view)
+    → group_of b pt (Step.Deliver a c k) ≡ Some w → IsLess (left numbers pt.kernel.machines w.point.view) (left numbers pt.kernel.machines pt.view)
 deliver_falls b es pt a c k w numbers leads from to apart new e =
     let n = pt.kernel.machines in
     let v = pt.view in
-    let g = group_is b pt (step.Deliver a c k) w e in
-    let start = moved pt (line.Head (step.Deliver a c k)) pt.kernel in
+    let g = group_is b pt (Step.Deliver a c k) w e in
+    let start = moved pt (Line.Head (Step.Deliver a c k)) pt.kernel in
     let parts = arrives a c (v.pair a c) (v.pair c a) (slice_get (v.pair a c).wire k) in
     let are : parts ≡ g.parts = let t = g.is in cc in
     let net = arrives_net a c (v.pair a c) (v.pair c a) (slice_get (v.pair a c).wire k) in

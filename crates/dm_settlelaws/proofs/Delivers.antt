@@ -1,20 +1,6 @@
 -- A delivery routes nothing.
-use Rattle.std.proofs.Common.{◌≡◌, ℕ, ◌==◌, ◌&&◌, List, [], ◌∷◌, refl, ap, ◌∙◌, sym, inl, inr, arith}
-use Rattle.std.specs.Prelude.{slice_get}
-use Rattle.std.specs.declared.option.Option.TheVariants.{Some}
-use Rattle.std.proofs.lemmas.Bool.{cases_Bool}
-use Rattle.std.proofs.lemmas.Bool.Decides.{nat_tests}
-use Rattle.dm_onekernel.specs.declared.boot.Boot.{Boot}
-use Rattle.dm_schedule.specs.declared.Step.TheVariants as step
-use Rattle.dm_line.specs.declared.line.Line.{Line}
-use Rattle.dm_line.specs.declared.line.Line.TheVariants as line
-use Rattle.dm_line.specs.Sets.{at_pair}
-use Rattle.dm_rule.specs.Parts.{Part, Says, Routes, Again, Owns, Transmits, Spelled, spelled}
-use Rattle.dm_rule.specs.Point.{Point, moved}
-use Rattle.dm_rule.specs.Rule.{arrives, group_of}
-use Rattle.dm_rule.specs.View.{Pair, marked}
-use Rattle.dm_rule.proofs.Groups.{arrives_net, group_is}
-use Rattle.dm_rule.proofs.Pairs.Stand.{set_is, set_other}
+use Rattle.dm_settlelaws.proofs.Names.{◌≡◌, ℕ, ◌==◌, ◌&&◌, List, [], ◌∷◌, refl, ap, ◌∙◌, sym, inl, inr, arith, slice_get, Some, cases_Bool, nat_tests, Boot, Step, Line, at_pair, Part, Says, Routes, Again, Owns, Transmits, Spelled, spelled}
+use Rattle.dm_settlelaws.proofs.Names.{Point, moved, arrives, group_of, Pair, marked, arrives_net, group_is, set_is, set_other}
 use Rattle.dm_settlelaws.proofs.RestsComes.{early, net_pairs, pairs_line, pairs_parts, took}
 use Rattle.dm_settlelaws.proofs.RestsPairs.{acknowledged, repeated}
 
@@ -28,9 +14,9 @@ set_ids f a b p c d ids = elim (cases_Bool ((a == c) && (b == d))) [
 ]
 
 line_ids : (l : Line) (f : ℕ → ℕ → Pair) (c d : ℕ) → (pairs_line f l c d).ids ≡ (f c d).ids
-line_ids (line.Taken a b k) f c d = set_ids f a b (took k (f a b)) c d refl
-line_ids (line.Early a b k) f c d = set_ids f a b (early k (f a b)) c d refl
-line_ids (line.Acked a b k) f c d = set_ids f b a (acknowledged k (f b a)) c d refl
+line_ids (Line.Taken a b k) f c d = set_ids f a b (took k (f a b)) c d refl
+line_ids (Line.Early a b k) f c d = set_ids f a b (early k (f a b)) c d refl
+line_ids (Line.Acked a b k) f c d = set_ids f b a (acknowledged k (f b a)) c d refl
 line_ids l f c d = refl
 
 pub parts_ids : (ps : List Part) (f : ℕ → ℕ → Pair) (c d : ℕ) → (pairs_parts f ps c d).ids ≡ (f c d).ids
@@ -42,11 +28,11 @@ parts_ids (Again i b ∷ ps) f c d = parts_ids ps f c d
 parts_ids (Owns k q b ∷ ps) f c d = parts_ids ps f c d
 
 -- whatever packet it is
-pub deliver_ids : (b : Boot) (pt : Point) (a c k : ℕ) (w : Spelled) → group_of b pt (step.Deliver a c k) ≡ Some w → (x y : ℕ) → (w.point.view.pair x y).ids ≡ (pt.view.pair x y).ids
+pub deliver_ids : (b : Boot) (pt : Point) (a c k : ℕ) (w : Spelled) → group_of b pt (Step.Deliver a c k) ≡ Some w → (x y : ℕ) → (w.point.view.pair x y).ids ≡ (pt.view.pair x y).ids
 deliver_ids b pt a c k w e x y =
     let v = pt.view in
-    let g = group_is b pt (step.Deliver a c k) w e in
-    let start = moved pt (line.Head (step.Deliver a c k)) pt.kernel in
+    let g = group_is b pt (Step.Deliver a c k) w e in
+    let start = moved pt (Line.Head (Step.Deliver a c k)) pt.kernel in
     let o = slice_get (v.pair a c).wire k in
     let parts = arrives a c (v.pair a c) (v.pair c a) o in
     let are : parts ≡ g.parts = let t = g.is in cc in

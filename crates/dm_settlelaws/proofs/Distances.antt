@@ -1,29 +1,17 @@
 -- How many forwarding addresses lead from a machine to a process.
-use Rattle.std.proofs.Common.{◌≡◌, ℕ, zero, suc, ◌≤◌, ◌&&◌, Bool, true, false, nat_lt, refl, ap, ◌∙◌, sym, arith}
-use Rattle.std.proofs.lemmas.Bool.{false≢true}
-use Rattle.dm_link.specs.declared.Pid.{Pid}
-use Rattle.dm_rule.specs.Trails.{leads, leads_on}
-use Rattle.dm_rule.specs.View.{View, Known, Unknown, Here, Frozen, Incoming, Forward, Ended}
+use Rattle.dm_settlelaws.proofs.Names.{◌≡◌, ℕ, zero, suc, ◌≤◌, ◌&&◌, Bool, true, false, nat_lt, refl, ap, ◌∙◌, sym, arith, false≢true, Pid, leads, leads_on, View, Known, Forward, right_true}
 
 abbrev pub Knows : Type 0
 Knows = ℕ → Pid → Known
 
 abbrev pub steps_on : Known → (ℕ → ℕ) → ℕ
-steps_on Unknown next = 0
-steps_on Here next = 0
-steps_on (Frozen to) next = 0
-steps_on (Incoming from) next = 0
 steps_on (Forward at moves) next = suc (next at)
-steps_on Ended next = 0
+steps_on _ next = 0
 
 -- within so many steps
 abbrev pub distance : Knows → Pid → ℕ → ℕ → ℕ
 distance known p zero m = 0
 distance known p (suc n) m = steps_on (known m p) (distance known p n)
-
-second : (b c : Bool) → (b && c) ≡ true → c ≡ true
-second true c e = e
-second false c e = absurd (false≢true e)
 
 not_both : (b : Bool) → (b && false) ≡ true → ⊥
 not_both true e = absurd (false≢true e)
@@ -31,20 +19,12 @@ not_both false e = absurd (false≢true e)
 
 -- where the addresses lead to the process in so many steps, one step more finds none more
 none_left : (k : Known) (c : ℕ) (next : ℕ → ℕ) → leads_on k c (λ d j. false) ≡ true → steps_on k next ≡ 0
-none_left Unknown c next e = refl
-none_left Here c next e = refl
-none_left (Frozen to) c next e = refl
-none_left (Incoming from) c next e = refl
 none_left (Forward at moves) c next e = absurd (not_both (nat_lt c moves) e)
-none_left Ended c next e = refl
+none_left _ c next e = refl
 
 same_left : (k : Known) (c : ℕ) (next : ℕ → ℕ → Bool) (f g : ℕ → ℕ) → leads_on k c next ≡ true → ((at d : ℕ) → next d at ≡ true → f at ≡ g at) → steps_on k f ≡ steps_on k g
-same_left Unknown c next f g e h = refl
-same_left Here c next f g e h = refl
-same_left (Frozen to) c next f g e h = refl
-same_left (Incoming from) c next f g e h = refl
-same_left (Forward at moves) c next f g e h = ap suc (h at moves (second (nat_lt c moves) (next moves at) e))
-same_left Ended c next f g e h = refl
+same_left (Forward at moves) c next f g e h = ap suc (h at moves (right_true (nat_lt c moves) (next moves at) e))
+same_left _ c next f g e h = refl
 
 settled : (v : View) (p : Pid) (n c m : ℕ) → leads v p n c m ≡ true → distance v.known p (suc n) m ≡ distance v.known p n m
 settled v p zero c m e = none_left (v.known m p) c (distance v.known p zero) e
@@ -55,12 +35,8 @@ pub nearer : (v : View) (p : Pid) (n c m at moves : ℕ) → leads v p n c m ≡
 nearer v p n c m at moves e known = sym (settled v p n c m e) ∙ ap (λ (k : Known). steps_on k (distance v.known p n)) known
 
 few_left : (k : Known) (n : ℕ) (next : ℕ → ℕ) → ((at : ℕ) → next at ≤ n) → steps_on k next ≤ suc n
-few_left Unknown n next h = omega arith
-few_left Here n next h = omega arith
-few_left (Frozen to) n next h = omega arith
-few_left (Incoming from) n next h = omega arith
 few_left (Forward at moves) n next h = let k = h at in omega (arith, k)
-few_left Ended n next h = omega arith
+few_left _ n next h = omega arith
 
 pub within_steps : (known : Knows) (p : Pid) (n m : ℕ) → distance known p n m ≤ n
 within_steps known p zero m = omega arith

@@ -1,29 +1,8 @@
 -- What each line does to inboxes, and to what was routed and not taken.
-use Rattle.std.proofs.Common.{◌≡◌, ℕ, ◌+◌, ◌<◌, ◌≤◌, ◌==◌, ◌&&◌, Bool, true, false, not, filter, List, [], ◌∷◌, ◌++◌, drop, refl, ap, ◌∙◌, inl, inr, arith}
-use Rattle.std.specs.Prelude.{⊤, if◌then◌else◌}
-use Rattle.std.specs.declared.option.Option.{Option}
-use Rattle.std.specs.declared.option.Option.TheVariants.{None, Some}
-use Rattle.std.proofs.lemmas.Bool.{cases_Bool}
-use Rattle.std.proofs.lemmas.Bool.Decides.{eqb_tells, nat_tests}
-use Rattle.dm_link.specs.declared.Pid.{Pid}
-use Rattle.dm_message.specs.declared.MsgId.{MsgId}
-use Rattle.dm_message.specs.declared.kind.MessageKind.{MessageKind}
-use Rattle.dm_message.specs.declared.kind.MessageKind.TheVariants as kind
-use Rattle.dm_onekernel.specs.declared.label.Label.{Label}
-use Rattle.dm_onekernel.specs.declared.label.Label.TheVariants as label
-use Rattle.dm_schedule.specs.declared.Step.{Step}
-use Rattle.dm_schedule.specs.declared.Step.TheVariants as step
-use Rattle.dm_line.specs.declared.line.Line.{Line}
-use Rattle.dm_line.specs.declared.line.Line.TheVariants as line
-use Rattle.dm_line.specs.declared.line.Stage.{Stage}
-use Rattle.dm_line.specs.declared.line.Stage.TheVariants as stage
-use Rattle.dm_line.specs.Each.{sum_below}
-use Rattle.dm_line.specs.Sets.{at_machine, at_pair, without_front}
-use Rattle.dm_rule.specs.Spots.{untaken}
-use Rattle.dm_rule.specs.View.{About, NothingElse, Of, Pair, Place, Target, Told, View, asks_on, dropped_for, follows_up, forwarded_for, handled, held_for, kills, queued_for, receiver_of, served_told, view_after, without_first}
+use Rattle.dm_settlelaws.proofs.Names.{◌≡◌, ℕ, ◌+◌, ◌<◌, ◌≤◌, ◌==◌, ◌&&◌, Bool, true, false, not, filter, List, [], ◌∷◌, ◌++◌, drop, refl, ap, ◌∙◌, inl, inr, arith, ⊤, if◌then◌else◌, Option, None, Some, cases_Bool, eqb_tells, nat_tests}
+use Rattle.dm_settlelaws.proofs.Names.{Pid, MsgId, MessageKind, Label, Step, Line, Stage, sum_below, at_machine, at_pair, without_front, untaken, About, NothingElse, Pair, Told, View, asks_on, dropped_for, follows_up, forwarded_for}
+use Rattle.dm_settlelaws.proofs.Names.{handled, held_for, kills, queued_for, receiver_of, served_told, view_after, without_first, pair_same, touches, weight, weight_of, weight_to, at_machine_at}
 use Rattle.dm_rule.specs.View as view
-use Rattle.dm_rule.proofs.Pairs.Lines.{pair_same, touches}
-use Rattle.dm_settlelaws.specs.Left.{weight, weight_of, weight_to}
 use Rattle.dm_settlelaws.proofs.Weights.{first_weight, front_taken, front_weight, spike, spike_here, spike_off, sum_le, sum_moves, weight-append}
 
 -- what a line does to the acting machine's inbox: nothing, its front goes, if it is this message, or whatever it is, or it goes and
@@ -35,60 +14,39 @@ pub data Effect : Type 0 where
   Returns : (process : Pid) → Effect
 
 abbrev pub label_effect : Label → Effect
-label_effect (label.Ran p k) = Stays
-label_effect (label.Call p n c) = Stays
-label_effect (label.Send p id) = Stays
-label_effect (label.Wait p) = Stays
-label_effect (label.Out p w) = Stays
-label_effect (label.End p y) = Stays
-label_effect (label.Receive p id) = Stays
-label_effect (label.Refuse p id c) = Stays
-label_effect (label.Dropped id) = Front id
-label_effect (label.Served id) = Front id
-label_effect (label.Gone id) = Front id
-label_effect (label.Took id) = Front id
-label_effect (label.Created id p) = Front id
-label_effect (label.NoSpace id a b) = Front id
+label_effect (Label.Dropped id) = Front id
+label_effect (Label.Served id) = Front id
+label_effect (Label.Gone id) = Front id
+label_effect (Label.Took id) = Front id
+label_effect (Label.Created id p) = Front id
+label_effect (Label.NoSpace id a b) = Front id
+label_effect _ = Stays
 
 abbrev pub stage_effect : Pid → Stage → Effect
-stage_effect p stage.Frozen = First
-stage_effect p stage.Asked = Stays
-stage_effect p stage.Accepted = First
-stage_effect p stage.StateTaken = First
-stage_effect p stage.MemoryTaken = First
-stage_effect p stage.Left = Stays
-stage_effect p stage.Restarted = Returns p
+stage_effect p Stage.Asked = Stays
+stage_effect p Stage.Left = Stays
+stage_effect p Stage.Restarted = Returns p
+stage_effect p _ = First
 
 -- but for puts and what a stream takes
 abbrev pub effect : Line → Effect
-effect (line.Head d) = Stays
-effect (line.Idle m) = Stays
-effect (line.Label l) = label_effect l
-effect (line.Put a b id k q) = Stays
-effect (line.Packet a b k l) = Stays
-effect (line.Taken a b n) = Stays
-effect (line.Old a b n) = Stays
-effect (line.Early a b n) = Stays
-effect (line.Acked a b n) = Stays
-effect line.Nothing = Stays
-effect (line.Resent m n) = Stays
-effect (line.Queued id) = Front id
-effect (line.Held id) = Front id
-effect (line.Forwarded id m) = Front id
-effect (line.Updated id n) = Front id
-effect (line.Migration s p) = stage_effect p s
-effect (line.SentOn p n) = First
-effect (line.Lacks p a b) = First
-effect (line.Stays p) = Returns p
-effect (line.Here id) = Front id
-effect (line.NoMove id) = Front id
-effect (line.Proto id) = Front id
-effect (line.NoChild p) = Stays
-effect (line.Pinned p) = Stays
+effect (Line.Label l) = label_effect l
+effect (Line.Queued id) = Front id
+effect (Line.Held id) = Front id
+effect (Line.Forwarded id m) = Front id
+effect (Line.Updated id n) = Front id
+effect (Line.Migration s p) = stage_effect p s
+effect (Line.SentOn p n) = First
+effect (Line.Lacks p a b) = First
+effect (Line.Stays p) = Returns p
+effect (Line.Here id) = Front id
+effect (Line.NoMove id) = Front id
+effect (Line.Proto id) = Front id
+effect _ = Stays
 
 abbrev pub comes_in : Line → Bool
-comes_in (line.Put a b id k q) = true
-comes_in (line.Taken a b n) = true
+comes_in (Line.Put a b id k q) = true
+comes_in (Line.Taken a b n) = true
 comes_in l = false
 
 abbrev first_gone : View → ℕ → List MsgId
@@ -117,8 +75,8 @@ forwarded_inbox v None = refl
 forwarded_inbox v (Some p) = refl
 
 kills_inbox : (k : MessageKind) (v : View) (o : Option Pid) → (kills k v o).inbox ≡ v.inbox
-kills_inbox kind.Kill v None = refl
-kills_inbox kind.Kill v (Some p) = refl
+kills_inbox MessageKind.Kill v None = refl
+kills_inbox MessageKind.Kill v (Some p) = refl
 kills_inbox k v o = refl
 
 served_inbox : (v : View) (o : Option Told) → (served_told v o).inbox ≡ v.inbox
@@ -127,13 +85,11 @@ served_inbox v (Some t) = kills_inbox t.kind v (Some t.receiver)
 
 asks_inbox : (v : View) (a : About) → (asks_on v a).inbox ≡ v.inbox
 asks_inbox v NothingElse = refl
-asks_inbox v (Target m) = refl
-asks_inbox v (Of p) = refl
-asks_inbox v (Place p at moves) = refl
+asks_inbox v _ = refl
 
 follows_inbox : (v : View) (a : About) (k : MessageKind) → (follows_up v a k).inbox ≡ v.inbox
-follows_inbox v a kind.State = asks_inbox v a
-follows_inbox v a kind.Memory = asks_inbox v a
+follows_inbox v a MessageKind.State = asks_inbox v a
+follows_inbox v a MessageKind.Memory = asks_inbox v a
 follows_inbox v a k = refl
 
 proto_inbox : (v : View) (o : Option Told) → (view.after_proto v o).inbox ≡ v.inbox
@@ -141,75 +97,40 @@ proto_inbox v None = refl
 proto_inbox v (Some t) = follows_inbox v t.about t.kind
 
 label_inbox : (v : View) (l : Label) → (view.after_label v l).inbox ≡ inbox_by v (label_effect l)
-label_inbox v (label.Dropped id) = dropped_inbox (handled v id) id (receiver_of (v.told id))
-label_inbox v (label.Served id) = served_inbox (handled v id) (v.told id)
-label_inbox v (label.Ran p k) = refl
-label_inbox v (label.Call p n c) = refl
-label_inbox v (label.Send p id) = refl
-label_inbox v (label.Wait p) = refl
-label_inbox v (label.Out p w) = refl
-label_inbox v (label.End p y) = refl
-label_inbox v (label.Receive p id) = refl
-label_inbox v (label.Refuse p id c) = refl
-label_inbox v (label.Gone id) = refl
-label_inbox v (label.Took id) = refl
-label_inbox v (label.Created id p) = refl
-label_inbox v (label.NoSpace id a b) = refl
+label_inbox v (Label.Dropped id) = dropped_inbox (handled v id) id (receiver_of (v.told id))
+label_inbox v (Label.Served id) = served_inbox (handled v id) (v.told id)
+label_inbox v _ = refl
 
 stage_inbox : (v : View) (p : Pid) (s : Stage) → (view.after_stage v p s).inbox ≡ inbox_by v (stage_effect p s)
-stage_inbox v p stage.Frozen = refl
-stage_inbox v p stage.Asked = refl
-stage_inbox v p stage.Accepted = refl
-stage_inbox v p stage.StateTaken = refl
-stage_inbox v p stage.MemoryTaken = refl
-stage_inbox v p stage.Left = refl
-stage_inbox v p stage.Restarted = refl
+stage_inbox v p Stage.Frozen = refl
+stage_inbox v p _ = refl
 
 head_inbox : (v : View) (d : Step) → (view.after_head v d).inbox ≡ v.inbox
-head_inbox v (step.Turn m) = refl
-head_inbox v (step.Tick m) = refl
-head_inbox v (step.Deliver a b k) = refl
-head_inbox v (step.Migrate p m) = refl
+head_inbox v (Step.Turn m) = refl
+head_inbox v _ = refl
 
 pub line_inbox : (v : View) (l : Line) → comes_in l ≡ false → (view_after v l).inbox ≡ inbox_by v (effect l)
-line_inbox v (line.Head d) e = head_inbox v d
-line_inbox v (line.Idle m) e = refl
-line_inbox v (line.Label l) e = label_inbox v l
-line_inbox v (line.Put a b id k q) e = cc
-line_inbox v (line.Packet a b k l) e = refl
-line_inbox v (line.Taken a b n) e = cc
-line_inbox v (line.Old a b n) e = refl
-line_inbox v (line.Early a b n) e = refl
-line_inbox v (line.Acked a b n) e = refl
-line_inbox v line.Nothing e = refl
-line_inbox v (line.Resent m n) e = refl
-line_inbox v (line.Queued id) e = queued_inbox (handled v id) id (receiver_of (v.told id))
-line_inbox v (line.Held id) e = held_inbox (handled v id) id (receiver_of (v.told id))
-line_inbox v (line.Forwarded id m) e = forwarded_inbox (handled v id) (receiver_of (v.told id))
-line_inbox v (line.Updated id n) e = refl
-line_inbox v (line.Migration s p) e = stage_inbox v p s
-line_inbox v (line.SentOn p n) e = refl
-line_inbox v (line.Lacks p a b) e = refl
-line_inbox v (line.Stays p) e = refl
-line_inbox v (line.Here id) e = refl
-line_inbox v (line.NoMove id) e = refl
-line_inbox v (line.Proto id) e = proto_inbox (handled v id) (v.told id)
-line_inbox v (line.NoChild p) e = refl
-line_inbox v (line.Pinned p) e = refl
+line_inbox v (Line.Head d) e = head_inbox v d
+line_inbox v (Line.Label l) e = label_inbox v l
+line_inbox v (Line.Put a b id k q) e = cc
+line_inbox v (Line.Taken a b n) e = cc
+line_inbox v (Line.Queued id) e = queued_inbox (handled v id) id (receiver_of (v.told id))
+line_inbox v (Line.Held id) e = held_inbox (handled v id) id (receiver_of (v.told id))
+line_inbox v (Line.Forwarded id m) e = forwarded_inbox (handled v id) (receiver_of (v.told id))
+line_inbox v (Line.Migration s p) e = stage_inbox v p s
+line_inbox v (Line.Proto id) e = proto_inbox (handled v id) (v.told id)
+line_inbox v _ e = refl
 
 -- what comes back from a held list
 abbrev pub back_in : View → Effect → List MsgId
-back_in v Stays = []
-back_in v (Front id) = []
-back_in v First = []
 back_in v (Returns p) = v.held v.acting p
+back_in v _ = []
 
 -- the message at the front goes
 abbrev pub takes_front : MsgId → Effect → Type 0
 takes_front i Stays = ⊥
 takes_front i (Front id) = id ≡ i
-takes_front i First = ⊤
-takes_front i (Returns p) = ⊤
+takes_front i _ = ⊤
 
 -- one machine's inbox is set
 set_weight : (f : MsgId → ℕ) (inbox : ℕ → List MsgId) (a : ℕ) (ys : List MsgId) (x y m : ℕ) → weight f ys + x ≤ weight f (inbox a) + y → weight f (at_machine inbox a ys m) + spike a x m ≤ weight f (inbox m) + spike a y m
@@ -226,9 +147,6 @@ set_weight f inbox a ys x y m h = elim (eqb_tells a m) [
       omega (arith, same, p)
 ]
 
-here_is : {X : Type 0} (f : ℕ → X) (a : ℕ) (x : X) → at_machine f a x a ≡ x
-here_is f a x = elim (eqb_tells a a) [ inl e ↦ ap (λ (c : Bool). if c then x else f a) e.0 | inr e ↦ absurd (e.1 refl) ]
-
 -- an inbox gains no more than what comes back
 pub effect_weight : (f : MsgId → ℕ) (v : View) (e : Effect) (m : ℕ) → weight f (inbox_by v e m) ≤ weight f (v.inbox m) + spike v.acting (weight f (back_in v e)) m
 effect_weight f v Stays m = omega arith
@@ -238,7 +156,7 @@ effect_weight f v First m = let h = set_weight f v.inbox v.acting (without_first
 effect_weight f v (Returns p) m =
     let ys = v.held v.acting p in
     let first = first_gone v in
-    let there : first v.acting ≡ without_first (v.inbox v.acting) = here_is v.inbox v.acting (without_first (v.inbox v.acting)) in
+    let there : first v.acting ≡ without_first (v.inbox v.acting) = at_machine_at v.inbox v.acting (without_first (v.inbox v.acting)) in
     let a = set_weight f v.inbox v.acting (without_first (v.inbox v.acting)) 0 0 m (let g = first_weight f (v.inbox v.acting) in omega (arith, g)) in
     let all = weight-append f ys (first v.acting) in
     let b = set_weight f first v.acting (ys ++ first v.acting) 0 (weight f ys) m (omega (arith, all)) in
@@ -278,39 +196,26 @@ untaken_at f a b p ids taken c d = elim (cases_Bool ((a == c) && (b == d))) [
 ]
 
 head_untaken : (v : View) (d : Step) (a c : ℕ) → untaken ((view.after_head v d).pair a c) ≡ untaken (v.pair a c)
-head_untaken v (step.Turn m) a c = refl
-head_untaken v (step.Tick m) a c = refl
-head_untaken v (step.Deliver x y k) a c = untaken_at v.pair x y (view.marked (v.pair x y) k) refl refl a c
-head_untaken v (step.Migrate p m) a c = refl
+head_untaken v (Step.Deliver x y k) a c = untaken_at v.pair x y (view.marked (v.pair x y) k) refl refl a c
+head_untaken v _ a c = refl
 
 other_untaken : (v : View) (l : Line) → touches l ≡ false → (a c : ℕ) → untaken ((view_after v l).pair a c) ≡ untaken (v.pair a c)
 other_untaken v l e a c = ap (λ (f : ℕ → ℕ → Pair). untaken (f a c)) (pair_same v l e)
 
 pub line_untaken : (v : View) (l : Line) → comes_in l ≡ false → (a c : ℕ) → untaken ((view_after v l).pair a c) ≡ untaken (v.pair a c)
-line_untaken v (line.Head d) e a c = head_untaken v d a c
-line_untaken v (line.Put x y id k q) e a c = cc
-line_untaken v (line.Taken x y n) e a c = cc
-line_untaken v (line.Packet x y k l) e a c = untaken_at v.pair x y (record (v.pair x y) { gone = view.gone_after l (v.pair x y).gone; wire = (v.pair x y).wire ++ record { load = l; delivered = false } ∷ [] }) refl refl a c
-line_untaken v (line.Early x y n) e a c = untaken_at v.pair x y (record (v.pair x y) { kept = n ∷ filter (λ k. not (k == n)) (v.pair x y).kept }) refl refl a c
-line_untaken v (line.Acked x y n) e a c = untaken_at v.pair y x (record (v.pair y x) { acked = view.at_least (v.pair y x).acked n }) refl refl a c
-line_untaken v (line.Idle m) e a c = refl
-line_untaken v (line.Label l) e a c = other_untaken v (line.Label l) refl a c
-line_untaken v (line.Old x y n) e a c = refl
-line_untaken v line.Nothing e a c = refl
-line_untaken v (line.Resent m n) e a c = refl
-line_untaken v (line.Queued id) e a c = other_untaken v (line.Queued id) refl a c
-line_untaken v (line.Held id) e a c = other_untaken v (line.Held id) refl a c
-line_untaken v (line.Forwarded id m) e a c = other_untaken v (line.Forwarded id m) refl a c
-line_untaken v (line.Updated id n) e a c = refl
-line_untaken v (line.Migration s p) e a c = other_untaken v (line.Migration s p) refl a c
-line_untaken v (line.SentOn p n) e a c = refl
-line_untaken v (line.Lacks p x y) e a c = refl
-line_untaken v (line.Stays p) e a c = refl
-line_untaken v (line.Here id) e a c = refl
-line_untaken v (line.NoMove id) e a c = refl
-line_untaken v (line.Proto id) e a c = other_untaken v (line.Proto id) refl a c
-line_untaken v (line.NoChild p) e a c = refl
-line_untaken v (line.Pinned p) e a c = refl
+line_untaken v (Line.Head d) e a c = head_untaken v d a c
+line_untaken v (Line.Put x y id k q) e a c = cc
+line_untaken v (Line.Taken x y n) e a c = cc
+line_untaken v (Line.Packet x y k l) e a c = untaken_at v.pair x y (record (v.pair x y) { gone = view.gone_after l (v.pair x y).gone; wire = (v.pair x y).wire ++ record { load = l; delivered = false } ∷ [] }) refl refl a c
+line_untaken v (Line.Early x y n) e a c = untaken_at v.pair x y (record (v.pair x y) { kept = n ∷ filter (λ k. not (k == n)) (v.pair x y).kept }) refl refl a c
+line_untaken v (Line.Acked x y n) e a c = untaken_at v.pair y x (record (v.pair y x) { acked = view.at_least (v.pair y x).acked n }) refl refl a c
+line_untaken v (Line.Label l) e a c = other_untaken v (Line.Label l) refl a c
+line_untaken v (Line.Queued id) e a c = other_untaken v (Line.Queued id) refl a c
+line_untaken v (Line.Held id) e a c = other_untaken v (Line.Held id) refl a c
+line_untaken v (Line.Forwarded id m) e a c = other_untaken v (Line.Forwarded id m) refl a c
+line_untaken v (Line.Migration s p) e a c = other_untaken v (Line.Migration s p) refl a c
+line_untaken v (Line.Proto id) e a c = other_untaken v (Line.Proto id) refl a c
+line_untaken v _ e a c = refl
 
 sum_untaken : (f : MsgId → ℕ) (n : ℕ) (v w : View) (m : ℕ) → ((a c : ℕ) → untaken (w.pair a c) ≡ untaken (v.pair a c)) → sum_below (λ a. weight f (untaken (w.pair a m))) n ≤ sum_below (λ a. weight f (untaken (v.pair a m))) n
 sum_untaken f n v w m same = sum_le (λ a. weight f (untaken (w.pair a m))) (λ a. weight f (untaken (v.pair a m))) n (λ a l. let e = ap (weight f) (same a m) in omega (arith, e))

@@ -1,36 +1,10 @@
 -- Where nothing is on its way, the lines of the end say so.
-use Rattle.std.proofs.Common.{◌≡◌, ℕ, zero, suc, ◌+◌, true, false, List, [], ◌∷◌, ◌++◌, take, drop, length, refl, sym, subst}
-use Rattle.std.specs.Prelude.{◌/◌, ◌*◌}
-use Rattle.std.specs.List.{All}
-use Rattle.std.specs.declared.option.Option.{Option}
-use Rattle.std.specs.declared.option.Option.TheVariants.{None, Some}
-use Rattle.std.proofs.lemmas.Bool.{false≢true}
-use Rattle.std.proofs.lemmas.List.Elements.{All-nil, All-cons, All-append}
-use Rattle.dm_link.specs.declared.Pid.{Pid}
-use Rattle.dm_link.specs.Names.{pid_of}
-use Rattle.dm_link.specs.Plain.{PlainLink}
-use Rattle.dm_message.specs.declared.MsgId.{MsgId}
-use Rattle.dm_message.specs.Ids.{id_of}
-use Rattle.dm_onekernel.specs.Boot.{first_number, manager, switchboard}
-use Rattle.dm_onekernel.specs.PlainProcess.{PlainProcess}
-use Rattle.dm_onekernel.specs.Kernel.{Life, Alive, NamedLink, Pending}
-use Rattle.dm_onekernel.specs.Kernel as kernel
-use Rattle.dm_line.specs.declared.end_line.EndLine.{EndLine}
-use Rattle.dm_line.specs.declared.end_line.EndLine.TheVariants as end
-use Rattle.dm_line.specs.declared.end_line.Standing.{Standing}
-use Rattle.dm_line.specs.declared.end_line.Standing.TheVariants as standing
-use Rattle.dm_line.specs.Ends.{block_line, each_machine, home_with, list_line, memory_lines, trimmed}
-use Rattle.dm_line.specs.Todo.{or}
-use Rattle.dm_rule.specs.Addresses.{Addresses, Child, Name, Slot}
-use Rattle.dm_rule.specs.Ends.{Stood, alive_lines, awaits, child_lines, doing_of, each_process, end_lines, first_with, has, holding_lines, homes_with, inbox_lines, leading, link_lines, name_lines, pending_lines, process_lines, queue_at, queue_lines, server_lines, slot_line, state_lines, stood, stood_at, stream_lines}
-use Rattle.dm_rule.specs.Point.{Point}
-use Rattle.dm_rule.specs.Spots.{untaken}
-use Rattle.dm_rule.specs.View.{Known, View}
-use Rattle.dm_rule.specs.View as view
-use Rattle.dm_movelaws.specs.AtRest.{AtRest, is_moving}
-use Rattle.dm_movelaws.proofs.At.RestAlways.{at_rest_always}
-use Rattle.dm_settlelaws.specs.Laws.{EndsAtRest}
-use Rattle.dm_settlelaws.specs.Passes.{is_at_rest, stands_here}
+use Rattle.dm_settlelaws.proofs.Names.{◌≡◌, ℕ, zero, suc, ◌+◌, true, false, List, [], ◌∷◌, ◌++◌, take, drop, length, refl, sym, subst, ◌/◌, ◌*◌, All, Option, None, Some, false≢true, All-nil, All-cons, All-append, Pid, pid_of, PlainLink}
+use Rattle.dm_settlelaws.proofs.Names.{MsgId, id_of, first_number, manager, switchboard, PlainProcess, Life, Alive, NamedLink, Pending, EndLine, Standing, block_line, each_machine, home_with, list_line, memory_lines, trimmed, or, Addresses}
+use Rattle.dm_settlelaws.proofs.Names.{Child, Name, Slot, Stood, alive_lines, awaits, child_lines, doing_of, each_process, end_lines, first_with, holding_lines, homes_with, inbox_lines, leading, link_lines, name_lines, pending_lines}
+use Rattle.dm_settlelaws.proofs.Names.{process_lines, queue_at, queue_lines, server_lines, slot_line, state_lines, stood, stood_at, stream_lines, Point, untaken, Known, View, AtRest, is_moving, at_rest_always, EndsAtRest, is_at_rest}
+use Rattle.dm_settlelaws.proofs.Names.{stands_here}
+use Rattle.dm_rule.specs.Ends.{has}
 
 abbrev Rests : EndLine → Type 0
 Rests l = is_at_rest l ≡ true
@@ -66,7 +40,7 @@ empty_rests f is e = subst (λ (xs : List MsgId). AllRest (list_line f xs)) (sym
 -- processes
 block_rests : (p : Pid) (k : ℕ) (xs : List ℕ) → AllRest (block_line p k xs)
 block_rests p k [] = none
-block_rests p k (x ∷ xs) = more (end.Memory p k (record { items = x ∷ xs })) [] refl none
+block_rests p k (x ∷ xs) = more (EndLine.Memory p k (record { items = x ∷ xs })) [] refl none
 
 memory_rests : (p : Pid) (bytes : List ℕ) (n : ℕ) → AllRest (memory_lines p bytes n)
 memory_rests p bytes zero = none
@@ -74,7 +48,7 @@ memory_rests p bytes (suc k) = both (memory_lines p bytes k) (block_line p k (tr
 
 slot_rests : (a : Addresses) (p : Pid) (k : ℕ) (o : Option PlainLink) → AllRest (slot_line a p k o)
 slot_rests a p k None = none
-slot_rests a p k (Some l) = more (end.Link p k (leading l (a (Slot p k)))) [] refl none
+slot_rests a p k (Some l) = more (EndLine.Link p k (leading l (a (Slot p k)))) [] refl none
 
 links_rest : (a : Addresses) (p : Pid) (k : ℕ) (ls : List (Option PlainLink)) → AllRest (link_lines a p k ls)
 links_rest a p k [] = none
@@ -83,30 +57,23 @@ links_rest a p k (l ∷ ls) = both (slot_line a p k l) (link_lines a p (k + 1) l
 state_rests : (a : Addresses) (p : Pid) (x : PlainProcess) → AllRest (state_lines a p x)
 state_rests a p x =
     let memory = memory_lines p x.memory (length x.memory / 256) in
-    both (end.Registers p x.regs.r x.regs.pc ∷ memory) (link_lines a p 0 x.links) (more (end.Registers p x.regs.r x.regs.pc) memory refl (memory_rests p x.memory (length x.memory / 256))) (links_rest a p 0 x.links)
+    both (EndLine.Registers p x.regs.r x.regs.pc ∷ memory) (link_lines a p 0 x.links) (more (EndLine.Registers p x.regs.r x.regs.pc) memory refl (memory_rests p x.memory (length x.memory / 256))) (links_rest a p 0 x.links)
 
 -- no machine waits for a process, so each stands where it is
 abbrev StandsHere : Option Stood → Type 0
 StandsHere o = (s : Stood) → o ≡ Some s → stands_here s.standing ≡ true
 
 had_here : (k : Known) (m : ℕ) → is_moving k ≡ false → StandsHere (stood_at m (has k))
-had_here view.Unknown m e s is = cc
-had_here view.Here m e s is =
-    let k : Stood = record { at = m; standing = standing.Here } in
+had_here Known.Here m e s is =
+    let k : Stood = record { at = m; standing = Standing.Here } in
     let f : k ≡ s = cc in
     subst (λ (x : Stood). stands_here x.standing ≡ true) f refl
-had_here (view.Frozen to) m e s is = absurd (false≢true (sym e))
-had_here (view.Incoming from) m e s is = cc
-had_here (view.Forward at moves) m e s is = cc
-had_here view.Ended m e s is = cc
+had_here (Known.Frozen to) m e s is = absurd (false≢true (sym e))
+had_here _ m e s is = cc
 
 awaited_here : (k : Known) (m : ℕ) → is_moving k ≡ false → StandsHere (stood_at m (awaits k))
-awaited_here view.Unknown m e s is = cc
-awaited_here view.Here m e s is = cc
-awaited_here (view.Frozen to) m e s is = cc
-awaited_here (view.Incoming from) m e s is = absurd (false≢true (sym e))
-awaited_here (view.Forward at moves) m e s is = cc
-awaited_here view.Ended m e s is = cc
+awaited_here (Known.Incoming from) m e s is = absurd (false≢true (sym e))
+awaited_here _ m e s is = cc
 
 or_here : (x y : Option Stood) → StandsHere x → StandsHere y → StandsHere (or x y)
 or_here None y h k s e = k s e
@@ -124,33 +91,33 @@ stood_here pt p rest =
 
 alive_rests : (a : Addresses) (p : Pid) (x : PlainProcess) (o : Option Stood) → StandsHere o → AllRest (alive_lines a p x o)
 alive_rests a p x None h = none
-alive_rests a p x (Some s) h = more (end.Process p s.at s.standing (doing_of x.status) x.stopped x.sent) (state_lines a p x) (h s refl) (state_rests a p x)
+alive_rests a p x (Some s) h = more (EndLine.Process p s.at s.standing (doing_of x.status) x.stopped x.sent) (state_lines a p x) (h s refl) (state_rests a p x)
 
 process_rests : (pt : Point) (p : Pid) (o : Option Life) → AtRest pt → AllRest (process_lines pt p o)
 process_rests pt p None rest = none
 process_rests pt p (Some (Alive x)) rest = alive_rests pt.addresses p x (stood pt.view p pt.kernel.machines) (stood_here pt p rest)
-process_rests pt p (Some (kernel.Ended because)) rest = more (end.Ended p because) [] refl none
+process_rests pt p (Some (Life.Ended because)) rest = more (EndLine.Ended p because) [] refl none
 
 -- servers
 names_rest : (a : Addresses) (n : ℕ) (ks : List NamedLink) → AllRest (name_lines a n ks)
 names_rest a n [] = none
-names_rest a n (k ∷ ks) = more (end.Name (record { items = k.name }) (leading k.link (a (Name n)))) (name_lines a (n + 1) ks) refl (names_rest a (n + 1) ks)
+names_rest a n (k ∷ ks) = more (EndLine.Name (record { items = k.name }) (leading k.link (a (Name n)))) (name_lines a (n + 1) ks) refl (names_rest a (n + 1) ks)
 
 children_rest : (a : Addresses) (n : ℕ) (ps : List Pid) → AllRest (child_lines a n ps)
 children_rest a n [] = none
-children_rest a n (p ∷ ps) = more (end.Child n p (a (Child n)).at) (child_lines a (n + 1) ps) refl (children_rest a (n + 1) ps)
+children_rest a n (p ∷ ps) = more (EndLine.Child n p (a (Child n)).at) (child_lines a (n + 1) ps) refl (children_rest a (n + 1) ps)
 
 pending_rest : (rs : List Pending) → AllRest (pending_lines rs)
 pending_rest [] = none
-pending_rest (r ∷ rs) = more (end.Pending (id_of manager r.n)) (pending_lines rs) refl (pending_rest rs)
+pending_rest (r ∷ rs) = more (EndLine.Pending (id_of manager r.n)) (pending_lines rs) refl (pending_rest rs)
 
 server_rest : (pt : Point) → AllRest (server_lines pt)
 server_rest pt =
     let names = name_lines pt.addresses 0 pt.kernel.switchboard.names in
     let children = child_lines pt.addresses 1 pt.kernel.manager.children in
     let pending = pending_lines pt.kernel.manager.pending in
-    let first = end.Server switchboard pt.kernel.switchboard.sent in
-    let second = end.Server manager pt.kernel.manager.sent in
+    let first = EndLine.Server switchboard pt.kernel.switchboard.sent in
+    let second = EndLine.Server manager pt.kernel.manager.sent in
     both ((first ∷ second ∷ names) ++ children) pending
     (both (first ∷ second ∷ names) children (more first (second ∷ names) refl (more second names refl (names_rest pt.addresses 0 pt.kernel.switchboard.names))) (children_rest pt.addresses 1 pt.kernel.manager.children))
     (pending_rest pt.kernel.manager.pending)
@@ -162,34 +129,34 @@ list_rests f (i ∷ is) h = more (f (i ∷ is)) [] (h (i ∷ is)) none
 
 queue_rests : (v : View) (p : Pid) (o : Option Stood) → AllRest (queue_at v p o)
 queue_rests v p None = none
-queue_rests v p (Some s) = list_rests (end.Queue p) (v.queue s.at p) (λ js. refl)
+queue_rests v p (Some s) = list_rests (EndLine.Queue p) (v.queue s.at p) (λ js. refl)
 
 pub ends_rest : (pt : Point) → AtRest pt → AllRest (end_lines pt)
 ends_rest pt rest =
     let n = pt.kernel.machines in
     let processes = each_process pt (λ p. process_lines pt p (pt.kernel.processes p)) in
-    let groups = end.Groups pt.view.groups ∷ [] in
+    let groups = EndLine.Groups pt.view.groups ∷ [] in
     let servers = server_lines pt in
     let queues = queue_lines pt in
     let held = holding_lines pt in
     let inboxes = inbox_lines pt in
     let streams = stream_lines pt in
-    let start = end.Final ∷ processes in
+    let start = EndLine.Final ∷ processes in
     both (start ++ servers ++ queues ++ held ++ inboxes ++ streams) groups
     (both (start ++ servers ++ queues ++ held ++ inboxes) streams
     (both (start ++ servers ++ queues ++ held) inboxes
     (both (start ++ servers ++ queues) held
     (both (start ++ servers) queues
     (both start servers
-    (more end.Final processes refl (homes_rest pt (λ p. process_lines pt p (pt.kernel.processes p)) n (λ p. process_rests pt p (pt.kernel.processes p) rest)))
+    (more EndLine.Final processes refl (homes_rest pt (λ p. process_lines pt p (pt.kernel.processes p)) n (λ p. process_rests pt p (pt.kernel.processes p) rest)))
     (server_rest pt))
     (homes_rest pt (λ p. queue_at pt.view p (first_with has pt.view p n)) n (λ p. queue_rests pt.view p (first_with has pt.view p n))))
-    (machines_rest (λ m. each_process pt (λ p. list_line (end.Holding m p) (pt.view.held m p))) n
-    (λ m. homes_rest pt (λ p. list_line (end.Holding m p) (pt.view.held m p)) n (λ p. empty_rests (end.Holding m p) (pt.view.held m p) (rest.held m p)))))
-    (machines_rest (λ m. list_line (end.Inbox m) (pt.view.inbox m)) n (λ m. empty_rests (end.Inbox m) (pt.view.inbox m) (rest.inbox m))))
-    (machines_rest (λ a. each_machine (λ c. list_line (end.Stream a c) (untaken (pt.view.pair a c))) n) n
-    (λ a. machines_rest (λ c. list_line (end.Stream a c) (untaken (pt.view.pair a c))) n (λ c. empty_rests (end.Stream a c) (untaken (pt.view.pair a c)) (rest.untaken a c)))))
-    (more (end.Groups pt.view.groups) [] refl none)
+    (machines_rest (λ m. each_process pt (λ p. list_line (EndLine.Holding m p) (pt.view.held m p))) n
+    (λ m. homes_rest pt (λ p. list_line (EndLine.Holding m p) (pt.view.held m p)) n (λ p. empty_rests (EndLine.Holding m p) (pt.view.held m p) (rest.held m p)))))
+    (machines_rest (λ m. list_line (EndLine.Inbox m) (pt.view.inbox m)) n (λ m. empty_rests (EndLine.Inbox m) (pt.view.inbox m) (rest.inbox m))))
+    (machines_rest (λ a. each_machine (λ c. list_line (EndLine.Stream a c) (untaken (pt.view.pair a c))) n) n
+    (λ a. machines_rest (λ c. list_line (EndLine.Stream a c) (untaken (pt.view.pair a c))) n (λ c. empty_rests (EndLine.Stream a c) (untaken (pt.view.pair a c)) (rest.untaken a c)))))
+    (more (EndLine.Groups pt.view.groups) [] refl none)
 
 pub ends_at_rest : EndsAtRest
 ends_at_rest b es pt valid leads quiet = ends_rest pt (at_rest_always b es pt valid leads quiet)

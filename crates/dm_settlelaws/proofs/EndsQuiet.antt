@@ -1,41 +1,19 @@
 -- Where all directives are done, the last of them a settle, nothing is on its way.
-use Rattle.std.proofs.Common.{◌≡◌, ◌⊎◌, ℕ, zero, suc, ◌<◌, ◌≤◌, Bool, true, false, List, [], ◌∷◌, ◌++◌, refl, ap, ◌∙◌, sym, subst, inl, inr, arith}
-use Rattle.std.specs.Prelude.{if◌then◌else◌, nat_le}
-use Rattle.std.specs.declared.option.Option.{Option}
-use Rattle.std.specs.declared.option.Option.TheVariants.{None, Some}
-use Rattle.std.proofs.lemmas.Bool.{false≢true}
-use Rattle.std.proofs.lemmas.Bool.Decides.{nat_tests}
-use Rattle.dm_onekernel.specs.declared.boot.Boot.{Boot}
-use Rattle.dm_onekernel.specs.Boot.{IsValid}
-use Rattle.dm_schedule.specs.declared.Directive.{Directive}
-use Rattle.dm_schedule.specs.declared.Directive.TheVariants as directive
-use Rattle.dm_schedule.specs.declared.Step.{Step}
-use Rattle.dm_schedule.specs.declared.Step.TheVariants as step
-use Rattle.dm_line.specs.declared.line.Line.{Line}
-use Rattle.dm_line.specs.declared.pass.Pass.{Pass}
-use Rattle.dm_line.specs.declared.pass.Pass.TheVariants as pass
-use Rattle.dm_line.specs.Todo.{Next, Todo, Two, all_of, begin_pass, below, in_pass, is_over, next, next_delivery, next_directive, next_pass, next_turn, or, pairs_of, pass_begun, settles, takes_turn}
-use Rattle.dm_rule.specs.Good.{IsRun, next_step, undelivered}
-use Rattle.dm_rule.specs.Laws.{Leads}
-use Rattle.dm_rule.specs.Point.{Point, first_point}
-use Rattle.dm_rule.specs.Quiet.{has_mail, is_quiet}
-use Rattle.dm_rule.specs.View.{View}
-use Rattle.dm_rule.proofs.QuietTests.{passes_quiet}
-use Rattle.dm_rulelaws.proofs.Based.Always.{based_always}
-use Rattle.dm_settlelaws.specs.Laws.{EndsQuiet}
-use Rattle.dm_settlelaws.specs.Passes.{ends_settled, is_settle}
+use Rattle.dm_settlelaws.proofs.Names.{◌≡◌, ◌⊎◌, ℕ, zero, suc, ◌<◌, ◌≤◌, Bool, true, false, List, [], ◌∷◌, ◌++◌, refl, ap, ◌∙◌, sym, subst, inl, inr, arith, if◌then◌else◌, nat_le, Option, None, Some, false≢true, nat_tests, Boot, IsValid}
+use Rattle.dm_settlelaws.proofs.Names.{Directive, Step, Line, Pass, Next, Todo, Two, all_of, begin_pass, below, in_pass, is_over, next, next_delivery, next_directive, next_pass, next_turn, or, pairs_of, pass_begun, settles, takes_turn}
+use Rattle.dm_settlelaws.proofs.Names.{IsRun, next_step, undelivered, Leads, Point, first_point, has_mail, is_quiet, View, passes_quiet, based_always, EndsQuiet, ends_settled, is_settle}
 use Rattle.dm_settlelaws.proofs.PassHas.{settle_begins}
 
 -- what is left ends with a settle, or is one
 abbrev Ends : Todo → Type 0
-Ends t = (ends_settled t.directives ≡ true) ⊎ ((t.directives ≡ []) × (t.pass ≡ pass.Settle))
+Ends t = (ends_settled t.directives ≡ true) ⊎ ((t.directives ≡ []) × (t.pass ≡ Pass.Settle))
 
 -- behind the first directive
 behind_other : (d : Directive) (ds : List Directive) → is_settle d ≡ false → ends_settled (d ∷ ds) ≡ true → ends_settled ds ≡ true
 behind_other d [] other e = absurd (false≢true (sym other ∙ e))
 behind_other d (c ∷ ds) other e = e
 
-behind_settle : (ds : List Directive) → ends_settled (directive.Settle ∷ ds) ≡ true → (ends_settled ds ≡ true) ⊎ (ds ≡ [])
+behind_settle : (ds : List Directive) → ends_settled (Directive.Settle ∷ ds) ≡ true → (ends_settled ds ≡ true) ⊎ (ds ≡ [])
 behind_settle [] e = inr refl
 behind_settle (c ∷ ds) e = inl e
 
@@ -47,9 +25,9 @@ pub record Stays (p : Pass) (ds : List Directive) (n : Next) : Type 0 where
 abbrev pub StaysBy : Pass → List Directive → Option Next → Type 0
 StaysBy p ds o = (n : Next) → o ≡ Some n → Stays p ds n
 
-turn_or : (t : Todo) (m : ℕ) (ms : List ℕ) (b : Bool) (o : Option Next) → StaysBy t.pass t.directives o → StaysBy t.pass t.directives (if b then next (step.Turn m) (record t { pairs = []; machines = ms }) else o)
+turn_or : (t : Todo) (m : ℕ) (ms : List ℕ) (b : Bool) (o : Option Next) → StaysBy t.pass t.directives o → StaysBy t.pass t.directives (if b then next (Step.Turn m) (record t { pairs = []; machines = ms }) else o)
 turn_or t m ms true o h n e =
-    let k : Next = record { step = step.Turn m; left = record t { pairs = []; machines = ms } } in
+    let k : Next = record { step = Step.Turn m; left = record t { pairs = []; machines = ms } } in
     let f : k ≡ n = cc in
     subst (Stays t.pass t.directives) f (record { pass = refl; directives = refl })
 turn_or t m ms false o h n e = h n e
@@ -65,11 +43,11 @@ pass_stays mail t (Some d) n e =
     let f : k ≡ n = cc in
     subst (Stays t.pass t.directives) f (record { pass = refl; directives = refl })
 
-ends_as : (p : Pass) (ds : List Directive) (n : Next) → Stays p ds n → (ends_settled ds ≡ true) ⊎ ((ds ≡ []) × (p ≡ pass.Settle)) → Ends n.left
+ends_as : (p : Pass) (ds : List Directive) (n : Next) → Stays p ds n → (ends_settled ds ≡ true) ⊎ ((ds ≡ []) × (p ≡ Pass.Settle)) → Ends n.left
 ends_as p ds n s (inl e) = inl (ap ends_settled s.directives ∙ e)
 ends_as p ds n s (inr e) = inr (s.directives ∙ e.0, s.pass ∙ e.1)
 
-begin_ends : (machines : ℕ) (first : ℕ → ℕ → Option ℕ) (mail : ℕ → Bool) (p : Pass) (ds : List Directive) (n : Next) → begin_pass machines first mail p ds ≡ Some n → (ends_settled ds ≡ true) ⊎ ((ds ≡ []) × (p ≡ pass.Settle)) → Ends n.left
+begin_ends : (machines : ℕ) (first : ℕ → ℕ → Option ℕ) (mail : ℕ → Bool) (p : Pass) (ds : List Directive) (n : Next) → begin_pass machines first mail p ds ≡ Some n → (ends_settled ds ≡ true) ⊎ ((ds ≡ []) × (p ≡ Pass.Settle)) → Ends n.left
 begin_ends machines first mail p ds n e h = ends_as p ds n (pass_stays mail (pass_begun machines p ds) (next_delivery first (pairs_of (below machines) (below machines))) n e) h
 
 pub or_is : (x y : Option Next) (n : Next) → or x y ≡ Some n → (x ≡ Some n) ⊎ (y ≡ Some n)
@@ -81,22 +59,22 @@ settles_is true x y n e = inr e
 settles_is false x y n e = or_is x y n e
 
 -- what follows keeps it
-settle_ends : (ds : List Directive) → (ends_settled ds ≡ true) ⊎ (ds ≡ []) → (ends_settled ds ≡ true) ⊎ ((ds ≡ []) × (pass.Settle ≡ pass.Settle))
+settle_ends : (ds : List Directive) → (ends_settled ds ≡ true) ⊎ (ds ≡ []) → (ends_settled ds ≡ true) ⊎ ((ds ≡ []) × (Pass.Settle ≡ Pass.Settle))
 settle_ends ds (inl e) = inl e
 settle_ends ds (inr e) = inr (e, refl)
 
 directive_ends : (machines : ℕ) (first : ℕ → ℕ → Option ℕ) (mail : ℕ → Bool) (quiet : Bool) (ds : List Directive) (n : Next) → next_directive machines first mail quiet ds ≡ Some n → ends_settled ds ≡ true → Ends n.left
 directive_ends machines first mail quiet [] n e h = absurd (false≢true h)
-directive_ends machines first mail quiet (directive.One s ∷ ds) n e h =
+directive_ends machines first mail quiet (Directive.One s ∷ ds) n e h =
     let k : Next = record { step = s; left = all_of ds } in
     let f : k ≡ n = cc in
-    subst (λ (x : Next). Ends x.left) f (inl (behind_other (directive.One s) ds refl h))
-directive_ends machines first mail quiet (directive.Round ∷ ds) n e h = begin_ends machines first mail (pass.Round 0) ds n e (inl (behind_other directive.Round ds refl h))
-directive_ends machines first mail quiet (directive.Spin zero ∷ ds) n e h = directive_ends machines first mail quiet ds n e (behind_other (directive.Spin 0) ds refl h)
-directive_ends machines first mail quiet (directive.Spin (suc k) ∷ ds) n e h = begin_ends machines first mail (pass.Round k) ds n e (inl (behind_other (directive.Spin (suc k)) ds refl h))
-directive_ends machines first mail quiet (directive.Settle ∷ ds) n e h =
-    elim (settles_is quiet (begin_pass machines first mail pass.Settle ds) (next_directive machines first mail quiet ds) n e) [
-      | inl begins ↦ begin_ends machines first mail pass.Settle ds n begins (settle_ends ds (behind_settle ds h))
+    subst (λ (x : Next). Ends x.left) f (inl (behind_other (Directive.One s) ds refl h))
+directive_ends machines first mail quiet (Directive.Round ∷ ds) n e h = begin_ends machines first mail (Pass.Round 0) ds n e (inl (behind_other Directive.Round ds refl h))
+directive_ends machines first mail quiet (Directive.Spin zero ∷ ds) n e h = directive_ends machines first mail quiet ds n e (behind_other (Directive.Spin 0) ds refl h)
+directive_ends machines first mail quiet (Directive.Spin (suc k) ∷ ds) n e h = begin_ends machines first mail (Pass.Round k) ds n e (inl (behind_other (Directive.Spin (suc k)) ds refl h))
+directive_ends machines first mail quiet (Directive.Settle ∷ ds) n e h =
+    elim (settles_is quiet (begin_pass machines first mail Pass.Settle ds) (next_directive machines first mail quiet ds) n e) [
+      | inl begins ↦ begin_ends machines first mail Pass.Settle ds n begins (settle_ends ds (behind_settle ds h))
       | inr later ↦ elim (behind_settle ds h) [
         | inl still ↦ directive_ends machines first mail quiet ds n later still
         | inr none ↦ absurd (no_directive (sym (ap (next_directive machines first mail quiet) none) ∙ later))
@@ -106,14 +84,14 @@ directive_ends machines first mail quiet (directive.Settle ∷ ds) n e h =
     no_directive : {n : Next} → None ≡ Some n → ⊥
     no_directive e = cc
 
-later_ends : (machines : ℕ) (first : ℕ → ℕ → Option ℕ) (mail : ℕ → Bool) (quiet : Bool) (p : Pass) (ds : List Directive) (n : Next) → next_pass machines first mail quiet p ds ≡ Some n → (ends_settled ds ≡ true) ⊎ ((ds ≡ []) × (p ≡ pass.Settle)) → Ends n.left
-later_ends machines first mail quiet (pass.Round zero) ds n e (inl h) = directive_ends machines first mail quiet ds n e h
-later_ends machines first mail quiet (pass.Round zero) ds n e (inr h) = let f = h.1 in cc
-later_ends machines first mail quiet (pass.Round (suc k)) ds n e (inl h) = begin_ends machines first mail (pass.Round k) ds n e (inl h)
-later_ends machines first mail quiet (pass.Round (suc k)) ds n e (inr h) = let f = h.1 in cc
-later_ends machines first mail quiet pass.Settle ds n e h =
-    elim (settles_is quiet (begin_pass machines first mail pass.Settle ds) (next_directive machines first mail quiet ds) n e) [
-      | inl begins ↦ begin_ends machines first mail pass.Settle ds n begins h
+later_ends : (machines : ℕ) (first : ℕ → ℕ → Option ℕ) (mail : ℕ → Bool) (quiet : Bool) (p : Pass) (ds : List Directive) (n : Next) → next_pass machines first mail quiet p ds ≡ Some n → (ends_settled ds ≡ true) ⊎ ((ds ≡ []) × (p ≡ Pass.Settle)) → Ends n.left
+later_ends machines first mail quiet (Pass.Round zero) ds n e (inl h) = directive_ends machines first mail quiet ds n e h
+later_ends machines first mail quiet (Pass.Round zero) ds n e (inr h) = let f = h.1 in cc
+later_ends machines first mail quiet (Pass.Round (suc k)) ds n e (inl h) = begin_ends machines first mail (Pass.Round k) ds n e (inl h)
+later_ends machines first mail quiet (Pass.Round (suc k)) ds n e (inr h) = let f = h.1 in cc
+later_ends machines first mail quiet Pass.Settle ds n e h =
+    elim (settles_is quiet (begin_pass machines first mail Pass.Settle ds) (next_directive machines first mail quiet ds) n e) [
+      | inl begins ↦ begin_ends machines first mail Pass.Settle ds n begins h
       | inr later ↦ elim h [
         | inl still ↦ directive_ends machines first mail quiet ds n later still
         | inr none ↦ absurd (no_directive (sym (ap (next_directive machines first mail quiet) none.0) ∙ later))
@@ -153,17 +131,13 @@ below_some (suc n) h = first (below n) n
     first [] n = (n, [], refl)
     first (x ∷ xs) n = (x, xs ++ n ∷ [], refl)
 
-round_none : (machines : ℕ) (mail : ℕ → Bool) (k : ℕ) (ds : List Directive) (o : Option (Step × List Two)) → 0 < machines → in_pass mail (pass_begun machines (pass.Round k) ds) o ≡ None → ⊥
+round_none : (machines : ℕ) (mail : ℕ → Bool) (k : ℕ) (ds : List Directive) (o : Option (Step × List Two)) → 0 < machines → in_pass mail (pass_begun machines (Pass.Round k) ds) o ≡ None → ⊥
 round_none machines mail k ds (Some d) some e = cc
 round_none machines mail k ds None some e =
     let (m, ms, is) = below_some machines some in
-    let t = pass_begun machines (pass.Round k) ds in
-    let f : Some (record { step = step.Turn m; left = record t { pairs = []; machines = ms } }) ≡ None = sym (ap (next_turn (λ x. true) t) is) ∙ e in
+    let t = pass_begun machines (Pass.Round k) ds in
+    let f : Some (record { step = Step.Turn m; left = record t { pairs = []; machines = ms } }) ≡ None = sym (ap (next_turn (λ x. true) t) is) ∙ e in
     cc
-
-settles_none : (quiet : Bool) (x y : Option Next) → settles quiet x y ≡ None → y ≡ None
-settles_none true x y e = e
-settles_none false x y e = (or_none x y e).1
 
 settle_quiet : (quiet : Bool) (x y : Option Next) → settles quiet x y ≡ None → (quiet ≡ false → x ≡ None → ⊥) → quiet ≡ true
 settle_quiet true x y e h = refl
@@ -171,26 +145,26 @@ settle_quiet false x y e h = absurd (h refl (or_none x y e).0)
 
 over_directives : (b : Boot) (es : List Step) (pt : Point) (machines : ℕ) (ds : List Directive) → 0 < machines → Leads b (first_point b) es pt → next_directive machines (undelivered pt.view) (has_mail pt.view) (is_quiet machines pt.view) ds ≡ None → ends_settled ds ≡ true → is_quiet machines pt.view ≡ true
 over_directives b es pt machines [] some leads e h = absurd (false≢true h)
-over_directives b es pt machines (directive.One s ∷ ds) some leads e h = cc
-over_directives b es pt machines (directive.Round ∷ ds) some leads e h =
+over_directives b es pt machines (Directive.One s ∷ ds) some leads e h = cc
+over_directives b es pt machines (Directive.Round ∷ ds) some leads e h =
     absurd (round_none machines (has_mail pt.view) 0 ds (next_delivery (undelivered pt.view) (pairs_of (below machines) (below machines))) some e)
-over_directives b es pt machines (directive.Spin zero ∷ ds) some leads e h = over_directives b es pt machines ds some leads e (behind_other (directive.Spin 0) ds refl h)
-over_directives b es pt machines (directive.Spin (suc k) ∷ ds) some leads e h =
+over_directives b es pt machines (Directive.Spin zero ∷ ds) some leads e h = over_directives b es pt machines ds some leads e (behind_other (Directive.Spin 0) ds refl h)
+over_directives b es pt machines (Directive.Spin (suc k) ∷ ds) some leads e h =
     absurd (round_none machines (has_mail pt.view) k ds (next_delivery (undelivered pt.view) (pairs_of (below machines) (below machines))) some e)
-over_directives b es pt machines (directive.Settle ∷ ds) some leads e h =
-    settle_quiet (is_quiet machines pt.view) (begin_pass machines (undelivered pt.view) (has_mail pt.view) pass.Settle ds) (next_directive machines (undelivered pt.view) (has_mail pt.view) (is_quiet machines pt.view) ds) e
+over_directives b es pt machines (Directive.Settle ∷ ds) some leads e h =
+    settle_quiet (is_quiet machines pt.view) (begin_pass machines (undelivered pt.view) (has_mail pt.view) Pass.Settle ds) (next_directive machines (undelivered pt.view) (has_mail pt.view) (is_quiet machines pt.view) ds) e
     (λ not_ none. let k = settle_begins b es pt ds machines leads not_ in some_none (sym k.is ∙ none))
   where
     some_none : {n : Next} → Some n ≡ None → ⊥
     some_none e = cc
 
-over_passes : (b : Boot) (es : List Step) (pt : Point) (machines : ℕ) (p : Pass) (ds : List Directive) → 0 < machines → Leads b (first_point b) es pt → next_pass machines (undelivered pt.view) (has_mail pt.view) (is_quiet machines pt.view) p ds ≡ None → (ends_settled ds ≡ true) ⊎ ((ds ≡ []) × (p ≡ pass.Settle)) → is_quiet machines pt.view ≡ true
-over_passes b es pt machines (pass.Round zero) ds some leads e (inl h) = over_directives b es pt machines ds some leads e h
-over_passes b es pt machines (pass.Round zero) ds some leads e (inr h) = let f = h.1 in cc
-over_passes b es pt machines (pass.Round (suc k)) ds some leads e h =
+over_passes : (b : Boot) (es : List Step) (pt : Point) (machines : ℕ) (p : Pass) (ds : List Directive) → 0 < machines → Leads b (first_point b) es pt → next_pass machines (undelivered pt.view) (has_mail pt.view) (is_quiet machines pt.view) p ds ≡ None → (ends_settled ds ≡ true) ⊎ ((ds ≡ []) × (p ≡ Pass.Settle)) → is_quiet machines pt.view ≡ true
+over_passes b es pt machines (Pass.Round zero) ds some leads e (inl h) = over_directives b es pt machines ds some leads e h
+over_passes b es pt machines (Pass.Round zero) ds some leads e (inr h) = let f = h.1 in cc
+over_passes b es pt machines (Pass.Round (suc k)) ds some leads e h =
     absurd (round_none machines (has_mail pt.view) k ds (next_delivery (undelivered pt.view) (pairs_of (below machines) (below machines))) some e)
-over_passes b es pt machines pass.Settle ds some leads e h =
-    settle_quiet (is_quiet machines pt.view) (begin_pass machines (undelivered pt.view) (has_mail pt.view) pass.Settle ds) (next_directive machines (undelivered pt.view) (has_mail pt.view) (is_quiet machines pt.view) ds) e
+over_passes b es pt machines Pass.Settle ds some leads e h =
+    settle_quiet (is_quiet machines pt.view) (begin_pass machines (undelivered pt.view) (has_mail pt.view) Pass.Settle ds) (next_directive machines (undelivered pt.view) (has_mail pt.view) (is_quiet machines pt.view) ds) e
     (λ not_ none. let k = settle_begins b es pt ds machines leads not_ in some_none (sym k.is ∙ none))
   where
     some_none : {n : Next} → Some n ≡ None → ⊥

@@ -1,6 +1,5 @@
 -- Where all directives are done, the last of them a settle, all is at rest.
-use Rattle.dm_movelaws.proofs.At.RestAlways.{at_rest_always}
-use Rattle.dm_settlelaws.specs.Laws.{EndsResting}
+use Rattle.dm_settlelaws.proofs.Names.{at_rest_always, EndsResting}
 use Rattle.dm_settlelaws.proofs.EndsQuiet.{ends_quiet}
 
 pub ends_resting : EndsResting

@@ -1,28 +1,7 @@
 -- No message goes to a machine that there isn't.
-use Rattle.std.proofs.Common.{◌≡◌, ◌≢◌, ℕ, zero, suc, ◌-◌, ◌≤◌, ◌==◌, Bool, true, false, List, [], ◌∷◌, ◌++◌, length, refl, ap, ◌∙◌, subst, inl, inr, arith}
-use Rattle.std.specs.Prelude.{if◌then◌else◌}
-use Rattle.std.specs.declared.option.Option.TheVariants.{Some}
-use Rattle.std.proofs.lemmas.Bool.Decides.{eqb_tells}
-use Rattle.dm_message.specs.declared.MsgId.{MsgId}
-use Rattle.dm_onekernel.specs.declared.boot.Boot.{Boot}
-use Rattle.dm_onekernel.specs.Boot.{IsValid}
-use Rattle.dm_schedule.specs.declared.Step.{Step}
-use Rattle.dm_schedule.specs.declared.Step.TheVariants as step
-use Rattle.dm_line.specs.declared.line.Line.TheVariants as line
-use Rattle.dm_rule.specs.Laws.{Leads}
-use Rattle.dm_rule.specs.Migrating.{migrates}
-use Rattle.dm_rule.specs.Parts.{Part, Says, Routes, Again, Owns, Transmits, Spelled}
-use Rattle.dm_rule.specs.Point.{Point, first_point, moved}
-use Rattle.dm_rule.specs.Rule.{group_of, numbers_from, outstanding, repeats, resends}
-use Rattle.dm_rule.specs.View.{Pair, View}
-use Rattle.dm_rule.proofs.Groups.{GroupIs, group_is}
-use Rattle.dm_rule.proofs.Pairs.{pairs_stand_always}
-use Rattle.dm_rule.proofs.Pairs.Lines.{AllFit}
-use Rattle.dm_rule.proofs.Pairs.Migrating.{migrates_fit}
-use Rattle.dm_rule.proofs.Pairs.Turns.{turns_fit}
-use Rattle.dm_rulelaws.proofs.RunsAlways.{run_always}
-use Rattle.dm_movelaws.proofs.At.RestPairs.{routed_always}
-use Rattle.dm_movelaws.proofs.Promise.Finds.{leads_append}
+use Rattle.dm_settlelaws.proofs.Names.{◌≡◌, ◌≢◌, ℕ, zero, suc, ◌-◌, ◌≤◌, ◌==◌, Bool, true, false, List, [], ◌∷◌, ◌++◌, length, refl, ap, ◌∙◌, subst, inl, inr, arith, if◌then◌else◌, Some, eqb_tells, MsgId, Boot, IsValid, Step, Line, Leads}
+use Rattle.dm_settlelaws.proofs.Names.{migrates, Part, Says, Routes, Again, Owns, Transmits, Spelled, Point, first_point, moved, group_of, numbers_from, outstanding, repeats, resends, Pair, View, GroupIs, group_is, pairs_stand_always}
+use Rattle.dm_settlelaws.proofs.Names.{AllFit, migrates_fit, turns_fit, run_always, routed_always, leads_append}
 use Rattle.dm_settlelaws.proofs.Delivers.{deliver_ids}
 use Rattle.dm_settlelaws.proofs.Grows.{AllLight, Grows, parts_grow}
 use Rattle.dm_settlelaws.proofs.TurnFalls.{to_within}
@@ -57,10 +36,10 @@ resends_light v m (suc b) =
     let ps = repeats m b (numbers_from (v.pair m b).acked ((v.pair m b).gone - (v.pair m b).acked)) in
     both_light (resends v m b) (if m == b then [] else ps) (resends_light v m b) (unless_light (m == b) ps (repeats_light m b (numbers_from (v.pair m b).acked ((v.pair m b).gone - (v.pair m b).acked))))
 
-light_grows : (b : Boot) (pt : Point) (d : Step) (w : Spelled) (g : GroupIs b pt d w) → (moved pt (line.Head d) pt.kernel).view.pair ≡ pt.view.pair → AllLight g.parts → Grows pt.view.pair w.point.view.pair
+light_grows : (b : Boot) (pt : Point) (d : Step) (w : Spelled) (g : GroupIs b pt d w) → (moved pt (Line.Head d) pt.kernel).view.pair ≡ pt.view.pair → AllLight g.parts → Grows pt.view.pair w.point.view.pair
 light_grows b pt d w g same light =
     subst (λ (f : ℕ → ℕ → Pair). Grows f w.point.view.pair) same
-    (subst (λ (q : Point). Grows (moved pt (line.Head d) pt.kernel).view.pair q.view.pair) g.point (parts_grow g.parts (moved pt (line.Head d) pt.kernel) g.rest light g.said))
+    (subst (λ (q : Point). Grows (moved pt (Line.Head d) pt.kernel).view.pair q.view.pair) g.point (parts_grow g.parts (moved pt (Line.Head d) pt.kernel) g.rest light g.said))
 
 -- so a message that such a group routes is on its way then, to a machine that there is
 nothing_far : (b : Boot) (es fs : List Step) (v w : Point) (a c : ℕ) (ids : List MsgId) → (w.view.pair a c).ids ≡ ids → IsValid b → Leads b (first_point b) es v → Leads b (first_point b) fs w → Grows v.view.pair w.view.pair → a ≢ c → (a == c) ≡ false
@@ -85,19 +64,19 @@ grown_far b es fs v w valid before leads grows h a c most = elim (eqb_tells a c)
 ]
 
 far_group : (b : Boot) (es fs : List Step) (v : Point) (d : Step) (w : Spelled) → IsValid b → Leads b (first_point b) es v → Leads b (first_point b) fs w.point → group_of b v d ≡ Some w → Far (length b.machines) v.view → Far (length b.machines) w.point.view
-far_group b es fs v (step.Turn m) w valid before leads e h =
-    let g = group_is b v (step.Turn m) w e in
-    grown_far b es fs v w.point valid before leads (light_grows b v (step.Turn m) w g refl (fit_light v.view.pair g.parts (turns_fit v.view.pair b v m (v.view.inbox m) g.parts g.is))) h
-far_group b es fs v (step.Tick m) w valid before leads e h =
-    let g = group_is b v (step.Tick m) w e in
-    let parts = Says (line.Resent m (outstanding v.view m v.kernel.machines)) ∷ resends v.view m v.kernel.machines in
+far_group b es fs v (Step.Turn m) w valid before leads e h =
+    let g = group_is b v (Step.Turn m) w e in
+    grown_far b es fs v w.point valid before leads (light_grows b v (Step.Turn m) w g refl (fit_light v.view.pair g.parts (turns_fit v.view.pair b v m (v.view.inbox m) g.parts g.is))) h
+far_group b es fs v (Step.Tick m) w valid before leads e h =
+    let g = group_is b v (Step.Tick m) w e in
+    let parts = Says (Line.Resent m (outstanding v.view m v.kernel.machines)) ∷ resends v.view m v.kernel.machines in
     let are : parts ≡ g.parts = let t = g.is in cc in
-    grown_far b es fs v w.point valid before leads (light_grows b v (step.Tick m) w g refl (subst AllLight are (refl, resends_light v.view m v.kernel.machines))) h
-far_group b es fs v (step.Deliver x y k) w valid before leads e h = λ a c most. deliver_ids b v x y k w e a c ∙ h a c most
-far_group b es fs v (step.Migrate p m) w valid before leads e h =
-    let g = group_is b v (step.Migrate p m) w e in
+    grown_far b es fs v w.point valid before leads (light_grows b v (Step.Tick m) w g refl (subst AllLight are (refl, resends_light v.view m v.kernel.machines))) h
+far_group b es fs v (Step.Deliver x y k) w valid before leads e h = λ a c most. deliver_ids b v x y k w e a c ∙ h a c most
+far_group b es fs v (Step.Migrate p m) w valid before leads e h =
+    let g = group_is b v (Step.Migrate p m) w e in
     let are : migrates v p ≡ g.parts = let t = g.is in cc in
-    grown_far b es fs v w.point valid before leads (light_grows b v (step.Migrate p m) w g refl (subst AllLight are (fit_light v.view.pair (migrates v p) (migrates_fit v.view.pair v p)))) h
+    grown_far b es fs v w.point valid before leads (light_grows b v (Step.Migrate p m) w g refl (subst AllLight are (fit_light v.view.pair (migrates v p) (migrates_fit v.view.pair v p)))) h
 
 far_on : (b : Boot) (es ds : List Step) (v w : Point) → IsValid b → Leads b (first_point b) es v → Leads b v ds w → Far (length b.machines) v.view → Far (length b.machines) w.view
 far_on b es [] v w valid before leads h = subst (λ (q : Point). Far (length b.machines) q.view) leads h

@@ -1,27 +1,8 @@
 -- No more messages are on their way than were ever routed.
-use Rattle.std.proofs.Common.{◌≡◌, ◌≢◌, ℕ, zero, suc, ◌+◌, ◌-◌, ◌*◌, ◌^◌, ◌<◌, ◌≤◌, Bool, true, false, List, [], ◌∷◌, ◌++◌, length, length-append, refl, ap, ◌∙◌, sym, subst, inl, inr, arith, suc-mul}
-use Rattle.std.specs.Prelude.{if◌then◌else◌}
-use Rattle.std.specs.declared.option.Option.{Option}
-use Rattle.std.specs.declared.option.Option.TheVariants.{None, Some}
-use Rattle.std.proofs.lemmas.Bool.Decides.{eqb_tells, leb_tells, nat_tests}
-use Rattle.dm_message.specs.declared.MsgId.{MsgId}
-use Rattle.dm_message.specs.Ids.{id_eq}
-use Rattle.dm_message.specs.Plain.{PlainMessage}
-use Rattle.dm_onekernel.specs.declared.boot.Boot.{Boot}
-use Rattle.dm_onekernel.specs.Boot.{IsValid}
-use Rattle.dm_laws.proofs.Equal.{id_eq-is, id_eq-same}
-use Rattle.dm_schedule.specs.declared.Step.{Step}
-use Rattle.dm_line.specs.Each.{sum_below}
-use Rattle.dm_rule.specs.Good.{IsKept}
-use Rattle.dm_rule.specs.Laws.{Leads}
-use Rattle.dm_rule.specs.Point.{Point, first_point}
-use Rattle.dm_rule.specs.Spots.{Held, Inbox, Queue, Spot, StandsOutside, StandsRight, Untaken, standing, times, untaken}
-use Rattle.dm_rule.specs.View.{View, is_kernels}
-use Rattle.dm_rule.proofs.Standing.{times-append}
-use Rattle.dm_rulelaws.proofs.RunsAlways.{run_always}
-use Rattle.dm_movelaws.proofs.At.RestPairs.{routed_always}
-use Rattle.dm_settlelaws.specs.Left.{Left, left, numbers_left, one_each, one_let_go, told_lets_go, turns_left, weight, weight_of, weight_to}
-use Rattle.dm_settlelaws.specs.Laws.{TurnsLeftFew}
+use Rattle.dm_settlelaws.proofs.Names.{◌≡◌, ◌≢◌, ℕ, zero, suc, ◌+◌, ◌-◌, ◌*◌, ◌^◌, ◌<◌, ◌≤◌, Bool, true, false, List, [], ◌∷◌, ◌++◌, length, length-append, refl, ap, ◌∙◌, sym, subst, inl, inr, arith, suc-mul, if◌then◌else◌, Option, None}
+use Rattle.dm_settlelaws.proofs.Names.{Some, eqb_tells, leb_tells, nat_tests, MsgId, id_eq, PlainMessage, Boot, IsValid, id_eq-is, id_eq-same, Step, sum_below, IsKept, Leads, Point, first_point, Inbox, Spot, StandsOutside, StandsRight}
+use Rattle.dm_settlelaws.proofs.Names.{Untaken, standing, times, untaken, View, is_kernels, times-append, run_always, routed_always, Left, left, numbers_left, one_each, one_let_go, told_lets_go, turns_left, weight, weight_of, weight_to}
+use Rattle.dm_settlelaws.proofs.Names.{TurnsLeftFew}
 use Rattle.dm_settlelaws.proofs.Covers.{covers_always}
 use Rattle.dm_settlelaws.proofs.Far.{far_always}
 use Rattle.dm_settlelaws.proofs.Weights.{spike, spike_here, sum_le, sum_most, sum_same, sum_spike_most, weight-one, weight_most}
@@ -121,8 +102,6 @@ none_sum : (f : Spot → ℕ) (n : ℕ) → ((m : ℕ) → f (Inbox m) ≡ 0) �
 none_sum f n box way = spot_sum f n 0 (λ m. let x = box m in let y = column f n m 0 0 (λ a. let z = way a m in omega (arith, z)) in omega (arith, x, y))
 
 once_sum : (f : Spot → ℕ) (n : ℕ) (s : Spot) → f s ≡ 1 → ((z : Spot) → z ≢ s → f z ≡ 0) → sum_below (λ m. f (Inbox m) + sum_below (λ a. f (Untaken a m)) n) n ≤ 1
-once_sum f n (Queue j p) one others = none_sum f n (λ m. others (Inbox m) (λ e. cc)) (λ a m. others (Untaken a m) (λ e. cc))
-once_sum f n (Held j p) one others = none_sum f n (λ m. others (Inbox m) (λ e. cc)) (λ a m. others (Untaken a m) (λ e. cc))
 once_sum f n (Inbox k) one others = spot_sum f n k (λ m.
     let y = column f n m 0 0 (λ a. let z = others (Untaken a m) (λ e. cc) in omega (arith, z)) in
     elim (eqb_tells k m) [
@@ -150,6 +129,7 @@ once_sum f n (Untaken j k) one others = spot_sum f n k (λ m.
 
     to_of : (a m j k : ℕ) → Untaken a m ≡ Untaken j k → k ≡ m
     to_of a m j k e = cc
+once_sum f n _ one others = none_sum f n (λ m. others (Inbox m) (λ e. cc)) (λ a m. others (Untaken a m) (λ e. cc))
 
 outside_sum : (c : Bool) (f : Spot → ℕ) (n : ℕ) → StandsOutside c f → sum_below (λ m. f (Inbox m) + sum_below (λ a. f (Untaken a m)) n) n ≤ 1
 outside_sum true f n (inl none) = none_sum f n (λ m. none (Inbox m)) (λ a m. none (Untaken a m))

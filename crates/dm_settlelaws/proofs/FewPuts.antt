@@ -1,27 +1,6 @@
 -- Where no process moves, and only user messages for processes and updates are on their way, a settle puts few messages.
-use Rattle.std.proofs.Common.{◌≡◌, ℕ, ◌<◌, ◌≤◌, List, [], ◌∷◌, ◌++◌, refl, ap, ◌∙◌, sym, subst, arith}
-use Rattle.std.specs.Prelude.{slice_get}
-use Rattle.std.specs.declared.option.Option.TheVariants.{Some}
-use Rattle.dm_message.specs.declared.MsgId.{MsgId}
-use Rattle.dm_onekernel.specs.declared.boot.Boot.{Boot}
-use Rattle.dm_onekernel.specs.Boot.{IsValid}
-use Rattle.dm_schedule.specs.declared.Step.{Step}
-use Rattle.dm_schedule.specs.declared.Step.TheVariants as step
-use Rattle.dm_line.specs.declared.line.Line.{Line}
-use Rattle.dm_rule.specs.Laws.{IsStep, Leads}
-use Rattle.dm_rule.specs.Parts.{Spelled}
-use Rattle.dm_rule.specs.Point.{Point, first_point}
-use Rattle.dm_rule.specs.Rule.{arrives, group_of}
-use Rattle.dm_rule.specs.View.{Told, View}
-use Rattle.dm_rule.proofs.Groups.{arrives_net}
-use Rattle.dm_rulelaws.proofs.RunsAlways.{run_always}
-use Rattle.dm_movelaws.specs.Ends.{count}
-use Rattle.dm_movelaws.proofs.Ends.Parts.{count-append}
-use Rattle.dm_movelaws.proofs.Promise.Finds.{leads_append}
-use Rattle.dm_settlelaws.specs.Laws.{FewPuts}
-use Rattle.dm_settlelaws.specs.Left.{weight_to}
-use Rattle.dm_settlelaws.specs.Passes.{IsSettleStep}
-use Rattle.dm_settlelaws.specs.Puts.{SettlesBy, says_put}
+use Rattle.dm_settlelaws.proofs.Names.{◌≡◌, ℕ, ◌<◌, ◌≤◌, List, [], ◌∷◌, ◌++◌, refl, ap, ◌∙◌, sym, subst, arith, slice_get, Some, MsgId, Boot, IsValid, Step, Line, IsStep, Leads, Spelled, Point, first_point, arrives, group_of, Told, View}
+use Rattle.dm_settlelaws.proofs.Names.{arrives_net, run_always, count, count-append, leads_append, FewPuts, weight_to, IsSettleStep, SettlesBy, says_put}
 use Rattle.dm_settlelaws.proofs.DeliverFalls.{Keeps, deliver_keeps, kept_all}
 use Rattle.dm_settlelaws.proofs.PutTurns.{turn_puts}
 use Rattle.dm_settlelaws.proofs.Routes.{group_count, net_count}
@@ -38,19 +17,18 @@ keeps_fall n v w puts zero_ h k =
     let dull = kept_all (heavy w) n v w k in
     record { less = omega (arith, all, same, zero_); light_way = light_way_kept n v w k.known h (omega (arith, none, dull)) }
 
-deliver_puts : (b : Boot) (pt : Point) (n a c k : ℕ) (w : Spelled) → a < n → LightWay n pt.view → group_of b pt (step.Deliver a c k) ≡ Some w → Falls n pt.view w.point.view (count says_put w.lines)
+deliver_puts : (b : Boot) (pt : Point) (n a c k : ℕ) (w : Spelled) → a < n → LightWay n pt.view → group_of b pt (Step.Deliver a c k) ≡ Some w → Falls n pt.view w.point.view (count says_put w.lines)
 deliver_puts b pt n a c k w from h e =
     let v = pt.view in
     let parts = arrives a c (v.pair a c) (v.pair c a) (slice_get (v.pair a c).wire k) in
-    let none : count says_put w.lines ≡ 0 = group_count b pt (step.Deliver a c k) w parts e refl ∙ net_count parts (arrives_net a c (v.pair a c) (v.pair c a) (slice_get (v.pair a c).wire k)) in
+    let none : count says_put w.lines ≡ 0 = group_count b pt (Step.Deliver a c k) w parts e refl ∙ net_count parts (arrives_net a c (v.pair a c) (v.pair c a) (slice_get (v.pair a c).wire k)) in
     keeps_fall n v w.point.view (count says_put w.lines) none h (deliver_keeps b pt n a c k w from e)
 
 group_falls : (b : Boot) (es : List Step) (pt : Point) (d : Step) (w : Spelled) → IsValid b → Leads b (first_point b) es pt → LightWay pt.kernel.machines pt.view → IsStep pt.kernel.machines d → IsSettleStep pt.view d → group_of b pt d ≡ Some w
     → Falls pt.kernel.machines pt.view w.point.view (count says_put w.lines)
-group_falls b es pt (step.Turn m) w valid way h fit is e = turn_puts b es pt m w valid way h fit is e
-group_falls b es pt (step.Deliver a c k) w valid way h fit is e = deliver_puts b pt pt.kernel.machines a c k w fit.0 h e
-group_falls b es pt (step.Tick m) w valid way h fit is e = absurd is
-group_falls b es pt (step.Migrate p m) w valid way h fit is e = absurd is
+group_falls b es pt (Step.Turn m) w valid way h fit is e = turn_puts b es pt m w valid way h fit is e
+group_falls b es pt (Step.Deliver a c k) w valid way h fit is e = deliver_puts b pt pt.kernel.machines a c k w fit.0 h e
+group_falls b es pt _ w valid way h fit is e = absurd is
 
 -- one group after the other
 few_on : (b : Boot) (es ds : List Step) (pt end : Point) (ls : List Line) (n : ℕ) → pt.kernel.machines ≡ n → IsValid b → Leads b (first_point b) es pt → LightWay n pt.view → SettlesBy b pt ds ls end → count says_put ls ≤ total (value pt.view n) n pt.view

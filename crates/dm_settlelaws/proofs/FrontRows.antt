@@ -1,40 +1,10 @@
 -- What a turn does with a user message for a process, or with an update, where no process moves.
-use Rattle.std.proofs.Common.{◌≡◌, ℕ, ◌/◌, ◌==◌, ◌||◌, Bool, true, false, not, List, [], ◌∷◌, length, refl, ap, ◌∙◌, sym}
-use Rattle.std.specs.Prelude.{if◌then◌else◌}
-use Rattle.std.specs.declared.option.Option.{Option}
-use Rattle.std.specs.declared.option.Option.TheVariants.{None, Some}
-use Rattle.std.proofs.lemmas.Bool.{false≢true}
-use Rattle.dm_link.specs.declared.Pid.{Pid}
-use Rattle.dm_link.specs.Names.{pid_eq}
-use Rattle.dm_message.specs.declared.MsgId.{MsgId}
-use Rattle.dm_message.specs.declared.kind.MessageKind.{MessageKind}
-use Rattle.dm_message.specs.declared.kind.MessageKind.TheVariants as kind
-use Rattle.dm_message.specs.Kinds.{plain_kind}
-use Rattle.dm_message.specs.Plain as what
-use Rattle.dm_message.specs.Plain.{PlainMessage, PlainWhat}
-use Rattle.dm_onekernel.specs.declared.boot.Boot.{Boot}
-use Rattle.dm_onekernel.specs.declared.label.Label.TheVariants as label
-use Rattle.dm_onekernel.specs.Boot.{manager, switchboard}
-use Rattle.dm_onekernel.specs.PlainProcess.{PlainProcess}
+use Rattle.dm_settlelaws.proofs.Names.{◌≡◌, ℕ, ◌/◌, ◌==◌, ◌||◌, Bool, true, false, not, List, [], ◌∷◌, length, refl, ap, ◌∙◌, sym, if◌then◌else◌, Option, None, Some, false≢true, Pid, pid_eq, MsgId, MessageKind, Label, Step, plain_kind}
+use Rattle.dm_settlelaws.proofs.Names.{PlainMessage, PlainWhat, Boot, manager, switchboard, PlainProcess, bind-is, Line, Sender, is_told_back, behind_count, ended_told, forwards_on, here_told, kernel_told, process_told, server_told}
+use Rattle.dm_settlelaws.proofs.Names.{place_told, Part, Says, Again, Owns, Point, comes_to, ended_handles, fits, free_room, handles, hears, here_handles, kernel_hears, outcome, process_handles, turns, TellsRight, About, Known, Of, Told}
+use Rattle.dm_settlelaws.proofs.Names.{View, handled, receiver_of, view_after, touches, is_server, is_fixed, is_moving, is_light_kind, says_put, not_is, acting_dropped, or-left, queued_acting, dropped_known, forwarded_acting}
 use Rattle.dm_onekernel.specs.Step as kernel
-use Rattle.dm_laws.proofs.Steps.{bind-is}
-use Rattle.dm_schedule.specs.declared.Step.TheVariants as step
-use Rattle.dm_line.specs.declared.line.Line.{Line}
-use Rattle.dm_line.specs.declared.line.Line.TheVariants as line
-use Rattle.dm_rule.specs.Addresses.{Sender, is_told_back}
-use Rattle.dm_rule.specs.Migrating.{behind_count, ended_told, forwards_on, here_told, kernel_told, process_told, server_told}
-use Rattle.dm_rule.specs.Addresses.{place_told}
-use Rattle.dm_rule.specs.Parts.{Part, Says, Again, Owns}
-use Rattle.dm_rule.specs.Point.{Point}
-use Rattle.dm_rule.specs.Rule.{comes_to, ended_handles, fits, free_room, handles, hears, here_handles, kernel_hears, outcome, process_handles, turns}
-use Rattle.dm_rule.specs.Tells.{TellsRight}
-use Rattle.dm_rule.specs.View.{About, Known, NothingElse, Of, Target, Told, View, handled, receiver_of, view_after}
 use Rattle.dm_rule.specs.View as view
-use Rattle.dm_rule.proofs.Pairs.Lines.{touches}
-use Rattle.dm_rulelaws.specs.Fits.{is_server}
-use Rattle.dm_rulelaws.specs.Found.{is_fixed}
-use Rattle.dm_movelaws.specs.AtRest.{is_moving}
-use Rattle.dm_settlelaws.specs.Puts.{is_light_kind, says_put}
 use Rattle.dm_settlelaws.proofs.Effects.{effect, takes_front}
 use Rattle.dm_settlelaws.proofs.Handles.{is_back}
 
@@ -51,27 +21,11 @@ queued_known : (v : View) (id : MsgId) (o : Option Pid) → (view.queued_for v i
 queued_known v id None = refl
 queued_known v id (Some p) = refl
 
-queued_acting : (v : View) (id : MsgId) (o : Option Pid) → (view.queued_for v id o).acting ≡ v.acting
-queued_acting v id None = refl
-queued_acting v id (Some p) = refl
-
-dropped_known : (v : View) (id : MsgId) (o : Option Pid) → (view.dropped_for v id o).known ≡ v.known
-dropped_known v id None = refl
-dropped_known v id (Some p) = refl
-
-dropped_acting : (v : View) (id : MsgId) (o : Option Pid) → (view.dropped_for v id o).acting ≡ v.acting
-dropped_acting v id None = refl
-dropped_acting v id (Some p) = refl
-
 forwarded_known : (v : View) (o : Option Pid) → (view.forwarded_for v o).known ≡ v.known
 forwarded_known v None = refl
 forwarded_known v (Some p) = refl
 
-forwarded_acting : (v : View) (o : Option Pid) → (view.forwarded_for v o).acting ≡ v.acting
-forwarded_acting v None = refl
-forwarded_acting v (Some p) = refl
-
-queued : (i : MsgId) → FrontLine i (line.Queued i)
+queued : (i : MsgId) → FrontLine i (Line.Queued i)
 queued i = record {
   takes = refl;
   touches_ = refl;
@@ -81,20 +35,20 @@ queued i = record {
   acting = λ v. queued_acting (handled v i) i (receiver_of (v.told i));
 }
 
-dropped : (i : MsgId) → FrontLine i (line.Label (label.Dropped i))
+dropped : (i : MsgId) → FrontLine i (Line.Label (Label.Dropped i))
 dropped i = record {
   takes = refl;
   touches_ = refl;
   back = refl;
   put = refl;
   known = λ v. dropped_known (handled v i) i (receiver_of (v.told i));
-  acting = λ v. dropped_acting (handled v i) i (receiver_of (v.told i));
+  acting = λ v. acting_dropped (handled v i) i (receiver_of (v.told i));
 }
 
-updated : (i : MsgId) (n : ℕ) → FrontLine i (line.Updated i n)
+updated : (i : MsgId) (n : ℕ) → FrontLine i (Line.Updated i n)
 updated i n = record { takes = refl; touches_ = refl; back = refl; put = refl; known = λ v. refl; acting = λ v. refl }
 
-pub forwarded : (i : MsgId) (to : ℕ) → FrontLine i (line.Forwarded i to)
+pub forwarded : (i : MsgId) (to : ℕ) → FrontLine i (Line.Forwarded i to)
 forwarded i to = record {
   takes = refl;
   touches_ = refl;
@@ -106,7 +60,7 @@ forwarded i to = record {
 
 -- a message goes on, and its sender may be told
 abbrev pub goes_on : MsgId → ℕ → MessageKind → Pid → ℕ → List Part
-goes_on i at k sender to = Says (line.Forwarded i at) ∷ Again i at ∷ (if is_told_back k then Owns kind.Update sender to ∷ [] else [])
+goes_on i at k sender to = Says (Line.Forwarded i at) ∷ Again i at ∷ (if is_told_back k then Owns MessageKind.Update sender to ∷ [] else [])
 
 -- it stops here, or goes on along the forwarding address of its receiver
 pub data Shape (v : View) (m : ℕ) (i : MsgId) (t : Told) (ps : List Part) : Type 0 where
@@ -116,34 +70,28 @@ pub data Shape (v : View) (m : ℕ) (i : MsgId) (t : Told) (ps : List Part) : Ty
 stops : (v : View) (m : ℕ) (i : MsgId) (t : Told) (l : Line) (ps : List Part) → FrontLine i l → Some (Says l ∷ []) ≡ Some ps → Shape v m i t ps
 stops v m i t l ps h e = let f : Says l ∷ [] ≡ ps = cc in Stops l h (sym f)
 
--- a message of the bag is a user message
-not_is : (c : Bool) → not c ≡ true → c ≡ false
-not_is true e = absurd (false≢true e)
-not_is false e = refl
-
-light_plain : (w : PlainWhat) (q : Pid) → is_light_kind (plain_kind w) q ≡ true → (plain_kind w ≡ kind.User) × (is_fixed q ≡ false)
-light_plain (what.User code channel body links) q e = (refl, not_is (is_fixed q) e)
+light_plain : (w : PlainWhat) (q : Pid) → is_light_kind (plain_kind w) q ≡ true → (plain_kind w ≡ MessageKind.User) × (is_fixed q ≡ false)
+light_plain (PlainWhat.User code channel body links) q e = (refl, not_is (is_fixed q) e)
 light_plain w q e = cc
 
-here_row : (pt : Point) (m : ℕ) (i : MsgId) (t : Told) (msg : PlainMessage) (x : PlainProcess) (w : PlainWhat) (ps : List Part) → plain_kind w ≡ kind.User → here_handles pt m i msg x w ≡ Some ps → Shape pt.view m i t ps
-here_row pt m i t msg x (what.User code channel body links) ps is e = stops pt.view m i t (line.Queued i) ps (queued i) e
+here_row : (pt : Point) (m : ℕ) (i : MsgId) (t : Told) (msg : PlainMessage) (x : PlainProcess) (w : PlainWhat) (ps : List Part) → plain_kind w ≡ MessageKind.User → here_handles pt m i msg x w ≡ Some ps → Shape pt.view m i t ps
+here_row pt m i t msg x (PlainWhat.User code channel body links) ps is e = stops pt.view m i t (Line.Queued i) ps (queued i) e
 here_row pt m i t msg x w ps is e = cc
 
-ended_row : (pt : Point) (m : ℕ) (i : MsgId) (t : Told) (w : PlainWhat) (ps : List Part) → plain_kind w ≡ kind.User → ended_handles i w ≡ Some ps → Shape pt.view m i t ps
-ended_row pt m i t (what.User code channel body links) ps is e = stops pt.view m i t (line.Label (label.Dropped i)) ps (dropped i) e
+ended_row : (pt : Point) (m : ℕ) (i : MsgId) (t : Told) (w : PlainWhat) (ps : List Part) → plain_kind w ≡ MessageKind.User → ended_handles i w ≡ Some ps → Shape pt.view m i t ps
+ended_row pt m i t (PlainWhat.User code channel body links) ps is e = stops pt.view m i t (Line.Label (Label.Dropped i)) ps (dropped i) e
 ended_row pt m i t w ps is e = cc
 
-process_row : (pt : Point) (m : ℕ) (i : MsgId) (t : Told) (msg : PlainMessage) (k : Known) (ps : List Part) → pt.view.known m t.receiver ≡ k → is_moving k ≡ false → plain_kind msg.what ≡ t.kind → plain_kind msg.what ≡ kind.User → (t.receiver.num == 0) ≡ false
+process_row : (pt : Point) (m : ℕ) (i : MsgId) (t : Told) (msg : PlainMessage) (k : Known) (ps : List Part) → pt.view.known m t.receiver ≡ k → is_moving k ≡ false → plain_kind msg.what ≡ t.kind → plain_kind msg.what ≡ MessageKind.User → (t.receiver.num == 0) ≡ false
     → process_handles pt m i msg k ≡ Some ps → Shape pt.view m i t ps
 process_row pt m i t msg view.Unknown ps known still same user num e = cc
 process_row pt m i t msg view.Here ps known still same user num e =
     let (x, there, is) = bind-is (kernel.alive (pt.kernel.processes msg.to)) (λ x. here_handles pt m i msg x msg.what) ps e in here_row pt m i t msg x msg.what ps user is
-process_row pt m i t msg (view.Frozen to) ps known still same user num e = absurd (false≢true (sym still))
-process_row pt m i t msg (view.Incoming from) ps known still same user num e = absurd (false≢true (sym still))
 process_row pt m i t msg (view.Forward at moves) ps known still same user num e =
     let f : forwards_on pt.addresses i (plain_kind msg.what) msg.sender at ≡ ps = cc in
     Goes at moves msg.sender (pt.addresses (Sender i)).at num known (sym f ∙ ap (λ (k : MessageKind). goes_on i at k msg.sender (pt.addresses (Sender i)).at) same)
 process_row pt m i t msg view.Ended ps known still same user num e = ended_row pt m i t msg.what ps user e
+process_row pt m i t msg _ ps known still same user num e = absurd (false≢true (sym still))
 
 pick : {X : Type 0} (a b c : Bool) (x y z w : X) → (a || (b || c)) ≡ false → (if a then x else if b then y else if c then z else w) ≡ w
 pick true b c x y z w e = absurd (false≢true (sym e))
@@ -151,49 +99,44 @@ pick false true c x y z w e = absurd (false≢true (sym e))
 pick false false true x y z w e = absurd (false≢true (sym e))
 pick false false false x y z w e = refl
 
-first_false : (a b : Bool) → (a || b) ≡ false → a ≡ false
-first_false true b e = absurd (false≢true (sym e))
-first_false false b e = refl
-
 bag_row : (b : Boot) (pt : Point) (m : ℕ) (i : MsgId) (t : Told) (msg : PlainMessage) (ps : List Part) → is_light_kind t.kind t.receiver ≡ true → t.kind ≡ plain_kind msg.what → t.receiver ≡ msg.to → ((n : ℕ) (p : Pid) → is_moving (pt.view.known n p) ≡ false)
     → handles b pt m i msg ≡ Some ps → Shape pt.view m i t ps
 bag_row b pt m i t msg ps light same to still e =
     let user = light_plain msg.what t.receiver (ap (λ (k : MessageKind). is_light_kind k t.receiver) (sym same) ∙ light) in
     let fixed : is_fixed msg.to ≡ false = ap is_fixed (sym to) ∙ user.1 in
     let row : handles b pt m i msg ≡ process_handles pt m i msg (pt.view.known m msg.to) = pick (msg.to.num == 0) (pid_eq msg.to switchboard) (pid_eq msg.to manager) _ _ _ (process_handles pt m i msg (pt.view.known m msg.to)) fixed in
-    process_row pt m i t msg (pt.view.known m msg.to) ps (ap (pt.view.known m) to) (still m msg.to) (sym same) user.0 (first_false (t.receiver.num == 0) (is_server t.receiver) user.1) (sym row ∙ e)
+    process_row pt m i t msg (pt.view.known m msg.to) ps (ap (pt.view.known m) to) (still m msg.to) (sym same) user.0 (or-left (t.receiver.num == 0) (is_server t.receiver) user.1) (sym row ∙ e)
 
 -- one that isn't in the bag, by what was told of it
 here_told_row : (pt : Point) (m : ℕ) (i : MsgId) (t : Told) (k : MessageKind) (ps : List Part) → is_light_kind k t.receiver ≡ true → here_told pt m i t k ≡ Some ps → Shape pt.view m i t ps
-here_told_row pt m i t kind.Update ps light e = stops pt.view m i t (line.Updated i (behind_count pt.kernel pt.addresses t.receiver (place_told t.about))) ps (updated i _) e
+here_told_row pt m i t MessageKind.Update ps light e = stops pt.view m i t (Line.Updated i (behind_count pt.kernel pt.addresses t.receiver (place_told t.about))) ps (updated i _) e
 here_told_row pt m i t k ps light e = cc
 
 ended_told_row : (pt : Point) (m : ℕ) (i : MsgId) (t : Told) (k : MessageKind) (ps : List Part) → is_light_kind k t.receiver ≡ true → ended_told i k ≡ Some ps → Shape pt.view m i t ps
-ended_told_row pt m i t kind.Update ps light e = stops pt.view m i t (line.Updated i 0) ps (updated i 0) e
+ended_told_row pt m i t MessageKind.Update ps light e = stops pt.view m i t (Line.Updated i 0) ps (updated i 0) e
 ended_told_row pt m i t k ps light e = cc
 
 server_row : (pt : Point) (m : ℕ) (i : MsgId) (t : Told) (k : MessageKind) (ps : List Part) → server_told pt i t k ≡ Some ps → Shape pt.view m i t ps
-server_row pt m i t kind.Update ps e = stops pt.view m i t (line.Updated i (behind_count pt.kernel pt.addresses t.receiver (place_told t.about))) ps (updated i _) e
+server_row pt m i t MessageKind.Update ps e = stops pt.view m i t (Line.Updated i (behind_count pt.kernel pt.addresses t.receiver (place_told t.about))) ps (updated i _) e
 server_row pt m i t k ps e = cc
 
 told_row : (pt : Point) (m : ℕ) (i : MsgId) (t : Told) (k : Known) (ps : List Part) → pt.view.known m t.receiver ≡ k → is_moving k ≡ false → is_light_kind t.kind t.receiver ≡ true → (t.receiver.num == 0) ≡ false → process_told pt m i t k ≡ Some ps → Shape pt.view m i t ps
 told_row pt m i t view.Unknown ps known still light num e = cc
 told_row pt m i t view.Here ps known still light num e = here_told_row pt m i t t.kind ps light e
-told_row pt m i t (view.Frozen to) ps known still light num e = absurd (false≢true (sym still))
-told_row pt m i t (view.Incoming from) ps known still light num e = absurd (false≢true (sym still))
 told_row pt m i t (view.Forward at moves) ps known still light num e =
     let f : forwards_on pt.addresses i t.kind manager at ≡ ps = cc in Goes at moves manager (pt.addresses (Sender i)).at num known (sym f)
 told_row pt m i t view.Ended ps known still light num e = ended_told_row pt m i t t.kind ps light e
+told_row pt m i t _ ps known still light num e = absurd (false≢true (sym still))
 
 -- no such message is for a kernel
-kernel_none : (b : Boot) (pt : Point) (m : ℕ) (i : MsgId) (a : About) (ps : List Part) → kernel_hears b pt m i kind.Update a ≡ Some ps → ⊥
+kernel_none : (b : Boot) (pt : Point) (m : ℕ) (i : MsgId) (a : About) (ps : List Part) → kernel_hears b pt m i MessageKind.Update a ≡ Some ps → ⊥
 kernel_none b pt m i (Of p) ps e =
-    let (x, there, is) = bind-is (kernel.alive (pt.kernel.processes p)) (λ x. kernel_told pt m i p (fits (free_room b pt m) (length x.memory / 256)) x kind.Update) ps e in cc
+    let (x, there, is) = bind-is (kernel.alive (pt.kernel.processes p)) (λ x. kernel_told pt m i p (fits (free_room b pt m) (length x.memory / 256)) x MessageKind.Update) ps e in cc
 kernel_none b pt m i a ps e = cc
 
 kernel_row : (b : Boot) (pt : Point) (m : ℕ) (i : MsgId) (a : About) (q : Pid) (k : MessageKind) (ps : List Part) → is_light_kind k q ≡ true → (q.num == 0) ≡ true → kernel_hears b pt m i k a ≡ Some ps → ⊥
-kernel_row b pt m i a q kind.User ps light num e = absurd (false≢true (ap (λ (c : Bool). not (c || is_server q)) (sym num) ∙ light))
-kernel_row b pt m i a q kind.Update ps light num e = kernel_none b pt m i a ps e
+kernel_row b pt m i a q MessageKind.User ps light num e = absurd (false≢true (ap (λ (c : Bool). not (c || is_server q)) (sym num) ∙ light))
+kernel_row b pt m i a q MessageKind.Update ps light num e = kernel_none b pt m i a ps e
 kernel_row b pt m i a q k ps light num e = cc
 
 hears_by : (b : Boot) (pt : Point) (m : ℕ) (i : MsgId) (t : Told) (x y z : Bool) (ps : List Part) → (t.receiver.num == 0) ≡ x → is_moving (pt.view.known m t.receiver) ≡ false → is_light_kind t.kind t.receiver ≡ true
@@ -210,5 +153,5 @@ comes_row b pt m i t None ps there told light tells still e =
     hears_by b pt m i t (t.receiver.num == 0) (pid_eq t.receiver switchboard) (pid_eq t.receiver manager) ps refl (still m t.receiver) light (ap (hears b pt m i) (sym told) ∙ e)
 
 pub turn_shape : (b : Boot) (pt : Point) (m : ℕ) (i : MsgId) (is : List MsgId) (t : Told) (ps : List Part) → pt.view.inbox m ≡ i ∷ is → pt.view.told i ≡ Some t → is_light_kind t.kind t.receiver ≡ true → TellsRight pt
-    → ((n : ℕ) (p : Pid) → is_moving (pt.view.known n p) ≡ false) → outcome b pt (step.Turn m) ≡ Some ps → Shape pt.view m i t ps
+    → ((n : ℕ) (p : Pid) → is_moving (pt.view.known n p) ≡ false) → outcome b pt (Step.Turn m) ≡ Some ps → Shape pt.view m i t ps
 turn_shape b pt m i is t ps front told light tells still e = comes_row b pt m i t (pt.kernel.bag i) ps refl told light tells still (ap (turns b pt m) (sym front) ∙ e)

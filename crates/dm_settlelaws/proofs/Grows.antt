@@ -1,27 +1,8 @@
 -- What was routed on each pair only grows, and a route makes one pair longer.
-use Rattle.std.proofs.Common.{◌≡◌, ℕ, ◌+◌, ◌<◌, ◌≤◌, ◌==◌, ◌&&◌, ◌||◌, Bool, true, false, List, [], ◌∷◌, ◌++◌, length, length-append, refl, ap, ◌∙◌, sym, subst, inl, inr, arith}
-use Rattle.std.specs.Prelude.{⊤, if◌then◌else◌}
-use Rattle.std.specs.declared.option.Option.TheVariants.{Some}
-use Rattle.std.proofs.lemmas.Bool.{cases_Bool, false≢true}
-use Rattle.std.proofs.lemmas.Bool.Decides.{nat_tests}
-use Rattle.dm_link.specs.declared.Pid.{Pid}
-use Rattle.dm_message.specs.declared.MsgId.{MsgId}
-use Rattle.dm_message.specs.declared.kind.MessageKind.{MessageKind}
-use Rattle.dm_message.specs.Kinds.{plain_kind}
-use Rattle.dm_line.specs.declared.line.Line.{Line}
-use Rattle.dm_line.specs.declared.line.Line.TheVariants as line
-use Rattle.dm_line.specs.declared.line.Load.{Load}
-use Rattle.dm_line.specs.declared.line.Load.TheVariants as load
-use Rattle.dm_line.specs.Sets.{at_pair}
-use Rattle.dm_rule.specs.Addresses.{Receiver}
-use Rattle.dm_rule.specs.Parts.{Part, Says, Routes, Again, Owns, Transmits, Spelled, goes_out, packet_line, puts, spelled}
-use Rattle.dm_rule.specs.Point.{Point, after}
-use Rattle.dm_rule.specs.View.{Pair, View, own_id, routed_on, view_after}
-use Rattle.dm_rule.proofs.Hushed.{hushed, is_put}
-use Rattle.dm_rule.proofs.Pairs.Stand.{set_is, set_other, set_same}
-use Rattle.dm_rule.proofs.Pairs.Lines.{Onward, bind-is, one_view, onward, pair_same, says_view, touches, transmits_view, two_views}
-use Rattle.dm_settlelaws.specs.Left.{weight_of}
-use Rattle.dm_settlelaws.proofs.Effects.{Effect, First, Front, Returns, Stays, back_in, calm_weight, comes_in, effect}
+use Rattle.dm_settlelaws.proofs.Names.{◌≡◌, ℕ, ◌+◌, ◌<◌, ◌≤◌, ◌==◌, ◌&&◌, ◌||◌, Bool, true, false, List, [], ◌∷◌, ◌++◌, length, length-append, refl, ap, ◌∙◌, sym, subst, inl, inr, arith, ⊤, if◌then◌else◌, Some, cases_Bool, false≢true}
+use Rattle.dm_settlelaws.proofs.Names.{nat_tests, Pid, MsgId, MessageKind, plain_kind, Line, Load, at_pair, Receiver, Part, Says, Routes, Again, Owns, Transmits, Spelled, goes_out, packet_line, puts, spelled, Point, after, Pair, View}
+use Rattle.dm_settlelaws.proofs.Names.{own_id, routed_on, view_after, hushed, is_put, set_is, set_other, set_same, Onward, bind-is, one_view, onward, pair_same, says_view, touches, transmits_view, two_views, weight_of}
+use Rattle.dm_settlelaws.proofs.Effects.{Effect, Returns, back_in, calm_weight, comes_in, effect}
 use Rattle.dm_settlelaws.proofs.Handles.{AllCalm, IsCalm, is_back}
 use Rattle.dm_settlelaws.proofs.RestsPairs.{repeated}
 
@@ -68,7 +49,7 @@ set_grows f a b p ids taken = record {
   ];
 }
 
-one_longer : (ids : List MsgId) (id : MsgId) → length (ids ++ id ∷ []) ≡ length ids + 1
+pub one_longer : (ids : List MsgId) (id : MsgId) → length (ids ++ id ∷ []) ≡ length ids + 1
 one_longer ids id = length-append ids (id ∷ [])
 
 route_grows : (f : ℕ → ℕ → Pair) (a b : ℕ) (id : MsgId) → Grows f (at_pair f a b (routed_on a b (f a b) id))
@@ -90,21 +71,21 @@ record Routed (f g : ℕ → ℕ → Pair) : Type 0 where
   longer : Longer f g
 
 puts_by : (pt next : Point) (b : ℕ) (id : MsgId) (k : MessageKind) (q : Pid) (home out : Bool)
-    → after pt (line.Put pt.view.acting b id k q ∷ (if home then [] else if out then packet_line pt.view pt.view.acting b (load.Data (length (pt.view.pair pt.view.acting b).ids)) ∷ [] else [])) ≡ Some next → Routed pt.view.pair next.view.pair
+    → after pt (Line.Put pt.view.acting b id k q ∷ (if home then [] else if out then packet_line pt.view pt.view.acting b (Load.Data (length (pt.view.pair pt.view.acting b).ids)) ∷ [] else [])) ≡ Some next → Routed pt.view.pair next.view.pair
 puts_by pt next b id k q true out is =
-    subst (λ (v : View). Routed pt.view.pair v.pair) (sym (one_view pt next (line.Put pt.view.acting b id k q) is)) (record { grows = route_grows pt.view.pair pt.view.acting b id; longer = route_longer pt.view.pair pt.view.acting b id })
+    subst (λ (v : View). Routed pt.view.pair v.pair) (sym (one_view pt next (Line.Put pt.view.acting b id k q) is)) (record { grows = route_grows pt.view.pair pt.view.acting b id; longer = route_longer pt.view.pair pt.view.acting b id })
 puts_by pt next b id k q false false is =
-    subst (λ (v : View). Routed pt.view.pair v.pair) (sym (one_view pt next (line.Put pt.view.acting b id k q) is)) (record { grows = route_grows pt.view.pair pt.view.acting b id; longer = route_longer pt.view.pair pt.view.acting b id })
+    subst (λ (v : View). Routed pt.view.pair v.pair) (sym (one_view pt next (Line.Put pt.view.acting b id k q) is)) (record { grows = route_grows pt.view.pair pt.view.acting b id; longer = route_longer pt.view.pair pt.view.acting b id })
 puts_by pt next b id k q false true is =
     let f = pt.view.pair in
     let a = pt.view.acting in
     let g = at_pair f a b (routed_on a b (f a b) id) in
     let n = length (f a b).ids in
-    let p = packet_line pt.view a b (load.Data n) in
+    let p = packet_line pt.view a b (Load.Data n) in
     let first = route_grows f a b id in
-    let second = packet_grows g a b (load.Data n) in
-    subst (λ (v : View). Routed f v.pair) (sym (two_views pt next (line.Put a b id k q) p is))
-    (record { grows = grows_on f g (at_pair g a b (repeated (load.Data n) (g a b))) first second; longer = longer_first f g (at_pair g a b (repeated (load.Data n) (g a b))) (route_longer f a b id) second })
+    let second = packet_grows g a b (Load.Data n) in
+    subst (λ (v : View). Routed f v.pair) (sym (two_views pt next (Line.Put a b id k q) p is))
+    (record { grows = grows_on f g (at_pair g a b (repeated (Load.Data n) (g a b))) first second; longer = longer_first f g (at_pair g a b (repeated (Load.Data n) (g a b))) (route_longer f a b id) second })
 
 puts_lead : (pt next : Point) (b : ℕ) (id : MsgId) (k : MessageKind) (q : Pid) (ls : List Line) → Some (puts pt.view b id k q) ≡ Some ls → after pt ls ≡ Some next → Routed pt.view.pair next.view.pair
 puts_lead pt next b id k q ls is leads =
@@ -113,10 +94,8 @@ puts_lead pt next b id k q ls is leads =
 -- calm parts
 abbrev pub is_route : Part → Bool
 is_route (Says l) = false
-is_route (Routes i) = true
-is_route (Again i b) = true
-is_route (Owns k q b) = true
 is_route (Transmits a b l) = false
+is_route _ = true
 
 abbrev pub has_route : List Part → Bool
 has_route [] = false
@@ -125,10 +104,7 @@ has_route (p ∷ ps) = is_route p || has_route ps
 -- parts that take nothing: lines that change no pair, puts, and packets
 abbrev pub IsLight : Part → Type 0
 IsLight (Says l) = touches l ≡ false
-IsLight (Routes i) = ⊤
-IsLight (Again i b) = ⊤
-IsLight (Owns k q b) = ⊤
-IsLight (Transmits a b l) = ⊤
+IsLight _ = ⊤
 
 abbrev pub AllLight : List Part → Type 0
 AllLight [] = ⊤
@@ -136,10 +112,8 @@ AllLight (p ∷ ps) = IsLight p × AllLight ps
 
 calm_part : (p : Part) → IsCalm p → IsLight p
 calm_part (Says l) h = h.0
-calm_part (Routes i) h = tt
-calm_part (Again i b) h = tt
-calm_part (Owns k q b) h = tt
 calm_part (Transmits a b l) h = absurd h
+calm_part _ h = tt
 
 pub calm_light : (ps : List Part) → AllCalm ps → AllLight ps
 calm_light [] h = tt
@@ -158,7 +132,6 @@ part_grows pt (Owns k q b) ps w o light = (puts_lead pt o.next b (own_id pt.view
 part_grows pt (Transmits a b l) ps w o light = subst (λ (v : View). Grows pt.view.pair v.pair) (sym (transmits_view pt a b l ps w o)) (packet_grows pt.view.pair a b l)
 
 part_longer : (pt : Point) (p : Part) (ps : List Part) (w : Spelled) (o : Onward pt p ps w) → is_route p ≡ true → Longer pt.view.pair o.next.view.pair
-part_longer pt (Says l) ps w o e = absurd (false≢true e)
 part_longer pt (Routes id) ps w o e =
     let at = (pt.addresses (Receiver id)).at in
     let (m, there, is) = bind-is (pt.kernel.bag id) (λ m. Some (puts pt.view at id (plain_kind m.what) m.to)) o.lines o.lines_are in
@@ -167,7 +140,7 @@ part_longer pt (Again id b) ps w o e =
     let (t, there, is) = bind-is (pt.view.told id) (λ t. Some (puts pt.view b id t.kind t.receiver)) o.lines o.lines_are in
     (puts_lead pt o.next b id t.kind t.receiver o.lines is o.leads).longer
 part_longer pt (Owns k q b) ps w o e = (puts_lead pt o.next b (own_id pt.view) k q o.lines o.lines_are o.leads).longer
-part_longer pt (Transmits a b l) ps w o e = absurd (false≢true e)
+part_longer pt _ ps w o e = absurd (false≢true e)
 
 pub parts_grow : (ps : List Part) (pt : Point) (w : Spelled) → AllLight ps → spelled pt ps ≡ Some w → Grows pt.view.pair w.point.view.pair
 parts_grow [] pt w light e = let f : record { lines = []; point = pt } ≡ w = cc in grows_same pt.view.pair w.point.view.pair (ap (λ (x : Spelled). x.point.view.pair) (sym f))
@@ -192,15 +165,13 @@ pub record Lowers (v w : View) : Type 0 where
   pub pair : w.pair ≡ v.pair
 
 pub touches_none : (l : Line) → touches l ≡ false → (comes_in l ≡ false) × (is_put l ≡ false)
-touches_none (line.Put a b id k q) e = cc
-touches_none (line.Taken a b n) e = cc
+touches_none (Line.Put a b id k q) e = cc
+touches_none (Line.Taken a b n) e = cc
 touches_none l e = (refl, refl)
 
 pub no_back : (v : View) (e : Effect) → is_back e ≡ false → back_in v e ≡ []
-no_back v Stays h = refl
-no_back v (Front id) h = refl
-no_back v First h = refl
 no_back v (Returns p) h = absurd (false≢true (sym h))
+no_back v _ h = refl
 
 lowers_line : (v : View) (l : Line) → touches l ≡ false → is_back (effect l) ≡ false → Lowers v (view_after v l)
 lowers_line v l touch back =

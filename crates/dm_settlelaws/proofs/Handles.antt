@@ -1,55 +1,24 @@
 -- A turn of a machine that has mail: its first line takes the message at the front, and the others bring nothing back.
-use Rattle.std.proofs.Common.{◌≡◌, ℕ, ◌+◌, ◌/◌, ◌==◌, Bool, true, false, List, [], ◌∷◌, ◌++◌, length, refl, ap, ◌∙◌, sym}
-use Rattle.std.specs.Prelude.{⊤, if◌then◌else◌, slice_get}
-use Rattle.std.specs.declared.option.Option.{Option}
-use Rattle.std.specs.declared.option.Option.TheVariants.{None, Some}
-use Rattle.std.proofs.lemmas.Bool.{false≢true}
-use Rattle.dm_link.specs.declared.Pid.{Pid}
-use Rattle.dm_link.specs.Names.{pid_of, pid_eq}
-use Rattle.dm_message.specs.declared.MsgId.{MsgId}
-use Rattle.dm_message.specs.declared.kind.MessageKind.{MessageKind}
-use Rattle.dm_message.specs.declared.kind.MessageKind.TheVariants as kind
-use Rattle.dm_message.specs.Kinds.{plain_kind}
-use Rattle.dm_message.specs.Plain as what
-use Rattle.dm_message.specs.Plain.{PlainMessage, PlainWhat}
-use Rattle.dm_onekernel.specs.declared.boot.Boot.{Boot}
-use Rattle.dm_onekernel.specs.declared.boot.BootImage.{BootImage}
-use Rattle.dm_onekernel.specs.declared.label.Label.TheVariants as label
-use Rattle.dm_onekernel.specs.Boot.{first_number, switchboard, manager}
-use Rattle.dm_onekernel.specs.PlainProcess.{PlainProcess}
+use Rattle.dm_settlelaws.proofs.Names.{◌≡◌, ℕ, ◌+◌, ◌/◌, ◌==◌, Bool, true, false, List, [], ◌∷◌, ◌++◌, length, refl, ap, ◌∙◌, sym, ⊤, if◌then◌else◌, slice_get, Option, None, Some, false≢true, Pid, pid_of, pid_eq, MsgId, MessageKind, Label}
+use Rattle.dm_settlelaws.proofs.Names.{Stage, plain_kind, PlainMessage, PlainWhat, Boot, BootImage, first_number, switchboard, manager, PlainProcess, answer_id, bind-is, Line, Sender, is_told_back, accepts, chunks_of, ended_told}
+use Rattle.dm_settlelaws.proofs.Names.{forwards_on, here_told, kernel_told, leaves, pieces_of, process_told, sends_on, server_told, takes_block, takes_chunk, to_kernel, Part, Says, Routes, Again, Owns, Transmits, Point, Room, board_took}
+use Rattle.dm_settlelaws.proofs.Names.{comes_to, creates, drops, ended_handles, fits, free_room, handles, has_room, hears, here_handles, kernel_handles, kernel_hears, lands, manager_took, process_handles, routes, says, About, Known, Of}
+use Rattle.dm_settlelaws.proofs.Names.{Told, target_of, touches, lets_go, told_lets_go}
 use Rattle.dm_onekernel.specs.Pieces as pieces
-use Rattle.dm_onekernel.specs.Pieces.{answer_id}
 use Rattle.dm_onekernel.specs.Switchboard as board
 use Rattle.dm_onekernel.specs.Manager as manage
 use Rattle.dm_onekernel.specs.Step as kernel
-use Rattle.dm_laws.proofs.Steps.{bind-is}
-use Rattle.dm_line.specs.declared.line.Line.{Line}
-use Rattle.dm_line.specs.declared.line.Line.TheVariants as line
-use Rattle.dm_line.specs.declared.line.Stage.TheVariants as stage
-use Rattle.dm_rule.specs.Addresses.{Sender, is_told_back}
-use Rattle.dm_rule.specs.Migrating.{accepts, chunks_of, ended_told, forwards_on, here_told, kernel_told, leaves, pieces_of, process_told, sends_on, server_told, takes_block, takes_chunk, to_kernel}
-use Rattle.dm_rule.specs.Parts.{Part, Says, Routes, Again, Owns, Transmits}
-use Rattle.dm_rule.specs.Point.{Point}
-use Rattle.dm_rule.specs.Rule.{Room, board_took, comes_to, creates, drops, ended_handles, fits, free_room, handles, has_room, hears, here_handles, kernel_handles, kernel_hears, lands, manager_took, process_handles, routes, says}
-use Rattle.dm_rule.specs.View.{About, Known, NothingElse, Of, Target, Told, target_of}
-use Rattle.dm_rule.specs.View as view
-use Rattle.dm_rule.proofs.Pairs.Lines.{touches}
-use Rattle.dm_settlelaws.specs.Left.{lets_go, told_lets_go}
-use Rattle.dm_settlelaws.proofs.Effects.{Effect, First, Front, Returns, Stays, effect, takes_front}
+use Rattle.dm_settlelaws.proofs.Effects.{Effect, Returns, Stays, effect, takes_front}
 
 -- a line that changes no pair and brings nothing back; a route is no such line
 abbrev pub is_back : Effect → Bool
-is_back Stays = false
-is_back (Front id) = false
-is_back First = false
 is_back (Returns p) = true
+is_back _ = false
 
 abbrev pub IsCalm : Part → Type 0
 IsCalm (Says l) = (touches l ≡ false) × (is_back (effect l) ≡ false)
-IsCalm (Routes i) = ⊤
-IsCalm (Again i b) = ⊤
-IsCalm (Owns k q b) = ⊤
 IsCalm (Transmits a b l) = ⊥
+IsCalm _ = ⊤
 
 abbrev pub AllCalm : List Part → Type 0
 AllCalm [] = ⊤
@@ -102,68 +71,67 @@ if_calm false ps qs h k = k
 
 -- messages of the bag
 made_row : (pt : Point) (m : ℕ) (i : MsgId) (told : Option Told) (r : Room) (image : BootImage) (c : Bool) (ps : List Part)
-    → Some ((if c then says (label.Created i (pid_of m (first_number + pt.kernel.made m))) else says (label.NoSpace i r.slots r.blocks)) ∷ Routes (answer_id i) ∷ []) ≡ Some ps → Handles i told ps
-made_row pt m i told r image true ps e = quiet_row i told (line.Label (label.Created i (pid_of m (first_number + pt.kernel.made m)))) (Routes (answer_id i) ∷ []) ps refl refl refl (tt, tt) e
-made_row pt m i told r image false ps e = quiet_row i told (line.Label (label.NoSpace i r.slots r.blocks)) (Routes (answer_id i) ∷ []) ps refl refl refl (tt, tt) e
+    → Some ((if c then says (Label.Created i (pid_of m (first_number + pt.kernel.made m))) else says (Label.NoSpace i r.slots r.blocks)) ∷ Routes (answer_id i) ∷ []) ≡ Some ps → Handles i told ps
+made_row pt m i told r image true ps e = quiet_row i told (Line.Label (Label.Created i (pid_of m (first_number + pt.kernel.made m)))) (Routes (answer_id i) ∷ []) ps refl refl refl (tt, tt) e
+made_row pt m i told r image false ps e = quiet_row i told (Line.Label (Label.NoSpace i r.slots r.blocks)) (Routes (answer_id i) ∷ []) ps refl refl refl (tt, tt) e
 
 creates_row : (pt : Point) (m : ℕ) (i : MsgId) (told : Option Told) (r : Room) (o : Option BootImage) → HandlesBy i told (creates pt m i r o)
 creates_row pt m i told r None ps e = cc
 creates_row pt m i told r (Some image) ps e = made_row pt m i told r image (has_room r image.blocks) ps e
 
 kernel_row : (b : Boot) (pt : Point) (m : ℕ) (i : MsgId) (told : Option Told) (w : PlainWhat) → HandlesBy i told (kernel_handles b pt m i w)
-kernel_row b pt m i told (what.Create image links) ps e = creates_row pt m i told (free_room b pt m) (slice_get b.images image) ps e
+kernel_row b pt m i told (PlainWhat.Create image links) ps e = creates_row pt m i told (free_room b pt m) (slice_get b.images image) ps e
 kernel_row b pt m i told w ps e = cc
 
 board_row : (i : MsgId) (told : Option Told) (o : Option board.Took) → HandlesBy i told (board_took i o)
 board_row i told None ps e = cc
-board_row i told (Some t) ps e = quiet_row i told (line.Label (label.Took i)) (routes t.answer) ps refl refl refl (routes_calm t.answer) e
+board_row i told (Some t) ps e = quiet_row i told (Line.Label (Label.Took i)) (routes t.answer) ps refl refl refl (routes_calm t.answer) e
 
 manager_row : (i : MsgId) (told : Option Told) (o : Option manage.Took) → HandlesBy i told (manager_took i o)
 manager_row i told None ps e = cc
-manager_row i told (Some t) ps e = quiet_row i told (line.Label (label.Took i)) (routes t.message) ps refl refl refl (routes_calm t.message) e
+manager_row i told (Some t) ps e = quiet_row i told (Line.Label (Label.Took i)) (routes t.message) ps refl refl refl (routes_calm t.message) e
 
 lands_row : (i : MsgId) (told : Option Told) (o : Option pieces.Landed) → HandlesBy i told (lands i o)
 lands_row i told None ps e = cc
-lands_row i told (Some (pieces.Next request x)) ps e = quiet_row i told (line.Label (label.Served i)) (Routes request.id ∷ []) ps refl refl refl (tt, tt) e
-lands_row i told (Some (pieces.Done reply x)) ps e = quiet_row i told (line.Label (label.Served i)) [] ps refl refl refl tt e
+lands_row i told (Some (pieces.Next request x)) ps e = quiet_row i told (Line.Label (Label.Served i)) (Routes request.id ∷ []) ps refl refl refl (tt, tt) e
+lands_row i told (Some (pieces.Done reply x)) ps e = quiet_row i told (Line.Label (Label.Served i)) [] ps refl refl refl tt e
 
 here_row : (pt : Point) (m : ℕ) (i : MsgId) (told : Option Told) (msg : PlainMessage) (x : PlainProcess) (w : PlainWhat) → HandlesBy i told (here_handles pt m i msg x w)
-here_row pt m i told msg x (what.User code channel body links) ps e = quiet_row i told (line.Queued i) [] ps refl refl refl tt e
-here_row pt m i told msg x what.Stop ps e = quiet_row i told (line.Label (label.Served i)) [] ps refl refl refl tt e
-here_row pt m i told msg x what.Resume ps e = quiet_row i told (line.Label (label.Served i)) [] ps refl refl refl tt e
-here_row pt m i told msg x what.Kill ps e = quiet_row i told (line.Label (label.Served i)) (drops (pt.view.queue m msg.to)) ps refl refl refl (drops_calm (pt.view.queue m msg.to)) e
-here_row pt m i told msg x (what.Read base len) ps e = quiet_row i told (line.Label (label.Served i)) (Routes (answer_id i) ∷ []) ps refl refl refl (tt, tt) e
-here_row pt m i told msg x (what.Write base bytes) ps e = quiet_row i told (line.Label (label.Served i)) (Routes (answer_id i) ∷ []) ps refl refl refl (tt, tt) e
-here_row pt m i told msg x (what.Block bytes) ps e = lands_row i told (pieces.lands msg.to x msg x.status) ps e
-here_row pt m i told msg x what.Written ps e = lands_row i told (pieces.lands msg.to x msg x.status) ps e
-here_row pt m i told msg x what.Gone ps e = lands_row i told (pieces.lands msg.to x msg x.status) ps e
+here_row pt m i told msg x (PlainWhat.User code channel body links) ps e = quiet_row i told (Line.Queued i) [] ps refl refl refl tt e
+here_row pt m i told msg x PlainWhat.Stop ps e = quiet_row i told (Line.Label (Label.Served i)) [] ps refl refl refl tt e
+here_row pt m i told msg x PlainWhat.Resume ps e = quiet_row i told (Line.Label (Label.Served i)) [] ps refl refl refl tt e
+here_row pt m i told msg x PlainWhat.Kill ps e = quiet_row i told (Line.Label (Label.Served i)) (drops (pt.view.queue m msg.to)) ps refl refl refl (drops_calm (pt.view.queue m msg.to)) e
+here_row pt m i told msg x (PlainWhat.Read base len) ps e = quiet_row i told (Line.Label (Label.Served i)) (Routes (answer_id i) ∷ []) ps refl refl refl (tt, tt) e
+here_row pt m i told msg x (PlainWhat.Write base bytes) ps e = quiet_row i told (Line.Label (Label.Served i)) (Routes (answer_id i) ∷ []) ps refl refl refl (tt, tt) e
+here_row pt m i told msg x (PlainWhat.Block bytes) ps e = lands_row i told (pieces.lands msg.to x msg x.status) ps e
+here_row pt m i told msg x PlainWhat.Written ps e = lands_row i told (pieces.lands msg.to x msg x.status) ps e
+here_row pt m i told msg x PlainWhat.Gone ps e = lands_row i told (pieces.lands msg.to x msg x.status) ps e
 here_row pt m i told msg x w ps e = cc
 
 ended_row : (i : MsgId) (told : Option Told) (w : PlainWhat) → HandlesBy i told (ended_handles i w)
-ended_row i told (what.Read base len) ps e = quiet_row i told (line.Label (label.Gone i)) (Routes (answer_id i) ∷ []) ps refl refl refl (tt, tt) e
-ended_row i told (what.Write base bytes) ps e = quiet_row i told (line.Label (label.Gone i)) (Routes (answer_id i) ∷ []) ps refl refl refl (tt, tt) e
-ended_row i told (what.User code channel body links) ps e = quiet_row i told (line.Label (label.Dropped i)) [] ps refl refl refl tt e
-ended_row i told what.Stop ps e = quiet_row i told (line.Label (label.Dropped i)) [] ps refl refl refl tt e
-ended_row i told what.Resume ps e = quiet_row i told (line.Label (label.Dropped i)) [] ps refl refl refl tt e
-ended_row i told what.Kill ps e = quiet_row i told (line.Label (label.Dropped i)) [] ps refl refl refl tt e
-ended_row i told (what.Block bytes) ps e = quiet_row i told (line.Label (label.Dropped i)) [] ps refl refl refl tt e
-ended_row i told what.Written ps e = quiet_row i told (line.Label (label.Dropped i)) [] ps refl refl refl tt e
-ended_row i told what.Gone ps e = quiet_row i told (line.Label (label.Dropped i)) [] ps refl refl refl tt e
+ended_row i told (PlainWhat.Read base len) ps e = quiet_row i told (Line.Label (Label.Gone i)) (Routes (answer_id i) ∷ []) ps refl refl refl (tt, tt) e
+ended_row i told (PlainWhat.Write base bytes) ps e = quiet_row i told (Line.Label (Label.Gone i)) (Routes (answer_id i) ∷ []) ps refl refl refl (tt, tt) e
+ended_row i told (PlainWhat.User code channel body links) ps e = quiet_row i told (Line.Label (Label.Dropped i)) [] ps refl refl refl tt e
+ended_row i told PlainWhat.Stop ps e = quiet_row i told (Line.Label (Label.Dropped i)) [] ps refl refl refl tt e
+ended_row i told PlainWhat.Resume ps e = quiet_row i told (Line.Label (Label.Dropped i)) [] ps refl refl refl tt e
+ended_row i told PlainWhat.Kill ps e = quiet_row i told (Line.Label (Label.Dropped i)) [] ps refl refl refl tt e
+ended_row i told (PlainWhat.Block bytes) ps e = quiet_row i told (Line.Label (Label.Dropped i)) [] ps refl refl refl tt e
+ended_row i told PlainWhat.Written ps e = quiet_row i told (Line.Label (Label.Dropped i)) [] ps refl refl refl tt e
+ended_row i told PlainWhat.Gone ps e = quiet_row i told (Line.Label (Label.Dropped i)) [] ps refl refl refl tt e
 ended_row i told w ps e = cc
 
 forwards_row : (pt : Point) (i : MsgId) (told : Option Told) (k : MessageKind) (sender : Pid) (to : ℕ) → HandlesBy i told (Some (forwards_on pt.addresses i k sender to))
 forwards_row pt i told k sender to ps e =
-    let tells = if is_told_back k then Owns kind.Update sender (pt.addresses (Sender i)).at ∷ [] else [] in
-    quiet_row i told (line.Forwarded i to) (Again i to ∷ tells) ps refl refl refl (tt, if_calm (is_told_back k) (Owns kind.Update sender (pt.addresses (Sender i)).at ∷ []) [] (tt, tt) tt) e
+    let tells = if is_told_back k then Owns MessageKind.Update sender (pt.addresses (Sender i)).at ∷ [] else [] in
+    quiet_row i told (Line.Forwarded i to) (Again i to ∷ tells) ps refl refl refl (tt, if_calm (is_told_back k) (Owns MessageKind.Update sender (pt.addresses (Sender i)).at ∷ []) [] (tt, tt) tt) e
 
 process_row : (pt : Point) (m : ℕ) (i : MsgId) (told : Option Told) (msg : PlainMessage) (k : Known) → HandlesBy i told (process_handles pt m i msg k)
-process_row pt m i told msg view.Unknown ps e = cc
-process_row pt m i told msg view.Here ps e =
+process_row pt m i told msg Known.Unknown ps e = cc
+process_row pt m i told msg Known.Here ps e =
     let (x, there, is) = bind-is (kernel.alive (pt.kernel.processes msg.to)) (λ x. here_handles pt m i msg x msg.what) ps e in here_row pt m i told msg x msg.what ps is
-process_row pt m i told msg (view.Frozen to) ps e = quiet_row i told (line.Held i) [] ps refl refl refl tt e
-process_row pt m i told msg (view.Incoming from) ps e = quiet_row i told (line.Held i) [] ps refl refl refl tt e
-process_row pt m i told msg (view.Forward at moves) ps e = forwards_row pt i told (plain_kind msg.what) msg.sender at ps e
-process_row pt m i told msg view.Ended ps e = ended_row i told msg.what ps e
+process_row pt m i told msg (Known.Forward at moves) ps e = forwards_row pt i told (plain_kind msg.what) msg.sender at ps e
+process_row pt m i told msg Known.Ended ps e = ended_row i told msg.what ps e
+process_row pt m i told msg _ ps e = quiet_row i told (Line.Held i) [] ps refl refl refl tt e
 
 chosen : (i : MsgId) (told : Option Told) (c : Bool) (o q : Option (List Part)) → HandlesBy i told o → HandlesBy i told q → HandlesBy i told (if c then o else q)
 chosen i told true o q h k ps e = h ps e
@@ -178,32 +146,32 @@ bag_row b pt m i told msg =
 
 -- the kernels' own messages
 accepts_row : (i : MsgId) (told : Option Told) (from : ℕ) (p : Pid) (c : Bool) (slots blocks : ℕ) → HandlesBy i told (Some (accepts from p c slots blocks))
-accepts_row i told from p true slots blocks ps e = quiet_row i told (line.Migration stage.Accepted p) (to_kernel kind.PullState from ∷ []) ps tt refl refl (tt, tt) e
-accepts_row i told from p false slots blocks ps e = quiet_row i told (line.Lacks p slots blocks) (to_kernel kind.Refuse from ∷ []) ps tt refl refl (tt, tt) e
+accepts_row i told from p true slots blocks ps e = quiet_row i told (Line.Migration Stage.Accepted p) (to_kernel MessageKind.PullState from ∷ []) ps tt refl refl (tt, tt) e
+accepts_row i told from p false slots blocks ps e = quiet_row i told (Line.Lacks p slots blocks) (to_kernel MessageKind.Refuse from ∷ []) ps tt refl refl (tt, tt) e
 
 chunk_row : (i : MsgId) (told : Option Told) (p : Pid) (c : Bool) → HandlesBy i told (Some (takes_chunk i p c))
-chunk_row i told p true ps e = quiet_row i told (line.Migration stage.StateTaken p) (to_kernel kind.PullBlock i.from.home ∷ []) ps tt refl refl (tt, tt) e
-chunk_row i told p false ps e = quiet_row i told (line.Proto i) (to_kernel kind.PullState i.from.home ∷ []) ps refl refl refl (tt, tt) e
+chunk_row i told p true ps e = quiet_row i told (Line.Migration Stage.StateTaken p) (to_kernel MessageKind.PullBlock i.from.home ∷ []) ps tt refl refl (tt, tt) e
+chunk_row i told p false ps e = quiet_row i told (Line.Proto i) (to_kernel MessageKind.PullState i.from.home ∷ []) ps refl refl refl (tt, tt) e
 
 block_row : (i : MsgId) (told : Option Told) (p : Pid) (c : Bool) → HandlesBy i told (Some (takes_block i p c))
-block_row i told p true ps e = quiet_row i told (line.Migration stage.MemoryTaken p) (to_kernel kind.AllTaken i.from.home ∷ []) ps tt refl refl (tt, tt) e
-block_row i told p false ps e = quiet_row i told (line.Proto i) (to_kernel kind.PullBlock i.from.home ∷ []) ps refl refl refl (tt, tt) e
+block_row i told p true ps e = quiet_row i told (Line.Migration Stage.MemoryTaken p) (to_kernel MessageKind.AllTaken i.from.home ∷ []) ps tt refl refl (tt, tt) e
+block_row i told p false ps e = quiet_row i told (Line.Proto i) (to_kernel MessageKind.PullBlock i.from.home ∷ []) ps refl refl refl (tt, tt) e
 
 leaves_row : (i : MsgId) (told : Option Told) (p : Pid) (ids : List MsgId) (k : Known) → HandlesBy i told (leaves i p ids k)
-leaves_row i told p ids (view.Frozen to) ps e =
-    let tail = Says (line.Migration stage.Left p) ∷ to_kernel kind.Restart i.from.home ∷ [] in
-    quiet_row i told (line.SentOn p (length ids)) (sends_on to ids ++ tail) ps tt refl refl (both_calm (sends_on to ids) tail (sends_calm to ids) ((refl, refl), (tt, tt))) e
+leaves_row i told p ids (Known.Frozen to) ps e =
+    let tail = Says (Line.Migration Stage.Left p) ∷ to_kernel MessageKind.Restart i.from.home ∷ [] in
+    quiet_row i told (Line.SentOn p (length ids)) (sends_on to ids ++ tail) ps tt refl refl (both_calm (sends_on to ids) tail (sends_calm to ids) ((refl, refl), (tt, tt))) e
 leaves_row i told p ids k ps e = cc
 
 kernel_told_row : (pt : Point) (m : ℕ) (i : MsgId) (t : Told) (p : Pid) (room : Bool × ℕ × ℕ) (x : PlainProcess) (k : MessageKind) → t.kind ≡ k → HandlesBy i (Some t) (kernel_told pt m i p room x k)
-kernel_told_row pt m i t p room x kind.Ask is ps e = accepts_row i (Some t) i.from.home p room.0 room.1 room.2 ps e
-kernel_told_row pt m i t p room x kind.Refuse is ps e = back_row i (Some t) (line.Stays p) ps tt refl (ap lets_go is) e
-kernel_told_row pt m i t p room x kind.PullState is ps e = quiet_row i (Some t) (line.Proto i) (to_kernel kind.State i.from.home ∷ []) ps refl refl refl (tt, tt) e
-kernel_told_row pt m i t p room x kind.State is ps e = chunk_row i (Some t) p (pt.view.asked p == chunks_of x) ps e
-kernel_told_row pt m i t p room x kind.PullBlock is ps e = quiet_row i (Some t) (line.Proto i) (to_kernel kind.Memory i.from.home ∷ []) ps refl refl refl (tt, tt) e
-kernel_told_row pt m i t p room x kind.Memory is ps e = block_row i (Some t) p (pt.view.asked p == pieces_of x) ps e
-kernel_told_row pt m i t p room x kind.AllTaken is ps e = leaves_row i (Some t) p (pt.view.queue m p ++ pt.view.held m p) (pt.view.known m p) ps e
-kernel_told_row pt m i t p room x kind.Restart is ps e = back_row i (Some t) (line.Migration stage.Restarted p) ps tt refl (ap lets_go is) e
+kernel_told_row pt m i t p room x MessageKind.Ask is ps e = accepts_row i (Some t) i.from.home p room.0 room.1 room.2 ps e
+kernel_told_row pt m i t p room x MessageKind.Refuse is ps e = back_row i (Some t) (Line.Stays p) ps tt refl (ap lets_go is) e
+kernel_told_row pt m i t p room x MessageKind.PullState is ps e = quiet_row i (Some t) (Line.Proto i) (to_kernel MessageKind.State i.from.home ∷ []) ps refl refl refl (tt, tt) e
+kernel_told_row pt m i t p room x MessageKind.State is ps e = chunk_row i (Some t) p (pt.view.asked p == chunks_of x) ps e
+kernel_told_row pt m i t p room x MessageKind.PullBlock is ps e = quiet_row i (Some t) (Line.Proto i) (to_kernel MessageKind.Memory i.from.home ∷ []) ps refl refl refl (tt, tt) e
+kernel_told_row pt m i t p room x MessageKind.Memory is ps e = block_row i (Some t) p (pt.view.asked p == pieces_of x) ps e
+kernel_told_row pt m i t p room x MessageKind.AllTaken is ps e = leaves_row i (Some t) p (pt.view.queue m p ++ pt.view.held m p) (pt.view.known m p) ps e
+kernel_told_row pt m i t p room x MessageKind.Restart is ps e = back_row i (Some t) (Line.Migration Stage.Restarted p) ps tt refl (ap lets_go is) e
 kernel_told_row pt m i t p room x k is ps e = cc
 
 kernel_hears_row : (b : Boot) (pt : Point) (m : ℕ) (i : MsgId) (t : Told) (a : About) → HandlesBy i (Some t) (kernel_hears b pt m i t.kind a)
@@ -213,30 +181,29 @@ kernel_hears_row b pt m i t (Of p) ps e =
 kernel_hears_row b pt m i t a ps e = cc
 
 server_row : (pt : Point) (i : MsgId) (t : Told) (k : MessageKind) → HandlesBy i (Some t) (server_told pt i t k)
-server_row pt i t kind.Update ps e = quiet_row i (Some t) (line.Updated i _) [] ps refl refl refl tt e
+server_row pt i t MessageKind.Update ps e = quiet_row i (Some t) (Line.Updated i _) [] ps refl refl refl tt e
 server_row pt i t k ps e = cc
 
-moves_row : (m : ℕ) (i : MsgId) (told : Option Told) (p : Pid) (to : ℕ) (c : Bool) → HandlesBy i told (Some (if c then Says (line.Here i) ∷ [] else Says (line.Migration stage.Frozen p) ∷ Says (line.Migration stage.Asked p) ∷ to_kernel kind.Ask to ∷ []))
-moves_row m i told p to true ps e = quiet_row i told (line.Here i) [] ps refl refl refl tt e
-moves_row m i told p to false ps e = quiet_row i told (line.Migration stage.Frozen p) (Says (line.Migration stage.Asked p) ∷ to_kernel kind.Ask to ∷ []) ps tt refl refl ((refl, refl), (tt, tt)) e
+moves_row : (m : ℕ) (i : MsgId) (told : Option Told) (p : Pid) (to : ℕ) (c : Bool) → HandlesBy i told (Some (if c then Says (Line.Here i) ∷ [] else Says (Line.Migration Stage.Frozen p) ∷ Says (Line.Migration Stage.Asked p) ∷ to_kernel MessageKind.Ask to ∷ []))
+moves_row m i told p to true ps e = quiet_row i told (Line.Here i) [] ps refl refl refl tt e
+moves_row m i told p to false ps e = quiet_row i told (Line.Migration Stage.Frozen p) (Says (Line.Migration Stage.Asked p) ∷ to_kernel MessageKind.Ask to ∷ []) ps tt refl refl ((refl, refl), (tt, tt)) e
 
 here_told_row : (pt : Point) (m : ℕ) (i : MsgId) (t : Told) (k : MessageKind) → HandlesBy i (Some t) (here_told pt m i t k)
-here_told_row pt m i t kind.Migrate ps e = moves_row m i (Some t) t.receiver (target_of (Some t)) (m == target_of (Some t)) ps e
-here_told_row pt m i t kind.Update ps e = quiet_row i (Some t) (line.Updated i _) [] ps refl refl refl tt e
+here_told_row pt m i t MessageKind.Migrate ps e = moves_row m i (Some t) t.receiver (target_of (Some t)) (m == target_of (Some t)) ps e
+here_told_row pt m i t MessageKind.Update ps e = quiet_row i (Some t) (Line.Updated i _) [] ps refl refl refl tt e
 here_told_row pt m i t k ps e = cc
 
 ended_told_row : (i : MsgId) (t : Told) (k : MessageKind) → HandlesBy i (Some t) (ended_told i k)
-ended_told_row i t kind.Migrate ps e = quiet_row i (Some t) (line.NoMove i) [] ps refl refl refl tt e
-ended_told_row i t kind.Update ps e = quiet_row i (Some t) (line.Updated i 0) [] ps refl refl refl tt e
+ended_told_row i t MessageKind.Migrate ps e = quiet_row i (Some t) (Line.NoMove i) [] ps refl refl refl tt e
+ended_told_row i t MessageKind.Update ps e = quiet_row i (Some t) (Line.Updated i 0) [] ps refl refl refl tt e
 ended_told_row i t k ps e = cc
 
 process_told_row : (pt : Point) (m : ℕ) (i : MsgId) (t : Told) (k : Known) → HandlesBy i (Some t) (process_told pt m i t k)
-process_told_row pt m i t view.Unknown ps e = cc
-process_told_row pt m i t view.Here ps e = here_told_row pt m i t t.kind ps e
-process_told_row pt m i t (view.Frozen to) ps e = quiet_row i (Some t) (line.Held i) [] ps refl refl refl tt e
-process_told_row pt m i t (view.Incoming from) ps e = quiet_row i (Some t) (line.Held i) [] ps refl refl refl tt e
-process_told_row pt m i t (view.Forward at moves) ps e = forwards_row pt i (Some t) t.kind manager at ps e
-process_told_row pt m i t view.Ended ps e = ended_told_row i t t.kind ps e
+process_told_row pt m i t Known.Unknown ps e = cc
+process_told_row pt m i t Known.Here ps e = here_told_row pt m i t t.kind ps e
+process_told_row pt m i t (Known.Forward at moves) ps e = forwards_row pt i (Some t) t.kind manager at ps e
+process_told_row pt m i t Known.Ended ps e = ended_told_row i t t.kind ps e
+process_told_row pt m i t _ ps e = quiet_row i (Some t) (Line.Held i) [] ps refl refl refl tt e
 
 hears_row : (b : Boot) (pt : Point) (m : ℕ) (i : MsgId) (told : Option Told) → HandlesBy i told (hears b pt m i told)
 hears_row b pt m i None ps e = cc

@@ -1,6 +1,5 @@
 -- What holds of each state from which less is left holds of all: what is left to do comes to an end.
-use Rattle.std.proofs.Common.{ℕ, zero, suc, ◌<◌, ◌≤◌, arith}
-use Rattle.dm_settlelaws.specs.Left.{IsLess, Left, Messages, Numbers, Packets, Releases}
+use Rattle.dm_settlelaws.proofs.Names.{ℕ, zero, suc, ◌<◌, ◌≤◌, arith, IsLess, Left, Messages, Numbers, Packets, Releases}
 
 -- it holds of a state, once it holds of each from which less is left
 abbrev pub Falls : (Left → Type 0) → Type 0

@@ -1,3 +1,4 @@
+pub mod Names
 pub mod Wires
 pub mod RestsPairs
 pub mod RestsParts

@@ -1,29 +1,8 @@
 -- Where not all is quiet a pass of a settle has something to do.
-use Rattle.std.proofs.Common.{◌≡◌, ◌≢◌, ◌⊎◌, ℕ, zero, suc, ◌<◌, ◌≤◌, ◌==◌, Bool, true, false, List, [], ◌∷◌, ◌++◌, length, nat_lt, refl, ap, ◌∙◌, sym, subst, inl, inr, arith}
-use Rattle.std.specs.Prelude.{if◌then◌else◌}
-use Rattle.std.specs.declared.option.Option.{Option}
-use Rattle.std.specs.declared.option.Option.TheVariants.{None, Some}
-use Rattle.std.proofs.lemmas.Bool.{false≢true}
-use Rattle.std.proofs.lemmas.Bool.Decides.{leb_tells, nat_tests}
-use Rattle.dm_onekernel.specs.declared.boot.Boot.{Boot}
-use Rattle.dm_schedule.specs.declared.Directive.{Directive}
-use Rattle.dm_schedule.specs.declared.Step.{Step}
-use Rattle.dm_schedule.specs.declared.Step.TheVariants as step
-use Rattle.dm_line.specs.declared.line.Load.TheVariants as load
-use Rattle.dm_line.specs.declared.pass.Pass.{Pass}
-use Rattle.dm_line.specs.declared.pass.Pass.TheVariants.{Settle}
-use Rattle.dm_line.specs.Todo.{Next, Todo, Two, all_of, begin_pass, below, here_or_later, in_pass, is_over, next, next_delivery, next_directive, next_pass, next_turn, or, pairs_of, pairs_with, pass_begun, settles, takes_turn}
-use Rattle.dm_rule.specs.Good.{first_undelivered, next_step, undelivered}
-use Rattle.dm_rule.specs.Laws.{Leads}
-use Rattle.dm_rule.specs.Pairs.{PairStands}
-use Rattle.dm_rule.specs.Point.{Point, first_point}
-use Rattle.dm_rule.specs.Quiet.{IsQuiet, has_mail, is_quiet}
-use Rattle.dm_rule.specs.View.{Pair, View}
-use Rattle.dm_rule.proofs.Pairs.{pairs_stand_always}
-use Rattle.dm_rule.proofs.QuietTests.{passes_quiet, quiet_passes}
-use Rattle.dm_settlelaws.specs.Laws.{SettlesAlways}
-use Rattle.dm_settlelaws.specs.Passes.{IsSettleStep, SettleGoes}
-use Rattle.dm_settlelaws.specs.Rests.{PairRests}
+use Rattle.dm_settlelaws.proofs.Names.{◌≡◌, ◌≢◌, ◌⊎◌, ℕ, zero, suc, ◌<◌, ◌≤◌, ◌==◌, Bool, true, false, List, [], ◌∷◌, ◌++◌, length, nat_lt, refl, ap, ◌∙◌, sym, subst, inl, inr, arith, if◌then◌else◌, Option, None, Some, false≢true}
+use Rattle.dm_settlelaws.proofs.Names.{leb_tells, nat_tests, Boot, Directive, Step, Load, Pass, Settle, Next, Todo, Two, all_of, begin_pass, below, here_or_later, in_pass, is_over, next, next_delivery, next_directive, next_pass, next_turn}
+use Rattle.dm_settlelaws.proofs.Names.{or, pairs_of, pairs_with, pass_begun, settles, takes_turn, first_undelivered, next_step, undelivered, Leads, PairStands, Point, first_point, IsQuiet, has_mail, is_quiet, Pair, View, pairs_stand_always}
+use Rattle.dm_settlelaws.proofs.Names.{passes_quiet, quiet_passes, SettlesAlways, IsSettleStep, SettleGoes, PairRests}
 use Rattle.dm_settlelaws.proofs.RestsAlways.{pairs_rest_always}
 use Rattle.dm_settlelaws.proofs.Wires.{all_come}
 
@@ -41,16 +20,16 @@ IsDelivery v o = (d : Step × List Two) → o ≡ Some d → IsSettleStep v d.0
 
 here_delivery : (v : View) (p : Two) (ps : List Two) (o : Option ℕ) (later : Option (Step × List Two)) → undelivered v p.from p.to ≡ o → IsDelivery v later → IsDelivery v (here_or_later p ps o later)
 here_delivery v p ps None later is h d e = h d e
-here_delivery v p ps (Some k) later is h d e = let f : step.Deliver p.from p.to k ≡ d.0 = cc in subst (IsSettleStep v) f is
+here_delivery v p ps (Some k) later is h d e = let f : Step.Deliver p.from p.to k ≡ d.0 = cc in subst (IsSettleStep v) f is
 
 pub delivery_found : (v : View) (ps : List Two) → IsDelivery v (next_delivery (undelivered v) ps)
 delivery_found v [] d e = cc
 delivery_found v (p ∷ ps) d e = here_delivery v p ps (undelivered v p.from p.to) (next_delivery (undelivered v) ps) refl (delivery_found v ps) d e
 
-turn_or : (v : View) (t : Todo) (m : ℕ) (ms : List ℕ) (b : Bool) (o : Option Next) → has_mail v m ≡ b → FoundBy v t o → FoundBy v t (if b then next (step.Turn m) (record t { pairs = []; machines = ms }) else o)
+turn_or : (v : View) (t : Todo) (m : ℕ) (ms : List ℕ) (b : Bool) (o : Option Next) → has_mail v m ≡ b → FoundBy v t o → FoundBy v t (if b then next (Step.Turn m) (record t { pairs = []; machines = ms }) else o)
 turn_or v t m ms false o is h n e = h n e
 turn_or v t m ms true o is h n e =
-    let k : Next = record { step = step.Turn m; left = record t { pairs = []; machines = ms } } in
+    let k : Next = record { step = Step.Turn m; left = record t { pairs = []; machines = ms } } in
     let f : k ≡ n = cc in
     subst (Found v t) f (record { step = is; pass = refl; behind = refl })
 
@@ -119,7 +98,7 @@ none_of first a c (x ∷ xs) ys apart e (inl same) g =
 none_of first a c (x ∷ xs) ys apart e (inr h) g = none_of first a c xs ys apart (none_two first (pairs_with x ys) (pairs_of xs ys) e).1 h g
 
 -- no turn of some machines
-no_turn_by : (takes : ℕ → Bool) (t : Todo) (m x : ℕ) (xs : List ℕ) (b : Bool) → takes x ≡ b → (if b then next (step.Turn x) (record t { pairs = []; machines = xs }) else next_turn takes t xs) ≡ None → (x ≡ m) ⊎ Has m xs
+no_turn_by : (takes : ℕ → Bool) (t : Todo) (m x : ℕ) (xs : List ℕ) (b : Bool) → takes x ≡ b → (if b then next (Step.Turn x) (record t { pairs = []; machines = xs }) else next_turn takes t xs) ≡ None → (x ≡ m) ⊎ Has m xs
     → (next_turn takes t xs ≡ None → Has m xs → takes m ≡ false) → takes m ≡ false
 no_turn_by takes t m x xs true is e h more = cc
 no_turn_by takes t m x xs false is e (inl same) more = subst (λ (j : ℕ). takes j ≡ false) same is
@@ -148,10 +127,10 @@ not_less m n h k = elim (leb_tells (suc m) n) [
 pub all_there : (p q : Pair) → PairStands p q → PairRests p q → first_undelivered 0 p.wire ≡ None → first_undelivered 0 q.wire ≡ None → AllThere p
 all_there p q s r out back =
     let taken : p.taken ≡ p.gone = not_less p.taken p.gone s.taken
-    (λ less_. elim (r.there p.taken (all_come p.wire 0 (load.Data p.taken) out (r.sent p.taken less_))) [ inl t ↦ omega (arith, t) | inr kept ↦ false≢true (sym r.next ∙ kept) ]) in
+    (λ less_. elim (r.there p.taken (all_come p.wire 0 (Load.Data p.taken) out (r.sent p.taken less_))) [ inl t ↦ omega (arith, t) | inr kept ↦ false≢true (sym r.next ∙ kept) ]) in
     let heard : p.taken ≤ p.acked = elim r.answered [
       | inl z ↦ omega (arith, z)
-      | inr a ↦ r.heard p.taken (all_come q.wire 0 (load.Ack p.taken) back a)
+      | inr a ↦ r.heard p.taken (all_come q.wire 0 (Load.Ack p.taken) back a)
     ] in
     let under = s.acked in
     let all : p.gone ≡ length p.ids = elim r.gone [ inl e ↦ e | inr e ↦ absurd (omega (arith, e, taken, heard)) ] in

@@ -1,48 +1,10 @@
 -- A turn of a settle, where no process moves and only user messages for processes and updates are on their way, leaves less to put.
-use Rattle.std.proofs.Common.{◌≡◌, ℕ, suc, ◌+◌, ◌-◌, ◌*◌, ◌<◌, ◌≤◌, ◌==◌, Bool, true, false, List, [], ◌∷◌, refl, ap, ◌∙◌, sym, subst, inl, inr, arith, suc-mul, mul-one}
-use Rattle.std.specs.Prelude.{if◌then◌else◌}
-use Rattle.std.specs.declared.option.Option.{Option}
-use Rattle.std.specs.declared.option.Option.TheVariants.{None, Some}
-use Rattle.std.proofs.lemmas.Bool.{cases_Bool}
-use Rattle.dm_link.specs.declared.Pid.{Pid}
-use Rattle.dm_link.specs.Names.{pid_of}
-use Rattle.dm_message.specs.declared.MsgId.{MsgId}
-use Rattle.dm_message.specs.declared.kind.MessageKind.{MessageKind}
-use Rattle.dm_message.specs.declared.kind.MessageKind.TheVariants as kind
-use Rattle.dm_message.specs.Ids.{id_eq, id_of}
-use Rattle.dm_message.specs.Plain.{PlainMessage}
-use Rattle.dm_onekernel.specs.declared.boot.Boot.{Boot}
-use Rattle.dm_onekernel.specs.Boot.{IsValid}
-use Rattle.dm_laws.proofs.Equal.{id_eq-is, id_eq-same}
-use Rattle.dm_laws.proofs.Steps.{bind-is}
-use Rattle.dm_schedule.specs.declared.Step.{Step}
-use Rattle.dm_schedule.specs.declared.Step.TheVariants as step
-use Rattle.dm_line.specs.declared.line.Line.{Line}
-use Rattle.dm_line.specs.declared.line.Line.TheVariants as line
-use Rattle.dm_line.specs.Sets.{at_machine}
-use Rattle.dm_rule.specs.Addresses.{Receiver, is_told_back}
-use Rattle.dm_rule.specs.Homes.{to_of}
-use Rattle.dm_rule.specs.Laws.{Leads}
-use Rattle.dm_rule.specs.Parts.{Part, Says, Again, Owns, Spelled, puts, spelled}
-use Rattle.dm_rule.specs.Point.{Point, first_point, moved}
-use Rattle.dm_rule.specs.Quiet.{has_mail}
-use Rattle.dm_rule.specs.Rule.{group_of}
-use Rattle.dm_rule.specs.Spots.{Inbox, Spot, StandsOutside, StandsRight, standing, times}
-use Rattle.dm_rule.specs.Trails.{leads}
-use Rattle.dm_rule.specs.View.{Told, View, first_told, is_kernels, own_id, view_after}
+use Rattle.dm_settlelaws.proofs.Names.{◌≡◌, ℕ, suc, ◌+◌, ◌-◌, ◌*◌, ◌<◌, ◌≤◌, ◌==◌, Bool, true, false, List, [], ◌∷◌, refl, ap, ◌∙◌, sym, subst, inl, inr, arith, suc-mul, mul-one, if◌then◌else◌, Option, None, Some, cases_Bool, Pid, pid_of}
+use Rattle.dm_settlelaws.proofs.Names.{MsgId, MessageKind, id_eq, id_of, PlainMessage, Boot, IsValid, id_eq-is, id_eq-same, bind-is, Step, Line, at_machine, Receiver, is_told_back, to_of, Leads, Part, Says, Again, Owns, Spelled, puts}
+use Rattle.dm_settlelaws.proofs.Names.{spelled, Point, first_point, moved, has_mail, group_of, Inbox, Spot, StandsOutside, StandsRight, standing, times, leads, Told, View, first_told, is_kernels, own_id, view_after, group_is}
+use Rattle.dm_settlelaws.proofs.Names.{stands_once_always, hushed, Pairs-always, pair_home, onward, pair_same, says_view, tells_right_always, found_always, run_always, count, ByHolder, ByOwn, IsNamed, addresses_lead, weight, weight_to}
+use Rattle.dm_settlelaws.proofs.Names.{is_light, says_put}
 use Rattle.dm_rule.specs.View as view
-use Rattle.dm_rule.proofs.Groups.{group_is, stands_once_always}
-use Rattle.dm_rule.proofs.Hushed.{hushed}
-use Rattle.dm_rule.proofs.Pairs.{Pairs-always, pair_home}
-use Rattle.dm_rule.proofs.Pairs.Lines.{onward, pair_same, says_view}
-use Rattle.dm_rule.proofs.Telling.{tells_right_always}
-use Rattle.dm_rulelaws.proofs.Found.Always.{found_always}
-use Rattle.dm_rulelaws.proofs.RunsAlways.{run_always}
-use Rattle.dm_movelaws.specs.Ends.{count}
-use Rattle.dm_movelaws.specs.Trail.{ByHolder, ByOwn, IsNamed}
-use Rattle.dm_movelaws.proofs.Trail.Standing.{addresses_lead}
-use Rattle.dm_settlelaws.specs.Left.{weight, weight_to}
-use Rattle.dm_settlelaws.specs.Puts.{is_light, says_put}
 use Rattle.dm_settlelaws.proofs.Distances.{Knows, distance, nearer, within_steps}
 use Rattle.dm_settlelaws.proofs.Effects.{back_in, effect, line_takes_to}
 use Rattle.dm_settlelaws.proofs.FrontRows.{FrontLine, Goes, Shape, Stops, forwarded, turn_shape}
@@ -146,7 +108,7 @@ goes_alone v w n m at i t known told back near =
     omega (arith, here, there, more, one)
 
 goes_telling : (v w : View) (n m at to : ℕ) (i u : MsgId) (t new : Told) → m < n → w.known ≡ v.known → w.told i ≡ Some t → is_told_back t.kind ≡ true → distance v.known t.receiver (n - 1) m ≡ suc (distance v.known t.receiver (n - 1) at)
-    → w.told u ≡ Some new → new.kind ≡ kind.Update → gained (value w n) ((to, u) ∷ (at, i) ∷ []) + 2 ≤ value w n m i
+    → w.told u ≡ Some new → new.kind ≡ MessageKind.Update → gained (value w n) ((to, u) ∷ (at, i) ∷ []) + 2 ≤ value w n m i
 goes_telling v w n m at to i u t new small known told back near put update =
     let d = distance v.known t.receiver (n - 1) at in
     let here : value w n m i ≡ suc d * cost n t.kind = worth_is v w n m i t known told ∙ ap (λ (k : ℕ). k * cost n t.kind) near in
@@ -161,9 +123,9 @@ goes_telling v w n m at to i u t new small known told back near put update =
 
 -- the groups
 stops_falls : (b : Boot) (pt : Point) (m : ℕ) (i : MsgId) (is : List MsgId) (l : Line) (ps : List Part) (rest : Spelled) (n : ℕ) → LightWay n pt.view → m < n → pt.view.inbox m ≡ i ∷ is → FrontLine i l → ps ≡ Says l ∷ []
-    → spelled (moved pt (line.Head (step.Turn m)) pt.kernel) ps ≡ Some rest → Falls n pt.view rest.point.view (all_routes ps)
+    → spelled (moved pt (Line.Head (Step.Turn m)) pt.kernel) ps ≡ Some rest → Falls n pt.view rest.point.view (all_routes ps)
 stops_falls b pt m i is l ps rest n h small front f are said =
-    let start = moved pt (line.Head (step.Turn m)) pt.kernel in
+    let start = moved pt (Line.Head (Step.Turn m)) pt.kernel in
     let o = onward start (Says l) [] rest (ap (spelled start) (sym are) ∙ said) in
     let end : record { lines = []; point = o.next } ≡ o.rest = let e = o.on in cc in
     let at : rest.point.view ≡ view_after start.view l = ap (λ (q : Point). q.view) (sym o.end) ∙ ap (λ (x : Spelled). x.point.view) (sym end) ∙ says_view start l [] rest o in
@@ -174,20 +136,20 @@ stops_falls b pt m i is l ps rest n h small front f are said =
 
 goes_falls : (b : Boot) (es : List Step) (pt : Point) (m : ℕ) (i : MsgId) (is : List MsgId) (t : Told) (ps : List Part) (rest : Spelled) (at moves : ℕ) (sender : Pid) (to : ℕ) (back : Bool) → IsValid b → Leads b (first_point b) es pt
     → LightWay pt.kernel.machines pt.view → m < pt.kernel.machines → pt.view.inbox m ≡ i ∷ is → pt.view.told i ≡ Some t → is_light (Some t) ≡ true → (t.receiver.num == 0) ≡ false → pt.view.known m t.receiver ≡ view.Forward at moves
-    → is_told_back t.kind ≡ back → ps ≡ Says (line.Forwarded i at) ∷ Again i at ∷ (if back then Owns kind.Update sender to ∷ [] else [])
-    → spelled (moved pt (line.Head (step.Turn m)) pt.kernel) ps ≡ Some rest → Falls pt.kernel.machines pt.view rest.point.view (all_routes ps)
+    → is_told_back t.kind ≡ back → ps ≡ Says (Line.Forwarded i at) ∷ Again i at ∷ (if back then Owns MessageKind.Update sender to ∷ [] else [])
+    → spelled (moved pt (Line.Head (Step.Turn m)) pt.kernel) ps ≡ Some rest → Falls pt.kernel.machines pt.view rest.point.view (all_routes ps)
 goes_falls b es pt m i is t ps rest at moves sender to back valid way h small front told light num known told_back are said =
     let n = pt.kernel.machines in
     let v = pt.view in
-    let start = moved pt (line.Head (step.Turn m)) pt.kernel in
-    let tail = Again i at ∷ (if back then Owns kind.Update sender to ∷ [] else []) in
+    let start = moved pt (Line.Head (Step.Turn m)) pt.kernel in
+    let tail = Again i at ∷ (if back then Owns MessageKind.Update sender to ∷ [] else []) in
     let f = forwarded i at in
-    let o = onward start (Says (line.Forwarded i at)) tail rest (ap (spelled start) (sym are) ∙ said) in
-    let first_view : o.next.view ≡ view_after start.view (line.Forwarded i at) = says_view start (line.Forwarded i at) tail rest o in
-    let first = first_carries n v o.next.view m (line.Forwarded i at) i is f front first_view in
-    let home : Home o.next.view.pair = subst Home (sym (ap (λ (x : View). x.pair) first_view ∙ pair_same start.view (line.Forwarded i at) refl)) (λ a. (pair_home v a (Pairs-always b es pt way)).taken) in
+    let o = onward start (Says (Line.Forwarded i at)) tail rest (ap (spelled start) (sym are) ∙ said) in
+    let first_view : o.next.view ≡ view_after start.view (Line.Forwarded i at) = says_view start (Line.Forwarded i at) tail rest o in
+    let first = first_carries n v o.next.view m (Line.Forwarded i at) i is f front first_view in
+    let home : Home o.next.view.pair = subst Home (sym (ap (λ (x : View). x.pair) first_view ∙ pair_same start.view (Line.Forwarded i at) refl)) (λ a. (pair_home v a (Pairs-always b es pt way)).taken) in
     let told_one : o.next.view.told i ≡ Some t = first.kept i t told in
-    let again = onward o.next (Again i at) (if back then Owns kind.Update sender to ∷ [] else []) o.rest o.on in
+    let again = onward o.next (Again i at) (if back then Owns MessageKind.Update sender to ∷ [] else []) o.rest o.on in
     let (u, there, lines) = bind-is (o.next.view.told i) (λ u. Some (puts o.next.view at i u.kind u.receiver)) again.lines again.lines_are in
     let put = puts_lead n o.next again.next at i u.kind u.receiver again.lines home lines again.leads in
     let told_two : again.next.view.told i ≡ Some t = put_kept n o.next.view again.next.view at i u.kind u.receiver i t put told_one in
@@ -195,14 +157,14 @@ goes_falls b es pt m i is t ps rest at moves sender to back valid way h small fr
     let stands : 1 ≤ times i (v.inbox m) = subst (λ (xs : List MsgId). 1 ≤ times i xs) (sym front) (first_times i is) in
     let near = nearer v t.receiver (n - 1) (pt.addresses (Receiver i)).moves m at moves (leads_here b es pt m i t valid way told stands num) known in
     let counted : again.next.view.count ≡ v.count =
-    put.count ∙ ap (λ (x : Option Told). if view.is_own i x then at_machine o.next.view.count i.from.home (o.next.view.count i.from.home + 1) else o.next.view.count) told_one ∙ ap (λ (x : View). x.count) first_view ∙ (hushed start.view (line.Forwarded i at) refl).count in
+    put.count ∙ ap (λ (x : Option Told). if view.is_own i x then at_machine o.next.view.count i.from.home (o.next.view.count i.from.home + 1) else o.next.view.count) told_one ∙ ap (λ (x : View). x.count) first_view ∙ (hushed start.view (Line.Forwarded i at) refl).count in
     let acts : again.next.view.acting ≡ m = put.acting ∙ ap (λ (x : View). x.acting) first_view ∙ f.acting start.view in
     let end : o.rest.point ≡ rest.point = o.end in
     let end_two : again.rest.point ≡ o.rest.point = again.end in
     let fresh : v.told (id_of (pid_of m 0) (v.count m)) ≡ None = (run_always b es pt valid way).run.based.phased.sane.numbered m (v.count m) (omega arith) in
     let own : own_id again.next.view ≡ id_of (pid_of m 0) (v.count m) =
     ap (λ (a : ℕ). id_of (pid_of a 0) (again.next.view.count a)) acts ∙ ap (λ (c : ℕ → ℕ). id_of (pid_of m 0) (c m)) counted in
-    let told_first : (j : MsgId) → v.told j ≡ None → o.next.view.told j ≡ None = λ j e. ap (λ (x : View). x.told j) first_view ∙ ap (λ (g : MsgId → Option Told). g j) (hushed start.view (line.Forwarded i at) refl).told ∙ e in
+    let told_first : (j : MsgId) → v.told j ≡ None → o.next.view.told j ≡ None = λ j e. ap (λ (x : View). x.told j) first_view ∙ ap (λ (g : MsgId → Option Told). g j) (hushed start.view (Line.Forwarded i at) refl).told ∙ e in
     let untold : again.next.view.told (own_id again.next.view) ≡ None =
     ap again.next.view.told own ∙ put_untold n o.next.view again.next.view at i u.kind u.receiver (id_of (pid_of m 0) (v.count m)) t put told_one (told_first (id_of (pid_of m 0) (v.count m)) fresh) in
     subst (λ (q : Point). Falls n v q.view (all_routes ps)) (end_two ∙ end)
@@ -210,7 +172,7 @@ goes_falls b es pt m i is t ps rest at moves sender to back valid way h small fr
   where
     ends : (n : ℕ) (v : View) (next : Point) (last : Spelled) (m at to : ℕ) (i : MsgId) (t : Told) (sender : Pid) (back : Bool) → LightWay n v → m < n → Carries n v next.view m i ((at, i) ∷ []) → next.view.told i ≡ Some t → is_told_back t.kind ≡ back
         → distance v.known t.receiver (n - 1) m ≡ suc (distance v.known t.receiver (n - 1) at) → Home next.view.pair → next.view.told (own_id next.view) ≡ None
-        → spelled next (if back then Owns kind.Update sender to ∷ [] else []) ≡ Some last → (ps : List Part) → ps ≡ Says (line.Forwarded i at) ∷ Again i at ∷ (if back then Owns kind.Update sender to ∷ [] else []) → Falls n v last.point.view (all_routes ps)
+        → spelled next (if back then Owns MessageKind.Update sender to ∷ [] else []) ≡ Some last → (ps : List Part) → ps ≡ Says (Line.Forwarded i at) ∷ Again i at ∷ (if back then Owns MessageKind.Update sender to ∷ [] else []) → Falls n v last.point.view (all_routes ps)
     ends n v next last m at to i t sender false h small c told back near home untold on ps are =
         let end : record { lines = []; point = next } ≡ last = cc in
         let routes : all_routes ps ≡ 1 = ap all_routes are in
@@ -218,12 +180,12 @@ goes_falls b es pt m i is t ps rest at moves sender to back valid way h small fr
         subst (λ (x : Spelled). Falls n v x.point.view (all_routes ps)) end
         (carries_fall n v next.view m i ((at, i) ∷ []) (all_routes ps) h c small (omega (arith, routes, most)))
     ends n v next last m at to i t sender true h small c told back near home untold on ps are =
-        let o = onward next (Owns kind.Update sender to) [] last on in
-        let new : Told = record { kind = kind.Update; receiver = sender; about = next.view.topic } in
-        let put = puts_lead n next o.next to (own_id next.view) kind.Update sender o.lines home o.lines_are o.leads in
-        let tells : o.next.view.told (own_id next.view) ≡ Some new = put_told n next.view o.next.view to (own_id next.view) kind.Update sender put ∙ ap (λ (x : Option Told). Some (first_told x new)) untold in
-        let all = carries_put n v next.view o.next.view m i ((at, i) ∷ []) to (own_id next.view) kind.Update sender c put (ap is_light tells) in
-        let kept = put_kept n next.view o.next.view to (own_id next.view) kind.Update sender i t put told in
+        let o = onward next (Owns MessageKind.Update sender to) [] last on in
+        let new : Told = record { kind = MessageKind.Update; receiver = sender; about = next.view.topic } in
+        let put = puts_lead n next o.next to (own_id next.view) MessageKind.Update sender o.lines home o.lines_are o.leads in
+        let tells : o.next.view.told (own_id next.view) ≡ Some new = put_told n next.view o.next.view to (own_id next.view) MessageKind.Update sender put ∙ ap (λ (x : Option Told). Some (first_told x new)) untold in
+        let all = carries_put n v next.view o.next.view m i ((at, i) ∷ []) to (own_id next.view) MessageKind.Update sender c put (ap is_light tells) in
+        let kept = put_kept n next.view o.next.view to (own_id next.view) MessageKind.Update sender i t put told in
         let end : record { lines = []; point = o.next } ≡ o.rest = let e = o.on in cc in
         let routes : all_routes ps ≡ 2 = ap all_routes are in
         let most = goes_telling v o.next.view n m at to i (own_id next.view) t new small all.known kept back near tells refl in
@@ -231,12 +193,12 @@ goes_falls b es pt m i is t ps rest at moves sender to back valid way h small fr
         (carries_fall n v o.next.view m i ((to, own_id next.view) ∷ (at, i) ∷ []) (all_routes ps) h all small (omega (arith, routes, most)))
 
 shape_falls : (b : Boot) (es : List Step) (pt : Point) (m : ℕ) (i : MsgId) (is : List MsgId) (t : Told) (ps : List Part) (rest : Spelled) → IsValid b → Leads b (first_point b) es pt → LightWay pt.kernel.machines pt.view → m < pt.kernel.machines
-    → pt.view.inbox m ≡ i ∷ is → pt.view.told i ≡ Some t → is_light (Some t) ≡ true → Shape pt.view m i t ps → spelled (moved pt (line.Head (step.Turn m)) pt.kernel) ps ≡ Some rest → Falls pt.kernel.machines pt.view rest.point.view (all_routes ps)
+    → pt.view.inbox m ≡ i ∷ is → pt.view.told i ≡ Some t → is_light (Some t) ≡ true → Shape pt.view m i t ps → spelled (moved pt (Line.Head (Step.Turn m)) pt.kernel) ps ≡ Some rest → Falls pt.kernel.machines pt.view rest.point.view (all_routes ps)
 shape_falls b es pt m i is t ps rest valid way h small front told light (Stops l f are) said = stops_falls b pt m i is l ps rest pt.kernel.machines h small front f are said
 shape_falls b es pt m i is t ps rest valid way h small front told light (Goes at moves sender to num known are) said =
     goes_falls b es pt m i is t ps rest at moves sender to (is_told_back t.kind) valid way h small front told light num known refl are said
 
-pub turn_puts : (b : Boot) (es : List Step) (pt : Point) (m : ℕ) (w : Spelled) → IsValid b → Leads b (first_point b) es pt → LightWay pt.kernel.machines pt.view → m < pt.kernel.machines → has_mail pt.view m ≡ true → group_of b pt (step.Turn m) ≡ Some w
+pub turn_puts : (b : Boot) (es : List Step) (pt : Point) (m : ℕ) (w : Spelled) → IsValid b → Leads b (first_point b) es pt → LightWay pt.kernel.machines pt.view → m < pt.kernel.machines → has_mail pt.view m ≡ true → group_of b pt (Step.Turn m) ≡ Some w
     → Falls pt.kernel.machines pt.view w.point.view (count says_put w.lines)
 turn_puts b es pt m w valid way h small mail e =
     let (i, is, front) = some_mail (pt.view.inbox m) mail in
@@ -244,7 +206,7 @@ turn_puts b es pt m w valid way h small mail e =
     let light = light_box pt.kernel.machines pt.view m i h small stands in
     let (t, told) = told_of (pt.view.told i) light in
     let light_t : is_light (Some t) ≡ true = ap is_light (sym told) ∙ light in
-    let g = group_is b pt (step.Turn m) w e in
+    let g = group_is b pt (Step.Turn m) w e in
     let shape = turn_shape b pt m i is t g.parts front told light_t (tells_right_always b es pt valid way) h.still g.is in
     let falls = shape_falls b es pt m i is t g.parts g.rest valid way h small front told light_t shape g.said in
-    subst (λ (k : ℕ). Falls pt.kernel.machines pt.view w.point.view k) (sym (group_count b pt (step.Turn m) w g.parts e g.is)) (subst (λ (q : Point). Falls pt.kernel.machines pt.view q.view (all_routes g.parts)) g.point falls)
+    subst (λ (k : ℕ). Falls pt.kernel.machines pt.view w.point.view k) (sym (group_count b pt (Step.Turn m) w g.parts e g.is)) (subst (λ (q : Point). Falls pt.kernel.machines pt.view q.view (all_routes g.parts)) g.point falls)

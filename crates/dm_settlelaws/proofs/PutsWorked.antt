@@ -1,24 +1,6 @@
 -- What a settle puts, computed: a message goes along a stale address, is sent on once, and its sender is told.
-use Rattle.std.proofs.Common.{◌≡◌, ℕ, zero, suc, ◌+◌, Bool, true, List, [], ◌∷◌, refl}
-use Rattle.std.specs.declared.option.Option.{Option}
-use Rattle.std.specs.declared.option.Option.TheVariants.{None, Some}
-use Rattle.dm_link.specs.Names.{pid_of}
-use Rattle.dm_message.specs.Ids.{id_of}
-use Rattle.dm_processor.specs.Instructions.{instruction}
-use Rattle.dm_onekernel.specs.declared.boot.Boot.{Boot}
-use Rattle.dm_onekernel.specs.Options.{bind}
-use Rattle.dm_schedule.specs.declared.Directive.{Directive}
-use Rattle.dm_schedule.specs.declared.Directive.TheVariants as directive
-use Rattle.dm_schedule.specs.declared.Step.TheVariants as step
-use Rattle.dm_line.specs.Todo.{Next, Todo, all_of}
-use Rattle.dm_rule.specs.Good.{next_step}
-use Rattle.dm_rule.specs.Point.{Point, first_point}
-use Rattle.dm_rule.specs.Rule.{group_of}
-use Rattle.dm_rule.specs.View.{Known, Forward, Here}
-use Rattle.dm_rule.proofs.Worked.{hi}
-use Rattle.dm_movelaws.specs.Ends.{count}
-use Rattle.dm_settlelaws.specs.Left.{one_each, weight_of}
-use Rattle.dm_settlelaws.specs.Puts.{is_light, says_put}
+use Rattle.dm_settlelaws.proofs.Names.{◌≡◌, ℕ, zero, suc, ◌+◌, Bool, true, List, [], ◌∷◌, refl, Option, None, Some, pid_of, id_of, instruction, Boot, bind, Directive, Step, Next, Todo, all_of, next_step, Point, first_point, group_of, Known}
+use Rattle.dm_settlelaws.proofs.Names.{Forward, Here, hi, count, one_each, weight_of, is_light, says_put}
 
 -- at most so many groups of directives: how many messages they put, and where they lead
 record Came : Type 0 where
@@ -53,10 +35,10 @@ seen x = record {
 
 -- process 1.3 moves to machine 0, and all comes to rest; then process 0.3 sends it a message, to machine 1
 abbrev before : List Directive
-before = directive.One (step.Migrate (pid_of 1 3) 0) ∷ directive.Settle ∷ directive.One (step.Turn 0) ∷ []
+before = Directive.One (Step.Migrate (pid_of 1 3) 0) ∷ Directive.Settle ∷ Directive.One (Step.Turn 0) ∷ []
 
 abbrev from_there : Option Came → Option Came
-from_there o = bind o (λ x. comes 20 hi (all_of (directive.Settle ∷ [])) (record { puts = 0; point = x.point }))
+from_there o = bind o (λ x. comes 20 hi (all_of (Directive.Settle ∷ [])) (record { puts = 0; point = x.point }))
 
 pub on_its_way : bind (comes 60 hi (all_of before) (record { puts = 0; point = first_point hi })) (λ x. Some (record (seen x) { puts = 0 })) ≡ Some (record { puts = 0; way = 1; light = true; here = Here; there = Forward 0 1 })
 unfolding instruction

@@ -1,24 +1,6 @@
 -- Wherever the rule leads, on each pair of machines each has done its part.
-use Rattle.std.proofs.Common.{◌≡◌, ℕ, ◌≤◌, ◌==◌, Bool, true, false, List, [], ◌∷◌, refl, ap, ◌∙◌, subst, inl, arith}
-use Rattle.std.specs.Prelude.{slice_get}
-use Rattle.std.specs.declared.option.Option.TheVariants.{Some}
-use Rattle.std.proofs.lemmas.Bool.Decides.{nat_tests}
-use Rattle.dm_onekernel.specs.declared.boot.Boot.{Boot}
-use Rattle.dm_schedule.specs.declared.Step.{Step}
-use Rattle.dm_schedule.specs.declared.Step.TheVariants as step
-use Rattle.dm_line.specs.declared.line.Line.TheVariants as line
-use Rattle.dm_rule.specs.Laws.{IsStep, Leads}
-use Rattle.dm_rule.specs.Migrating.{migrates}
-use Rattle.dm_rule.specs.Parts.{Says, Spelled, spelled}
-use Rattle.dm_rule.specs.Point.{Point, first_point, moved}
-use Rattle.dm_rule.specs.Rule.{arrives, group_of, outstanding, resends}
-use Rattle.dm_rule.specs.View.{View, first_view}
-use Rattle.dm_rule.proofs.Groups.{arrives_net, group_is}
-use Rattle.dm_rule.proofs.Pairs.{Pairs, Pairs-group, Pairs-start}
-use Rattle.dm_rule.proofs.Pairs.Lines.{AllFit}
-use Rattle.dm_rule.proofs.Pairs.Migrating.{migrates_fit}
-use Rattle.dm_rule.proofs.Pairs.Turns.{resends_fit, turns_fit}
-use Rattle.dm_settlelaws.specs.Laws.{PairsRestAlways}
+use Rattle.dm_settlelaws.proofs.Names.{◌≡◌, ℕ, ◌==◌, false, List, [], ◌∷◌, refl, ap, ◌∙◌, subst, inl, arith, slice_get, Some, nat_tests, Boot, Step, Line, IsStep, Leads, migrates, Says, Spelled, spelled, Point, first_point, moved, arrives}
+use Rattle.dm_settlelaws.proofs.Names.{group_of, outstanding, resends, first_view, arrives_net, group_is, Pairs, Pairs-group, Pairs-start, AllFit, migrates_fit, resends_fit, turns_fit, PairsRestAlways, acked_out_by}
 use Rattle.dm_settlelaws.proofs.RestsComes.{arrives_rest, net_pairs}
 use Rattle.dm_settlelaws.proofs.RestsParts.{Rest, parts_rest}
 
@@ -32,32 +14,24 @@ rest_start b a c e = record {
   heard = λ n h. absurd h;
 }
 
-acked_out_by : (v : View) (m b : ℕ) (same : Bool) → (m == b) ≡ same → Pairs v → (v.pair m b).acked ≤ (v.pair m b).gone
-acked_out_by v m b false e h = let x = h.stand.apart m b e in let y = x.acked in let z = x.taken in omega (arith, y, z)
-acked_out_by v m b true e h =
-    let is : m ≡ b = grind (arith, nat_tests) in
-    let x = h.stand.home m in
-    let y : (v.pair m m).acked ≤ (v.pair m m).gone = (let p = x.acked in let q = x.gone in omega (arith, p, q)) in
-    subst (λ (n : ℕ). (v.pair m n).acked ≤ (v.pair m n).gone) is y
-
 flip : (a b : ℕ) → (a == b) ≡ false → (b == a) ≡ false
 flip a b e = grind (arith, nat_tests)
 
 pub rest_group : (b : Boot) (pt : Point) (d : Step) (w : Spelled) → IsStep pt.kernel.machines d → group_of b pt d ≡ Some w → Pairs pt.view → Rest pt.view.pair → Rest w.point.view.pair
-rest_group b pt (step.Turn m) w fit is pairs h =
-    let g = group_is b pt (step.Turn m) w is in
-    let begun = moved pt (line.Head (step.Turn m)) pt.kernel in
+rest_group b pt (Step.Turn m) w fit is pairs h =
+    let g = group_is b pt (Step.Turn m) w is in
+    let begun = moved pt (Line.Head (Step.Turn m)) pt.kernel in
     subst (λ (q : Point). Rest q.view.pair) g.point (parts_rest g.parts begun g.rest (turns_fit begun.view.pair b pt m (pt.view.inbox m) g.parts g.is) pairs h g.said)
-rest_group b pt (step.Tick m) w fit is pairs h =
-    let g = group_is b pt (step.Tick m) w is in
-    let begun = moved pt (line.Head (step.Tick m)) pt.kernel in
-    let says = Says (line.Resent m (outstanding pt.view m pt.kernel.machines)) ∷ resends pt.view m pt.kernel.machines in
+rest_group b pt (Step.Tick m) w fit is pairs h =
+    let g = group_is b pt (Step.Tick m) w is in
+    let begun = moved pt (Line.Head (Step.Tick m)) pt.kernel in
+    let says = Says (Line.Resent m (outstanding pt.view m pt.kernel.machines)) ∷ resends pt.view m pt.kernel.machines in
     let parts : says ≡ g.parts = let f = g.is in cc in
     let fits : AllFit pt.view.pair says = (refl, resends_fit pt.view m pt.kernel.machines (λ n. acked_out_by pt.view m n (m == n) refl pairs)) in
     subst (λ (q : Point). Rest q.view.pair) g.point (parts_rest says begun g.rest fits pairs h (ap (spelled begun) parts ∙ g.said))
-rest_group b pt (step.Deliver a c k) w fit is pairs h =
-    let g = group_is b pt (step.Deliver a c k) w is in
-    let begun = moved pt (line.Head (step.Deliver a c k)) pt.kernel in
+rest_group b pt (Step.Deliver a c k) w fit is pairs h =
+    let g = group_is b pt (Step.Deliver a c k) w is in
+    let begun = moved pt (Line.Head (Step.Deliver a c k)) pt.kernel in
     let apart = fit.2 in
     let ac : (a == c) ≡ false = grind (arith, nat_tests) in
     let f = pt.view.pair in
@@ -68,9 +42,9 @@ rest_group b pt (step.Deliver a c k) w fit is pairs h =
     let pairs_are = net_pairs comes begun g.rest (arrives_net a c (f a c) (f c a) o) said in
     subst (λ (q : Point). Rest q.view.pair) g.point
     (arrives_rest f g.rest.point.view.pair a c k o ac refl (pairs.stand.apart a c ac) (pairs.stand.apart c a (flip a c ac)) (pairs.kept a c) h pairs_are)
-rest_group b pt (step.Migrate p m) w fit is pairs h =
-    let g = group_is b pt (step.Migrate p m) w is in
-    let begun = moved pt (line.Head (step.Migrate p m)) pt.kernel in
+rest_group b pt (Step.Migrate p m) w fit is pairs h =
+    let g = group_is b pt (Step.Migrate p m) w is in
+    let begun = moved pt (Line.Head (Step.Migrate p m)) pt.kernel in
     let parts : migrates pt p ≡ g.parts = let x = g.is in cc in
     subst (λ (q : Point). Rest q.view.pair) g.point
     (parts_rest g.parts begun g.rest (subst (AllFit begun.view.pair) parts (migrates_fit begun.view.pair pt p)) pairs h g.said)

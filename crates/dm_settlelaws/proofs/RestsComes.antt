@@ -1,25 +1,9 @@
 -- A delivery keeps what has been done on each pair of machines.
-use Rattle.std.proofs.Common.{◌≡◌, ◌≢◌, ◌⊎◌, ℕ, zero, suc, ◌+◌, ◌<◌, ◌≤◌, ◌==◌, ◌&&◌, ◌||◌, not, Bool, true, false, List, [], ◌∷◌, ◌++◌, length, nat_lt, refl, ap, ◌∙◌, sym, subst, inl, inr, arith}
-use Rattle.std.specs.Prelude.{if◌then◌else◌, slice_get}
-use Rattle.std.specs.declared.option.Option.{Option}
-use Rattle.std.specs.declared.option.Option.TheVariants.{None, Some}
-use Rattle.std.proofs.lemmas.Bool.{false≢true}
-use Rattle.std.proofs.lemmas.Bool.Decides.{eqb_tells, nat_tests}
-use Rattle.dm_line.specs.declared.line.Line.{Line}
-use Rattle.dm_line.specs.declared.line.Line.TheVariants as line
-use Rattle.dm_line.specs.declared.line.Load.{Load}
-use Rattle.dm_line.specs.declared.line.Load.TheVariants as load
-use Rattle.dm_line.specs.Sets.{at_pair}
-use Rattle.dm_rule.specs.Parts.{Part, Says, Routes, Again, Owns, Transmits, Spelled, spelled, window}
-use Rattle.dm_rule.specs.Point.{Point}
-use Rattle.dm_rule.specs.Rule.{arrives, comes, has, kept_from, let_go, more, repeats, takes, takes_on}
-use Rattle.dm_rule.specs.View.{Pair, Sent, View, at_least, marked, view_after}
+use Rattle.dm_settlelaws.proofs.Names.{◌≡◌, ◌≢◌, ◌⊎◌, ℕ, zero, suc, ◌+◌, ◌<◌, ◌≤◌, ◌==◌, ◌&&◌, ◌||◌, not, Bool, true, false, List, [], ◌∷◌, ◌++◌, length, nat_lt, refl, ap, ◌∙◌, sym, subst, inl, inr, arith, if◌then◌else◌, slice_get, Option}
+use Rattle.dm_settlelaws.proofs.Names.{None, Some, false≢true, eqb_tells, nat_tests, Line, Load, at_pair, Part, Says, Routes, Again, Owns, Transmits, Spelled, spelled, window, Point, arrives, comes, has, kept_from, let_go, more, repeats}
+use Rattle.dm_settlelaws.proofs.Names.{takes, takes_on, Pair, Sent, View, at_least, marked, view_after, Apart, KeptStands, set_other, set_same, off, off_has, or_cases, onward, says_view, taken_pair, transmits_view, IsNet, IsNetLine}
+use Rattle.dm_settlelaws.proofs.Names.{PairRests, not_true, or_first, or_second}
 use Rattle.dm_rule.specs.View as view
-use Rattle.dm_rule.proofs.Pairs.Stand.{Apart, KeptStands, set_other, set_same}
-use Rattle.dm_rule.proofs.Pairs.Moves.{off, off_has, or_cases}
-use Rattle.dm_rule.proofs.Pairs.Lines.{onward, says_view, taken_pair, transmits_view}
-use Rattle.dm_rule.proofs.Groups.{IsNet, IsNetLine}
-use Rattle.dm_settlelaws.specs.Rests.{PairRests}
 use Rattle.dm_settlelaws.proofs.RestsPairs.{Comes, ack_back, ack_rests, acknowledged, data_back, data_rests, heard_of, repeated, sent_all}
 use Rattle.dm_settlelaws.proofs.RestsParts.{Rest, Two, rest_two}
 
@@ -31,47 +15,28 @@ abbrev pub early : ℕ → Pair → Pair
 early n p = record p { kept = n ∷ off n p.kept }
 
 abbrev pub pairs_line : (ℕ → ℕ → Pair) → Line → ℕ → ℕ → Pair
-pairs_line f (line.Taken a b n) = at_pair f a b (took n (f a b))
-pairs_line f (line.Early a b n) = at_pair f a b (early n (f a b))
-pairs_line f (line.Acked a b n) = at_pair f b a (acknowledged n (f b a))
+pairs_line f (Line.Taken a b n) = at_pair f a b (took n (f a b))
+pairs_line f (Line.Early a b n) = at_pair f a b (early n (f a b))
+pairs_line f (Line.Acked a b n) = at_pair f b a (acknowledged n (f b a))
 pairs_line f l = f
 
 abbrev pub pairs_part : (ℕ → ℕ → Pair) → Part → ℕ → ℕ → Pair
 pairs_part f (Says l) = pairs_line f l
 pairs_part f (Transmits a b l) = at_pair f a b (repeated l (f a b))
-pairs_part f (Routes i) = f
-pairs_part f (Again i b) = f
-pairs_part f (Owns k q b) = f
+pairs_part f _ = f
 
 abbrev pub pairs_parts : (ℕ → ℕ → Pair) → List Part → ℕ → ℕ → Pair
 pairs_parts f [] = f
 pairs_parts f (p ∷ ps) = pairs_parts (pairs_part f p) ps
 
 net_pair : (v : View) (l : Line) → IsNetLine l → (view_after v l).pair ≡ pairs_line v.pair l
-net_pair v (line.Taken a b n) is = taken_pair (view.with_pair v a b (took n (v.pair a b))) b (view.oldest (v.pair a b))
-net_pair v (line.Old a b n) is = refl
-net_pair v (line.Early a b n) is = refl
-net_pair v (line.Acked a b n) is = refl
-net_pair v line.Nothing is = refl
-net_pair v (line.Resent m n) is = refl
-net_pair v (line.Head d) is = absurd is
-net_pair v (line.Idle m) is = absurd is
-net_pair v (line.Label l) is = absurd is
-net_pair v (line.Put a b i c q) is = absurd is
-net_pair v (line.Packet a b c l) is = absurd is
-net_pair v (line.Queued i) is = absurd is
-net_pair v (line.Held i) is = absurd is
-net_pair v (line.Forwarded i m) is = absurd is
-net_pair v (line.Updated i n) is = absurd is
-net_pair v (line.Migration st p) is = absurd is
-net_pair v (line.SentOn p n) is = absurd is
-net_pair v (line.Lacks p a b) is = absurd is
-net_pair v (line.Stays p) is = absurd is
-net_pair v (line.Here i) is = absurd is
-net_pair v (line.NoMove i) is = absurd is
-net_pair v (line.Proto i) is = absurd is
-net_pair v (line.NoChild p) is = absurd is
-net_pair v (line.Pinned p) is = absurd is
+net_pair v (Line.Taken a b n) is = taken_pair (view.with_pair v a b (took n (v.pair a b))) b (view.oldest (v.pair a b))
+net_pair v (Line.Old a b n) is = refl
+net_pair v (Line.Early a b n) is = refl
+net_pair v (Line.Acked a b n) is = refl
+net_pair v Line.Nothing is = refl
+net_pair v (Line.Resent m n) is = refl
+net_pair v _ is = absurd is
 
 pub net_pairs : (ps : List Part) (pt : Point) (w : Spelled) → IsNet ps → spelled pt ps ≡ Some w → w.point.view.pair ≡ pairs_parts pt.view.pair ps
 net_pairs [] pt w is e = let f : record { lines = []; point = pt } ≡ w = cc in ap (λ (x : Spelled). x.point.view.pair) (sym f)
@@ -110,7 +75,7 @@ takes_only a b (n ∷ ns) f =
 repeats_only : (a b : ℕ) (ns : List ℕ) (f : ℕ → ℕ → Pair) → Only f (pairs_parts f (repeats a b ns)) a b (sent_all ns (f a b))
 repeats_only a b [] f = record { there = refl; others = λ c d e. refl }
 repeats_only a b (n ∷ ns) f =
-    let p = repeated (load.Data n) (f a b) in
+    let p = repeated (Load.Data n) (f a b) in
     let k = repeats_only a b ns (at_pair f a b p) in
     record { there = k.there ∙ ap (sent_all ns) (set_same f a b p); others = λ c d e. k.others c d e ∙ set_other f a b p c d e }
 
@@ -127,14 +92,6 @@ both_change f g h a b k p' q' ab x y = record {
   back = y.there;
   others = λ c d off apart. y.others c d apart ∙ x.others c d off ∙ set_other f a b (marked (f a b) k) c d off;
 }
-
--- numbers that came early
-or_first : (b c : Bool) → b ≡ true → (b || c) ≡ true
-or_first b c e = ap (λ (x : Bool). x || c) e
-
-or_second : (b c : Bool) → c ≡ true → (b || c) ≡ true
-or_second true c e = refl
-or_second false c e = e
 
 off_one : (n j : ℕ) (ks : List ℕ) (x : ℕ) (b : Bool) → (x == n) ≡ b → off n (x ∷ ks) ≡ (if b then off n ks else x ∷ off n ks)
 off_one n j ks x true e = ap (λ (c : Bool). if not c then x ∷ off n ks else off n ks) e
@@ -153,10 +110,6 @@ keeps_by n j ks x false e apart h more = elim (or_cases (j == x) (has j ks) h) [
 off_keeps : (n j : ℕ) (ks : List ℕ) → j ≢ n → has j ks ≡ true → has j (off n ks) ≡ true
 off_keeps n j [] apart h = absurd (false≢true h)
 off_keeps n j (x ∷ ks) apart h = ap (has j) (off_one n j ks x (x == n) refl) ∙ keeps_by n j ks x (x == n) refl apart h (off_keeps n j ks apart)
-
-not_true : (b : Bool) → (b ≡ true → ⊥) → b ≡ false
-not_true true h = absurd (h refl)
-not_true false h = refl
 
 -- messages that are taken one after the other
 took_stays : (ns : List ℕ) (p : Pair) → ((took_all ns p).ids ≡ p.ids) × ((took_all ns p).gone ≡ p.gone) × ((took_all ns p).acked ≡ p.acked) × ((took_all ns p).wire ≡ p.wire) × ((took_all ns p).taken ≡ p.taken + length ns)
@@ -195,19 +148,19 @@ took_next (suc fuel) m ks p among few =
     (took_next fuel (m + 1) ks (took m p) (λ j h. among j (off_has m j p.kept h).0) (λ j h. let x = few j h in omega (arith, x)))
 
 -- a data packet
-data_two : (f h : ℕ → ℕ → Pair) (a b k n : ℕ) (s : Sent) (p' : Pair) → (a == b) ≡ false → slice_get (f a b).wire k ≡ Some s → s.load ≡ load.Data n → Comes (f a b) p' k n → Two f h a b p' (repeated (load.Ack p'.taken) (f b a)) → Rest f → Rest h
+data_two : (f h : ℕ → ℕ → Pair) (a b k n : ℕ) (s : Sent) (p' : Pair) → (a == b) ≡ false → slice_get (f a b).wire k ≡ Some s → s.load ≡ Load.Data n → Comes (f a b) p' k n → Two f h a b p' (repeated (Load.Ack p'.taken) (f b a)) → Rest f → Rest h
 data_two f h a b k n s p' ab is carries c two r =
-    rest_two f h a b p' (repeated (load.Ack p'.taken) (f b a)) two (data_rests (f a b) p' (f b a) k n s is carries c (r a b ab)) (data_back (f a b) p' (f b a) k n s is carries c (r b a (flip a b ab))) r
+    rest_two f h a b p' (repeated (Load.Ack p'.taken) (f b a)) two (data_rests (f a b) p' (f b a) k n s is carries c (r a b ab)) (data_back (f a b) p' (f b a) k n s is carries c (r b a (flip a b ab))) r
 
 -- its group's pairs: what comes of the one, and then the acknowledgement
-ack_only : (g : ℕ → ℕ → Pair) (b a t : ℕ) → Only g (at_pair g b a (repeated (load.Ack t) (g b a))) b a (repeated (load.Ack t) (g b a))
-ack_only g b a t = record { there = set_same g b a (repeated (load.Ack t) (g b a)); others = λ c d e. set_other g b a (repeated (load.Ack t) (g b a)) c d e }
+ack_only : (g : ℕ → ℕ → Pair) (b a t : ℕ) → Only g (at_pair g b a (repeated (Load.Ack t) (g b a))) b a (repeated (Load.Ack t) (g b a))
+ack_only g b a t = record { there = set_same g b a (repeated (Load.Ack t) (g b a)); others = λ c d e. set_other g b a (repeated (Load.Ack t) (g b a)) c d e }
 
-acked_two : (f g : ℕ → ℕ → Pair) (a b k t : ℕ) (p' : Pair) → (a == b) ≡ false → t ≡ p'.taken → Only (at_pair f a b (marked (f a b) k)) g a b p' → Two f (at_pair g b a (repeated (load.Ack t) (g b a))) a b p' (repeated (load.Ack p'.taken) (f b a))
+acked_two : (f g : ℕ → ℕ → Pair) (a b k t : ℕ) (p' : Pair) → (a == b) ≡ false → t ≡ p'.taken → Only (at_pair f a b (marked (f a b) k)) g a b p' → Two f (at_pair g b a (repeated (Load.Ack t) (g b a))) a b p' (repeated (Load.Ack p'.taken) (f b a))
 acked_two f g a b k t p' ab taken x =
     let same : g b a ≡ f b a = x.others b a (not_back a b ab) ∙ set_other f a b (marked (f a b) k) b a (not_back a b ab) in
-    subst (λ (q : Pair). Two f (at_pair g b a (repeated (load.Ack t) (g b a))) a b p' q) (ap (λ (j : ℕ). repeated (load.Ack j) (g b a)) taken ∙ ap (repeated (load.Ack p'.taken)) same)
-    (both_change f g (at_pair g b a (repeated (load.Ack t) (g b a))) a b k p' (repeated (load.Ack t) (g b a)) ab x (ack_only g b a t))
+    subst (λ (q : Pair). Two f (at_pair g b a (repeated (Load.Ack t) (g b a))) a b p' q) (ap (λ (j : ℕ). repeated (Load.Ack j) (g b a)) taken ∙ ap (repeated (Load.Ack p'.taken)) same)
+    (both_change f g (at_pair g b a (repeated (Load.Ack t) (g b a))) a b k p' (repeated (Load.Ack t) (g b a)) ab x (ack_only g b a t))
 
 marked_only : (f : ℕ → ℕ → Pair) (a b k : ℕ) → Only (at_pair f a b (marked (f a b) k)) (at_pair f a b (marked (f a b) k)) a b (marked (f a b) k)
 marked_only f a b k = record { there = set_same f a b (marked (f a b) k); others = λ c d e. refl }
@@ -270,10 +223,10 @@ took_comes p q k n at stands full under =
 more_is : (m n : ℕ) → at_least m n ≡ more n m
 more_is m n = grind (arith, nat_tests)
 
-data_by : (f h : ℕ → ℕ → Pair) (a b k n : ℕ) (s : Sent) (old ahead : Bool) → nat_lt n (f a b).taken ≡ old → nat_lt (f a b).taken n ≡ ahead → (a == b) ≡ false → slice_get (f a b).wire k ≡ Some s → s.load ≡ load.Data n
+data_by : (f h : ℕ → ℕ → Pair) (a b k n : ℕ) (s : Sent) (old ahead : Bool) → nat_lt n (f a b).taken ≡ old → nat_lt (f a b).taken n ≡ ahead → (a == b) ≡ false → slice_get (f a b).wire k ≡ Some s → s.load ≡ Load.Data n
     → Apart (f a b) (f b a) → KeptStands (f a b) → Rest f
-    → h ≡ pairs_parts (at_pair f a b (marked (f a b) k)) (if old then Says (line.Old a b n) ∷ Transmits b a (load.Ack (f a b).taken) ∷ []
-    else if ahead then Says (line.Early a b n) ∷ Transmits b a (load.Ack (f a b).taken) ∷ []
+    → h ≡ pairs_parts (at_pair f a b (marked (f a b) k)) (if old then Says (Line.Old a b n) ∷ Transmits b a (Load.Ack (f a b).taken) ∷ []
+    else if ahead then Says (Line.Early a b n) ∷ Transmits b a (Load.Ack (f a b).taken) ∷ []
     else takes_on a b n (kept_from (f a b).kept (n + 1) window)) → Rest h
 data_by f h a b k n s true ahead is_old is_ahead ab there carries apart kept r e =
     let p = f a b in
@@ -295,12 +248,12 @@ data_by f h a b k n s false false is_old is_ahead ab there carries apart kept r 
     let only = takes_only a b (n ∷ others) g in
     let mid = pairs_parts g (takes a b (n ∷ others)) in
     let to : Only g mid a b p' = record { there = only.there ∙ ap (took_all (n ∷ others)) (set_same f a b (marked p k)); others = only.others } in
-    subst Rest (sym (e ∙ parts_both g (takes a b (n ∷ others)) (Transmits b a (load.Ack t) ∷ [])))
+    subst Rest (sym (e ∙ parts_both g (takes a b (n ∷ others)) (Transmits b a (Load.Ack t) ∷ [])))
     (data_two f _ a b k n s p' ab there carries (took_comes p (f b a) k n at kept apart.full apart.acked) (acked_two f mid a b k t p' ab taken to) r)
 
 -- an acknowledgement
-ack_comes : (f h : ℕ → ℕ → Pair) (a b k n : ℕ) (s : Sent) → (a == b) ≡ false → slice_get (f a b).wire k ≡ Some s → s.load ≡ load.Ack n → Apart (f b a) (f a b) → Rest f
-    → h ≡ pairs_parts (at_pair f a b (marked (f a b) k)) (Says (line.Acked a b n) ∷ repeats b a (let_go (f b a) (more n (f b a).acked))) → Rest h
+ack_comes : (f h : ℕ → ℕ → Pair) (a b k n : ℕ) (s : Sent) → (a == b) ≡ false → slice_get (f a b).wire k ≡ Some s → s.load ≡ Load.Ack n → Apart (f b a) (f a b) → Rest f
+    → h ≡ pairs_parts (at_pair f a b (marked (f a b) k)) (Says (Line.Acked a b n) ∷ repeats b a (let_go (f b a) (more n (f b a).acked))) → Rest h
 ack_comes f h a b k n s ab there carries apart r e =
     let p = f a b in
     let q = f b a in
@@ -321,9 +274,9 @@ ack_comes f h a b k n s ab there carries apart r e =
 
 comes_rest : (f h : ℕ → ℕ → Pair) (a b k : ℕ) (s : Sent) (l : Load) → (a == b) ≡ false → slice_get (f a b).wire k ≡ Some s → s.load ≡ l → Apart (f a b) (f b a) → Apart (f b a) (f a b) → KeptStands (f a b) → Rest f
     → h ≡ pairs_parts (at_pair f a b (marked (f a b) k)) (comes a b (f a b) (f b a) l) → Rest h
-comes_rest f h a b k s (load.Data n) ab there carries apart back kept r e =
+comes_rest f h a b k s (Load.Data n) ab there carries apart back kept r e =
     data_by f h a b k n s (nat_lt n (f a b).taken) (nat_lt (f a b).taken n) refl refl ab there carries apart kept r e
-comes_rest f h a b k s (load.Ack n) ab there carries apart back kept r e = ack_comes f h a b k n s ab there carries back r e
+comes_rest f h a b k s (Load.Ack n) ab there carries apart back kept r e = ack_comes f h a b k n s ab there carries back r e
 
 -- whatever is delivered
 pub arrives_rest : (f h : ℕ → ℕ → Pair) (a b k : ℕ) (o : Option Sent) → (a == b) ≡ false → slice_get (f a b).wire k ≡ o → Apart (f a b) (f b a) → Apart (f b a) (f a b) → KeptStands (f a b) → Rest f

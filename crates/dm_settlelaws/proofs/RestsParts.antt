@@ -1,26 +1,7 @@
 -- The pairs behind the parts of a group, and what the parts of a turn keep of what has been done on them.
-use Rattle.std.proofs.Common.{◌≡◌, ℕ, ◌+◌, ◌<◌, ◌==◌, ◌&&◌, Bool, true, false, List, [], ◌∷◌, ◌++◌, length, refl, ap, ◌∙◌, sym, subst, inl, inr, arith}
-use Rattle.std.specs.Prelude.{if◌then◌else◌}
-use Rattle.std.specs.declared.option.Option.TheVariants.{Some}
-use Rattle.std.proofs.lemmas.Bool.{cases_Bool}
-use Rattle.std.proofs.lemmas.Bool.Decides.{nat_tests}
-use Rattle.dm_link.specs.declared.Pid.{Pid}
-use Rattle.dm_message.specs.declared.MsgId.{MsgId}
-use Rattle.dm_message.specs.declared.kind.MessageKind.{MessageKind}
-use Rattle.dm_message.specs.Kinds.{plain_kind}
-use Rattle.dm_line.specs.declared.line.Line.{Line}
-use Rattle.dm_line.specs.declared.line.Line.TheVariants as line
-use Rattle.dm_line.specs.declared.line.Load.{Load}
-use Rattle.dm_line.specs.declared.line.Load.TheVariants as load
-use Rattle.dm_line.specs.Sets.{at_pair}
-use Rattle.dm_rule.specs.Addresses.{Receiver}
-use Rattle.dm_rule.specs.Parts.{Part, Says, Routes, Again, Owns, Transmits, Spelled, goes_out, packet_line, puts, spelled}
-use Rattle.dm_rule.specs.Point.{Point, after}
-use Rattle.dm_rule.specs.View.{Pair, View, gone_after, own_id, routed_on}
-use Rattle.dm_rule.proofs.Pairs.Stand.{set_other, set_same, two_of}
-use Rattle.dm_rule.proofs.Pairs.Moves.{Paired}
-use Rattle.dm_rule.proofs.Pairs.Lines.{AllFit, AllFit-later, Fits, Onward, bind-is, fitting_goes, one_view, onward, pair_same, says_view, transmits_view, two_views}
-use Rattle.dm_settlelaws.specs.Rests.{PairRests}
+use Rattle.dm_settlelaws.proofs.Names.{◌≡◌, ℕ, ◌+◌, ◌<◌, ◌==◌, ◌&&◌, Bool, true, false, List, [], ◌∷◌, ◌++◌, length, refl, ap, ◌∙◌, sym, subst, inl, inr, arith, if◌then◌else◌, Some, cases_Bool, nat_tests, Pid, MsgId, MessageKind}
+use Rattle.dm_settlelaws.proofs.Names.{plain_kind, Line, Load, at_pair, Receiver, Part, Says, Routes, Again, Owns, Transmits, Spelled, goes_out, packet_line, puts, spelled, Point, after, Pair, View, gone_after, own_id, routed_on, set_other}
+use Rattle.dm_settlelaws.proofs.Names.{set_same, two_of, Paired, AllFit, AllFit-later, Fits, Onward, bind-is, fitting_goes, one_view, onward, pair_same, says_view, transmits_view, two_views, PairRests}
 use Rattle.dm_settlelaws.proofs.RestsPairs.{out_rests, repeat_back, repeat_rests, repeated, rests_back, route_rests, routed, routed_out}
 
 -- on each pair of different machines each has done its part
@@ -101,31 +82,31 @@ set_twice f a b p q ab = record {
 }
 
 pub out_rest : (f : ℕ → ℕ → Pair) (a b : ℕ) (id : MsgId) → (a == b) ≡ false → goes_out (f a b) ≡ true → Rest f
-    → Rest (at_pair (at_pair f a b (routed_on a b (f a b) id)) a b (repeated (load.Data (length (f a b).ids)) (at_pair f a b (routed_on a b (f a b) id) a b)))
+    → Rest (at_pair (at_pair f a b (routed_on a b (f a b) id)) a b (repeated (Load.Data (length (f a b).ids)) (at_pair f a b (routed_on a b (f a b) id) a b)))
 out_rest f a b id ab out h =
     let first = at_pair f a b (routed_on a b (f a b) id) in
-    let is : repeated (load.Data (length (f a b).ids)) (first a b) ≡ routed_out (f a b) id = ap (repeated (load.Data (length (f a b).ids))) (set_same f a b (routed_on a b (f a b) id) ∙ out_is a b (f a b) id ab) in
+    let is : repeated (Load.Data (length (f a b).ids)) (first a b) ≡ routed_out (f a b) id = ap (repeated (Load.Data (length (f a b).ids))) (set_same f a b (routed_on a b (f a b) id) ∙ out_is a b (f a b) id ab) in
     subst (λ (p : Pair). Rest (at_pair first a b p)) (sym is)
     (rest_two f (at_pair first a b (routed_out (f a b) id)) a b (routed_out (f a b) id) (f b a) (set_twice f a b (routed_on a b (f a b) id) (routed_out (f a b) id) ab)
-    (out_rests (f a b) (f b a) id out (h a b ab)) (repeat_back (load.Data (length (f a b).ids)) (routed (f a b) id) (f b a) (rests_back (f b a) (f a b) (routed (f a b) id) (λ l g. g) (λ n c. c) (h b a (flip a b ab)))) h)
+    (out_rests (f a b) (f b a) id out (h a b ab)) (repeat_back (Load.Data (length (f a b).ids)) (routed (f a b) id) (f b a) (rests_back (f b a) (f a b) (routed (f a b) id) (λ l g. g) (λ n c. c) (h b a (flip a b ab)))) h)
 
 puts_rest : (pt next : Point) (b : ℕ) (id : MsgId) (k : MessageKind) (q : Pid) (home out : Bool) → (pt.view.acting == b) ≡ home → goes_out (pt.view.pair pt.view.acting b) ≡ out
-    → after pt (line.Put pt.view.acting b id k q ∷ (if home then [] else if out then packet_line pt.view pt.view.acting b (load.Data (length (pt.view.pair pt.view.acting b).ids)) ∷ [] else [])) ≡ Some next
+    → after pt (Line.Put pt.view.acting b id k q ∷ (if home then [] else if out then packet_line pt.view pt.view.acting b (Load.Data (length (pt.view.pair pt.view.acting b).ids)) ∷ [] else [])) ≡ Some next
     → Paired pt.view.pair → Rest pt.view.pair → Rest next.view.pair
 puts_rest pt next b id k q true out e f is paired h =
-    subst (λ (v : View). Rest v.pair) (sym (one_view pt next (line.Put pt.view.acting b id k q) is)) (home_rest_by pt.view.pair pt.view.acting b (routed_on pt.view.acting b (pt.view.pair pt.view.acting b) id) e h)
+    subst (λ (v : View). Rest v.pair) (sym (one_view pt next (Line.Put pt.view.acting b id k q) is)) (home_rest_by pt.view.pair pt.view.acting b (routed_on pt.view.acting b (pt.view.pair pt.view.acting b) id) e h)
 puts_rest pt next b id k q false false e f is paired h =
-    subst (λ (v : View). Rest v.pair) (sym (one_view pt next (line.Put pt.view.acting b id k q) is)) (route_rest pt.view.pair pt.view.acting b id e f paired h)
+    subst (λ (v : View). Rest v.pair) (sym (one_view pt next (Line.Put pt.view.acting b id k q) is)) (route_rest pt.view.pair pt.view.acting b id e f paired h)
 puts_rest pt next b id k q false true e f is paired h =
-    let p = packet_line pt.view pt.view.acting b (load.Data (length (pt.view.pair pt.view.acting b).ids)) in
-    subst (λ (v : View). Rest v.pair) (sym (two_views pt next (line.Put pt.view.acting b id k q) p is)) (out_rest pt.view.pair pt.view.acting b id e f h)
+    let p = packet_line pt.view pt.view.acting b (Load.Data (length (pt.view.pair pt.view.acting b).ids)) in
+    subst (λ (v : View). Rest v.pair) (sym (two_views pt next (Line.Put pt.view.acting b id k q) p is)) (out_rest pt.view.pair pt.view.acting b id e f h)
 
 puts_lead : (pt next : Point) (b : ℕ) (id : MsgId) (k : MessageKind) (q : Pid) (ls : List Line) → Some (puts pt.view b id k q) ≡ Some ls → after pt ls ≡ Some next → Paired pt.view.pair → Rest pt.view.pair → Rest next.view.pair
 puts_lead pt next b id k q ls is leads paired h =
     let f : puts pt.view b id k q ≡ ls = cc in
     puts_rest pt next b id k q (pt.view.acting == b) (goes_out (pt.view.pair pt.view.acting b)) refl refl (ap (after pt) f ∙ leads) paired h
 
-old_number : (n gone : ℕ) → n < gone → gone_after (load.Data n) gone ≡ gone
+old_number : (n gone : ℕ) → n < gone → gone_after (Load.Data n) gone ≡ gone
 old_number n gone h = grind (arith, nat_tests)
 
 -- a part of a turn or a tick
@@ -139,10 +120,10 @@ part_rests pt (Again id b) ps w o fits paired h =
     let (t, there, is) = bind-is (pt.view.told id) (λ t. Some (puts pt.view b id t.kind t.receiver)) o.lines o.lines_are in
     puts_lead pt o.next b id t.kind t.receiver o.lines is o.leads paired h
 part_rests pt (Owns k q b) ps w o fits paired h = puts_lead pt o.next b (own_id pt.view) k q o.lines o.lines_are o.leads paired h
-part_rests pt (Transmits a b (load.Data n)) ps w o fits paired h =
-    subst (λ (v : View). Rest v.pair) (sym (transmits_view pt a b (load.Data n) ps w o)) (repeat_rest pt.view.pair a b (load.Data n) fits.0 (old_number n (pt.view.pair a b).gone fits.1) h)
-part_rests pt (Transmits a b (load.Ack n)) ps w o fits paired h =
-    subst (λ (v : View). Rest v.pair) (sym (transmits_view pt a b (load.Ack n) ps w o)) (repeat_rest pt.view.pair a b (load.Ack n) fits.0 refl h)
+part_rests pt (Transmits a b (Load.Data n)) ps w o fits paired h =
+    subst (λ (v : View). Rest v.pair) (sym (transmits_view pt a b (Load.Data n) ps w o)) (repeat_rest pt.view.pair a b (Load.Data n) fits.0 (old_number n (pt.view.pair a b).gone fits.1) h)
+part_rests pt (Transmits a b (Load.Ack n)) ps w o fits paired h =
+    subst (λ (v : View). Rest v.pair) (sym (transmits_view pt a b (Load.Ack n) ps w o)) (repeat_rest pt.view.pair a b (Load.Ack n) fits.0 refl h)
 
 pub parts_rest : (ps : List Part) (pt : Point) (w : Spelled) → AllFit pt.view.pair ps → Paired pt.view.pair → Rest pt.view.pair → spelled pt ps ≡ Some w → Rest w.point.view.pair
 parts_rest [] pt w fits paired h e =

@@ -1,39 +1,10 @@
 -- What a route does to what is on its way, and how many routes lines say.
-use Rattle.std.proofs.Common.{◌≡◌, ℕ, zero, suc, ◌+◌, ◌≤◌, ◌==◌, ◌&&◌, Bool, true, false, List, [], ◌∷◌, ◌++◌, drop, length, length-append, refl, ap, ◌∙◌, sym, subst, inl, inr, arith}
-use Rattle.std.proofs.Math.Seq.{drop-nil}
-use Rattle.std.specs.Prelude.{if◌then◌else◌}
-use Rattle.std.specs.declared.option.Option.TheVariants.{Some}
-use Rattle.std.proofs.lemmas.Bool.{cases_Bool}
-use Rattle.std.proofs.lemmas.Bool.Decides.{eqb_tells, nat_tests}
-use Rattle.dm_link.specs.declared.Pid.{Pid}
-use Rattle.dm_message.specs.declared.MsgId.{MsgId}
-use Rattle.dm_message.specs.declared.kind.MessageKind.{MessageKind}
-use Rattle.dm_message.specs.Kinds.{plain_kind}
-use Rattle.dm_onekernel.specs.declared.boot.Boot.{Boot}
-use Rattle.dm_onekernel.specs.Options.{bind}
-use Rattle.dm_laws.proofs.Steps.{bind-is}
-use Rattle.dm_schedule.specs.declared.Step.{Step}
-use Rattle.dm_line.specs.declared.line.Line.{Line}
-use Rattle.dm_line.specs.declared.line.Line.TheVariants as line
-use Rattle.dm_line.specs.declared.line.Load.{Load}
-use Rattle.dm_line.specs.declared.line.Load.TheVariants as load
-use Rattle.dm_line.specs.Each.{sum_below}
-use Rattle.dm_line.specs.Sets.{at_id, at_machine, at_pair}
-use Rattle.dm_rule.specs.Addresses.{Receiver}
-use Rattle.dm_rule.specs.Parts.{Part, Says, Routes, Again, Owns, Transmits, Spelled, behind, goes_out, lines_of, packet_line, puts, spelled}
-use Rattle.dm_rule.specs.Point.{Point, after, after_line}
+use Rattle.dm_settlelaws.proofs.Names.{◌≡◌, ℕ, zero, suc, ◌+◌, ◌≤◌, ◌==◌, ◌&&◌, Bool, true, false, List, [], ◌∷◌, ◌++◌, drop, length, length-append, refl, ap, ◌∙◌, sym, subst, inl, inr, arith, drop-nil, if◌then◌else◌, Some, cases_Bool}
+use Rattle.dm_settlelaws.proofs.Names.{eqb_tells, nat_tests, Pid, MsgId, MessageKind, plain_kind, Boot, bind, bind-is, Step, Line, Load, sum_below, at_id, at_machine, at_pair, Receiver, Part, Says, Routes, Again, Owns, Transmits, Spelled}
+use Rattle.dm_settlelaws.proofs.Names.{behind, goes_out, lines_of, packet_line, puts, spelled, Point, after, after_line, group_of, untaken, Pair, View, first_told, is_own, own_id, routed_on, view_after, IsNet, IsNetLine, one_view}
+use Rattle.dm_settlelaws.proofs.Names.{two_views, set_is, set_other, count, count-append, weight, weight_to, says_put, eq_is, test_same}
 use Rattle.dm_rule.specs.Rule as rule
-use Rattle.dm_rule.specs.Rule.{group_of}
-use Rattle.dm_rule.specs.Spots.{untaken}
-use Rattle.dm_rule.specs.View.{Pair, View, first_told, is_own, own_id, routed_on, view_after}
 use Rattle.dm_rule.specs.View as view
-use Rattle.dm_rule.proofs.Groups.{IsNet, IsNetLine}
-use Rattle.dm_rule.proofs.Pairs.Lines.{one_view, two_views}
-use Rattle.dm_rule.proofs.Pairs.Stand.{set_is, set_other}
-use Rattle.dm_movelaws.specs.Ends.{count}
-use Rattle.dm_movelaws.proofs.Ends.Parts.{count-append}
-use Rattle.dm_settlelaws.specs.Left.{weight, weight_to}
-use Rattle.dm_settlelaws.specs.Puts.{says_put}
 use Rattle.dm_settlelaws.proofs.Effects.{calm_to}
 use Rattle.dm_settlelaws.proofs.Totals.{here, off_first, off_second}
 use Rattle.dm_settlelaws.proofs.Weights.{spike, spike_here, spike_off, sum_gains, sum_le, weight-append}
@@ -56,12 +27,6 @@ set_home f a b p h home x = elim (cases_Bool ((a == x) && (b == x))) [
 
 at_home : (f : ℕ → ℕ → Pair) (a b : ℕ) → Home f → a ≡ b → (f a b).taken ≡ length (f a b).ids
 at_home f a b home e = subst (λ (x : ℕ). (f a x).taken ≡ length (f a x).ids) e (home a)
-
-test_same : (a b : ℕ) → a ≡ b → (a == b) ≡ true
-test_same a b e = elim (eqb_tells a b) [ inl t ↦ t.0 | inr t ↦ absurd (t.1 e) ]
-
-same_test : (a b : ℕ) → (a == b) ≡ true → a ≡ b
-same_test a b e = grind (arith, nat_tests)
 
 route_home : (f : ℕ → ℕ → Pair) (a b : ℕ) (id : MsgId) → Home f → Home (at_pair f a b (routed_on a b (f a b) id))
 route_home f a b id home =
@@ -142,7 +107,7 @@ put_weight f n v b id k q m home =
     let p = v.pair v.acting b in
     let c = v.acting == b in
     let box = box_weight f c v.inbox b id m in
-    let on = routed_weight f c p id (λ e. at_home v.pair v.acting b home (same_test v.acting b e)) in
+    let on = routed_weight f c p id (λ e. at_home v.pair v.acting b home (eq_is v.acting b e)) in
     let pairs = untaken_gains f n v.pair v.acting b (routed_on v.acting b p id) (if c then 0 else f id) m on in
     let both = both_spikes c b (f id) m in
     omega (arith, box, pairs, both)
@@ -156,7 +121,7 @@ pub record Puts (n : ℕ) (v w : View) (b : ℕ) (id : MsgId) (k : MessageKind) 
   pub count : w.count ≡ (if is_own id (v.told id) then at_machine v.count id.from.home (v.count id.from.home + 1) else v.count)
   pub home : Home w.pair
 
-put_alone : (n : ℕ) (v : View) (b : ℕ) (id : MsgId) (k : MessageKind) (q : Pid) → Home v.pair → Puts n v (view_after v (line.Put v.acting b id k q)) b id k q
+put_alone : (n : ℕ) (v : View) (b : ℕ) (id : MsgId) (k : MessageKind) (q : Pid) → Home v.pair → Puts n v (view_after v (Line.Put v.acting b id k q)) b id k q
 put_alone n v b id k q home = record {
   weight_ = λ f m. put_weight f n v b id k q m home;
   known = refl;
@@ -166,9 +131,9 @@ put_alone n v b id k q home = record {
   home = route_home v.pair v.acting b id home;
 }
 
-put_packet : (n : ℕ) (v w : View) (b : ℕ) (id : MsgId) (k : MessageKind) (q : Pid) (x y j : ℕ) (l : Load) → Puts n v w b id k q → Puts n v (view_after w (line.Packet x y j l)) b id k q
+put_packet : (n : ℕ) (v w : View) (b : ℕ) (id : MsgId) (k : MessageKind) (q : Pid) (x y j : ℕ) (l : Load) → Puts n v w b id k q → Puts n v (view_after w (Line.Packet x y j l)) b id k q
 put_packet n v w b id k q x y j l h = record {
-  weight_ = λ f m. let p = h.weight_ f m in let z = calm_to f n w (line.Packet x y j l) refl refl m in omega (arith, p, z);
+  weight_ = λ f m. let p = h.weight_ f m in let z = calm_to f n w (Line.Packet x y j l) refl refl m in omega (arith, p, z);
   known = h.known;
   told = h.told;
   acting = h.acting;
@@ -177,15 +142,15 @@ put_packet n v w b id k q x y j l h = record {
 }
 
 puts_by : (n : ℕ) (pt next : Point) (b : ℕ) (id : MsgId) (k : MessageKind) (q : Pid) (c d : Bool) → Home pt.view.pair
-    → after pt (line.Put pt.view.acting b id k q ∷ (if c then [] else if d then packet_line pt.view pt.view.acting b (load.Data (length (pt.view.pair pt.view.acting b).ids)) ∷ [] else [])) ≡ Some next → Puts n pt.view next.view b id k q
-puts_by n pt next b id k q true d home is = subst (λ (v : View). Puts n pt.view v b id k q) (sym (one_view pt next (line.Put pt.view.acting b id k q) is)) (put_alone n pt.view b id k q home)
-puts_by n pt next b id k q false false home is = subst (λ (v : View). Puts n pt.view v b id k q) (sym (one_view pt next (line.Put pt.view.acting b id k q) is)) (put_alone n pt.view b id k q home)
+    → after pt (Line.Put pt.view.acting b id k q ∷ (if c then [] else if d then packet_line pt.view pt.view.acting b (Load.Data (length (pt.view.pair pt.view.acting b).ids)) ∷ [] else [])) ≡ Some next → Puts n pt.view next.view b id k q
+puts_by n pt next b id k q true d home is = subst (λ (v : View). Puts n pt.view v b id k q) (sym (one_view pt next (Line.Put pt.view.acting b id k q) is)) (put_alone n pt.view b id k q home)
+puts_by n pt next b id k q false false home is = subst (λ (v : View). Puts n pt.view v b id k q) (sym (one_view pt next (Line.Put pt.view.acting b id k q) is)) (put_alone n pt.view b id k q home)
 puts_by n pt next b id k q false true home is =
     let a = pt.view.acting in
-    let put = line.Put a b id k q in
-    let packet = packet_line pt.view a b (load.Data (length (pt.view.pair a b).ids)) in
+    let put = Line.Put a b id k q in
+    let packet = packet_line pt.view a b (Load.Data (length (pt.view.pair a b).ids)) in
     subst (λ (v : View). Puts n pt.view v b id k q) (sym (two_views pt next put packet is))
-    (put_packet n pt.view (view_after pt.view put) b id k q a b (length (pt.view.pair a b).wire) (load.Data (length (pt.view.pair a b).ids)) (put_alone n pt.view b id k q home))
+    (put_packet n pt.view (view_after pt.view put) b id k q a b (length (pt.view.pair a b).wire) (Load.Data (length (pt.view.pair a b).ids)) (put_alone n pt.view b id k q home))
 
 pub puts_lead : (n : ℕ) (pt next : Point) (b : ℕ) (id : MsgId) (k : MessageKind) (q : Pid) (ls : List Line) → Home pt.view.pair → Some (puts pt.view b id k q) ≡ Some ls → after pt ls ≡ Some next → Puts n pt.view next.view b id k q
 puts_lead n pt next b id k q ls home is leads =
@@ -195,10 +160,8 @@ puts_lead n pt next b id k q ls home is leads =
 -- how many routes a part says, and parts
 abbrev pub routes_in : Part → ℕ
 routes_in (Says l) = count says_put (l ∷ [])
-routes_in (Routes i) = 1
-routes_in (Again i b) = 1
-routes_in (Owns k q b) = 1
 routes_in (Transmits a b l) = 0
+routes_in _ = 1
 
 abbrev pub all_routes : List Part → ℕ
 all_routes [] = 0
@@ -207,7 +170,7 @@ all_routes (p ∷ ps) = routes_in p + all_routes ps
 puts_count : (v : View) (b : ℕ) (id : MsgId) (k : MessageKind) (q : Pid) → count says_put (puts v b id k q) ≡ 1
 puts_count v b id k q = by (v.acting == b) (goes_out (v.pair v.acting b))
   where
-    by : (c d : Bool) → count says_put (line.Put v.acting b id k q ∷ (if c then [] else if d then packet_line v v.acting b (load.Data (length (v.pair v.acting b).ids)) ∷ [] else [])) ≡ 1
+    by : (c d : Bool) → count says_put (Line.Put v.acting b id k q ∷ (if c then [] else if d then packet_line v v.acting b (Load.Data (length (v.pair v.acting b).ids)) ∷ [] else [])) ≡ 1
     by true d = refl
     by false true = refl
     by false false = refl
@@ -240,12 +203,12 @@ parts_count (p ∷ ps) pt w e =
 -- so the routes of a group are those of its parts
 pub group_count : (b : Boot) (pt : Point) (d : Step) (w : Spelled) (ps : List Part) → group_of b pt d ≡ Some w → rule.outcome b pt d ≡ Some ps → count says_put w.lines ≡ all_routes ps
 group_count b pt d w ps e out =
-    let (parts, is, more) = bind-is (rule.outcome b pt d) (λ (parts : List Part). bind (after_line pt (line.Head d)) (λ (begun : Point). bind (spelled begun parts) (λ (w : Spelled). Some (rule.headed (line.Head d) w)))) w e in
-    let (start, head, last) = bind-is (after_line pt (line.Head d)) (λ (begun : Point). bind (spelled begun parts) (λ (w : Spelled). Some (rule.headed (line.Head d) w))) w more in
-    let (rest, said, end) = bind-is (spelled start parts) (λ (w : Spelled). Some (rule.headed (line.Head d) w)) w last in
-    let f : rule.headed (line.Head d) rest ≡ w = cc in
+    let (parts, is, more) = bind-is (rule.outcome b pt d) (λ (parts : List Part). bind (after_line pt (Line.Head d)) (λ (begun : Point). bind (spelled begun parts) (λ (w : Spelled). Some (rule.headed (Line.Head d) w)))) w e in
+    let (start, head, last) = bind-is (after_line pt (Line.Head d)) (λ (begun : Point). bind (spelled begun parts) (λ (w : Spelled). Some (rule.headed (Line.Head d) w))) w more in
+    let (rest, said, end) = bind-is (spelled start parts) (λ (w : Spelled). Some (rule.headed (Line.Head d) w)) w last in
+    let f : rule.headed (Line.Head d) rest ≡ w = cc in
     let same : parts ≡ ps = cc in
-    let all : count says_put (rule.headed (line.Head d) rest).lines ≡ count says_put w.lines = ap (λ (x : Spelled). count says_put x.lines) f in
+    let all : count says_put (rule.headed (Line.Head d) rest).lines ≡ count says_put w.lines = ap (λ (x : Spelled). count says_put x.lines) f in
     let these = parts_count parts start rest said in
     let routes = ap all_routes same in
     omega (arith, all, these, routes)
@@ -255,12 +218,12 @@ net_count [] h = refl
 net_count (Says l ∷ ps) h = let e = net_line l h.0 in let k = net_count ps h.1 in omega (arith, e, k)
   where
     net_line : (l : Line) → IsNetLine l → count says_put (l ∷ []) ≡ 0
-    net_line (line.Taken a b n) h = refl
-    net_line (line.Old a b n) h = refl
-    net_line (line.Early a b n) h = refl
-    net_line (line.Acked a b n) h = refl
-    net_line line.Nothing h = refl
-    net_line (line.Resent m n) h = refl
+    net_line (Line.Taken a b n) h = refl
+    net_line (Line.Old a b n) h = refl
+    net_line (Line.Early a b n) h = refl
+    net_line (Line.Acked a b n) h = refl
+    net_line Line.Nothing h = refl
+    net_line (Line.Resent m n) h = refl
     net_line l h = absurd h
 net_count (Transmits a b l ∷ ps) h = let k = net_count ps h.1 in omega (arith, k)
 net_count (Routes i ∷ ps) h = absurd h.0

@@ -1,10 +1,5 @@
 -- Sums over all pairs of machines.
-use Rattle.std.proofs.Common.{◌≡◌, ℕ, ◌+◌, ◌<◌, ◌≤◌, ◌==◌, ◌&&◌, Bool, true, false, refl, ap, ◌∙◌, inl, inr, arith}
-use Rattle.std.proofs.lemmas.Bool.Decides.{eqb_tells}
-use Rattle.dm_line.specs.Each.{sum_below}
-use Rattle.dm_line.specs.Sets.{at_pair}
-use Rattle.dm_rule.specs.View.{Pair}
-use Rattle.dm_rule.proofs.Pairs.Stand.{set_is, set_other}
+use Rattle.dm_settlelaws.proofs.Names.{◌≡◌, ℕ, ◌+◌, ◌<◌, ◌≤◌, ◌==◌, ◌&&◌, Bool, true, false, refl, ap, ◌∙◌, inl, inr, arith, eqb_tells, sum_below, at_pair, Pair, set_is, set_other}
 use Rattle.dm_settlelaws.proofs.Weights.{spike, spike_here, spike_off, sum_gains, sum_le, sum_moves}
 
 abbrev pub total : (Pair → ℕ) → ℕ → (ℕ → ℕ → Pair) → ℕ

@@ -1,43 +1,9 @@
 -- The turn of a machine that has mail leaves less.
-use Rattle.std.proofs.Common.{◌≡◌, ℕ, suc, ◌+◌, ◌-◌, ◌<◌, ◌≤◌, Bool, true, false, List, [], ◌∷◌, ◌++◌, drop, length, length-drop, nat_lt, refl, ap, ◌∙◌, sym, subst, inl, inr, arith}
-use Rattle.std.specs.Prelude.{if◌then◌else◌}
-use Rattle.std.specs.declared.option.Option.{Option}
-use Rattle.std.specs.declared.option.Option.TheVariants.{None, Some}
-use Rattle.std.proofs.lemmas.Bool.{cases_Bool, false≢true}
-use Rattle.std.proofs.lemmas.Bool.Decides.{eqb_tells, leb_tells}
-use Rattle.dm_link.specs.declared.Pid.{Pid}
-use Rattle.dm_message.specs.declared.MsgId.{MsgId}
-use Rattle.dm_message.specs.declared.kind.MessageKind.{MessageKind}
-use Rattle.dm_message.specs.declared.kind.MessageKind.TheVariants as kind
-use Rattle.dm_onekernel.specs.declared.boot.Boot.{Boot}
-use Rattle.dm_onekernel.specs.Boot.{IsValid}
-use Rattle.dm_laws.proofs.Equal.{id_eq-same}
-use Rattle.dm_schedule.specs.declared.Step.{Step}
-use Rattle.dm_schedule.specs.declared.Step.TheVariants as step
-use Rattle.dm_line.specs.declared.line.Line.{Line}
-use Rattle.dm_line.specs.declared.line.Line.TheVariants as line
-use Rattle.dm_line.specs.Each.{sum_below}
-use Rattle.dm_rule.specs.Good.{IsKept}
-use Rattle.dm_rule.specs.Laws.{Leads}
-use Rattle.dm_rule.specs.Parts.{Part, Says, Spelled, spelled}
-use Rattle.dm_rule.specs.Phases.{is_between}
-use Rattle.dm_rule.specs.Point.{Point, first_point, moved}
-use Rattle.dm_rule.specs.Quiet.{has_mail}
-use Rattle.dm_rule.specs.Rule.{group_of, turns}
-use Rattle.dm_rule.specs.Spots.{Held, Untaken, times, untaken}
-use Rattle.dm_rule.specs.View.{Pair, Told, View, view_after}
-use Rattle.dm_rule.proofs.Groups.{group_is}
-use Rattle.dm_rule.proofs.Hushed.{hushed}
-use Rattle.dm_rule.proofs.Pairs.{pairs_stand_always}
-use Rattle.dm_rule.proofs.Pairs.Lines.{onward, pair_same, says_view, touches}
-use Rattle.dm_rulelaws.proofs.RunsAlways.{run_always}
-use Rattle.dm_movelaws.specs.Protocol.{IsOfMove}
-use Rattle.dm_movelaws.proofs.At.RestAlways.{within}
-use Rattle.dm_movelaws.proofs.At.RestPairs.{routed_always}
-use Rattle.dm_movelaws.proofs.Promise.Finds.{leads_append}
-use Rattle.dm_movelaws.proofs.ProtocolMoves.{protocol_moves}
-use Rattle.dm_settlelaws.specs.Left.{IsLess, Left, Messages, Numbers, Releases, left, lets_go, numbers_left, one_each, one_let_go, told_lets_go, weight, weight_of}
-use Rattle.dm_settlelaws.proofs.Effects.{Effect, First, Front, Returns, Stays, back_in, effect, line_takes, takes_front}
+use Rattle.dm_settlelaws.proofs.Names.{◌≡◌, ℕ, suc, ◌+◌, ◌-◌, ◌<◌, ◌≤◌, Bool, true, false, List, [], ◌∷◌, ◌++◌, drop, length, length-drop, nat_lt, refl, ap, ◌∙◌, sym, subst, inl, inr, arith, if◌then◌else◌, Option, None, Some, cases_Bool}
+use Rattle.dm_settlelaws.proofs.Names.{false≢true, eqb_tells, leb_tells, Pid, MsgId, MessageKind, Boot, IsValid, id_eq-same, Step, Line, sum_below, IsKept, Leads, Part, Says, Spelled, spelled, is_between, Point, first_point, moved}
+use Rattle.dm_settlelaws.proofs.Names.{has_mail, group_of, turns, Held, Untaken, times, untaken, Pair, Told, View, view_after, group_is, hushed, pairs_stand_always, onward, pair_same, says_view, touches, run_always, IsOfMove, within}
+use Rattle.dm_settlelaws.proofs.Names.{routed_always, leads_append, protocol_moves, IsLess, Left, Messages, Numbers, Releases, left, lets_go, numbers_left, one_each, one_let_go, told_lets_go, weight, weight_of}
+use Rattle.dm_settlelaws.proofs.Effects.{Effect, Returns, back_in, effect, line_takes, takes_front}
 use Rattle.dm_settlelaws.proofs.Grows.{Grows, Longer, Lowers, calm_light, grows_on, grows_same, has_route, longer_last, no_back, parts_grow, parts_longer, parts_lower, touches_none}
 use Rattle.dm_settlelaws.proofs.Handles.{AllCalm, comes_row, is_back}
 use Rattle.dm_settlelaws.proofs.Weights.{sum_falls, sum_le, weight_none}
@@ -116,8 +82,8 @@ not_held : (v : View) (m : ℕ) (p : Pid) (i : MsgId) (t : Told) → IsOfMove v 
 not_held v m p i t h stands = elim (h.moves.token.ways (Held m p) stands) [ inl e ↦ cc | inr e ↦ cc ]
 
 between : (k : MessageKind) → lets_go k ≡ true → is_between k ≡ true
-between kind.Restart e = refl
-between kind.Refuse e = refl
+between MessageKind.Restart e = refl
+between MessageKind.Refuse e = refl
 between k e = cc
 
 none_held : (b : Boot) (es : List Step) (pt : Point) (m : ℕ) (p : Pid) (i : MsgId) → IsValid b → Leads b (first_point b) es pt → 1 ≤ times i (pt.view.held m p) → one_let_go pt.view i ≡ 0
@@ -132,14 +98,12 @@ none_held b es pt m p i valid leads stands = ap (λ (c : Bool). if c then 1 else
 
 -- the place behind the head line, from which the parts go on
 abbrev behind_head : Point → ℕ → Point
-behind_head pt m = moved pt (line.Head (step.Turn m)) pt.kernel
+behind_head pt m = moved pt (Line.Head (Step.Turn m)) pt.kernel
 
 -- nothing that lets go comes back
 back_none : (b : Boot) (es : List Step) (pt : Point) (m : ℕ) (e : Effect) → IsValid b → Leads b (first_point b) es pt → weight (one_let_go pt.view) (back_in (behind_head pt m).view e) ≡ 0
-back_none b es pt m Stays valid leads = refl
-back_none b es pt m (Front id) valid leads = refl
-back_none b es pt m First valid leads = refl
 back_none b es pt m (Returns p) valid leads = weight_none (one_let_go pt.view) (pt.view.held m p) (λ i stands. none_held b es pt m p i valid leads stands)
+back_none b es pt m _ valid leads = refl
 
 lets_one : (o : Option Told) → told_lets_go o ≡ true → ◌≡◌ {A = ℕ} (if told_lets_go o then 1 else 0) 1
 lets_one o e = ap (λ (c : Bool). if c then 1 else 0) e
@@ -160,9 +124,9 @@ record Begins (pt : Point) (m : ℕ) (i : MsgId) (w : Point) : Type 0 where
   back : is_back (effect first) ≡ true → told_lets_go (pt.view.told i) ≡ true
   on : (x : Spelled) × (spelled next rest ≡ Some x) × (x.point ≡ w)
 
-begins : (b : Boot) (pt : Point) (m : ℕ) (i : MsgId) (is : List MsgId) (w : Spelled) → pt.view.inbox m ≡ i ∷ is → group_of b pt (step.Turn m) ≡ Some w → Begins pt m i w.point
+begins : (b : Boot) (pt : Point) (m : ℕ) (i : MsgId) (is : List MsgId) (w : Spelled) → pt.view.inbox m ≡ i ∷ is → group_of b pt (Step.Turn m) ≡ Some w → Begins pt m i w.point
 begins b pt m i is w front e =
-    let g = group_is b pt (step.Turn m) w e in
+    let g = group_is b pt (Step.Turn m) w e in
     let h = comes_row b pt m i (pt.kernel.bag i) g.parts (ap (turns b pt m) (sym front) ∙ g.is) in
     let o = onward (behind_head pt m) (Says h.first) h.rest g.rest (ap (spelled (behind_head pt m)) (sym h.is) ∙ g.said) in
     record {
@@ -221,7 +185,7 @@ stays_falls b es pt m i is w h n valid leads small front numbers low =
           FewerMessages numbers (omega (arith, t, none, l, same)) (omega (arith, t_, empty, l_))
     ]
 
-pub turn_fewer : (b : Boot) (es : List Step) (pt : Point) (m : ℕ) (w : Spelled) → IsValid b → Leads b (first_point b) es pt → m < pt.kernel.machines → has_mail pt.view m ≡ true → group_of b pt (step.Turn m) ≡ Some w → IsKept b w.point
+pub turn_fewer : (b : Boot) (es : List Step) (pt : Point) (m : ℕ) (w : Spelled) → IsValid b → Leads b (first_point b) es pt → m < pt.kernel.machines → has_mail pt.view m ≡ true → group_of b pt (Step.Turn m) ≡ Some w → IsKept b w.point
     → IsFewer (left b.numbers pt.kernel.machines w.point.view) (left b.numbers pt.kernel.machines pt.view)
 turn_fewer b es pt m w valid leads small mail e kept =
     let n = pt.kernel.machines in
@@ -236,15 +200,15 @@ turn_fewer b es pt m w valid leads small mail e kept =
       | inl so ↦
           let long : Longer h.next.view.pair w.point.view.pair = subst (λ (q : Point). Longer h.next.view.pair q.view.pair) end (parts_longer h.rest h.next x light on so) in
           let all = longer_last pt.view.pair h.next.view.pair w.point.view.pair first long in
-          let later : Leads b (first_point b) (es ++ step.Turn m ∷ []) w.point = leads_append b es (step.Turn m ∷ []) (first_point b) pt w.point leads (w, small, e, refl) in
-          let ends = ends_within b es (es ++ step.Turn m ∷ []) pt w.point valid leads later grows all in
-          let machines : w.point.kernel.machines ≡ n = (run_always b (es ++ step.Turn m ∷ []) w.point valid later).run.based.machines ∙ sym (run_always b es pt valid leads).run.based.machines in
+          let later : Leads b (first_point b) (es ++ Step.Turn m ∷ []) w.point = leads_append b es (Step.Turn m ∷ []) (first_point b) pt w.point leads (w, small, e, refl) in
+          let ends = ends_within b es (es ++ Step.Turn m ∷ []) pt w.point valid leads later grows all in
+          let machines : w.point.kernel.machines ≡ n = (run_always b (es ++ Step.Turn m ∷ []) w.point valid later).run.based.machines ∙ sym (run_always b es pt valid leads).run.based.machines in
           FewerNumbers (numbers_fall b.numbers n pt.view w.point.view grows all (subst (λ (k : ℕ). all.from < k) machines ends.from) (subst (λ (k : ℕ). all.to < k) machines ends.to) (kept.counts all.from all.to))
       | inr not_so ↦
           let low : Lowers h.next.view w.point.view = subst (λ (q : Point). Lowers h.next.view q.view) end (parts_lower h.rest h.next x h.calm not_so on) in
           stays_falls b es pt m i is w.point h n valid leads small front (numbers_stay b.numbers n pt.view w.point.view grows.ids) low
     ]
 
-pub turn_falls : (b : Boot) (es : List Step) (pt : Point) (m : ℕ) (w : Spelled) → IsValid b → Leads b (first_point b) es pt → m < pt.kernel.machines → has_mail pt.view m ≡ true → group_of b pt (step.Turn m) ≡ Some w → IsKept b w.point
+pub turn_falls : (b : Boot) (es : List Step) (pt : Point) (m : ℕ) (w : Spelled) → IsValid b → Leads b (first_point b) es pt → m < pt.kernel.machines → has_mail pt.view m ≡ true → group_of b pt (Step.Turn m) ≡ Some w → IsKept b w.point
     → IsLess (left b.numbers pt.kernel.machines w.point.view) (left b.numbers pt.kernel.machines pt.view)
 turn_falls b es pt m w valid leads small mail e kept = less (left b.numbers pt.kernel.machines w.point.view) (left b.numbers pt.kernel.machines pt.view) (turn_fewer b es pt m w valid leads small mail e kept)

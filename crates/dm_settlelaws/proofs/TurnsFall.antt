@@ -1,19 +1,6 @@
 -- What is left for turns never rises in a settle, and each turn takes one of it.
-use Rattle.std.proofs.Common.{◌≡◌, ℕ, ◌+◌, ◌*◌, ◌^◌, ◌<◌, ◌≤◌, List, [], ◌∷◌, ◌++◌, length, refl, sym, subst, arith}
-use Rattle.std.specs.declared.option.Option.TheVariants.{Some}
-use Rattle.dm_onekernel.specs.declared.boot.Boot.{Boot}
-use Rattle.dm_onekernel.specs.Boot.{IsValid}
-use Rattle.dm_schedule.specs.declared.Step.{Step}
-use Rattle.dm_schedule.specs.declared.Step.TheVariants as step
-use Rattle.dm_rule.specs.Good.{IsKept}
-use Rattle.dm_rule.specs.Laws.{IsStep, Leads}
-use Rattle.dm_rule.specs.Parts.{Spelled}
-use Rattle.dm_rule.specs.Point.{Point, first_point}
-use Rattle.dm_rule.specs.Rule.{group_of}
-use Rattle.dm_rulelaws.proofs.RunsAlways.{run_always}
-use Rattle.dm_movelaws.proofs.Promise.Finds.{leads_append}
-use Rattle.dm_settlelaws.specs.Left.{IsLess, Left, Messages, Numbers, Packets, Releases, left, turns_left}
-use Rattle.dm_settlelaws.specs.Laws.{TurnsFall}
+use Rattle.dm_settlelaws.proofs.Names.{◌≡◌, ℕ, ◌+◌, ◌*◌, ◌^◌, ◌<◌, ◌≤◌, List, [], ◌∷◌, ◌++◌, length, refl, sym, subst, arith, Some, Boot, IsValid, Step, IsKept, IsStep, Leads, Spelled, Point, first_point, group_of, run_always, leads_append}
+use Rattle.dm_settlelaws.proofs.Names.{IsLess, Left, Messages, Numbers, Packets, Releases, left, turns_left, TurnsFall}
 use Rattle.dm_settlelaws.proofs.DeliverFalls.{deliver_falls}
 use Rattle.dm_settlelaws.proofs.Few.{IsFew, few_left}
 use Rattle.dm_settlelaws.proofs.TurnFalls.{FewerMessages, FewerNumbers, FewerReleases, IsFewer, turn_fewer}
@@ -51,10 +38,9 @@ few_behind b es pt e w valid leads fit is kept =
     subst (λ (k : ℕ). IsFew (left b.numbers k w.point.view)) (sym machines) (few_left b (es ++ e ∷ []) w.point valid later kept)
 
 pub turns_fall : TurnsFall
-turns_fall b es pt (step.Turn m) w valid leads fit is e kept =
-    fewer_turns (left b.numbers pt.kernel.machines w.point.view) (left b.numbers pt.kernel.machines pt.view) (few_behind b es pt (step.Turn m) w valid leads fit e kept) (turn_fewer b es pt m w valid leads fit is e kept)
-turns_fall b es pt (step.Deliver a c k) w valid leads fit is e kept =
-    no_more_turns (left b.numbers pt.kernel.machines w.point.view) (left b.numbers pt.kernel.machines pt.view) (few_behind b es pt (step.Deliver a c k) w valid leads fit e kept)
+turns_fall b es pt (Step.Turn m) w valid leads fit is e kept =
+    fewer_turns (left b.numbers pt.kernel.machines w.point.view) (left b.numbers pt.kernel.machines pt.view) (few_behind b es pt (Step.Turn m) w valid leads fit e kept) (turn_fewer b es pt m w valid leads fit is e kept)
+turns_fall b es pt (Step.Deliver a c k) w valid leads fit is e kept =
+    no_more_turns (left b.numbers pt.kernel.machines w.point.view) (left b.numbers pt.kernel.machines pt.view) (few_behind b es pt (Step.Deliver a c k) w valid leads fit e kept)
     (deliver_falls b es pt a c k w b.numbers leads fit.0 fit.1 fit.2 is e)
-turns_fall b es pt (step.Tick m) w valid leads fit is e kept = absurd is
-turns_fall b es pt (step.Migrate p m) w valid leads fit is e kept = absurd is
+turns_fall b es pt _ w valid leads fit is e kept = absurd is

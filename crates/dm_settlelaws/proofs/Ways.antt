@@ -1,23 +1,6 @@
 -- What all that is on its way weighs, where a message's weight is by the machine that it goes to.
-use Rattle.std.proofs.Common.{◌≡◌, ℕ, zero, suc, ◌+◌, ◌-◌, ◌*◌, ◌<◌, ◌≤◌, Bool, true, false, List, [], ◌∷◌, refl, ap, ◌∙◌, sym, subst, inl, inr, arith, mul-suc, mul-add}
-use Rattle.std.specs.Prelude.{⊤, if◌then◌else◌}
-use Rattle.std.specs.declared.option.Option.{Option}
-use Rattle.std.specs.declared.option.Option.TheVariants.{None, Some}
-use Rattle.std.proofs.lemmas.Bool.{cases_Bool, false≢true}
-use Rattle.std.proofs.lemmas.Bool.Decides.{eqb_tells}
-use Rattle.std.proofs.lemmas.Nat.{mul-le}
-use Rattle.dm_link.specs.declared.Pid.{Pid}
-use Rattle.dm_message.specs.declared.MsgId.{MsgId}
-use Rattle.dm_message.specs.declared.kind.MessageKind.{MessageKind}
-use Rattle.dm_message.specs.Ids.{id_eq}
-use Rattle.dm_laws.proofs.Equal.{id_eq-is}
-use Rattle.dm_line.specs.Each.{sum_below}
-use Rattle.dm_rule.specs.Addresses.{is_told_back}
-use Rattle.dm_rule.specs.Spots.{Inbox, Untaken, times, untaken}
-use Rattle.dm_rule.specs.View.{Told, View}
-use Rattle.dm_movelaws.specs.AtRest.{is_moving}
-use Rattle.dm_settlelaws.specs.Left.{one_each, weight, weight_of, weight_to}
-use Rattle.dm_settlelaws.specs.Puts.{OnlyLight, is_light}
+use Rattle.dm_settlelaws.proofs.Names.{◌≡◌, ℕ, zero, suc, ◌+◌, ◌-◌, ◌*◌, ◌<◌, ◌≤◌, Bool, true, false, List, [], ◌∷◌, refl, ap, ◌∙◌, sym, subst, inl, inr, arith, mul-suc, mul-add, ⊤, if◌then◌else◌, Option, None, Some, cases_Bool, false≢true}
+use Rattle.dm_settlelaws.proofs.Names.{eqb_tells, mul-le, Pid, MsgId, MessageKind, id_eq, id_eq-is, sum_below, is_told_back, Inbox, Untaken, times, untaken, Told, View, is_moving, one_each, weight, weight_of, weight_to, OnlyLight, is_light}
 use Rattle.dm_settlelaws.proofs.Distances.{Knows, distance, within_steps}
 use Rattle.dm_settlelaws.proofs.Weights.{spike, spike_here, spike_off, sum_both, sum_le, sum_same, sum_spike, sum_spike_most, weight_none, weight_same}
 

@@ -1,15 +1,7 @@
 -- Weights of lists of messages, and sums over machines.
-use Rattle.std.proofs.Common.{◌≡◌, ◌≢◌, ℕ, zero, suc, ◌+◌, ◌*◌, ◌<◌, ◌≤◌, ◌==◌, Bool, true, false, List, [], ◌∷◌, ◌++◌, length, refl, ap, subst, inl, inr, arith, suc-mul}
-use Rattle.std.specs.Prelude.{if◌then◌else◌}
-use Rattle.std.proofs.lemmas.Bool.Decides.{eqb_tells, leb_tells}
-use Rattle.dm_message.specs.declared.MsgId.{MsgId}
-use Rattle.dm_message.specs.Ids.{id_eq}
-use Rattle.dm_laws.proofs.Equal.{id_eq-same}
-use Rattle.dm_line.specs.Each.{sum_below}
-use Rattle.dm_line.specs.Sets.{without_front}
-use Rattle.dm_rule.specs.Spots.{times}
-use Rattle.dm_rule.specs.View.{without_first}
-use Rattle.dm_settlelaws.specs.Left.{one_each, weight}
+use Rattle.dm_settlelaws.proofs.Names.{◌≡◌, ◌≢◌, ℕ, zero, suc, ◌+◌, ◌*◌, ◌<◌, ◌≤◌, ◌==◌, Bool, true, false, List, [], ◌∷◌, ◌++◌, length, refl, ap, subst, inl, inr, arith, suc-mul, if◌then◌else◌, eqb_tells, leb_tells, MsgId, id_eq}
+use Rattle.dm_settlelaws.proofs.Names.{id_eq-same, sum_below, without_front, times, without_first, one_each, weight, more_front}
+pub use Rattle.dm_rule.proofs.Phases.Leaves.{first_of as first_times}
 
 pub weight-append : (f : MsgId → ℕ) (xs ys : List MsgId) → weight f (xs ++ ys) ≡ weight f xs + weight f ys
 weight-append f [] ys = omega arith
@@ -19,23 +11,13 @@ pub weight-one : (xs : List MsgId) → weight one_each xs ≡ length xs
 weight-one [] = refl
 weight-one (x ∷ xs) = let h = weight-one xs in omega (arith, h)
 
-pub first_times : (i : MsgId) (is : List MsgId) → 1 ≤ times i (i ∷ is)
-first_times i is = let e : times i (i ∷ is) ≡ 1 + times i is = ap (λ (c : Bool). (if c then 1 else 0) + times i is) (id_eq-same i) in omega (arith, e)
-
-rest_times : (i j : MsgId) (is : List MsgId) → 1 ≤ times i is → 1 ≤ times i (j ∷ is)
-rest_times i j is h = by (id_eq i j)
-  where
-    by : (c : Bool) → 1 ≤ (if c then 1 else 0) + times i is
-    by true = omega arith
-    by false = omega (arith, h)
-
 pub weight_same : (f g : MsgId → ℕ) (xs : List MsgId) → ((i : MsgId) → 1 ≤ times i xs → f i ≡ g i) → weight f xs ≡ weight g xs
 weight_same f g [] h = refl
-weight_same f g (x ∷ xs) h = let e = h x (first_times x xs) in let k = weight_same f g xs (λ i l. h i (rest_times i x xs l)) in omega (arith, e, k)
+weight_same f g (x ∷ xs) h = let e = h x (first_times x xs) in let k = weight_same f g xs (λ i l. h i (more_front i x xs l)) in omega (arith, e, k)
 
 pub weight_none : (f : MsgId → ℕ) (xs : List MsgId) → ((i : MsgId) → 1 ≤ times i xs → f i ≡ 0) → weight f xs ≡ 0
 weight_none f [] h = refl
-weight_none f (x ∷ xs) h = let e = h x (first_times x xs) in let k = weight_none f xs (λ i l. h i (rest_times i x xs l)) in omega (arith, e, k)
+weight_none f (x ∷ xs) h = let e = h x (first_times x xs) in let k = weight_none f xs (λ i l. h i (more_front i x xs l)) in omega (arith, e, k)
 
 pub weight_most : (f : MsgId → ℕ) (xs : List MsgId) → ((i : MsgId) → f i ≤ 1) → weight f xs ≤ length xs
 weight_most f [] h = omega arith

@@ -1,13 +1,6 @@
 -- Packets of a wire: what is put there, and what is delivered.
-use Rattle.std.proofs.Common.{◌≡◌, ◌⊎◌, ℕ, zero, suc, ◌+◌, Bool, true, false, List, [], ◌∷◌, ◌++◌, refl, ap, ◌∙◌, sym, inl, inr}
-use Rattle.std.specs.Prelude.{if◌then◌else◌, slice_get, slice_set}
-use Rattle.std.specs.declared.option.Option.{Option}
-use Rattle.std.specs.declared.option.Option.TheVariants.{None, Some}
-use Rattle.std.proofs.lemmas.Bool.{false≢true}
-use Rattle.dm_line.specs.declared.line.Load.{Load}
-use Rattle.dm_rule.specs.Good.{first_undelivered}
-use Rattle.dm_rule.specs.View.{Sent, marked_at}
-use Rattle.dm_settlelaws.specs.Rests.{HasCome, HasPacket}
+use Rattle.dm_settlelaws.proofs.Names.{◌≡◌, ◌⊎◌, ℕ, zero, suc, ◌+◌, Bool, true, false, List, [], ◌∷◌, ◌++◌, refl, ap, ◌∙◌, sym, inl, inr, if◌then◌else◌, slice_get, slice_set, Option, None, Some, false≢true, Load, first_undelivered, Sent}
+use Rattle.dm_settlelaws.proofs.Names.{marked_at, HasCome, HasPacket}
 
 -- a packet that is put
 abbrev pub new_packet : Load → Sent

@@ -1,57 +1,14 @@
 -- A machine is asked to take a process: there is room for it, or what is free is said.
-use Rattle.std.proofs.Common.{◌≡◌, ◌≢◌, ℕ, ◌+◌, ◌/◌, ◌<◌, ◌==◌, ◌&&◌, Bool, true, false, nat_lt, nat_le, List, [], length, map, refl, ap, ◌∙◌, sym, subst, inl, inr, arith}
-use Rattle.std.specs.Prelude.{if◌then◌else◌, slice_get}
-use Rattle.std.specs.declared.option.Option.{Option}
-use Rattle.std.specs.declared.option.Option.TheVariants.{None, Some}
-use Rattle.std.proofs.lemmas.Bool.{cases_Bool, false≢true}
-use Rattle.std.proofs.lemmas.List.Elements.{All-nil}
-use Rattle.dm_link.specs.declared.Pid.{Pid}
-use Rattle.dm_link.specs.Names.{pid_eq}
-use Rattle.dm_message.specs.declared.Message.{Message}
-use Rattle.dm_message.specs.declared.MsgId.{MsgId}
-use Rattle.dm_message.specs.declared.What.{What}
-use Rattle.dm_message.specs.declared.What.TheVariants as what
-use Rattle.dm_message.specs.declared.kind.MessageKind.{MessageKind}
-use Rattle.dm_message.specs.declared.kind.MessageKind.TheVariants as kind
-use Rattle.dm_message.specs.Kinds.{kind_of}
-use Rattle.dm_message.specs.Lawful.{IsLawfulMessage}
-use Rattle.dm_process.specs.declared.process.Process.{Process}
-use Rattle.dm_room.specs.Room.{Taken, free_blocks, free_slots, with_reserved}
+use Rattle.dm_mirror.proofs.Names.{◌≡◌, ◌≢◌, ℕ, ◌+◌, ◌/◌, ◌<◌, ◌==◌, ◌&&◌, Bool, true, false, nat_le, List, [], length, map, refl, ap, ◌∙◌, sym, subst, inl, inr, arith, if◌then◌else◌, slice_get, Option, None, Some, cases_Bool, false≢true}
+use Rattle.dm_mirror.proofs.Names.{All-nil, Pid, pid_eq, Message, MsgId, What, Record, Line, Stage, MessageKind, kind_of, IsLawfulMessage, Process, Taken, free_blocks, free_slots, with_reserved, incoming_of, Chunk, expected, CanMove}
+use Rattle.dm_mirror.proofs.Names.{HasChunk, state_of, coming, Boot, BootMachine, slots_of, plain_process, PlainProcess, pid_eq-is, pid_eq-same, kernel_told, Moves, comes, knows, leaves, Point, Room, fits, free_room, taken_at, taken_by}
+use Rattle.dm_mirror.proofs.Names.{at_pid, at_record, Known, Unknown, Here, Frozen, Incoming, Forward, Ended, front_of, without_first, is_server, has_nothing_held, Placed, room_of, accepts, with_expected, kernel_handles, KernelState}
+use Rattle.dm_mirror.proofs.Names.{KnownStands, KernelStands, RoomStands, AllRecords, Carries, source_knows, and_false}
 use Rattle.dm_room.specs.Room as room_
-use Rattle.dm_records.specs.declared.record.Record.TheVariants as record_
-use Rattle.dm_records.specs.Records.{incoming_of}
-use Rattle.dm_migrate.specs.declared.arriving.Wanted.TheVariants.{Chunk}
-use Rattle.dm_migrate.specs.Arrival.{expected}
-use Rattle.dm_migrate.specs.Departure.{CanMove}
-use Rattle.dm_migrate.specs.Pieces.{HasChunk, state_of}
-use Rattle.dm_migrate.specs.Way.{coming}
-use Rattle.dm_onekernel.specs.declared.boot.Boot.{Boot}
-use Rattle.dm_onekernel.specs.declared.boot.BootMachine.{BootMachine}
-use Rattle.dm_onekernel.specs.Boot.{slots_of}
-use Rattle.dm_onekernel.specs.Plain.{plain_process}
-use Rattle.dm_onekernel.specs.PlainProcess.{PlainProcess}
 use Rattle.dm_onekernel.specs.Step as kernel
-use Rattle.dm_laws.proofs.Equal.{pid_eq-is, pid_eq-same}
-use Rattle.dm_line.specs.declared.line.Line.TheVariants as line
-use Rattle.dm_line.specs.declared.line.Stage.TheVariants as stage
 use Rattle.dm_rule.specs.Migrating as rule_moves
-use Rattle.dm_rule.specs.Migrating.{kernel_told}
-use Rattle.dm_rule.specs.Phases.{Moves, comes, is_away, knows, leaves}
-use Rattle.dm_rule.specs.Point.{Point}
 use Rattle.dm_rule.specs.Rule as rule
-use Rattle.dm_rule.specs.Rule.{Room, fits, free_room, taken_at, taken_by}
-use Rattle.dm_line.specs.Sets.{at_pid, at_record}
-use Rattle.dm_rule.specs.View.{Known, Unknown, Here, Frozen, Incoming, Forward, Ended, front_of, without_first}
-use Rattle.dm_rulelaws.specs.Fits.{is_server}
-use Rattle.dm_rulelaws.specs.Found.{has_nothing_held}
-use Rattle.dm_places.specs.Placed.{Placed}
-use Rattle.dm_kernel.specs.Begun.{room_of}
-use Rattle.dm_kernel.specs.Coming.{accepts, with_expected}
-use Rattle.dm_kernel.specs.Handle.{kernel_handles}
 use Rattle.dm_kernel.specs.State as machine
-use Rattle.dm_kernel.specs.State.{KernelState, Turned}
-use Rattle.dm_mirror.specs.Stands.{KnownStands, KernelStands, RoomStands}
-use Rattle.dm_mirror.specs.Tokens.{AllRecords, Carries}
 use Rattle.dm_mirror.proofs.Come.Frames.{Arrives, Comes, arrives}
 use Rattle.dm_mirror.proofs.Come.Handled.{after_accepted, after_lacks, comes_known, first_gone, outcome_kernel, turn_kernel}
 use Rattle.dm_mirror.proofs.Come.Pieces.{room_kept}
@@ -64,31 +21,24 @@ free_as : (t : Taken) (o : Option BootMachine) (r : Room) → RoomStands t (room
 free_as t None r h = let a = h.slots in let c = h.blocks in (omega (arith, a), omega (arith, c))
 free_as t (Some g) r h = let a = h.slots in let c = h.blocks in let d = h.taken_slots in let e = h.taken_blocks in (omega (arith, a, d), omega (arith, c, e))
 
-slot_free : (n : ℕ) → nat_lt 0 n ≡ nat_le 1 n
-slot_free n = refl
-
 room_as : (t : Taken) (r : Room) (n : ℕ) → (free_slots t ≡ r.slots) × (free_blocks t ≡ r.blocks) → room_.has_room t n ≡ rule.has_room r n
 room_as t r n h = λ i. nat_le 1 (h.0 i) && nat_le n (h.1 i)
 
 -- the machine that it leaves holds it back
-frozen_is : (d : ℕ) (n : Known) → leaves kind.Ask d n ≡ true → (to : ℕ) × (n ≡ Frozen to)
+frozen_is : (d : ℕ) (n : Known) → leaves MessageKind.Ask d n ≡ true → (to : ℕ) × (n ≡ Frozen to)
 frozen_is d (Frozen to) e = (to, refl)
-frozen_is d (Forward at_ moves) e = absurd (false≢true e)
-frozen_is d Unknown e = absurd (false≢true e)
-frozen_is d Here e = absurd (false≢true e)
-frozen_is d (Incoming from) e = absurd (false≢true e)
-frozen_is d Ended e = absurd (false≢true e)
+frozen_is d _ e = absurd (false≢true e)
 
 frozen_unknown : (to : ℕ) → Frozen to ≢ Unknown
 frozen_unknown to e = cc
 
 leaves_by : (pt : Point) (l : Placed) (p : Pid) (queue held_ : List MsgId) (to : ℕ) (r : Option machine.Known) → KnownStands pt l p queue held_ (Frozen to) r → (x : Process) × (q : List Message) × (l.processes p ≡ Some (record x { queue = q })) × CanMove x
 leaves_by pt l p queue held_ to None h = absurd h
-leaves_by pt l p queue held_ to (Some (record_.Here x)) h = absurd h
-leaves_by pt l p queue held_ to (Some (record_.Frozen d)) h = (d.process, h.here.0.0, h.here.0.1, h.whole)
-leaves_by pt l p queue held_ to (Some (record_.Incoming a)) h = absurd h
-leaves_by pt l p queue held_ to (Some (record_.Forward at_ moves)) h = absurd h
-leaves_by pt l p queue held_ to (Some (record_.Ended y)) h = absurd h
+leaves_by pt l p queue held_ to (Some (Record.Here x)) h = absurd h
+leaves_by pt l p queue held_ to (Some (Record.Frozen d)) h = (d.process, h.here.0.0, h.here.0.1, h.whole)
+leaves_by pt l p queue held_ to (Some (Record.Incoming a)) h = absurd h
+leaves_by pt l p queue held_ to (Some (Record.Forward at_ moves)) h = absurd h
+leaves_by pt l p queue held_ to (Some (Record.Ended y)) h = absurd h
 
 -- whatever waits for it
 pub without_queue : (x : Process) → CanMove x → CanMove (record x { queue = [] })
@@ -103,13 +53,10 @@ without_queue x h = record {
 same_process : (x z : Process) → Some x ≡ Some z → x ≡ z
 same_process x z e = cc
 
-source_knows : (j : MessageKind) (s d : ℕ) (i : Option MsgId) (n : Known) → knows (Moves j s d i) s n ≡ true → leaves j d n ≡ true
-source_knows j s d i n e = sym (ap (λ (t : Bool). if t then leaves j d n else if d == s then comes j s n else is_away n) (eq_self s)) ∙ e
-
-leaves_where : (b : Boot) (m : ℕ) (pt : Point) (l : Placed) (k : KernelState) (y : Message) (p : Pid) (a : Arrives b m pt l k y p) → kind_of y.what ≡ kind.Ask → (to : ℕ) × (pt.view.known a.source p ≡ Frozen to)
+leaves_where : (b : Boot) (m : ℕ) (pt : Point) (l : Placed) (k : KernelState) (y : Message) (p : Pid) (a : Arrives b m pt l k y p) → kind_of y.what ≡ MessageKind.Ask → (to : ℕ) × (pt.view.known a.source p ≡ Frozen to)
 leaves_where b m pt l k y p a is =
     frozen_is m (pt.view.known a.source p)
-    (source_knows kind.Ask a.source m (Some y.id) (pt.view.known a.source p) (subst (λ (j : MessageKind). knows (Moves j a.source m (Some y.id)) a.source (pt.view.known a.source p) ≡ true) is (a.phase.known a.source)))
+    (source_knows MessageKind.Ask a.source m (Some y.id) (pt.view.known a.source p) (subst (λ (j : MessageKind). knows (Moves j a.source m (Some y.id)) a.source (pt.view.known a.source p) ≡ true) is (a.phase.known a.source)))
 
 can_by : (b : Boot) (pt : Point) (l : Placed) (s to : ℕ) (z : KernelState) (p : Pid) (x : Process) → pt.view.known s p ≡ Frozen to → is_server p ≡ false → KernelStands b pt l s z → l.processes p ≡ Some x → CanMove (record x { queue = [] })
 can_by b pt l s to z p x frozen server stands there =
@@ -117,7 +64,7 @@ can_by b pt l s to z p x frozen server stands there =
     let same : record w { queue = q } ≡ x = same_process (record w { queue = q }) x (sym is ∙ there) in
     subst (λ (u : Process). CanMove (record u { queue = [] })) same (without_queue w whole)
 
-pub can_come : (b : Boot) (m : ℕ) (pt : Point) (l : Placed) (records : AllRecords) (k : KernelState) (y : Message) (p : Pid) → Comes b m pt l records k y p → (a : Arrives b m pt l k y p) → kind_of y.what ≡ kind.Ask
+pub can_come : (b : Boot) (m : ℕ) (pt : Point) (l : Placed) (records : AllRecords) (k : KernelState) (y : Message) (p : Pid) → Comes b m pt l records k y p → (a : Arrives b m pt l k y p) → kind_of y.what ≡ MessageKind.Ask
     → ((n : ℕ) → n < pt.kernel.machines → (z : KernelState) × KernelStands b pt l n z) → CanMove (record a.process { queue = [] })
 can_come b m pt l records k y p c a is nodes =
     let (to, frozen) = leaves_where b m pt l k y p a is in
@@ -130,16 +77,13 @@ record Absent (n : Known) : Type 0 where
   held : has_nothing_held n ≡ true
   room : rule.takes_room n ≡ 0
 
-absent : (s : ℕ) (n : Known) → comes kind.Ask s n ≡ true → Absent n
+absent : (s : ℕ) (n : Known) → comes MessageKind.Ask s n ≡ true → Absent n
 absent s Unknown e = record { held = refl; room = refl }
 absent s (Forward at_ moves) e = record { held = refl; room = refl }
-absent s (Incoming from) e = absurd (false≢true e)
-absent s Here e = absurd (false≢true e)
-absent s (Frozen to) e = absurd (false≢true e)
-absent s Ended e = absurd (false≢true e)
+absent s _ e = absurd (false≢true e)
 
 -- there is no room for it
-lacks_row : (b : Boot) (m : ℕ) (pt : Point) (l : Placed) (records : AllRecords) (k : KernelState) (y : Message) (p : Pid) (c : Comes b m pt l records k y p) (a : Arrives b m pt l k y p) → kind_of y.what ≡ kind.Ask
+lacks_row : (b : Boot) (m : ℕ) (pt : Point) (l : Placed) (records : AllRecords) (k : KernelState) (y : Message) (p : Pid) (c : Comes b m pt l records k y p) (a : Arrives b m pt l k y p) → kind_of y.what ≡ MessageKind.Ask
     → kernel_handles b (record k { inbox = c.rest }) y y.what ≡ accepts b (record k { inbox = c.rest }) y p (length a.process.memory / 256) a.process.moves (length (state_of a.process)) None false
     → rule.has_room (free_room b pt m) (length a.process.memory / 256) ≡ false → TurnsAt b m pt l records k
 lacks_row b m pt l records k y p c a is handles none =
@@ -150,8 +94,8 @@ lacks_row b m pt l records k y p c a is handles none =
     let box = without_first (v.inbox m) in
     let next = come_point pt (come_view v m p box v.known v.asked) in
     turns_answer b m pt l records k y p c a (record {
-      line = line.Lacks p (free_slots k.room) (free_blocks k.room);
-      what = what.Refuse p (free_slots k.room) (free_blocks k.room);
+      line = Line.Lacks p (free_slots k.room) (free_blocks k.room);
+      what = What.Refuse p (free_slots k.room) (free_blocks k.room);
       state = machine.with_sent s;
       box = box;
       known = v.known;
@@ -187,10 +131,6 @@ lacks_row b m pt l records k y p c a is handles none =
 -- there is
 record_self : (f : ℕ → Pid → Known) (m : ℕ) (p : Pid) (x : Known) → at_record f m p x m p ≡ x
 record_self f m p x = ap (λ (d : Bool). if d && pid_eq p p then x else f m p) (eq_self m) ∙ ap (λ (d : Bool). if d then x else f m p) (pid_eq-same p)
-
-and_false : (d e : Bool) → e ≡ false → (d && e) ≡ false
-and_false true e h = h
-and_false false e h = refl
 
 record_off : (f : ℕ → Pid → Known) (m n : ℕ) (p q : Pid) (x : Known) → pid_eq p q ≡ false → at_record f m p x n q ≡ f n q
 record_off f m n p q x off = ap (λ (d : Bool). if d then x else f n q) (and_false (m == n) (pid_eq p q) off)
@@ -237,7 +177,7 @@ taken_then b m pt l records k y p c a box from asked none =
     reserve : (new old none_ some_ taken more : ℕ) → new + none_ ≡ old + some_ → none_ ≡ 0 → some_ ≡ more → taken ≡ old → taken + more ≡ new
     reserve new old none_ some_ taken more e f g h = omega (arith, e, f, g, h)
 
-accepts_row : (b : Boot) (m : ℕ) (pt : Point) (l : Placed) (records : AllRecords) (k : KernelState) (y : Message) (p : Pid) (c : Comes b m pt l records k y p) (a : Arrives b m pt l k y p) → kind_of y.what ≡ kind.Ask
+accepts_row : (b : Boot) (m : ℕ) (pt : Point) (l : Placed) (records : AllRecords) (k : KernelState) (y : Message) (p : Pid) (c : Comes b m pt l records k y p) (a : Arrives b m pt l k y p) → kind_of y.what ≡ MessageKind.Ask
     → kernel_handles b (record k { inbox = c.rest }) y y.what ≡ accepts b (record k { inbox = c.rest }) y p (length a.process.memory / 256) a.process.moves (length (state_of a.process)) None true
     → rule.has_room (free_room b pt m) (length a.process.memory / 256) ≡ true → CanMove (record a.process { queue = [] }) → length a.process.table ≡ slots_of b.format → TurnsAt b m pt l records k
 accepts_row b m pt l records k y p c a is handles some_ whole table =
@@ -255,13 +195,13 @@ accepts_row b m pt l records k y p c a is handles some_ whole table =
     let state = machine.with_sent (with_expected b s p (length x.memory / 256) x.moves (length (state_of x)) None) in
     let named = a.named in
     let pieces : new ≡ coming x None [] (Chunk 0) = λ i. expected (sym named i) (length x.memory / 256) x.moves (length (state_of x)) None (sym table i) in
-    let there : state.records p ≡ Some (record_.Incoming new) = ap (λ (d : Bool). if d then Some (record_.Incoming new) else k.records p) (pid_eq-same p) in
+    let there : state.records p ≡ Some (Record.Incoming new) = ap (λ (d : Bool). if d then Some (Record.Incoming new) else k.records p) (pid_eq-same p) in
     let one : asked p ≡ 1 = ap (λ (d : Bool). if d then 1 else v.asked p) (pid_eq-same p) in
     let held : v.held m p ≡ [] = c.run.based.lists.held m p none.held in
     let first : HasChunk (state_of x) 0 = (let least = whole.least in omega (arith, least)) in
     turns_answer b m pt l records k y p c a (record {
-      line = line.Migration stage.Accepted p;
-      what = what.PullState p 0;
+      line = Line.Migration Stage.Accepted p;
+      what = What.PullState p 0;
       state = state;
       box = box;
       known = now;
@@ -276,7 +216,7 @@ accepts_row b m pt l records k y p c a is handles some_ whole table =
       known_away = λ n q off. record_away v.known m n p q (Incoming from) off;
       asked_off = λ q off. ap (λ (d : Bool). if d then 1 else v.asked q) off;
       here = refl;
-      records_off = λ q off. ap (λ (d : Bool). if d then Some (record_.Incoming new) else k.records q) off;
+      records_off = λ q off. ap (λ (d : Bool). if d then Some (Record.Incoming new) else k.records q) off;
       ring = refl;
       inbox = refl;
       made = refl;
@@ -293,17 +233,17 @@ accepts_row b m pt l records k y p c a is handles some_ whole table =
       plain = refl;
       encloses = refl;
       gives = λ w i q. refl;
-      carries = subst (λ (o : Option machine.Known). Carries p x (asked p) (incoming_of o) (what.PullState p 0)) (sym there)
+      carries = subst (λ (o : Option machine.Known). Carries p x (asked p) (incoming_of o) (What.PullState p 0)) (sym there)
           (refl, (one, first), refl);
     })
 
-ask_by : (b : Boot) (m : ℕ) (pt : Point) (l : Placed) (records : AllRecords) (k : KernelState) (y : Message) (p : Pid) (c : Comes b m pt l records k y p) (a : Arrives b m pt l k y p) (d : Bool) → kind_of y.what ≡ kind.Ask
+ask_by : (b : Boot) (m : ℕ) (pt : Point) (l : Placed) (records : AllRecords) (k : KernelState) (y : Message) (p : Pid) (c : Comes b m pt l records k y p) (a : Arrives b m pt l k y p) (d : Bool) → kind_of y.what ≡ MessageKind.Ask
     → kernel_handles b (record k { inbox = c.rest }) y y.what ≡ accepts b (record k { inbox = c.rest }) y p (length a.process.memory / 256) a.process.moves (length (state_of a.process)) None d
     → rule.has_room (free_room b pt m) (length a.process.memory / 256) ≡ d → CanMove (record a.process { queue = [] }) → length a.process.table ≡ slots_of b.format → TurnsAt b m pt l records k
 ask_by b m pt l records k y p c a true is handles room whole table = accepts_row b m pt l records k y p c a is handles room whole table
 ask_by b m pt l records k y p c a false is handles room whole table = lacks_row b m pt l records k y p c a is handles room
 
-pub turns_ask : (b : Boot) (m : ℕ) (pt : Point) (l : Placed) (records : AllRecords) (k : KernelState) (y : Message) (p : Pid) (q : Pid) (blocks moves size : ℕ) (asker : _) → Comes b m pt l records k y p → y.what ≡ what.Ask q blocks moves size asker
+pub turns_ask : (b : Boot) (m : ℕ) (pt : Point) (l : Placed) (records : AllRecords) (k : KernelState) (y : Message) (p : Pid) (q : Pid) (blocks moves size : ℕ) (asker : _) → Comes b m pt l records k y p → y.what ≡ What.Ask q blocks moves size asker
     → ((n : ℕ) → n < pt.kernel.machines → (z : KernelState) × KernelStands b pt l n z) → ((x : Process) → l.processes p ≡ Some x → length x.table ≡ slots_of b.format) → TurnsAt b m pt l records k
 turns_ask b m pt l records k y p q blocks moves size asker c e nodes tables =
     let a = arrives b m pt l records k y p c in
@@ -311,7 +251,7 @@ turns_ask b m pt l records k y p q blocks moves size asker c e nodes tables =
     let s = record k { inbox = c.rest } in
     let r = free_room b pt m in
     let carried = subst (λ (w : What). Carries p x (pt.view.asked p) (incoming_of (k.records p)) w) e a.carries in
-    let is : kind_of y.what ≡ kind.Ask = ap kind_of e in
+    let is : kind_of y.what ≡ MessageKind.Ask = ap kind_of e in
     let free = free_as k.room (slice_get b.machines m) (taken_at pt m pt.kernel.machines) c.stands.room in
     let room : room_.has_room k.room (length x.memory / 256) ≡ rule.has_room r (length x.memory / 256) = room_as k.room r (length x.memory / 256) free in
     ask_by b m pt l records k y p c a (rule.has_room r (length x.memory / 256)) is

@@ -1,45 +1,9 @@
 -- A chunk of the state of a process that comes, and a block of its memory.
-use Rattle.std.proofs.Common.{◌≡◌, ℕ, ◌+◌, ◌/◌, ◌==◌, Bool, true, false, not, nat_lt, [], length, refl, ap, ◌∙◌, sym, subst, arith}
-use Rattle.std.specs.Prelude.{if◌then◌else◌}
-use Rattle.std.specs.declared.option.Option.{Option}
-use Rattle.std.specs.declared.option.Option.TheVariants.{None, Some}
-use Rattle.std.proofs.lemmas.Bool.Decides.{nat_tests}
-use Rattle.dm_link.specs.declared.Pid.{Pid}
-use Rattle.dm_link.specs.Names.{pid_eq}
-use Rattle.dm_message.specs.declared.Message.{Message}
-use Rattle.dm_message.specs.declared.What.{What}
-use Rattle.dm_message.specs.declared.What.TheVariants as what
-use Rattle.dm_message.specs.declared.kind.MessageKind.TheVariants as kind
-use Rattle.dm_message.specs.Kinds.{kind_of}
-use Rattle.dm_process.specs.declared.process.Process.{Process}
-use Rattle.dm_records.specs.declared.record.Record.TheVariants as record_
-use Rattle.dm_records.specs.Records.{incoming_of}
-use Rattle.dm_migrate.specs.declared.arriving.Wanted.{Wanted}
-use Rattle.dm_migrate.specs.declared.arriving.Wanted.TheVariants.{Chunk, Block, Nothing}
-use Rattle.dm_migrate.specs.Arrival.{Arrival, after_chunk, with_piece}
-use Rattle.dm_migrate.specs.Departure.{CanMove}
-use Rattle.dm_migrate.specs.Pieces.{block_of, chunk_of, is_last, state_of}
-use Rattle.dm_migrate.specs.Way.{ComesByPieces, coming}
-use Rattle.dm_migrate.proofs.Way.{by_pieces}
-use Rattle.dm_onekernel.specs.declared.boot.Boot.{Boot}
-use Rattle.dm_onekernel.specs.Options.{bind}
-use Rattle.dm_onekernel.specs.Plain.{plain_process}
-use Rattle.dm_laws.proofs.Equal.{pid_eq-same}
-use Rattle.dm_line.specs.declared.line.Line.TheVariants as line
-use Rattle.dm_line.specs.declared.line.Stage.TheVariants as stage
-use Rattle.dm_rule.specs.Migrating.{chunks_of, kernel_told, pieces_of, takes_block, takes_chunk}
-use Rattle.dm_rule.specs.Phases.{is_early}
-use Rattle.dm_rule.specs.Point.{Point}
-use Rattle.dm_rule.specs.Rule.{fits, free_room}
-use Rattle.dm_line.specs.Sets.{at_pid, without_front}
-use Rattle.dm_rule.specs.View.{without_first}
-use Rattle.dm_places.specs.Placed.{Placed}
-use Rattle.dm_kernel.specs.Coming.{takes_piece}
-use Rattle.dm_kernel.specs.Handle.{kernel_handles}
+use Rattle.dm_mirror.proofs.Names.{◌≡◌, ℕ, ◌+◌, ◌/◌, ◌==◌, Bool, true, false, not, nat_lt, [], length, refl, ap, ◌∙◌, sym, subst, arith, if◌then◌else◌, Option, None, Some, nat_tests, Pid, pid_eq, Message, What, MessageKind, Record, Line}
+use Rattle.dm_mirror.proofs.Names.{Stage, kind_of, Process, incoming_of, Wanted, Chunk, Block, Nothing, Arrival, after_chunk, with_piece, CanMove, block_of, chunk_of, is_last, state_of, ComesByPieces, coming, by_pieces, Boot, bind}
+use Rattle.dm_mirror.proofs.Names.{plain_process, pid_eq-same, chunks_of, kernel_told, pieces_of, takes_block, takes_chunk, is_early, Point, fits, free_room, at_pid, without_front, without_first, Placed, takes_piece, kernel_handles}
+use Rattle.dm_mirror.proofs.Names.{KernelState, ComesStand, AllRecords, Carries, IsAsked, Wants}
 use Rattle.dm_kernel.specs.State as machine
-use Rattle.dm_kernel.specs.State.{KernelState, Turned}
-use Rattle.dm_mirror.specs.Stands.{ComesStand}
-use Rattle.dm_mirror.specs.Tokens.{AllRecords, Carries, IsAsked, Wants}
 use Rattle.dm_mirror.proofs.Come.Counts.{asked_after_block, asked_after_chunk, block_last, chunk_last, whole_memory}
 use Rattle.dm_mirror.proofs.Come.Frames.{Arrives, Comes, arrives}
 use Rattle.dm_mirror.proofs.Come.Handled.{after_memory_taken, after_block as after_block_line, after_piece, after_state_taken, expects, first_gone, front_gone, told_about}
@@ -49,7 +13,7 @@ use Rattle.dm_mirror.proofs.Turning.{TurnsAt}
 -- what has come before, where this is asked for
 pub record Before (b : Boot) (m : ℕ) (pt : Point) (l : Placed) (k : KernelState) (y : Message) (p : Pid) (a : Arrives b m pt l k y p) (w : Wanted) : Type 0 where
   pub arrival : Arrival
-  pub is : k.records p ≡ Some (record_.Incoming arrival)
+  pub is : k.records p ≡ Some (Record.Incoming arrival)
   pub comes_ : ComesStand l p (pt.view.held m p) arrival
   pub whole : CanMove (record a.process { queue = [] })
   pub pieces : arrival ≡ coming a.process None arrival.held w
@@ -79,7 +43,7 @@ asked_others f p q n off = ap (λ (d : Bool). if d then n else f q) off
 
 -- a chunk, the last or another
 state_by : (b : Boot) (m : ℕ) (pt : Point) (l : Placed) (records : AllRecords) (k : KernelState) (y : Message) (p : Pid) (c : Comes b m pt l records k y p) (a : Arrives b m pt l k y p) (chunk : ℕ) (h : Before b m pt l k y p a (Chunk chunk)) (d : Bool)
-    → kind_of y.what ≡ kind.State → kernel_handles b (record k { inbox = c.rest }) y y.what ≡ bind (incoming_of (k.records p)) (takes_piece (record k { inbox = c.rest }) y p)
+    → kind_of y.what ≡ MessageKind.State → kernel_handles b (record k { inbox = c.rest }) y y.what ≡ bind (incoming_of (k.records p)) (takes_piece (record k { inbox = c.rest }) y p)
     → with_piece h.arrival y.what ≡ Some (coming a.process None h.arrival.held (after_chunk chunk d)) → IsAsked a.process (pt.view.asked p + 1) (after_chunk chunk d) → (pt.view.asked p == chunks_of (plain_process a.process)) ≡ d → TurnsAt b m pt l records k
 state_by b m pt l records k y p c a chunk h true is takes took asked test =
     let v = pt.view in
@@ -90,7 +54,7 @@ state_by b m pt l records k y p c a chunk h true is takes took asked test =
       whole = h.whole;
       held = h.comes_;
       wanted = Block 0;
-      line = line.Migration stage.StateTaken p;
+      line = Line.Migration Stage.StateTaken p;
       box = without_first (v.inbox m);
       asked = at_pid v.asked p (v.asked p + 1);
       takes = takes;
@@ -111,7 +75,7 @@ state_by b m pt l records k y p c a chunk h false is takes took asked test =
       whole = h.whole;
       held = h.comes_;
       wanted = Chunk (chunk + 1);
-      line = line.Proto y.id;
+      line = Line.Proto y.id;
       box = without_front y.id (v.inbox m);
       asked = at_pid v.asked p (v.asked p + 1);
       takes = takes;
@@ -124,16 +88,16 @@ state_by b m pt l records k y p c a chunk h false is takes took asked test =
       is_asked = subst (λ (n : ℕ). IsAsked a.process n (Chunk (chunk + 1))) (sym (asked_more v.asked p (v.asked p + 1))) asked;
     })
 
-chunk_pid : (q r : Pid) (i j : ℕ) (d e : Bool) (f g : _) → what.State q i d f ≡ what.State r j e g → q ≡ r
+chunk_pid : (q r : Pid) (i j : ℕ) (d e : Bool) (f g : _) → What.State q i d f ≡ What.State r j e g → q ≡ r
 chunk_pid q r i j d e f g is = cc
 
-pub turns_state : (b : Boot) (m : ℕ) (pt : Point) (l : Placed) (records : AllRecords) (k : KernelState) (y : Message) (p : Pid) (q : Pid) (chunk : ℕ) (last : Bool) (bytes : _) → Comes b m pt l records k y p → y.what ≡ what.State q chunk last bytes → TurnsAt b m pt l records k
+pub turns_state : (b : Boot) (m : ℕ) (pt : Point) (l : Placed) (records : AllRecords) (k : KernelState) (y : Message) (p : Pid) (q : Pid) (chunk : ℕ) (last : Bool) (bytes : _) → Comes b m pt l records k y p → y.what ≡ What.State q chunk last bytes → TurnsAt b m pt l records k
 turns_state b m pt l records k y p q chunk last bytes c e =
     let a = arrives b m pt l records k y p c in
     let x = a.process in
     let s = record k { inbox = c.rest } in
     let carried = subst (λ (w : What). Carries p x (pt.view.asked p) (incoming_of (k.records p)) w) e a.carries in
-    let is : kind_of y.what ≡ kind.State = ap kind_of e in
+    let is : kind_of y.what ≡ MessageKind.State = ap kind_of e in
     let h = before b m pt l records k y p c a (Chunk chunk) (ap is_early is) carried.2 in
     let pieces : ComesByPieces (record x { queue = [] }) None h.arrival.held = by_pieces (record x { queue = [] }) None h.arrival.held h.whole in
     let named : q ≡ p = chunk_pid q x.pid chunk chunk last (is_last (state_of x) chunk) bytes _ carried.0 ∙ a.named in
@@ -146,7 +110,7 @@ turns_state b m pt l records k y p q chunk last bytes c e =
 
 -- a block, another or the last
 memory_by : (b : Boot) (m : ℕ) (pt : Point) (l : Placed) (records : AllRecords) (k : KernelState) (y : Message) (p : Pid) (c : Comes b m pt l records k y p) (a : Arrives b m pt l k y p) (block : ℕ) (h : Before b m pt l k y p a (Block block)) (more : Bool)
-    → kind_of y.what ≡ kind.Memory → kernel_handles b (record k { inbox = c.rest }) y y.what ≡ bind (incoming_of (k.records p)) (takes_piece (record k { inbox = c.rest }) y p)
+    → kind_of y.what ≡ MessageKind.Memory → kernel_handles b (record k { inbox = c.rest }) y y.what ≡ bind (incoming_of (k.records p)) (takes_piece (record k { inbox = c.rest }) y p)
     → with_piece h.arrival y.what ≡ Some (coming a.process None h.arrival.held (if more then Block (block + 1) else Nothing)) → IsAsked a.process (pt.view.asked p + 1) (if more then Block (block + 1) else Nothing)
     → (pt.view.asked p == pieces_of (plain_process a.process)) ≡ not more → (block + 1 == 0) ≡ false → TurnsAt b m pt l records k
 memory_by b m pt l records k y p c a block h true is takes took asked test later =
@@ -158,12 +122,12 @@ memory_by b m pt l records k y p c a block h true is takes took asked test later
       whole = h.whole;
       held = h.comes_;
       wanted = Block (block + 1);
-      line = line.Proto y.id;
+      line = Line.Proto y.id;
       box = without_front y.id (v.inbox m);
       asked = at_pid v.asked p (v.asked p + 1);
       takes = takes;
       took = took;
-      says = ap (λ (e : Bool). if e then line.Migration stage.StateTaken p else line.Proto y.id) later;
+      says = ap (λ (e : Bool). if e then Line.Migration Stage.StateTaken p else Line.Proto y.id) later;
       told = ap (kernel_told pt m y.id p (fits (free_room b pt m) (length a.process.memory / 256)) (plain_process a.process)) is ∙ ap (λ (e : Bool). Some (takes_block y.id p e)) test;
       after = after_block_line pt m p y.to.pid y.id (kind_of y.what) is (told_about b m pt l records k y p c a);
       is_box = front_gone y.id c.ids (v.inbox m) c.box;
@@ -179,7 +143,7 @@ memory_by b m pt l records k y p c a block h false is takes took asked test late
       whole = h.whole;
       held = h.comes_;
       wanted = Nothing;
-      line = line.Migration stage.MemoryTaken p;
+      line = Line.Migration Stage.MemoryTaken p;
       box = without_first (v.inbox m);
       asked = v.asked;
       takes = takes;
@@ -192,16 +156,16 @@ memory_by b m pt l records k y p c a block h false is takes took asked test late
       is_asked = tt;
     })
 
-block_pid : (q r : Pid) (i j : ℕ) (f g : _) → what.Memory q i f ≡ what.Memory r j g → q ≡ r
+block_pid : (q r : Pid) (i j : ℕ) (f g : _) → What.Memory q i f ≡ What.Memory r j g → q ≡ r
 block_pid q r i j f g is = cc
 
-pub turns_memory : (b : Boot) (m : ℕ) (pt : Point) (l : Placed) (records : AllRecords) (k : KernelState) (y : Message) (p : Pid) (q : Pid) (block : ℕ) (bytes : _) → Comes b m pt l records k y p → y.what ≡ what.Memory q block bytes → TurnsAt b m pt l records k
+pub turns_memory : (b : Boot) (m : ℕ) (pt : Point) (l : Placed) (records : AllRecords) (k : KernelState) (y : Message) (p : Pid) (q : Pid) (block : ℕ) (bytes : _) → Comes b m pt l records k y p → y.what ≡ What.Memory q block bytes → TurnsAt b m pt l records k
 turns_memory b m pt l records k y p q block bytes c e =
     let a = arrives b m pt l records k y p c in
     let x = a.process in
     let s = record k { inbox = c.rest } in
     let carried = subst (λ (w : What). Carries p x (pt.view.asked p) (incoming_of (k.records p)) w) e a.carries in
-    let is : kind_of y.what ≡ kind.Memory = ap kind_of e in
+    let is : kind_of y.what ≡ MessageKind.Memory = ap kind_of e in
     let h = before b m pt l records k y p c a (Block block) (ap is_early is) carried.2 in
     let pieces : ComesByPieces (record x { queue = [] }) None h.arrival.held = by_pieces (record x { queue = [] }) None h.arrival.held h.whole in
     let named : q ≡ p = block_pid q x.pid block block bytes _ carried.0 ∙ a.named in

@@ -1,37 +1,15 @@
 -- How many pieces a process that moves has, by its bytes and by the rule, and which of them is asked for next.
-use Rattle.std.proofs.Common.{◌≡◌, ℕ, ◌+◌, ◌*◌, ◌/◌, ◌<◌, ◌≤◌, ◌==◌, Bool, true, false, not, List, [], ◌∷◌, ◌++◌, length, map, refl, ap, ◌∙◌, sym, nat_lt, nat_le, arith}
-use Rattle.std.specs.Prelude.{if◌then◌else◌, option_map}
-use Rattle.std.specs.List.{flat_map}
-use Rattle.std.specs.declared.option.Option.{Option}
-use Rattle.std.specs.declared.option.Option.TheVariants.{None, Some}
-use Rattle.std.proofs.lemmas.List.{length-append}
-use Rattle.std.proofs.lemmas.List.Concat.{flat_map-cons}
-use Rattle.std.proofs.lemmas.Bool.Decides.{nat_tests}
-use Rattle.dm_link.specs.declared.Link.{Link}
-use Rattle.dm_link.specs.Plain.{plain_link}
-use Rattle.dm_process.specs.declared.process.Process.{Process}
-use Rattle.dm_process.specs.Lawful.{IsLawfulProcess}
-use Rattle.dm_process.specs.declared.process.Status.{Status}
-use Rattle.dm_process.specs.declared.process.Status.TheVariants as status
-use Rattle.dm_packet.specs.Field.{number}
-use Rattle.dm_statebytes.specs.declared.Shell.{Shell}
-use Rattle.dm_statebytes.specs.Shell.{front, front_of, registers, shell_of, spelling}
-use Rattle.dm_statebytes.specs.Statuses.{spell_status}
-use Rattle.dm_statebytes.specs.Table.{mask_of, spell_slot}
-use Rattle.dm_statebytes.proofs.Sizes.{numbers_size}
-use Rattle.dm_migrate.specs.declared.arriving.Wanted.TheVariants.{Chunk, Block, Nothing}
-use Rattle.dm_migrate.specs.Arrival.{after_block, after_chunk}
-use Rattle.dm_migrate.specs.Pieces.{is_last, state_of}
-use Rattle.dm_migrate.specs.Way.{HasPiece}
-use Rattle.dm_onekernel.specs.Plain.{plain_process, plain_status}
-use Rattle.dm_rule.specs.Migrating.{chunks_of, link_size, links_size, pieces_of, state_size, status_size}
-use Rattle.dm_mirror.specs.Tokens.{IsAsked, chunks}
+use Rattle.dm_mirror.proofs.Names.{◌≡◌, ℕ, ◌+◌, ◌*◌, ◌/◌, ◌<◌, ◌≤◌, ◌==◌, Bool, true, false, not, List, [], ◌∷◌, ◌++◌, length, map, refl, ap, ◌∙◌, sym, nat_lt, nat_le, arith, if◌then◌else◌, option_map, flat_map, Option, None, Some}
+use Rattle.dm_mirror.proofs.Names.{length-append, flat_map-cons, nat_tests, Link, plain_link, Process, IsLawfulProcess, Status, number, Shell, registers, shell_of, spell_status, mask_of, spell_slot, numbers_size, Chunk, Block, Nothing}
+use Rattle.dm_mirror.proofs.Names.{after_block, after_chunk, is_last, state_of, HasPiece, plain_process, plain_status, chunks_of, link_size, links_size, pieces_of, state_size, status_size, IsAsked, chunks}
+use Rattle.dm_statebytes.specs.Shell.{front, front_of, spelling}
+use Rattle.dm_rule.proofs.QuietTests.{eq_is}
 
 -- the bytes of a status, of the links, and of what stands before them
 status_length : (size : ℕ) (s : Status) → length (spell_status size s) ≡ 1 + status_size (plain_status s)
-status_length size status.Ready = omega arith
-status_length size (status.Waiting mask base most) = omega arith
-status_length size (status.Moving dir owner base own left pending) = omega arith
+status_length size Status.Ready = omega arith
+status_length size (Status.Waiting mask base most) = omega arith
+status_length size (Status.Moving dir owner base own left pending) = omega arith
 
 slot_length : (o : Option Link) → length (spell_slot o) ≡ link_size (option_map plain_link o)
 slot_length None = omega arith
@@ -74,10 +52,6 @@ state_length x sixteen = shell_length (shell_of x) sixteen
 pub chunks_same : (x : Process) → length x.regs.r ≡ 16 → chunks x ≡ chunks_of (plain_process x)
 chunks_same x sixteen = ap (λ (n : ℕ). (n + 511) / 512) (state_length x sixteen)
 
--- tests on numbers
-test_same : (a c : ℕ) → a ≡ c → (a == c) ≡ true
-test_same a c e = grind (arith, nat_tests)
-
 test_below : (a c : ℕ) → a < c → (a == c) ≡ false
 test_below a c e = grind (arith, nat_tests)
 
@@ -98,7 +72,7 @@ pub chunk_count : (last : Bool) (n k size : ℕ) → nat_le size (512 * (k + 1))
 chunk_count true n k size e asked there =
     let f = least_of size (512 * (k + 1)) e in
     let g : (size + 511) / 512 ≡ k + 1 = omega (arith, f, there) in
-    test_same n ((size + 511) / 512) (asked ∙ sym g)
+    eq_is n ((size + 511) / 512) (asked ∙ sym g)
 chunk_count false n k size e asked there =
     let f = more_than size (512 * (k + 1)) e in
     let g : k + 2 ≤ (size + 511) / 512 = omega (arith, f) in
@@ -125,7 +99,7 @@ block_count true n j chunks blocks e asked there =
     test_below n (chunks + blocks) (omega (arith, f, asked))
 block_count false n j chunks blocks e asked there =
     let f = not_below (j + 1) blocks e in
-    test_same n (chunks + blocks) (omega (arith, f, asked, there))
+    eq_is n (chunks + blocks) (omega (arith, f, asked, there))
 
 pub block_last : (x : Process) (n j : ℕ) → length x.regs.r ≡ 16 → length x.memory ≡ 256 * (length x.memory / 256) → IsAsked x n (Block j) → (n == pieces_of (plain_process x)) ≡ not (nat_lt (j + 1) (length x.memory / 256))
 block_last x n j sixteen whole asked =

@@ -1,45 +1,11 @@
 -- A message about a process that comes to a machine, at the front of its inbox: what is known then.
-use Rattle.std.proofs.Common.{◌≡◌, ℕ, ◌+◌, ◌≤◌, ◌||◌, ◌⊎◌, Bool, true, false, List, ◌∷◌, refl, ap, ◌∙◌, sym, subst, inl, inr, is_some, arith}
-use Rattle.std.specs.Prelude.{if◌then◌else◌, option_map}
-use Rattle.std.specs.declared.option.Option.{Option}
-use Rattle.std.specs.declared.option.Option.TheVariants.{None, Some}
-use Rattle.std.proofs.lemmas.Bool.{false≢true}
-use Rattle.std.proofs.lemmas.Bool.Decides.{nat_tests}
-use Rattle.dm_link.specs.declared.Pid.{Pid}
-use Rattle.dm_link.specs.Names.{pid_eq, pid_of}
-use Rattle.dm_linkupdate.specs.Notice.{kernel_at}
-use Rattle.dm_message.specs.declared.Message.{Message}
-use Rattle.dm_message.specs.declared.MsgId.{MsgId}
-use Rattle.dm_message.specs.declared.kind.MessageKind.{MessageKind}
-use Rattle.dm_message.specs.Ids.{id_of}
-use Rattle.dm_message.specs.Kinds.{kind_of}
-use Rattle.dm_message.specs.Plain.{PlainMessage, plain_message}
-use Rattle.dm_process.specs.declared.process.Process.{Process}
-use Rattle.dm_records.specs.Records.{incoming_of}
-use Rattle.dm_onekernel.specs.declared.boot.Boot.{Boot}
-use Rattle.dm_onekernel.specs.Boot.{manager, switchboard}
-use Rattle.dm_onekernel.specs.Kernel.{Life, Alive, Ended, OneKernel}
-use Rattle.dm_onekernel.specs.Options.{bind}
-use Rattle.dm_onekernel.specs.Plain.{plain_process}
-use Rattle.dm_onekernel.specs.PlainProcess.{PlainProcess}
+use Rattle.dm_mirror.proofs.Names.{◌≡◌, ℕ, ◌+◌, ◌≤◌, ◌||◌, Bool, true, false, List, ◌∷◌, refl, ap, ◌∙◌, sym, subst, inl, inr, is_some, arith, if◌then◌else◌, option_map, Option, None, Some, false≢true, nat_tests, Pid, pid_eq, pid_of}
+use Rattle.dm_mirror.proofs.Names.{kernel_at, Message, MsgId, MessageKind, id_of, kind_of, PlainMessage, plain_message, Process, incoming_of, Boot, manager, switchboard, Life, Alive, OneKernel, bind, plain_process, PlainProcess, Made}
+use Rattle.dm_mirror.proofs.Names.{id_eq-same, is_between, is_of_source, Moves, IsIn, receiver_in, sender_in, told_between, Point, Spot, Inbox, StandsOnce, StandsOutside, standing, times, Of, Told, is_kernels, stands_right, not_kernels}
+use Rattle.dm_mirror.proofs.Names.{token_is, token_at, is_server, Run, Placed, Mirrors, KernelState, MadeStands, AllOwnStand, OwnStands, about_of, told_of, AreMessages, KernelStands, AllRecords, Carries, TokensStand, destination_of}
+use Rattle.dm_mirror.proofs.Names.{inbox_is, about_same}
+use Rattle.dm_onekernel.specs.Kernel.{Ended}
 use Rattle.dm_onekernel.specs.Step as kernel
-use Rattle.dm_laws.proofs.Entered.{Made}
-use Rattle.dm_laws.proofs.Equal.{id_eq-same}
-use Rattle.dm_rule.specs.Phases.{is_between, is_of_source, Moves, IsIn, receiver_in, sender_in, told_between}
-use Rattle.dm_rule.specs.Point.{Point}
-use Rattle.dm_rule.specs.Spots.{Spot, Inbox, Untaken, StandsOnce, StandsOutside, standing, times}
-use Rattle.dm_rule.specs.View.{Of, Told, is_kernels}
-use Rattle.dm_rule.proofs.Groups.{stands_right}
-use Rattle.dm_rule.proofs.Letters.{not_kernels}
-use Rattle.dm_rule.proofs.Phases.Stand.{token_is, token_at}
-use Rattle.dm_rulelaws.specs.Fits.{is_server}
-use Rattle.dm_rulelaws.proofs.Runs.{Run}
-use Rattle.dm_places.specs.Placed.{Placed, Mirrors}
-use Rattle.dm_kernel.specs.State.{KernelState}
-use Rattle.dm_mirror.specs.Made.{MadeStands}
-use Rattle.dm_mirror.specs.Own.{AllOwnStand, OwnStands, about_of, told_of}
-use Rattle.dm_mirror.specs.Stands.{AreMessages, KernelStands}
-use Rattle.dm_mirror.specs.Tokens.{AllRecords, Carries, TokensStand, destination_of}
 
 -- machine m, with kernel k, has at its inbox's front message y, which the machine that process p leaves sends
 pub record Comes (b : Boot) (m : ℕ) (pt : Point) (l : Placed) (records : AllRecords) (k : KernelState) (y : Message) (p : Pid) : Type 0 where
@@ -135,16 +101,6 @@ no_server s p h there =
     let d : pid_eq p manager ≡ false = grind (arith, nat_tests) in
     ap (λ (c : Bool). c || pid_eq p manager) e ∙ d
 
--- where it stands
-at_inbox : (m from to : ℕ) → (Inbox m ≡ Inbox to) ⊎ (Inbox m ≡ Untaken from to) → m ≡ to
-at_inbox m from to e = elim e [
-  | inl x ↦ cc
-  | inr x ↦ cc
-]
-
-same_about : (p q : Pid) → Of p ≡ Of q → p ≡ q
-same_about p q e = cc
-
 the_told : (t u : Told) → Some t ≡ Some u → t ≡ u
 the_told t u e = cc
 
@@ -173,9 +129,9 @@ token_of b m pt y p run between of_source about told first =
     let token = token_at v q (h.of q) j s d y.id phase (h.each q) in
     let t : told_between q j s d ≡ told_of y = the_told (told_between q j s d) (told_of y) (sym token.told ∙ told) in
     let kind_is : j ≡ kind_of y.what = ap (λ (z : Told). z.kind) t in
-    let same : q ≡ p = same_about q p (sym of_q ∙ about) in
+    let same : q ≡ p = about_same q p (sym of_q ∙ about) in
     let source : is_of_source j ≡ true = ap is_of_source kind_is ∙ of_source in
-    let here : m ≡ d = at_inbox m (sender_in j s d) (receiver_in j s d) (token.ways (Inbox m) first) ∙ receiver_source j s d source in
+    let here : m ≡ d = inbox_is m (sender_in j s d) (receiver_in j s d) (token.ways (Inbox m) first) ∙ receiver_source j s d source in
     record {
       source = s;
       phase = subst (λ (n : ℕ). IsIn v p (Moves (kind_of y.what) s n (Some y.id))) (sym here) (subst (λ (i : MessageKind). IsIn v p (Moves i s d (Some y.id))) kind_is (subst (λ (r : Pid). IsIn v r (Moves j s d (Some y.id))) same (subst (IsIn v q) phase (h.each q))));

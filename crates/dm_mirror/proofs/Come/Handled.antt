@@ -1,42 +1,10 @@
 -- What a machine and the rule do with a message about a process that comes, and where the lines of it lead.
-use Rattle.std.proofs.Common.{◌≡◌, ℕ, ◌+◌, ◌/◌, ◌==◌, ◌&&◌, Bool, true, false, not, List, [], ◌∷◌, length, refl, ap, ◌∙◌, sym, subst, arith}
-use Rattle.std.specs.Prelude.{if◌then◌else◌}
-use Rattle.std.specs.declared.option.Option.{Option}
-use Rattle.std.specs.declared.option.Option.TheVariants.{None, Some}
-use Rattle.std.proofs.lemmas.Bool.{false≢true}
-use Rattle.std.proofs.lemmas.Bool.Decides.{nat_tests}
-use Rattle.dm_link.specs.declared.Pid.{Pid}
-use Rattle.dm_message.specs.declared.Message.{Message}
-use Rattle.dm_message.specs.declared.MsgId.{MsgId}
-use Rattle.dm_message.specs.declared.kind.MessageKind.{MessageKind}
-use Rattle.dm_message.specs.declared.kind.MessageKind.TheVariants as kind
-use Rattle.dm_message.specs.Kinds.{kind_of}
-use Rattle.dm_records.specs.declared.record.Record.TheVariants as record_
-use Rattle.dm_migrate.specs.Arrival.{Arrival}
-use Rattle.dm_onekernel.specs.declared.boot.Boot.{Boot}
-use Rattle.dm_onekernel.specs.Options.{bind}
-use Rattle.dm_onekernel.specs.Plain.{plain_process}
-use Rattle.dm_onekernel.specs.PlainProcess.{PlainProcess}
-use Rattle.dm_laws.proofs.Equal.{id_eq-same}
-use Rattle.dm_schedule.specs.declared.Step.TheVariants as step
-use Rattle.dm_line.specs.declared.line.Line.TheVariants as line
-use Rattle.dm_line.specs.declared.line.Stage.TheVariants as stage
-use Rattle.dm_rule.specs.Migrating.{kernel_told}
-use Rattle.dm_rule.specs.Parts.{Part}
-use Rattle.dm_rule.specs.Phases.{comes, is_away, is_between, is_early, leaves}
-use Rattle.dm_rule.specs.Point.{Point, after}
+use Rattle.dm_mirror.proofs.Names.{◌≡◌, ℕ, ◌+◌, ◌/◌, ◌==◌, Bool, true, false, List, [], ◌∷◌, length, refl, ap, ◌∙◌, sym, subst, if◌then◌else◌, Option, None, Some, false≢true, Pid, Message, MsgId, MessageKind, Record, Step, Line, Stage}
+use Rattle.dm_mirror.proofs.Names.{kind_of, Arrival, Boot, bind, plain_process, PlainProcess, id_eq-same, kernel_told, Part, comes, is_away, is_between, is_early, leaves, Point, after, fits, free_room, kernel_hears, outcome, at_pid}
+use Rattle.dm_mirror.proofs.Names.{at_record, without_front, About, Known, Here, Frozen, Incoming, Forward, Ended, Of, Told, after_proto, front_of, handled, without_first, Placed, kernel_handles, KernelState, Turned, turn, turns, about_of}
+use Rattle.dm_mirror.proofs.Names.{ComesStand, KnownStands, AllRecords, apart_is, expects_is}
 use Rattle.dm_rule.specs.Rule as rule
-use Rattle.dm_rule.specs.Rule.{fits, free_room, kernel_hears, outcome}
-use Rattle.dm_line.specs.Sets.{at_pid, at_record, without_front}
-use Rattle.dm_rule.specs.View.{About, Known, Unknown, Here, Frozen, Incoming, Forward, Ended, Of, Told, after_proto, front_of, handled, without_first}
-use Rattle.dm_places.specs.Placed.{Placed}
-use Rattle.dm_kernel.specs.Handle.{kernel_handles}
 use Rattle.dm_kernel.specs.State as machine
-use Rattle.dm_kernel.specs.State.{KernelState, Turned}
-use Rattle.dm_kernel.specs.Turn.{turn, turns}
-use Rattle.dm_mirror.specs.Own.{about_of}
-use Rattle.dm_mirror.specs.Stands.{ComesStand, KnownStands}
-use Rattle.dm_mirror.specs.Tokens.{AllRecords}
 use Rattle.dm_mirror.proofs.Come.Frames.{Arrives, Comes}
 use Rattle.dm_mirror.proofs.Come.Turns.{come_point, come_view, eq_self}
 use Rattle.dm_mirror.proofs.Turning.{begun}
@@ -53,7 +21,7 @@ turn_kernel b m pt l records k y p c a o e =
     ap (turns b k) c.inbox ∙ if_true (y.to.pid.num == 0) (kernel_handles b s y y.what) _ num ∙ e
 
 pub outcome_kernel : (b : Boot) (m : ℕ) (pt : Point) (l : Placed) (records : AllRecords) (k : KernelState) (y : Message) (p : Pid) (c : Comes b m pt l records k y p) (a : Arrives b m pt l k y p) (o : Option (List Part))
-    → kernel_told pt m y.id p (fits (free_room b pt m) (length a.process.memory / 256)) (plain_process a.process) (kind_of y.what) ≡ o → outcome b pt (step.Turn m) ≡ o
+    → kernel_told pt m y.id p (fits (free_room b pt m) (length a.process.memory / 256)) (plain_process a.process) (kind_of y.what) ≡ o → outcome b pt (Step.Turn m) ≡ o
 outcome_kernel b m pt l records k y p c a o e =
     let num : (y.to.pid.num == 0) ≡ true = ap (λ (q : Pid). q.num == 0) a.to in
     ap (rule.turns b pt m) c.box
@@ -64,11 +32,6 @@ outcome_kernel b m pt l records k y p c a o e =
     ∙ ap (λ (q : Option PlainProcess). bind q (λ (x : PlainProcess). kernel_told pt m y.id p (fits (free_room b pt m) (length x.memory / 256)) x (kind_of y.what))) a.alive
     ∙ e
 
--- what the machine knows of the process
-apart_is : (d : Bool) (s n : ℕ) → (d && not (s == n)) ≡ true → (s == n) ≡ false
-apart_is true s n e = grind (arith, nat_tests)
-apart_is false s n e = absurd (false≢true e)
-
 pub comes_known : (b : Boot) (m : ℕ) (pt : Point) (l : Placed) (k : KernelState) (y : Message) (p : Pid) (a : Arrives b m pt l k y p) → comes (kind_of y.what) a.source (pt.view.known m p) ≡ true
 comes_known b m pt l k y p a =
     let j = kind_of y.what in
@@ -76,35 +39,22 @@ comes_known b m pt l k y p a =
     let off = apart_is (is_between j) a.source m a.phase.apart in
     sym (ap (λ (d : Bool). if d then leaves j m n else if m == m then comes j a.source n else is_away n) off ∙ ap (λ (d : Bool). if d then comes j a.source n else is_away n) (eq_self m)) ∙ a.phase.known m
 
-incoming_is : (j : MessageKind) (s : ℕ) (n : Known) → is_early j ≡ false → comes j s n ≡ true → n ≡ Incoming s
-incoming_is j s (Incoming f) late e =
-    let same : s ≡ f = same_of s f (sym (ap (λ (d : Bool). not d && (s == f)) late) ∙ e) in
-    ap Incoming (sym same)
-  where
-    same_of : (i h : ℕ) → (i == h) ≡ true → i ≡ h
-    same_of i h e = grind (arith, nat_tests)
-incoming_is j s Unknown late e = absurd (false≢true (sym late ∙ e))
-incoming_is j s (Forward at_ moves) late e = absurd (false≢true (sym late ∙ e))
-incoming_is j s Here late e = absurd (false≢true e)
-incoming_is j s (Frozen to) late e = absurd (false≢true e)
-incoming_is j s Ended late e = absurd (false≢true e)
-
 pub known_incoming : (b : Boot) (m : ℕ) (pt : Point) (l : Placed) (k : KernelState) (y : Message) (p : Pid) (a : Arrives b m pt l k y p) → is_early (kind_of y.what) ≡ false → pt.view.known m p ≡ Incoming a.source
-known_incoming b m pt l k y p a late = incoming_is (kind_of y.what) a.source (pt.view.known m p) late (comes_known b m pt l k y p a)
+known_incoming b m pt l k y p a late = expects_is (kind_of y.what) a.source (pt.view.known m p) late (comes_known b m pt l k y p a)
 
 -- it expects the process
 pub record Expects (l : Placed) (p : Pid) (held_ : List MsgId) (r : Option machine.Known) : Type 0 where
   pub arrival : Arrival
-  pub is : r ≡ Some (record_.Incoming arrival)
+  pub is : r ≡ Some (Record.Incoming arrival)
   pub comes_ : ComesStand l p held_ arrival
 
 expects_by : (pt : Point) (l : Placed) (p : Pid) (queue held_ : List MsgId) (s : ℕ) (r : Option machine.Known) → KnownStands pt l p queue held_ (Incoming s) r → Expects l p held_ r
 expects_by pt l p queue held_ s None h = absurd h
-expects_by pt l p queue held_ s (Some (record_.Here x)) h = absurd h
-expects_by pt l p queue held_ s (Some (record_.Frozen d)) h = absurd h
-expects_by pt l p queue held_ s (Some (record_.Incoming a)) h = record { arrival = a; is = refl; comes_ = h }
-expects_by pt l p queue held_ s (Some (record_.Forward to moves)) h = absurd h
-expects_by pt l p queue held_ s (Some (record_.Ended y)) h = absurd h
+expects_by pt l p queue held_ s (Some (Record.Here x)) h = absurd h
+expects_by pt l p queue held_ s (Some (Record.Frozen d)) h = absurd h
+expects_by pt l p queue held_ s (Some (Record.Incoming a)) h = record { arrival = a; is = refl; comes_ = h }
+expects_by pt l p queue held_ s (Some (Record.Forward to moves)) h = absurd h
+expects_by pt l p queue held_ s (Some (Record.Ended y)) h = absurd h
 
 pub expects : (b : Boot) (m : ℕ) (pt : Point) (l : Placed) (records : AllRecords) (k : KernelState) (y : Message) (p : Pid) (c : Comes b m pt l records k y p) (a : Arrives b m pt l k y p) → is_early (kind_of y.what) ≡ false → Expects l p (pt.view.held m p) (k.records p)
 expects b m pt l records k y p c a late =
@@ -119,27 +69,27 @@ pub first_gone : (i : MsgId) (is xs : List MsgId) → xs ≡ i ∷ is → withou
 first_gone i is xs e = ap without_first e
 
 -- where the lines lead
-pub after_state_taken : (pt : Point) (m : ℕ) (p : Pid) → after (begun pt m) (line.Migration stage.StateTaken p ∷ []) ≡ Some (come_point pt (come_view pt.view m p (without_first (pt.view.inbox m)) pt.view.known (at_pid pt.view.asked p (pt.view.asked p + 1))))
+pub after_state_taken : (pt : Point) (m : ℕ) (p : Pid) → after (begun pt m) (Line.Migration Stage.StateTaken p ∷ []) ≡ Some (come_point pt (come_view pt.view m p (without_first (pt.view.inbox m)) pt.view.known (at_pid pt.view.asked p (pt.view.asked p + 1))))
 after_state_taken pt m p = refl
 
-pub after_memory_taken : (pt : Point) (m : ℕ) (p : Pid) → after (begun pt m) (line.Migration stage.MemoryTaken p ∷ []) ≡ Some (come_point pt (come_view pt.view m p (without_first (pt.view.inbox m)) pt.view.known pt.view.asked))
+pub after_memory_taken : (pt : Point) (m : ℕ) (p : Pid) → after (begun pt m) (Line.Migration Stage.MemoryTaken p ∷ []) ≡ Some (come_point pt (come_view pt.view m p (without_first (pt.view.inbox m)) pt.view.known pt.view.asked))
 after_memory_taken pt m p = refl
 
-pub after_lacks : (pt : Point) (m : ℕ) (p : Pid) (slots blocks : ℕ) → after (begun pt m) (line.Lacks p slots blocks ∷ []) ≡ Some (come_point pt (come_view pt.view m p (without_first (pt.view.inbox m)) pt.view.known pt.view.asked))
+pub after_lacks : (pt : Point) (m : ℕ) (p : Pid) (slots blocks : ℕ) → after (begun pt m) (Line.Lacks p slots blocks ∷ []) ≡ Some (come_point pt (come_view pt.view m p (without_first (pt.view.inbox m)) pt.view.known pt.view.asked))
 after_lacks pt m p slots blocks = refl
 
 pub after_accepted : (pt : Point) (m : ℕ) (p : Pid)
-    → after (begun pt m) (line.Migration stage.Accepted p ∷ []) ≡ Some (come_point pt (come_view pt.view m p (without_first (pt.view.inbox m)) (at_record pt.view.known m p (Incoming (front_of (pt.view.inbox m)))) (at_pid pt.view.asked p 1)))
+    → after (begun pt m) (Line.Migration Stage.Accepted p ∷ []) ≡ Some (come_point pt (come_view pt.view m p (without_first (pt.view.inbox m)) (at_record pt.view.known m p (Incoming (front_of (pt.view.inbox m)))) (at_pid pt.view.asked p 1)))
 after_accepted pt m p = refl
 
 -- a piece that isn't the last
-pub after_piece : (pt : Point) (m : ℕ) (p q : Pid) (i : MsgId) (k : MessageKind) → (k ≡ kind.State) → pt.view.told i ≡ Some (record { kind = k; receiver = q; about = Of p })
-    → after (begun pt m) (line.Proto i ∷ []) ≡ Some (come_point pt (come_view pt.view m p (without_front i (pt.view.inbox m)) pt.view.known (at_pid pt.view.asked p (pt.view.asked p + 1))))
+pub after_piece : (pt : Point) (m : ℕ) (p q : Pid) (i : MsgId) (k : MessageKind) → (k ≡ MessageKind.State) → pt.view.told i ≡ Some (record { kind = k; receiver = q; about = Of p })
+    → after (begun pt m) (Line.Proto i ∷ []) ≡ Some (come_point pt (come_view pt.view m p (without_front i (pt.view.inbox m)) pt.view.known (at_pid pt.view.asked p (pt.view.asked p + 1))))
 after_piece pt m p q i k is told =
     ap (λ (o : Option Told). Some (come_point pt (after_proto (handled (begun pt m).view i) o))) (told ∙ ap (λ (j : MessageKind). Some (record { kind = j; receiver = q; about = Of p })) is)
 
-pub after_block : (pt : Point) (m : ℕ) (p q : Pid) (i : MsgId) (k : MessageKind) → (k ≡ kind.Memory) → pt.view.told i ≡ Some (record { kind = k; receiver = q; about = Of p })
-    → after (begun pt m) (line.Proto i ∷ []) ≡ Some (come_point pt (come_view pt.view m p (without_front i (pt.view.inbox m)) pt.view.known (at_pid pt.view.asked p (pt.view.asked p + 1))))
+pub after_block : (pt : Point) (m : ℕ) (p q : Pid) (i : MsgId) (k : MessageKind) → (k ≡ MessageKind.Memory) → pt.view.told i ≡ Some (record { kind = k; receiver = q; about = Of p })
+    → after (begun pt m) (Line.Proto i ∷ []) ≡ Some (come_point pt (come_view pt.view m p (without_front i (pt.view.inbox m)) pt.view.known (at_pid pt.view.asked p (pt.view.asked p + 1))))
 after_block pt m p q i k is told =
     ap (λ (o : Option Told). Some (come_point pt (after_proto (handled (begun pt m).view i) o))) (told ∙ ap (λ (j : MessageKind). Some (record { kind = j; receiver = q; about = Of p })) is)
 

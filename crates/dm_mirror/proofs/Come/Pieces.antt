@@ -1,46 +1,10 @@
 -- A piece comes of a process that comes, and the next is asked for, or all is said to have come.
-use Rattle.std.proofs.Common.{◌≡◌, ℕ, ◌/◌, Bool, true, false, List, [], ◌∷◌, length, refl, ap, ◌∙◌, sym, subst}
-use Rattle.std.specs.Prelude.{if◌then◌else◌, slice_get}
-use Rattle.std.specs.declared.option.Option.{Option}
-use Rattle.std.specs.declared.option.Option.TheVariants.{None, Some}
-use Rattle.dm_link.specs.declared.Pid.{Pid}
-use Rattle.dm_link.specs.Names.{pid_eq}
-use Rattle.dm_message.specs.declared.Message.{Message}
-use Rattle.dm_message.specs.declared.MsgId.{MsgId}
-use Rattle.dm_message.specs.Kinds.{kind_of}
-use Rattle.dm_message.specs.Plain.{plain_what}
-use Rattle.dm_process.specs.declared.process.Process.{Process}
-use Rattle.dm_records.specs.declared.record.Record.TheVariants as record_
-use Rattle.dm_records.specs.Records.{incoming_of, with_record}
-use Rattle.dm_migrate.specs.declared.arriving.Wanted.{Wanted}
-use Rattle.dm_migrate.specs.declared.arriving.Wanted.TheVariants.{Chunk, Block, Nothing}
-use Rattle.dm_migrate.specs.Arrival.{Arrival, pull, with_piece}
-use Rattle.dm_migrate.specs.Departure.{CanMove}
-use Rattle.dm_migrate.specs.Way.{coming}
-use Rattle.dm_onekernel.specs.declared.boot.Boot.{Boot}
-use Rattle.dm_onekernel.specs.Kernel.{OneKernel}
-use Rattle.dm_onekernel.specs.Options.{bind}
-use Rattle.dm_onekernel.specs.Plain.{plain_process}
-use Rattle.dm_laws.proofs.Equal.{pid_eq-same}
-use Rattle.dm_line.specs.declared.line.Line.{Line}
-use Rattle.dm_rule.specs.Addresses.{Addresses, goes_between, own_gives}
-use Rattle.dm_rule.specs.Migrating.{kernel_told, to_kernel}
-use Rattle.dm_rule.specs.Parts as rule
-use Rattle.dm_rule.specs.Parts.{Part}
-use Rattle.dm_rule.specs.Phases.{is_between, is_early, is_of_source}
-use Rattle.dm_rule.specs.Point.{Point, after}
-use Rattle.dm_rule.specs.Rule.{fits, free_room, taken_at}
-use Rattle.dm_rule.specs.View.{Incoming, Known, Of, View}
-use Rattle.dm_places.specs.Placed.{Placed, enclosed}
+use Rattle.dm_mirror.proofs.Names.{◌≡◌, ℕ, ◌/◌, Bool, true, false, List, [], ◌∷◌, length, refl, ap, ◌∙◌, sym, subst, if◌then◌else◌, slice_get, Option, None, Some, Pid, pid_eq, Message, MsgId, kind_of, plain_what, Process, Record}
+use Rattle.dm_mirror.proofs.Names.{incoming_of, with_record, Wanted, Chunk, Block, Nothing, Arrival, pull, with_piece, CanMove, coming, Boot, OneKernel, bind, plain_process, pid_eq-same, Line, Addresses, goes_between, own_gives}
+use Rattle.dm_mirror.proofs.Names.{kernel_told, to_kernel, Part, is_between, is_early, is_of_source, Point, after, fits, free_room, taken_at, Incoming, Known, Of, View, Placed, enclosed, room_of, piece_line, takes_piece, took_piece}
+use Rattle.dm_mirror.proofs.Names.{kernel_handles, KernelState, about_of, ComesStand, KnownStands, RoomStands, AllRecords, Carries, IsAsked}
 use Rattle.dm_kernel.specs.declared.part.Part.TheVariants as part
-use Rattle.dm_kernel.specs.Begun.{room_of}
-use Rattle.dm_kernel.specs.Coming.{piece_line, takes_piece, took_piece}
-use Rattle.dm_kernel.specs.Handle.{kernel_handles}
 use Rattle.dm_kernel.specs.State as machine
-use Rattle.dm_kernel.specs.State.{KernelState, Turned}
-use Rattle.dm_mirror.specs.Own.{about_of}
-use Rattle.dm_mirror.specs.Stands.{ComesStand, KnownStands, RoomStands}
-use Rattle.dm_mirror.specs.Tokens.{AllRecords, Carries, IsAsked}
 use Rattle.dm_mirror.proofs.Come.Frames.{Arrives, Comes}
 use Rattle.dm_mirror.proofs.Come.Handled.{known_incoming, outcome_kernel, turn_kernel}
 use Rattle.dm_mirror.proofs.Come.Turns.{come_point, come_view, turns_answer}
@@ -94,7 +58,7 @@ room_kept b pt m p box asked l records k y c =
 pub record Piece (b : Boot) (m : ℕ) (pt : Point) (l : Placed) (records : AllRecords) (k : KernelState) (y : Message) (p : Pid) (c : Comes b m pt l records k y p) (a : Arrives b m pt l k y p) : Type 0 where
   pub late : is_early (kind_of y.what) ≡ false
   pub arrival : Arrival
-  pub is : k.records p ≡ Some (record_.Incoming arrival)
+  pub is : k.records p ≡ Some (Record.Incoming arrival)
   pub whole : CanMove (record a.process { queue = [] })
   pub held : ComesStand l p (pt.view.held m p) arrival
   pub wanted : Wanted
@@ -104,7 +68,7 @@ pub record Piece (b : Boot) (m : ℕ) (pt : Point) (l : Placed) (records : AllRe
   pub takes : kernel_handles b (record k { inbox = c.rest }) y y.what ≡ bind (incoming_of (k.records p)) (takes_piece (record k { inbox = c.rest }) y p)
   pub took : with_piece arrival y.what ≡ Some (coming a.process None arrival.held wanted)
   pub says : piece_line y.id p wanted ≡ line
-  pub told : kernel_told pt m y.id p (fits (free_room b pt m) (length a.process.memory / 256)) (plain_process a.process) (kind_of y.what) ≡ Some (rule.Says line ∷ to_kernel (kind_of (pull a.process.pid wanted)) y.id.from.home ∷ [])
+  pub told : kernel_told pt m y.id p (fits (free_room b pt m) (length a.process.memory / 256)) (plain_process a.process) (kind_of y.what) ≡ Some (Part.Says line ∷ to_kernel (kind_of (pull a.process.pid wanted)) y.id.from.home ∷ [])
   pub after : after (begun pt m) (line ∷ []) ≡ Some (come_point pt (come_view pt.view m p box pt.view.known asked))
   pub is_box : box ≡ c.ids
   pub asked_off : (q : Pid) → pid_eq p q ≡ false → asked q ≡ pt.view.asked q
@@ -120,7 +84,7 @@ pub turns_piece : (b : Boot) (m : ℕ) (pt : Point) (l : Placed) (records : AllR
 turns_piece b m pt l records k y p c a h =
     let s = record k { inbox = c.rest } in
     let now = coming a.process None h.arrival.held h.wanted in
-    let state : KernelState = machine.with_sent (machine.with_known s p (record_.Incoming now)) in
+    let state : KernelState = machine.with_sent (machine.with_known s p (Record.Incoming now)) in
     let next = come_point pt (come_view pt.view m p h.box pt.view.known h.asked) in
     turns_answer b m pt l records k y p c a (record {
       line = h.line;
@@ -134,14 +98,14 @@ turns_piece b m pt l records k y p c a h =
           ∙ ap (λ (o : Option machine.Known). bind (incoming_of o) (takes_piece s y p)) h.is
           ∙ ap (took_piece s y p) h.took
           ∙ ap (λ (x : Line). Some (record { state = state; parts = part.Says x ∷ part.Routes (machine.own k y.sender (pull a.process.pid h.wanted)) ∷ [] })) h.says);
-      outcome = outcome_kernel b m pt l records k y p c a (Some (rule.Says h.line ∷ to_kernel (kind_of (pull a.process.pid h.wanted)) y.id.from.home ∷ [])) h.told;
+      outcome = outcome_kernel b m pt l records k y p c a (Some (Part.Says h.line ∷ to_kernel (kind_of (pull a.process.pid h.wanted)) y.id.from.home ∷ [])) h.told;
       after = h.after;
       is_box = h.is_box;
       known_off = λ n q off. refl;
       known_away = λ n q off. refl;
       asked_off = h.asked_off;
       here = refl;
-      records_off = λ q off. set_off k.records p q (record_.Incoming now) off;
+      records_off = λ q off. set_off k.records p q (Record.Incoming now) off;
       ring = refl;
       inbox = refl;
       made = refl;
@@ -150,7 +114,7 @@ turns_piece b m pt l records k y p c a h =
       room = room_kept b pt m p h.box h.asked l records k y c;
       mine =
           subst (λ (n : Known). KnownStands next l p (pt.view.queue m p) (pt.view.held m p) n (state.records p)) (sym (known_incoming b m pt l k y p a h.late))
-          (subst (KnownStands next l p (pt.view.queue m p) (pt.view.held m p) (Incoming a.source)) (sym (set_self k.records p (record_.Incoming now)))
+          (subst (KnownStands next l p (pt.view.queue m p) (pt.view.held m p) (Incoming a.source)) (sym (set_self k.records p (Record.Incoming now)))
           (record { process = a.process; there = a.there; whole = h.whole; pieces = refl; held = h.held.held }));
       between = pull_between a.process.pid h.wanted;
       is_reply = pull_replies a.process.pid h.wanted;
@@ -158,6 +122,6 @@ turns_piece b m pt l records k y p c a h =
       plain = pull_plain a.process.pid h.wanted;
       encloses = pull_encloses a.process.pid h.wanted;
       gives = λ v i q. pull_gives a.process.pid h.wanted pt.kernel v pt.addresses i q;
-      carries = subst (λ (o : Option machine.Known). Carries p a.process (h.asked p) (incoming_of o) (pull a.process.pid h.wanted)) (sym (set_self k.records p (record_.Incoming now)))
+      carries = subst (λ (o : Option machine.Known). Carries p a.process (h.asked p) (incoming_of o) (pull a.process.pid h.wanted)) (sym (set_self k.records p (Record.Incoming now)))
           (pull_carries p a.process (h.asked p) h.arrival.held h.wanted a.named h.is_asked);
     })

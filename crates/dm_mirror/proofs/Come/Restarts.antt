@@ -1,92 +1,42 @@
 -- A process that has come goes on: it is here, at the ring's back, and what was held for it comes before the inbox.
-use Rattle.std.proofs.Common.{◌≡◌, ◌≢◌, ◌⊎◌, ℕ, zero, suc, ◌+◌, ◌/◌, ◌≤◌, ◌==◌, ◌&&◌, Bool, true, false, List, [], ◌∷◌, ◌++◌, length, map, refl, ap, ◌∙◌, sym, subst, inl, inr, arith}
-use Rattle.std.specs.Prelude.{if◌then◌else◌, slice_get}
-use Rattle.std.specs.declared.option.Option.{Option}
-use Rattle.std.specs.declared.option.Option.TheVariants.{None, Some}
-use Rattle.std.proofs.lemmas.Bool.{cases_Bool, false≢true}
-use Rattle.dm_link.specs.declared.Pid.{Pid}
-use Rattle.dm_link.specs.Names.{pid_eq}
-use Rattle.dm_message.specs.declared.Message.{Message}
-use Rattle.dm_message.specs.declared.MsgId.{MsgId}
-use Rattle.dm_message.specs.declared.What.{What}
-use Rattle.dm_message.specs.declared.What.TheVariants as what
-use Rattle.dm_message.specs.declared.kind.MessageKind.{MessageKind}
-use Rattle.dm_message.specs.declared.kind.MessageKind.TheVariants as kind
-use Rattle.dm_message.specs.Kinds.{kind_of}
-use Rattle.dm_process.specs.declared.process.Process.{Process}
-use Rattle.dm_records.specs.declared.record.Record.TheVariants as record_
-use Rattle.dm_records.specs.Records.{incoming_of, with_record}
-use Rattle.dm_migrate.specs.declared.arriving.Wanted.TheVariants.{Nothing}
-use Rattle.dm_migrate.specs.Arrival.{restarted}
+use Rattle.dm_mirror.proofs.Names.{◌≡◌, ◌≢◌, ◌⊎◌, ℕ, ◌+◌, ◌/◌, ◌≤◌, ◌==◌, ◌&&◌, Bool, true, false, List, [], ◌∷◌, ◌++◌, length, map, refl, ap, ◌∙◌, sym, subst, inl, inr, arith, if◌then◌else◌, slice_get, Option, None, Some, cases_Bool}
+use Rattle.dm_mirror.proofs.Names.{false≢true, Pid, pid_eq, Message, MsgId, What, Record, Line, Stage, Part, MessageKind, kind_of, Process, incoming_of, with_record, Nothing, restarted, ComesByPieces, by_pieces, Boot, bind, plain_process}
+use Rattle.dm_mirror.proofs.Names.{pid_eq-is, pid_eq-same, kernel_told, Moves, comes, is_away, is_early, knows, leaves, Point, moved, Room, fits, free_room, taken_at, taken_by, at_machine, at_record, Spot, Held, Inbox, standing, times}
+use Rattle.dm_mirror.proofs.Names.{Known, Unknown, Here, Frozen, Incoming, Forward, Ended, Of, View, without_first, once_at, times-append, is_server, has_no_queue, Placed, restarted_mirrors, mirrors_view, room_of, restarts, restarts_as}
+use Rattle.dm_mirror.proofs.Names.{kernel_handles, KernelState, AreMessages, KnownStands, KernelStands, RoomStands, AllRecords, Carries, TokensStand, destination_of, and_false, least_of, at_record_at}
 use Rattle.dm_migrate.specs.Way as way
-use Rattle.dm_migrate.specs.Way.{ComesByPieces, coming}
-use Rattle.dm_migrate.proofs.Way.{by_pieces}
-use Rattle.dm_onekernel.specs.declared.boot.Boot.{Boot}
-use Rattle.dm_onekernel.specs.Options.{bind}
 use Rattle.dm_onekernel.specs.Step as kernel
-use Rattle.dm_onekernel.specs.Plain.{plain_process}
-use Rattle.dm_laws.proofs.Equal.{pid_eq-is, pid_eq-same}
-use Rattle.dm_line.specs.declared.line.Line.TheVariants as line
-use Rattle.dm_line.specs.declared.line.Stage.TheVariants as stage
-use Rattle.dm_rule.specs.Migrating.{kernel_told}
-use Rattle.dm_rule.specs.Parts as rule
-use Rattle.dm_rule.specs.Phases.{Moves, comes, is_away, is_early, knows, leaves}
-use Rattle.dm_rule.specs.Point.{Point, moved}
 use Rattle.dm_rule.specs.Rule as group
-use Rattle.dm_rule.specs.Rule.{Room, fits, free_room, taken_at, taken_by}
-use Rattle.dm_line.specs.Sets.{at_machine, at_record}
-use Rattle.dm_rule.specs.Spots.{Spot, Queue, Held, Inbox, Untaken, standing, times}
-use Rattle.dm_rule.specs.View.{Known, Unknown, Here, Frozen, Incoming, Forward, Ended, Of, View, without_first}
-use Rattle.dm_rule.proofs.Standing.{once_at, times-append}
-use Rattle.dm_rulelaws.specs.Fits.{is_server}
-use Rattle.dm_rulelaws.specs.Found.{has_no_queue}
-use Rattle.dm_places.specs.Placed.{Placed}
 use Rattle.dm_places.specs.PlacedStep.{with_process}
-use Rattle.dm_places.proofs.Followed.{restarted_mirrors}
-use Rattle.dm_places.proofs.Lines.{mirrors_view}
 use Rattle.dm_kernel.specs.declared.part.Part.TheVariants as part
-use Rattle.dm_kernel.specs.Begun.{room_of}
-use Rattle.dm_kernel.specs.Coming.{restarts, restarts_as}
-use Rattle.dm_kernel.specs.Handle.{kernel_handles}
 use Rattle.dm_kernel.specs.State as machine
-use Rattle.dm_kernel.specs.State.{KernelState, Turned}
-use Rattle.dm_mirror.specs.Stands.{AreMessages, KnownStands, KernelStands, RoomStands}
-use Rattle.dm_mirror.specs.Tokens.{AllRecords, Carries, TokensStand, destination_of}
 use Rattle.dm_mirror.proofs.Come.Bytes.{before}
 use Rattle.dm_mirror.proofs.Come.Frames.{Arrives, Comes, arrives, own_once}
 use Rattle.dm_mirror.proofs.Come.Handled.{first_gone, known_incoming, outcome_kernel, turn_kernel}
-use Rattle.dm_mirror.proofs.Come.Turns.{come_view, eq_off, eq_self, fewer, gone, machine_off, machine_self, others_known}
+use Rattle.dm_mirror.proofs.Come.Turns.{come_view, eq_off, fewer, gone, machine_off, machine_self, others_known}
 use Rattle.dm_mirror.proofs.Rooms.{taken_same}
 use Rattle.dm_mirror.proofs.Turning.{Nothing as NoLate, TurnsAt, begun, has_process}
 
 abbrev pub back_point : Point → ℕ → Pid → Point
-back_point pt m p = moved (begun pt m) (line.Migration stage.Restarted p) pt.kernel
+back_point pt m p = moved (begun pt m) (Line.Migration Stage.Restarted p) pt.kernel
 
 -- what is known of another process
 known_apart : (pt next : Point) (l placed : Placed) (p : Pid) (queue held_ : List MsgId) (k : Known) (r : Option machine.Known) → placed.processes p ≡ l.processes p → placed.bag ≡ l.bag → next.kernel.processes p ≡ pt.kernel.processes p
     → KnownStands pt l p queue held_ k r → KnownStands next placed p queue held_ k r
 known_apart pt next l placed p queue held_ Unknown None same bag life h = tt
-known_apart pt next l placed p queue held_ Here (Some (record_.Here x)) same bag life h = ((h.0.0, same ∙ h.0.1), ap (λ f. map f queue) bag ∙ h.1)
-known_apart pt next l placed p queue held_ (Frozen to) (Some (record_.Frozen d)) same bag life h = record {
+known_apart pt next l placed p queue held_ Here (Some (Record.Here x)) same bag life h = ((h.0.0, same ∙ h.0.1), ap (λ f. map f queue) bag ∙ h.1)
+known_apart pt next l placed p queue held_ (Frozen to) (Some (Record.Frozen d)) same bag life h = record {
   to = h.to;
   asker = h.asker;
   here = ((h.here.0.0, same ∙ h.here.0.1), ap (λ f. map f queue) bag ∙ h.here.1);
   held = ap (λ f. map f held_) bag ∙ h.held;
   whole = h.whole;
 }
-known_apart pt next l placed p queue held_ (Incoming from) (Some (record_.Incoming a)) same bag life h =
+known_apart pt next l placed p queue held_ (Incoming from) (Some (Record.Incoming a)) same bag life h =
     record { process = h.process; there = same ∙ h.there; whole = h.whole; pieces = h.pieces; held = ap (λ f. map f held_) bag ∙ h.held }
-known_apart pt next l placed p queue held_ (Forward at_ moves) (Some (record_.Forward to count)) same bag life h = h
-known_apart pt next l placed p queue held_ Ended (Some (record_.Ended y)) same bag life h = ap kernel.ended life ∙ h
+known_apart pt next l placed p queue held_ (Forward at_ moves) (Some (Record.Forward to count)) same bag life h = h
+known_apart pt next l placed p queue held_ Ended (Some (Record.Ended y)) same bag life h = ap kernel.ended life ∙ h
 known_apart pt next l placed p queue held_ k r same bag life h = absurd h
-
--- one process set, on one machine
-record_self : {X : Type 0} (f : ℕ → Pid → X) (m : ℕ) (p : Pid) (x : X) → at_record f m p x m p ≡ x
-record_self f m p x = ap (λ (d : Bool). if d && pid_eq p p then x else f m p) (eq_self m) ∙ ap (λ (d : Bool). if d then x else f m p) (pid_eq-same p)
-
-and_false : (d e : Bool) → e ≡ false → (d && e) ≡ false
-and_false true e h = h
-and_false false e h = refl
 
 record_off : {X : Type 0} (f : ℕ → Pid → X) (m n : ℕ) (p q : Pid) (x : X) → pid_eq p q ≡ false → at_record f m p x n q ≡ f n q
 record_off f m n p q x off = ap (λ (d : Bool). if d then x else f n q) (and_false (m == n) (pid_eq p q) off)
@@ -112,28 +62,24 @@ are_both bag (i ∷ is) js (x ∷ xs) ys e f =
     λ c. first c ∷ rest c
 
 -- no other machine has the process
-forward_only : (d : ℕ) (n : Known) → leaves kind.Restart d n ≡ true → has_process n ≡ false
-forward_only d (Forward at_ moves) e = refl
+forward_only : (d : ℕ) (n : Known) → leaves MessageKind.Restart d n ≡ true → has_process n ≡ false
 forward_only d (Frozen to) e = absurd (false≢true e)
-forward_only d Unknown e = refl
 forward_only d Here e = absurd (false≢true e)
 forward_only d (Incoming from) e = absurd (false≢true e)
-forward_only d Ended e = refl
+forward_only d _ e = refl
 
 away_only : (n : Known) → is_away n ≡ true → has_process n ≡ false
-away_only Unknown e = refl
-away_only (Forward at_ moves) e = refl
 away_only Here e = absurd (false≢true e)
 away_only (Frozen to) e = absurd (false≢true e)
 away_only (Incoming from) e = absurd (false≢true e)
-away_only Ended e = refl
+away_only _ e = refl
 
-elsewhere_by : (s d n : ℕ) (i : Option MsgId) (k : Known) (at_source at_destination : Bool) → (s == n) ≡ at_source → (d == n) ≡ at_destination → at_destination ≡ false → knows (Moves kind.Restart s d i) n k ≡ true → has_process k ≡ false
-elsewhere_by s d n i k true at_destination e f off h = forward_only d k (sym (ap (λ (t : Bool). if t then leaves kind.Restart d k else if d == n then comes kind.Restart s k else is_away k) e) ∙ h)
+elsewhere_by : (s d n : ℕ) (i : Option MsgId) (k : Known) (at_source at_destination : Bool) → (s == n) ≡ at_source → (d == n) ≡ at_destination → at_destination ≡ false → knows (Moves MessageKind.Restart s d i) n k ≡ true → has_process k ≡ false
+elsewhere_by s d n i k true at_destination e f off h = forward_only d k (sym (ap (λ (t : Bool). if t then leaves MessageKind.Restart d k else if d == n then comes MessageKind.Restart s k else is_away k) e) ∙ h)
 elsewhere_by s d n i k false at_destination e f off h =
-    away_only k (sym (ap (λ (t : Bool). if t then leaves kind.Restart d k else if d == n then comes kind.Restart s k else is_away k) e ∙ ap (λ (t : Bool). if t then comes kind.Restart s k else is_away k) (f ∙ off)) ∙ h)
+    away_only k (sym (ap (λ (t : Bool). if t then leaves MessageKind.Restart d k else if d == n then comes MessageKind.Restart s k else is_away k) e ∙ ap (λ (t : Bool). if t then comes MessageKind.Restart s k else is_away k) (f ∙ off)) ∙ h)
 
-not_elsewhere : (b : Boot) (m : ℕ) (pt : Point) (l : Placed) (k : KernelState) (y : Message) (p : Pid) (a : Arrives b m pt l k y p) (n : ℕ) → kind_of y.what ≡ kind.Restart → n ≢ m → has_process (pt.view.known n p) ≡ false
+not_elsewhere : (b : Boot) (m : ℕ) (pt : Point) (l : Placed) (k : KernelState) (y : Message) (p : Pid) (a : Arrives b m pt l k y p) (n : ℕ) → kind_of y.what ≡ MessageKind.Restart → n ≢ m → has_process (pt.view.known n p) ≡ false
 not_elsewhere b m pt l k y p a n is apart =
     elsewhere_by a.source m n (Some y.id) (pt.view.known n p) (a.source == n) (m == n) refl refl (eq_off m n apart)
     (ap (λ (j : MessageKind). knows (Moves j a.source m (Some y.id)) n (pt.view.known n p)) (sym is) ∙ a.phase.known n)
@@ -157,14 +103,9 @@ inbox_back v m n p j false e = omega arith
 
 back_standing : (pt : Point) (m : ℕ) (p : Pid) (j : MsgId) (z : Spot)
     → standing (back_point pt m p).view j z ≤ standing (come_view pt.view m p (without_first (pt.view.inbox m)) pt.view.known pt.view.asked) j z + standing pt.view j (Held m p)
-back_standing pt m p j (Queue n q) = omega arith
 back_standing pt m p j (Held n q) = let f = held_fewer pt.view m n p q j ((m == n) && pid_eq p q) in omega (arith, f)
 back_standing pt m p j (Inbox n) = inbox_back pt.view m n p j (m == n) refl
-back_standing pt m p j (Untaken d e) = omega arith
-
-one_of : (a c : ℕ) → 1 ≤ a + c → (1 ≤ a) ⊎ (1 ≤ c)
-one_of zero c e = inr (omega (arith, e))
-one_of (suc n) c e = inl (omega arith)
+back_standing pt m p j _ = omega arith
 
 -- the tokens of other processes
 tokens_back : (b : Boot) (m : ℕ) (pt : Point) (l : Placed) (records : AllRecords) (k : KernelState) (y : Message) (p : Pid) (c : Comes b m pt l records k y p) (a : Arrives b m pt l k y p) (o : Option Process) (s : KernelState) → ((q : Pid) → pid_eq p q ≡ false → s.records q ≡ k.records q)
@@ -174,7 +115,7 @@ tokens_back b m pt l records k y p c a o s records_off q i t z told between abou
     let box = without_first (v.inbox m) in
     let is_box = first_gone y.id c.ids (v.inbox m) c.box in
     let bound = back_standing pt m p i z in
-    let (where_, least) = came (one_of (standing (come_view v m p box v.known v.asked) i z) (standing v i (Held m p)) (omega (arith, bound, st))) in
+    let (where_, least) = came (least_of (standing (come_view v m p box v.known v.asked) i z) (standing v i (Held m p)) (omega (arith, bound, st))) in
     elim (cases_Bool (pid_eq p q)) [
       | inl same ↦
           let e : p ≡ q = pid_eq-is p q same in
@@ -206,7 +147,7 @@ tokens_back b m pt l records k y p c a o s records_off q i t z told between abou
     ]
 
 -- what the machine knows then
-known_back : (b : Boot) (m : ℕ) (pt : Point) (l : Placed) (records : AllRecords) (k : KernelState) (y : Message) (p : Pid) (c : Comes b m pt l records k y p) (a : Arrives b m pt l k y p) (s : KernelState) (q : Pid) → pt.view.known m p ≡ Incoming a.source → s.records p ≡ Some (record_.Here (way.moved a.process))
+known_back : (b : Boot) (m : ℕ) (pt : Point) (l : Placed) (records : AllRecords) (k : KernelState) (y : Message) (p : Pid) (c : Comes b m pt l records k y p) (a : Arrives b m pt l k y p) (s : KernelState) (q : Pid) → pt.view.known m p ≡ Incoming a.source → s.records p ≡ Some (Record.Here (way.moved a.process))
     → ((r : Pid) → pid_eq p r ≡ false → s.records r ≡ k.records r) → is_server q ≡ false
     → KnownStands (back_point pt m p) (with_process l p (Some (way.moved a.process))) q ((back_point pt m p).view.queue m q) ((back_point pt m p).view.held m q) ((back_point pt m p).view.known m q) (s.records q)
 known_back b m pt l records k y p c a s q incoming there records_off server =
@@ -218,7 +159,7 @@ known_back b m pt l records k y p c a s q incoming there records_off server =
           let none : v.queue m p ≡ [] = c.run.based.lists.queue m p (ap has_no_queue incoming) in
           subst (λ (z : Pid). KnownStands next placed z (next.view.queue m z) (next.view.held m z) (next.view.known m z) (s.records z)) (pid_eq-is p q same)
           (subst (KnownStands next placed p (v.queue m p) (next.view.held m p) (next.view.known m p)) (sym there)
-          (subst (λ (n : Known). KnownStands next placed p (v.queue m p) (next.view.held m p) n (Some (record_.Here (way.moved a.process)))) (sym (record_self v.known m p Here))
+          (subst (λ (n : Known). KnownStands next placed p (v.queue m p) (next.view.held m p) n (Some (Record.Here (way.moved a.process)))) (sym (at_record_at v.known m p Here))
           (([], set_self l.processes p (Some (way.moved a.process))), ap (map l.bag) none)))
       | inr off ↦
           subst (KnownStands next placed q (v.queue m q) (next.view.held m q) (next.view.known m q)) (sym (records_off q off))
@@ -238,7 +179,7 @@ taken_back b m pt l k y p a incoming = taken_same pt (back_point pt m p) m refl 
     each q = elim (cases_Bool (pid_eq p q)) [
       | inl same ↦
           subst (λ (z : Pid). taken_by (back_point pt m p) m z ≡ taken_by pt m z) (pid_eq-is p q same)
-          (ap (λ (n : Known). takes_as n (group.blocks_of (kernel.alive (pt.kernel.processes p)))) (record_self pt.view.known m p Here)
+          (ap (λ (n : Known). takes_as n (group.blocks_of (kernel.alive (pt.kernel.processes p)))) (at_record_at pt.view.known m p Here)
           ∙ sym (ap (λ (n : Known). takes_as n (group.blocks_of (kernel.alive (pt.kernel.processes p)))) incoming))
       | inr off ↦ ap (λ (n : Known). takes_as n (group.blocks_of (kernel.alive (pt.kernel.processes q)))) (record_off pt.view.known m m p q Here off)
     ]
@@ -249,37 +190,37 @@ no_server_back b m pt l k s y p a stands r server others = elim (cases_Bool (pid
   | inr off ↦ others r off ∙ stands.no_server r server
 ]
 
-pub turns_restart : (b : Boot) (m : ℕ) (pt : Point) (l : Placed) (records : AllRecords) (k : KernelState) (y : Message) (p : Pid) (q : Pid) → Comes b m pt l records k y p → y.what ≡ what.Restart q → TurnsAt b m pt l records k
+pub turns_restart : (b : Boot) (m : ℕ) (pt : Point) (l : Placed) (records : AllRecords) (k : KernelState) (y : Message) (p : Pid) (q : Pid) → Comes b m pt l records k y p → y.what ≡ What.Restart q → TurnsAt b m pt l records k
 turns_restart b m pt l records k y p q c e =
     let v = pt.view in
     let a = arrives b m pt l records k y p c in
     let x = a.process in
     let s = record k { inbox = c.rest } in
     let carried = subst (λ (w : What). Carries p x (v.asked p) (incoming_of (k.records p)) w) e a.carries in
-    let is : kind_of y.what ≡ kind.Restart = ap kind_of e in
+    let is : kind_of y.what ≡ MessageKind.Restart = ap kind_of e in
     let late : is_early (kind_of y.what) ≡ false = ap is_early is in
     let h = before b m pt l records k y p c a Nothing late carried.1 in
     let incoming = known_incoming b m pt l k y p a late in
     let pieces : ComesByPieces (record x { queue = [] }) None h.arrival.held = by_pieces (record x { queue = [] }) None h.arrival.held h.whole in
     let whole : restarted h.arrival ≡ Some (way.moved x) = ap restarted h.pieces ∙ pieces.whole in
-    let state : KernelState = record s { records = with_record k.records p (record_.Here (way.moved x)); ring = k.ring ++ p ∷ []; inbox = h.arrival.held ++ c.rest } in
+    let state : KernelState = record s { records = with_record k.records p (Record.Here (way.moved x)); ring = k.ring ++ p ∷ []; inbox = h.arrival.held ++ c.rest } in
     let next = back_point pt m p in
     let placed = with_process l p (Some (way.moved x)) in
     let front = at_machine v.inbox m (without_first (v.inbox m)) in
     let stands = c.stands in
-    let there : state.records p ≡ Some (record_.Here (way.moved x)) = set_self k.records p (Some (record_.Here (way.moved x))) in
-    let others : (r : Pid) → pid_eq p r ≡ false → state.records r ≡ k.records r = λ r off. set_off k.records p r (Some (record_.Here (way.moved x))) off in
+    let there : state.records p ≡ Some (Record.Here (way.moved x)) = set_self k.records p (Some (Record.Here (way.moved x))) in
+    let others : (r : Pid) → pid_eq p r ≡ false → state.records r ≡ k.records r = λ r off. set_off k.records p r (Some (Record.Here (way.moved x))) off in
     record {
       state = state;
-      says = line.Migration stage.Restarted p ∷ [];
+      says = Line.Migration Stage.Restarted p ∷ [];
       routes = [];
       late = NoLate;
-      turn = turn_kernel b m pt l records k y p c a (Some (record { state = state; parts = part.Says (line.Migration stage.Restarted p) ∷ [] }))
+      turn = turn_kernel b m pt l records k y p c a (Some (record { state = state; parts = part.Says (Line.Migration Stage.Restarted p) ∷ [] }))
           (ap (kernel_handles b s y) e
           ∙ ap (λ (z : Pid). bind (incoming_of (k.records z)) (restarts s z)) carried.0
           ∙ ap (λ (o : Option machine.Known). bind (incoming_of o) (restarts s p)) h.is
           ∙ ap (restarts_as s p h.arrival) whole);
-      outcome = outcome_kernel b m pt l records k y p c a (Some (rule.Says (line.Migration stage.Restarted p) ∷ []))
+      outcome = outcome_kernel b m pt l records k y p c a (Some (Part.Says (Line.Migration Stage.Restarted p) ∷ []))
           (ap (kernel_told pt m y.id p (fits (free_room b pt m) (length x.memory / 256)) (plain_process x)) is);
       next = next;
       after = refl;

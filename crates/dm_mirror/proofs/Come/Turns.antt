@@ -1,49 +1,14 @@
 -- A turn that handles such a message says a line and answers, or says a line alone; what it leaves as it was.
-use Rattle.std.proofs.Common.{◌≡◌, ◌≢◌, ℕ, ◌+◌, ◌≤◌, ◌==◌, Bool, true, false, List, [], ◌∷◌, map, refl, ap, ◌∙◌, sym, subst, inl, inr, arith}
-use Rattle.std.specs.Prelude.{if◌then◌else◌, slice_get}
-use Rattle.std.specs.declared.option.Option.{Option}
-use Rattle.std.specs.declared.option.Option.TheVariants.{None, Some}
-use Rattle.std.proofs.lemmas.Bool.{cases_Bool, false≢true}
-use Rattle.std.proofs.lemmas.Bool.Decides.{nat_tests}
-use Rattle.dm_link.specs.declared.Addr.{Addr}
-use Rattle.dm_link.specs.declared.Pid.{Pid}
-use Rattle.dm_link.specs.Names.{pid_eq, pid_of, place_of}
-use Rattle.dm_linkupdate.specs.Notice.{kernel_at}
-use Rattle.dm_message.specs.declared.Message.{Message}
-use Rattle.dm_message.specs.declared.MsgId.{MsgId}
-use Rattle.dm_message.specs.declared.What.{What}
-use Rattle.dm_message.specs.Ids.{id_of}
-use Rattle.dm_message.specs.Kinds.{kind_of}
-use Rattle.dm_message.specs.Plain.{plain_what, with_what}
-use Rattle.dm_records.specs.declared.record.Record.TheVariants as record_
-use Rattle.dm_records.specs.Records.{incoming_of}
-use Rattle.dm_onekernel.specs.declared.boot.Boot.{Boot}
-use Rattle.dm_laws.proofs.Equal.{id_eq-same, pid_eq-is}
-use Rattle.dm_schedule.specs.declared.Step.TheVariants as step
-use Rattle.dm_line.specs.declared.line.Line.{Line}
-use Rattle.dm_rule.specs.Addresses.{Addresses, Gets, Receiver, Sender, given, goes_between, own_gives, unmoved}
-use Rattle.dm_rule.specs.Migrating.{to_kernel}
-use Rattle.dm_rule.specs.Parts as rule
-use Rattle.dm_rule.specs.Phases.{is_between, is_of_source}
-use Rattle.dm_rule.specs.Point.{Point, after}
-use Rattle.dm_rule.specs.Rule.{outcome, taken_at}
-use Rattle.dm_line.specs.Sets.{at_machine}
-use Rattle.dm_rule.specs.Spots.{Spot, Queue, Held, Inbox, Untaken, standing, times}
-use Rattle.dm_rule.specs.View.{Known, Unknown, Here, Frozen, Incoming, Forward, Ended, Of, View}
-use Rattle.dm_rule.proofs.Standing.{once_at}
-use Rattle.dm_rulelaws.specs.Fits.{is_server}
-use Rattle.dm_places.specs.Placed.{Placed, enclosed}
-use Rattle.dm_places.proofs.Lines.{mirrors_view}
+use Rattle.dm_mirror.proofs.Names.{◌≡◌, ◌≢◌, ℕ, ◌+◌, ◌≤◌, ◌==◌, Bool, true, false, List, [], ◌∷◌, map, refl, ap, ◌∙◌, sym, subst, inl, inr, arith, if◌then◌else◌, slice_get, Option, None, Some, cases_Bool, false≢true, nat_tests, Addr, Pid}
+use Rattle.dm_mirror.proofs.Names.{pid_eq, pid_of, place_of, kernel_at, Message, MsgId, What, id_of, kind_of, plain_what, with_what, Record, Step, Part, incoming_of, Boot, id_eq-same, pid_eq-is, Line, Addresses, Gets, Receiver, Sender}
+use Rattle.dm_mirror.proofs.Names.{given, goes_between, own_gives, unmoved, to_kernel, is_between, is_of_source, Point, after, outcome, taken_at, at_machine, Spot, Inbox, standing, times, Known, Unknown, Here, Frozen, Incoming, Forward}
+use Rattle.dm_mirror.proofs.Names.{Ended, Of, View, once_at, is_server, Placed, enclosed, mirrors_view, room_of, KernelState, own, turn, about_of, told_of, KnownStands, RoomStands, AllRecords, Carries, TokensStand, destination_of, eq_is}
 use Rattle.dm_kernel.specs.declared.part.Part.TheVariants as part
-use Rattle.dm_kernel.specs.Begun.{room_of}
 use Rattle.dm_kernel.specs.State as machine
-use Rattle.dm_kernel.specs.State.{KernelState, own}
-use Rattle.dm_kernel.specs.Turn.{turn}
-use Rattle.dm_mirror.specs.Own.{about_of, told_of}
-use Rattle.dm_mirror.specs.Stands.{KnownStands, RoomStands}
-use Rattle.dm_mirror.specs.Tokens.{AllRecords, Carries, TokensStand, destination_of}
 use Rattle.dm_mirror.proofs.Come.Frames.{Arrives, Comes, fresh_own, next_untold, own_once, times_self}
 use Rattle.dm_mirror.proofs.Turning.{IsCarried, MayOwn, Nothing, Own, TurnsAt, begun}
+pub use Rattle.dm_rule.proofs.Lines.{eq_self}
+pub use Rattle.dm_rule.proofs.Lines.{at_machine_at as machine_self}
 
 -- the view behind the line: the message is handled, and what is known of p here and asked for of it may be new
 abbrev pub come_view : View → ℕ → Pid → List MsgId → (ℕ → Pid → Known) → (Pid → ℕ) → View
@@ -55,27 +20,18 @@ come_point pt v = record { kernel = pt.kernel; view = v; addresses = pt.addresse
 -- what is known of a process that stays
 pub known_same : (pt : Point) (v : View) (l : Placed) (p : Pid) (queue held : List MsgId) (k : Known) (r : Option machine.Known) → KnownStands pt l p queue held k r → KnownStands (come_point pt v) l p queue held k r
 known_same pt v l p queue held Unknown None h = tt
-known_same pt v l p queue held Here (Some (record_.Here x)) h = h
-known_same pt v l p queue held (Frozen to) (Some (record_.Frozen d)) h = h
-known_same pt v l p queue held (Incoming from) (Some (record_.Incoming a)) h = h
-known_same pt v l p queue held (Forward at_ moves) (Some (record_.Forward to count)) h = h
-known_same pt v l p queue held Ended (Some (record_.Ended y)) h = h
+known_same pt v l p queue held Here (Some (Record.Here x)) h = h
+known_same pt v l p queue held (Frozen to) (Some (Record.Frozen d)) h = h
+known_same pt v l p queue held (Incoming from) (Some (Record.Incoming a)) h = h
+known_same pt v l p queue held (Forward at_ moves) (Some (Record.Forward to count)) h = h
+known_same pt v l p queue held Ended (Some (Record.Ended y)) h = h
 known_same pt v l p queue held k r h = absurd h
-
-pub eq_self : (m : ℕ) → (m == m) ≡ true
-eq_self m = grind (arith, nat_tests)
 
 pub eq_off : (m n : ℕ) → n ≢ m → (m == n) ≡ false
 eq_off m n apart = elim (cases_Bool (m == n)) [
   | inl same ↦ absurd (apart (let e : n ≡ m = grind (arith, nat_tests) in e))
   | inr off ↦ off
 ]
-
-eq_is : (m n : ℕ) → (m == n) ≡ true → m ≡ n
-eq_is m n e = grind (arith, nat_tests)
-
-pub machine_self : {X : Type 0} (f : ℕ → X) (m : ℕ) (x : X) → at_machine f m x m ≡ x
-machine_self f m x = ap (λ (c : Bool). if c then x else f m) (eq_self m)
 
 pub machine_off : {X : Type 0} (f : ℕ → X) (m n : ℕ) (x : X) → n ≢ m → at_machine f m x n ≡ f n
 machine_off f m n x apart = ap (λ (c : Bool). if c then x else f n) (eq_off m n apart)
@@ -89,10 +45,8 @@ fewer_at f m n i j is box e b true same =
 fewer_at f m n i j is box e b false off = omega arith
 
 pub fewer : (v : View) (m : ℕ) (p : Pid) (is box : List MsgId) (known : ℕ → Pid → Known) (asked : Pid → ℕ) (i j : MsgId) (z : Spot) → v.inbox m ≡ i ∷ is → box ≡ is → standing (come_view v m p box known asked) j z ≤ standing v j z
-fewer v m p is box known asked i j (Queue n q) e b = omega arith
-fewer v m p is box known asked i j (Held n q) e b = omega arith
 fewer v m p is box known asked i j (Inbox n) e b = fewer_at v.inbox m n i j is box e b (m == n) refl
-fewer v m p is box known asked i j (Untaken a d) e b = omega arith
+fewer v m p is box known asked i j _ e b = omega arith
 
 none_behind : (i : MsgId) (is : List MsgId) → times i (i ∷ is) ≡ 1 → times i is ≡ 0
 none_behind i is e = let f = times_self i is in omega (arith, e, f)
@@ -105,10 +59,8 @@ gone_at v m n i is box e b one others false off = others (Inbox n) (λ s. let f 
     inbox_same a d s = cc
 
 pub gone : (v : View) (m : ℕ) (p : Pid) (is box : List MsgId) (known : ℕ → Pid → Known) (asked : Pid → ℕ) (i : MsgId) (z : Spot) → v.inbox m ≡ i ∷ is → box ≡ is → standing v i (Inbox m) ≡ 1 → ((x : Spot) → x ≢ Inbox m → standing v i x ≡ 0) → standing (come_view v m p box known asked) i z ≡ 0
-gone v m p is box known asked i (Queue n q) e b one others = others (Queue n q) (λ s. cc)
-gone v m p is box known asked i (Held n q) e b one others = others (Held n q) (λ s. cc)
 gone v m p is box known asked i (Inbox n) e b one others = gone_at v m n i is box e b one others (m == n) refl
-gone v m p is box known asked i (Untaken a d) e b one others = others (Untaken a d) (λ s. cc)
+gone v m p is box known asked i any_ e b one others = others any_ (λ s. cc)
 
 -- what the next message of the kernel gets
 gets_receiver : (a : Addresses) (v : View) (id : MsgId) (q : Pid) (gs : List Gets) → gs ≡ goes_between v id q → given a gs (Receiver id) ≡ unmoved q.home
@@ -126,7 +78,7 @@ pub record Answer (b : Boot) (m : ℕ) (pt : Point) (l : Placed) (records : AllR
   pub known : ℕ → Pid → Known
   pub asked : Pid → ℕ
   pub turn : turn b k ≡ Some (record { state = state; parts = part.Says line ∷ part.Routes (own k y.sender what) ∷ [] })
-  pub outcome : outcome b pt (step.Turn m) ≡ Some (rule.Says line ∷ to_kernel (kind_of what) y.id.from.home ∷ [])
+  pub outcome : outcome b pt (Step.Turn m) ≡ Some (Part.Says line ∷ to_kernel (kind_of what) y.id.from.home ∷ [])
   pub after : after (begun pt m) (line ∷ []) ≡ Some (come_point pt (come_view pt.view m p box known asked))
   pub is_box : box ≡ c.ids
   pub known_off : (n : ℕ) (q : Pid) → pid_eq p q ≡ false → known n q ≡ pt.view.known n q
@@ -256,7 +208,7 @@ turns_answer b m pt l records k y p c a h =
       routes = Own x ∷ [];
       late = Nothing;
       turn = h.turn;
-      outcome = h.outcome ∙ ap (λ (z : Addr). Some (rule.Says h.line ∷ rule.Owns (kind_of h.what) z.pid z.at ∷ [])) (sym sender);
+      outcome = h.outcome ∙ ap (λ (z : Addr). Some (Part.Says h.line ∷ Part.Owns (kind_of h.what) z.pid z.at ∷ [])) (sym sender);
       next = next;
       after = h.after;
       placed = l;

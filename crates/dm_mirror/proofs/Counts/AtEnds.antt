@@ -1,27 +1,7 @@
 -- Where a group ends: what was routed, how high its counts are, and what has moved.
-use Rattle.std.proofs.Common.{◌≡◌, ◌⊎◌, inl, inr, ℕ, ◌+◌, ◌≤◌, ◌==◌, Bool, true, false, List, [], ◌∷◌, length, refl, ap, ◌∙◌, sym, subst, arith}
-use Rattle.std.specs.Prelude.{if◌then◌else◌}
-use Rattle.std.specs.declared.option.Option.{Option}
-use Rattle.std.specs.declared.option.Option.TheVariants.{None, Some}
-use Rattle.std.proofs.lemmas.Bool.{false≢true}
-use Rattle.dm_link.specs.declared.Pid.{Pid}
-use Rattle.dm_message.specs.declared.MsgId.{MsgId}
-use Rattle.dm_message.specs.declared.kind.MessageKind.{MessageKind}
-use Rattle.dm_message.specs.Kinds.{plain_kind}
-use Rattle.dm_onekernel.specs.declared.label.Label.{Label}
-use Rattle.dm_onekernel.specs.Kernel.{OneKernel}
-use Rattle.dm_laws.proofs.Steps.{bind-is}
-use Rattle.dm_line.specs.declared.line.Line.{Line}
-use Rattle.dm_line.specs.declared.line.Line.TheVariants as line
-use Rattle.dm_line.specs.declared.line.Load.{Load}
-use Rattle.dm_line.specs.declared.line.Load.TheVariants as load
-use Rattle.dm_line.specs.declared.line.Stage.TheVariants as stage
-use Rattle.dm_rule.specs.Addresses.{Receiver}
-use Rattle.dm_rule.specs.Parts.{Part, Says, Routes, Again, Owns, Transmits, Spelled, goes_out, packet_line, puts, spelled}
-use Rattle.dm_rule.specs.Point.{Point, after, kernel_after, label_of, moved}
-use Rattle.dm_rule.specs.View.{View, own_id, view_after}
-use Rattle.dm_rule.proofs.Pairs.Lines.{onward}
-use Rattle.dm_rule.proofs.States.{said, says_next, transmits_next}
+use Rattle.dm_mirror.proofs.Names.{◌≡◌, ◌⊎◌, inl, inr, ℕ, ◌+◌, ◌≤◌, ◌==◌, Bool, true, false, List, [], ◌∷◌, length, refl, ap, ◌∙◌, sym, subst, arith, if◌then◌else◌, Option, None, Some, false≢true, Pid, MsgId, MessageKind, plain_kind, Label}
+use Rattle.dm_mirror.proofs.Names.{OneKernel, bind-is, Line, Stage, Load, Receiver, Part, Says, Routes, Again, Owns, Transmits, Spelled, goes_out, packet_line, puts, spelled, Point, after, kernel_after, label_of, moved, View, own_id}
+use Rattle.dm_mirror.proofs.Names.{view_after, onward, said, says_next, transmits_next}
 use Rattle.dm_mirror.proofs.Counts.Sorts.{AllBear, HasOwn}
 use Rattle.dm_mirror.proofs.Counts.Still.{Still, bears, line_moves, line_still, still_on, still_self}
 use Rattle.dm_mirror.proofs.Paying.{Paid}
@@ -76,24 +56,24 @@ pub record AfterPut (pt next : Point) : Type 0 where
   pub still : Still pt.view next.view
   pub puts : PutsOne pt.view next.view
 
-packet_next : (pt mid : Point) (a b k : ℕ) (l : Load) → AfterPut pt mid → AfterPut pt (moved mid (line.Packet a b k l) mid.kernel)
+packet_next : (pt mid : Point) (a b k : ℕ) (l : Load) → AfterPut pt mid → AfterPut pt (moved mid (Line.Packet a b k l) mid.kernel)
 packet_next pt mid a b k l h =
-    let w = view_after mid.view (line.Packet a b k l) in
-    let g = line_grows mid.view (line.Packet a b k l) in
-    record { kernel = h.kernel; grows = grows_on pt.view mid.view w h.grows g; still = still_on pt.view mid.view w h.still (line_still mid.view (line.Packet a b k l) refl); puts = puts_behind pt.view mid.view w g h.puts }
+    let w = view_after mid.view (Line.Packet a b k l) in
+    let g = line_grows mid.view (Line.Packet a b k l) in
+    record { kernel = h.kernel; grows = grows_on pt.view mid.view w h.grows g; still = still_on pt.view mid.view w h.still (line_still mid.view (Line.Packet a b k l) refl); puts = puts_behind pt.view mid.view w g h.puts }
 
-rest_next : (pt mid next : Point) (a b k : ℕ) (l : Load) (home out : Bool) → AfterPut pt mid → after mid (if home then [] else if out then line.Packet a b k l ∷ [] else []) ≡ Some next → AfterPut pt next
+rest_next : (pt mid next : Point) (a b k : ℕ) (l : Load) (home out : Bool) → AfterPut pt mid → after mid (if home then [] else if out then Line.Packet a b k l ∷ [] else []) ≡ Some next → AfterPut pt next
 rest_next pt mid next a b k l true out h e = let f : mid ≡ next = cc in subst (AfterPut pt) f h
 rest_next pt mid next a b k l false false h e = let f : mid ≡ next = cc in subst (AfterPut pt) f h
-rest_next pt mid next a b k l false true h e = let f : moved mid (line.Packet a b k l) mid.kernel ≡ next = cc in subst (AfterPut pt) f (packet_next pt mid a b k l h)
+rest_next pt mid next a b k l false true h e = let f : moved mid (Line.Packet a b k l) mid.kernel ≡ next = cc in subst (AfterPut pt) f (packet_next pt mid a b k l h)
 
 put_next : (pt next : Point) (b : ℕ) (i : MsgId) (k : MessageKind) (q : Pid) (ls : List Line) → Some (puts pt.view b i k q) ≡ Some ls → after pt ls ≡ Some next → AfterPut pt next
 put_next pt next b i k q ls is e =
     let f : puts pt.view b i k q ≡ ls = cc in
     let a = pt.view.acting in
-    let l = line.Put a b i k q in
+    let l = Line.Put a b i k q in
     let adds = put_adds pt.view a b i k q in
-    rest_next pt (moved pt l pt.kernel) next a b (length (pt.view.pair a b).wire) (load.Data (length (pt.view.pair a b).ids)) (a == b) (goes_out (pt.view.pair a b))
+    rest_next pt (moved pt l pt.kernel) next a b (length (pt.view.pair a b).wire) (Load.Data (length (pt.view.pair a b).ids)) (a == b) (goes_out (pt.view.pair a b))
     (record { kernel = refl; grows = line_grows pt.view l; still = line_still pt.view l refl; puts = record { from = a; to = b; more = omega (arith, adds) } }) (ap (after pt) f ∙ e)
 
 -- the first part is a route
@@ -191,36 +171,15 @@ bears_before : (pt mid end : Point) → mid.kernel ≡ pt.kernel → Grows pt.vi
 bears_before pt mid end k g m h = record { kernel = h.kernel ∙ k; grows = grows_on pt.view mid.view end.view g h.grows; moves = h.moves ∙ m }
 
 bears_none : (l : Line) → bears l ≡ true → label_of l ≡ None
-bears_none (line.Label x) e = absurd (false≢true e)
-bears_none (line.Head d) e = refl
-bears_none (line.Idle m) e = refl
-bears_none (line.Put a b i k q) e = refl
-bears_none (line.Packet a b k x) e = refl
-bears_none (line.Taken a b n) e = refl
-bears_none (line.Old a b n) e = refl
-bears_none (line.Early a b n) e = refl
-bears_none (line.Acked a b n) e = refl
-bears_none line.Nothing e = refl
-bears_none (line.Resent m n) e = refl
-bears_none (line.Queued i) e = refl
-bears_none (line.Held i) e = refl
-bears_none (line.Forwarded i m) e = refl
-bears_none (line.Updated i n) e = refl
-bears_none (line.SentOn p n) e = refl
-bears_none (line.Lacks p s b) e = refl
-bears_none (line.Stays p) e = refl
-bears_none (line.Here i) e = refl
-bears_none (line.NoMove i) e = refl
-bears_none (line.Proto i) e = refl
-bears_none (line.NoChild p) e = refl
-bears_none (line.Pinned p) e = refl
-bears_none (line.Migration stage.Frozen p) e = refl
-bears_none (line.Migration stage.Asked p) e = refl
-bears_none (line.Migration stage.Accepted p) e = refl
-bears_none (line.Migration stage.StateTaken p) e = refl
-bears_none (line.Migration stage.MemoryTaken p) e = refl
-bears_none (line.Migration stage.Left p) e = refl
-bears_none (line.Migration stage.Restarted p) e = refl
+bears_none (Line.Label x) e = absurd (false≢true e)
+bears_none (Line.Migration Stage.Frozen p) e = refl
+bears_none (Line.Migration Stage.Asked p) e = refl
+bears_none (Line.Migration Stage.Accepted p) e = refl
+bears_none (Line.Migration Stage.StateTaken p) e = refl
+bears_none (Line.Migration Stage.MemoryTaken p) e = refl
+bears_none (Line.Migration Stage.Left p) e = refl
+bears_none (Line.Migration Stage.Restarted p) e = refl
+bears_none _ e = refl
 
 same_kernel : (s t : OneKernel) (o : Option Label) → o ≡ None → kernel_after s o ≡ Some t → t ≡ s
 same_kernel s t None e f = cc

@@ -1,11 +1,5 @@
 -- No count is too great.
-use Rattle.std.proofs.Common.{◌≡◌, ℕ, ◌+◌, ◌<◌, length}
-use Rattle.std.specs.declared.option.Option.TheVariants.{Some}
-use Rattle.dm_link.specs.declared.Pid.{Pid}
-use Rattle.dm_onekernel.specs.Boot.{first_number}
-use Rattle.dm_onekernel.specs.Kernel.{Alive}
-use Rattle.dm_onekernel.specs.PlainProcess.{PlainProcess}
-use Rattle.dm_rule.specs.Point.{Point}
+use Rattle.dm_mirror.proofs.Names.{◌≡◌, ℕ, ◌+◌, ◌<◌, length, Some, Pid, first_number, Alive, PlainProcess, Point}
 
 pub record CountsFew (pt : Point) : Type 0 where
   pub sent : (p : Pid) (x : PlainProcess) → pt.kernel.processes p ≡ Some (Alive x) → x.sent < 4294967295

@@ -1,23 +1,6 @@
 -- No process has moved more often than messages were routed in all.
-use Rattle.std.proofs.Common.{◌≡◌, ℕ, ◌+◌, ◌≤◌, ◌==◌, ◌&&◌, Bool, true, false, refl, ap, ◌∙◌, sym, arith}
-use Rattle.std.specs.Prelude.{if◌then◌else◌}
-use Rattle.std.proofs.lemmas.Bool.{false≢true}
-use Rattle.std.proofs.lemmas.Bool.Decides.{nat_tests}
-use Rattle.dm_link.specs.declared.Pid.{Pid}
-use Rattle.dm_link.specs.Names.{pid_eq}
-use Rattle.dm_message.specs.declared.kind.MessageKind.{MessageKind}
-use Rattle.dm_message.specs.declared.kind.MessageKind.TheVariants as kind
-use Rattle.dm_onekernel.specs.declared.boot.Boot.{Boot}
-use Rattle.dm_laws.proofs.Equal.{pid_eq-is}
-use Rattle.dm_rule.specs.Phases.{Phase, Rests, comes, is_between, knows, leaves}
-use Rattle.dm_rule.specs.Point.{Point}
-use Rattle.dm_line.specs.Sets.{at_pid, at_record}
-use Rattle.dm_rule.specs.View.{View, Known}
-use Rattle.dm_rule.specs.View as view
-use Rattle.dm_rule.proofs.Phases.Rests.{rests_here}
-use Rattle.dm_rule.proofs.Phases.Stand.{InPhases}
-use Rattle.dm_rulelaws.proofs.Goes.Always.{stands_first}
-use Rattle.dm_rulelaws.proofs.Runs.{Run}
+use Rattle.dm_mirror.proofs.Names.{◌≡◌, ℕ, ◌+◌, ◌≤◌, ◌==◌, ◌&&◌, Bool, true, false, refl, ap, ◌∙◌, sym, arith, if◌then◌else◌, false≢true, nat_tests, Pid, pid_eq, MessageKind, Boot, pid_eq-is, Phase, Rests, comes, is_between, knows, leaves}
+use Rattle.dm_mirror.proofs.Names.{Point, at_pid, at_record, View, Known, rests_here, InPhases, stands_first, Run}
 use Rattle.dm_mirror.proofs.Counts.AtEnds.{PutsOne}
 use Rattle.dm_mirror.proofs.Counts.Own.{PairsWithin}
 use Rattle.dm_mirror.proofs.Counts.Sorts.{FrontRestarts}
@@ -28,7 +11,7 @@ use Rattle.dm_mirror.proofs.Totals.{Grows, total, total_adds, total_grows}
 -- and one that may restart where it comes has moved less often
 pub record MovesFew (n : ℕ) (v : View) : Type 0 where
   pub moves : (p : Pid) → v.moves p ≤ total v n
-  pub moving : (p : Pid) (d s k j : ℕ) → v.known d p ≡ view.Incoming s → v.known s p ≡ view.Forward k j → v.moves p + 1 ≤ total v n
+  pub moving : (p : Pid) (d s k j : ℕ) → v.known d p ≡ Known.Incoming s → v.known s p ≡ Known.Forward k j → v.moves p + 1 ≤ total v n
 
 -- a group that moves nothing
 pub moves_still : (n : ℕ) (v w : View) → Grows v w → Still v w → MovesFew n v → MovesFew n w
@@ -53,24 +36,16 @@ moves_put n v w more same h = record {
 }
 
 -- a process restarts
-forward_at : (d : ℕ) (n : Known) → leaves kind.Restart d n ≡ true → (k : ℕ) × (j : ℕ) × (n ≡ view.Forward k j)
-forward_at d (view.Forward k j) e = (k, j, refl)
-forward_at d (view.Frozen to) e = absurd (false≢true e)
-forward_at d view.Unknown e = absurd (false≢true e)
-forward_at d view.Here e = absurd (false≢true e)
-forward_at d (view.Incoming from) e = absurd (false≢true e)
-forward_at d view.Ended e = absurd (false≢true e)
+forward_at : (d : ℕ) (n : Known) → leaves MessageKind.Restart d n ≡ true → (k : ℕ) × (j : ℕ) × (n ≡ Known.Forward k j)
+forward_at d (Known.Forward k j) e = (k, j, refl)
+forward_at d _ e = absurd (false≢true e)
 
-incoming_from : (s : ℕ) (n : Known) → comes kind.Restart s n ≡ true → n ≡ view.Incoming s
-incoming_from s (view.Incoming from) e = ap (λ (m : ℕ). view.Incoming m) (sym (same s from e))
+incoming_from : (s : ℕ) (n : Known) → comes MessageKind.Restart s n ≡ true → n ≡ Known.Incoming s
+incoming_from s (Known.Incoming from) e = ap (λ (m : ℕ). Known.Incoming m) (sym (same s from e))
   where
     same : (x y : ℕ) → (x == y) ≡ true → x ≡ y
     same x y t = grind (arith, nat_tests)
-incoming_from s view.Unknown e = absurd (false≢true e)
-incoming_from s (view.Forward k j) e = absurd (false≢true e)
-incoming_from s view.Here e = absurd (false≢true e)
-incoming_from s (view.Frozen to) e = absurd (false≢true e)
-incoming_from s view.Ended e = absurd (false≢true e)
+incoming_from s _ e = absurd (false≢true e)
 
 may_move : (b : Boot) (pt : Point) (m : ℕ) (p : Pid) (n : ℕ) → Run b pt → FrontRestarts pt m p → MovesFew n pt.view → pt.view.moves p + 1 ≤ total pt.view n
 may_move b pt m p n run f h =
@@ -79,10 +54,10 @@ may_move b pt m p n run f h =
     let at_d = incoming_from c.s (pt.view.known c.d p) (ap (λ (x : MessageKind). comes x c.s (pt.view.known c.d p)) (sym f.kind_is) ∙ c.destination) in
     h.moving p c.d c.s k j at_d at_s
 
-rests_alone : (v : View) (m d s : ℕ) (p : Pid) → InPhases v → v.known m p ≡ view.Here → v.known d p ≡ view.Incoming s → ⊥
+rests_alone : (v : View) (m d s : ℕ) (p : Pid) → InPhases v → v.known m p ≡ Known.Here → v.known d p ≡ Known.Incoming s → ⊥
 rests_alone v m d s p h here incoming =
     let rests : h.of p ≡ Rests m = rests_here (h.of p) m (sym (ap (knows (h.of p) m) here) ∙ (h.each p).known m) in
-    let known : knows (Rests m) d (view.Incoming s) ≡ true = sym (ap (λ (f : Phase). knows f d (view.Incoming s)) rests) ∙ sym (ap (knows (h.of p) d) incoming) ∙ (h.each p).known d in
+    let known : knows (Rests m) d (Known.Incoming s) ≡ true = sym (ap (λ (f : Phase). knows f d (Known.Incoming s)) rests) ∙ sym (ap (knows (h.of p) d) incoming) ∙ (h.each p).known d in
     false≢true (sym (either (m == d)) ∙ known)
   where
     either : (c : Bool) → (if c then false else false) ≡ false
@@ -93,30 +68,30 @@ moves_at : (f : Pid → ℕ) (p q : Pid) (n : ℕ) (c : Bool) → pid_eq p q ≡
 moves_at f p q n true e le other = le
 moves_at f p q n false e le other = other
 
-known_off : (f : ℕ → Pid → Known) (m : ℕ) (p : Pid) (n : ℕ) (q : Pid) (c : Bool) → pid_eq p q ≡ false → (if c && pid_eq p q then view.Here else f n q) ≡ f n q
-known_off f m p n q c e = ap (λ (d : Bool). if c && d then view.Here else f n q) e ∙ either c
+known_off : (f : ℕ → Pid → Known) (m : ℕ) (p : Pid) (n : ℕ) (q : Pid) (c : Bool) → pid_eq p q ≡ false → (if c && pid_eq p q then Known.Here else f n q) ≡ f n q
+known_off f m p n q c e = ap (λ (d : Bool). if c && d then Known.Here else f n q) e ∙ either c
   where
-    either : (c : Bool) → (if c && false then view.Here else f n q) ≡ f n q
+    either : (c : Bool) → (if c && false then Known.Here else f n q) ≡ f n q
     either true = refl
     either false = refl
 
-known_here : (f : ℕ → Pid → Known) (m : ℕ) (p : Pid) → at_record f m p view.Here m p ≡ view.Here
-known_here f m p = ap (λ (c : Bool). if c then view.Here else f m p) (let t : ((m == m) && pid_eq p p) ≡ true = grind (arith, nat_tests) in t)
+known_here : (f : ℕ → Pid → Known) (m : ℕ) (p : Pid) → at_record f m p Known.Here m p ≡ Known.Here
+known_here f m p = ap (λ (c : Bool). if c then Known.Here else f m p) (let t : ((m == m) && pid_eq p p) ≡ true = grind (arith, nat_tests) in t)
 
-moving_by : (n m : ℕ) (v w : View) (p q : Pid) (d s k j : ℕ) (c : Bool) → pid_eq p q ≡ c → total v n ≤ total w n → w.moves ≡ at_pid v.moves p (v.moves p + 1) → w.known ≡ at_record v.known m p view.Here → InPhases w → MovesFew n v
-    → w.known d q ≡ view.Incoming s → w.known s q ≡ view.Forward k j → w.moves q + 1 ≤ total w n
+moving_by : (n m : ℕ) (v w : View) (p q : Pid) (d s k j : ℕ) (c : Bool) → pid_eq p q ≡ c → total v n ≤ total w n → w.moves ≡ at_pid v.moves p (v.moves p + 1) → w.known ≡ at_record v.known m p Known.Here → InPhases w → MovesFew n v
+    → w.known d q ≡ Known.Incoming s → w.known s q ≡ Known.Forward k j → w.moves q + 1 ≤ total w n
 moving_by n m v w p q d s k j true e more moves known phases h at_d at_s =
     let same = pid_eq-is p q e in
-    let here : w.known m q ≡ view.Here = ap (w.known m) (sym same) ∙ ap (λ (f : ℕ → Pid → Known). f m p) known ∙ known_here v.known m p in
+    let here : w.known m q ≡ Known.Here = ap (w.known m) (sym same) ∙ ap (λ (f : ℕ → Pid → Known). f m p) known ∙ known_here v.known m p in
     absurd (rests_alone w m d s q phases here at_d)
 moving_by n m v w p q d s k j false e more moves known phases h at_d at_s =
-    let was_d : v.known d q ≡ view.Incoming s = sym (ap (λ (f : ℕ → Pid → Known). f d q) known ∙ known_off v.known m p d q (m == d) e) ∙ at_d in
-    let was_s : v.known s q ≡ view.Forward k j = sym (ap (λ (f : ℕ → Pid → Known). f s q) known ∙ known_off v.known m p s q (m == s) e) ∙ at_s in
+    let was_d : v.known d q ≡ Known.Incoming s = sym (ap (λ (f : ℕ → Pid → Known). f d q) known ∙ known_off v.known m p d q (m == d) e) ∙ at_d in
+    let was_s : v.known s q ≡ Known.Forward k j = sym (ap (λ (f : ℕ → Pid → Known). f s q) known ∙ known_off v.known m p s q (m == s) e) ∙ at_s in
     let few = h.moving q d s k j was_d was_s in
     let same : w.moves q ≡ v.moves q = ap (λ (f : Pid → ℕ). f q) moves ∙ ap (λ (c : Bool). if c then v.moves p + 1 else v.moves q) e in
     omega (arith, few, same, more)
 
-pub moves_restart : (b : Boot) (pt : Point) (m n : ℕ) (p : Pid) (w : View) → Run b pt → FrontRestarts pt m p → total pt.view n ≤ total w n → w.moves ≡ at_pid pt.view.moves p (pt.view.moves p + 1) → w.known ≡ at_record pt.view.known m p view.Here → InPhases w → MovesFew n pt.view → MovesFew n w
+pub moves_restart : (b : Boot) (pt : Point) (m n : ℕ) (p : Pid) (w : View) → Run b pt → FrontRestarts pt m p → total pt.view n ≤ total w n → w.moves ≡ at_pid pt.view.moves p (pt.view.moves p + 1) → w.known ≡ at_record pt.view.known m p Known.Here → InPhases w → MovesFew n pt.view → MovesFew n w
 moves_restart b pt m n p w run f more moves known phases h =
     let v = pt.view in
     let mine = may_move b pt m p n run f h in

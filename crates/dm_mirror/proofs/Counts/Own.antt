@@ -1,25 +1,6 @@
 -- A machine's kernel counts no more messages of its own than were routed in all.
-use Rattle.std.proofs.Common.{◌≡◌, ℕ, ◌+◌, ◌<◌, ◌≤◌, ◌==◌, Bool, true, false, List, [], ◌∷◌, refl, ap, subst, arith}
-use Rattle.std.specs.Prelude.{if◌then◌else◌}
-use Rattle.std.specs.declared.option.Option.TheVariants.{Some}
-use Rattle.std.proofs.lemmas.Bool.Decides.{nat_tests}
-use Rattle.dm_link.specs.declared.Pid.{Pid}
-use Rattle.dm_message.specs.declared.MsgId.{MsgId}
-use Rattle.dm_message.specs.declared.kind.MessageKind.{MessageKind}
-use Rattle.dm_onekernel.specs.declared.boot.Boot.{Boot}
-use Rattle.dm_onekernel.specs.Kernel.{OneKernel}
-use Rattle.dm_laws.proofs.Steps.{bind-is}
-use Rattle.dm_schedule.specs.declared.Step.{Step}
-use Rattle.dm_line.specs.declared.line.Line.{Line}
-use Rattle.dm_line.specs.declared.line.Line.TheVariants as line
-use Rattle.dm_rule.specs.Parts.{Part, Spelled, spelled}
-use Rattle.dm_rule.specs.Point.{Point, after, after_line, kernel_after, label_of, moved}
-use Rattle.dm_rule.specs.Rule.{group_of}
-use Rattle.dm_rule.specs.View.{View, after_put, is_own, view_after}
-use Rattle.dm_rule.proofs.Groups.{group_is}
-use Rattle.dm_rule.proofs.Hushed.{hushed, is_put}
-use Rattle.dm_rule.proofs.Pairs.Lines.{onward}
-use Rattle.dm_rule.proofs.States.{said}
+use Rattle.dm_mirror.proofs.Names.{◌≡◌, ℕ, ◌+◌, ◌<◌, ◌≤◌, ◌==◌, Bool, true, false, List, [], ◌∷◌, refl, ap, subst, arith, if◌then◌else◌, Some, nat_tests, Pid, MsgId, MessageKind, Boot, OneKernel, bind-is, Step, Line, Part, Spelled, spelled}
+use Rattle.dm_mirror.proofs.Names.{Point, after, after_line, kernel_after, label_of, moved, group_of, View, after_put, is_own, view_after, group_is, hushed, is_put, onward, said}
 use Rattle.dm_mirror.proofs.Totals.{Grows, ids_of, line_grows, put_adds, total, total_adds, total_grows}
 
 -- only pairs of the first n machines have messages
@@ -47,7 +28,7 @@ parts_keep P keep (p ∷ ps) pt w e h =
 pub group_keeps : (P : View → Type 0) → ((v : View) (l : Line) → P v → P (view_after v l)) → (b : Boot) (pt : Point) (d : Step) (w : Spelled) → group_of b pt d ≡ Some w → P pt.view → P w.point.view
 group_keeps P keep b pt d w e h =
     let g = group_is b pt d w e in
-    subst (λ (q : Point). P q.view) g.point (parts_keep P keep g.parts (moved pt (line.Head d) pt.kernel) g.rest g.said (keep pt.view (line.Head d) h))
+    subst (λ (q : Point). P q.view) g.point (parts_keep P keep g.parts (moved pt (Line.Head d) pt.kernel) g.rest g.said (keep pt.view (Line.Head d) h))
 
 -- a put counts at most one
 abbrev pub OwnFew : ℕ → View → Type 0
@@ -71,7 +52,7 @@ pub put_total : (n : ℕ) (v : View) (a b : ℕ) (i : MsgId) (k : MessageKind) (
 put_total n v a b i k q within =
     let w = after_put v a b i k q in
     let adds = put_adds v a b i k q in
-    let g = line_grows v (line.Put a b i k q) in
+    let g = line_grows v (Line.Put a b i k q) in
     let at_ = within a b (omega (arith, adds)) in
     total_adds v w n a b g at_.0 at_.1 (omega (arith, adds))
 
@@ -84,34 +65,12 @@ still_own n v l off h = λ within m.
     omega (arith, count, few, more)
 
 line_own : (top : ℕ) (v : View) (l : Line) → OwnFew top v → OwnFew top (view_after v l)
-line_own top v (line.Put a b i k q) h = λ within m.
-    let few = h (within_before top v (after_put v a b i k q) (line_grows v (line.Put a b i k q)) within) m in
+line_own top v (Line.Put a b i k q) h = λ within m.
+    let few = h (within_before top v (after_put v a b i k q) (line_grows v (Line.Put a b i k q)) within) m in
     let one = put_count v a b i k q m in
     let more = put_total top v a b i k q within in
     omega (arith, few, one, more)
-line_own top v (line.Head d) h = still_own top v (line.Head d) refl h
-line_own top v (line.Idle m) h = still_own top v (line.Idle m) refl h
-line_own top v (line.Label x) h = still_own top v (line.Label x) refl h
-line_own top v (line.Packet a b k x) h = still_own top v (line.Packet a b k x) refl h
-line_own top v (line.Taken a b n) h = still_own top v (line.Taken a b n) refl h
-line_own top v (line.Old a b n) h = still_own top v (line.Old a b n) refl h
-line_own top v (line.Early a b n) h = still_own top v (line.Early a b n) refl h
-line_own top v (line.Acked a b n) h = still_own top v (line.Acked a b n) refl h
-line_own top v line.Nothing h = still_own top v line.Nothing refl h
-line_own top v (line.Resent m n) h = still_own top v (line.Resent m n) refl h
-line_own top v (line.Queued i) h = still_own top v (line.Queued i) refl h
-line_own top v (line.Held i) h = still_own top v (line.Held i) refl h
-line_own top v (line.Forwarded i m) h = still_own top v (line.Forwarded i m) refl h
-line_own top v (line.Updated i n) h = still_own top v (line.Updated i n) refl h
-line_own top v (line.Migration s p) h = still_own top v (line.Migration s p) refl h
-line_own top v (line.SentOn p n) h = still_own top v (line.SentOn p n) refl h
-line_own top v (line.Lacks p s b) h = still_own top v (line.Lacks p s b) refl h
-line_own top v (line.Stays p) h = still_own top v (line.Stays p) refl h
-line_own top v (line.Here i) h = still_own top v (line.Here i) refl h
-line_own top v (line.NoMove i) h = still_own top v (line.NoMove i) refl h
-line_own top v (line.Proto i) h = still_own top v (line.Proto i) refl h
-line_own top v (line.NoChild p) h = still_own top v (line.NoChild p) refl h
-line_own top v (line.Pinned p) h = still_own top v (line.Pinned p) refl h
+line_own top v any_ h = still_own top v any_ refl h
 
 pub own_group : (n : ℕ) (b : Boot) (pt : Point) (d : Step) (w : Spelled) → group_of b pt d ≡ Some w → OwnFew n pt.view → OwnFew n w.point.view
 own_group n b pt d w e h = group_keeps (OwnFew n) (line_own n) b pt d w e h

@@ -1,45 +1,15 @@
 -- Only pairs of machines that there are have messages.
-use Rattle.std.proofs.Common.{◌≡◌, ◌≢◌, ◌⊎◌, inl, inr, ℕ, zero, suc, ◌+◌, ◌<◌, ◌≤◌, ◌==◌, ◌&&◌, Bool, true, false, List, [], ◌∷◌, ◌++◌, length, drop, filter, is_some, not, refl, ap, ◌∙◌, sym, subst, arith}
-use Rattle.std.specs.Prelude.{if◌then◌else◌, slice_get}
-use Rattle.std.specs.declared.option.Option.{Option}
-use Rattle.std.specs.declared.option.Option.TheVariants.{None, Some}
-use Rattle.std.proofs.lemmas.Bool.{cases_Bool, false≢true}
-use Rattle.std.proofs.lemmas.Bool.Decides.{nat_tests}
-use Rattle.dm_link.specs.declared.Pid.{Pid}
-use Rattle.dm_message.specs.declared.MsgId.{MsgId}
-use Rattle.dm_message.specs.declared.kind.MessageKind.{MessageKind}
-use Rattle.dm_message.specs.Kinds.{plain_kind}
-use Rattle.dm_message.specs.Plain.{PlainMessage}
-use Rattle.dm_onekernel.specs.declared.boot.Boot.{Boot}
-use Rattle.dm_laws.proofs.Equal.{id_eq-same}
-use Rattle.dm_laws.proofs.Steps.{bind-is}
-use Rattle.dm_schedule.specs.declared.Step.{Step}
-use Rattle.dm_schedule.specs.declared.Step.TheVariants as step
-use Rattle.dm_line.specs.declared.line.Line.{Line}
-use Rattle.dm_line.specs.declared.line.Line.TheVariants as line
-use Rattle.dm_line.specs.declared.line.Load.{Load}
-use Rattle.dm_line.specs.declared.line.Load.TheVariants as load
-use Rattle.dm_rule.specs.Addresses.{Receiver}
-use Rattle.dm_rule.specs.Laws.{IsStep}
-use Rattle.dm_rule.specs.Parts.{Part, Says, Routes, Again, Owns, Transmits, Spelled, goes_out, packet_line, puts, spelled}
-use Rattle.dm_rule.specs.Point.{Point, after, moved}
+use Rattle.dm_mirror.proofs.Names.{◌≡◌, ◌≢◌, ◌⊎◌, inl, inr, ℕ, ◌+◌, ◌<◌, ◌≤◌, ◌==◌, ◌&&◌, Bool, true, false, List, [], ◌∷◌, ◌++◌, length, drop, filter, not, refl, ap, ◌∙◌, sym, subst, arith, if◌then◌else◌, slice_get, Option, None, Some}
+use Rattle.dm_mirror.proofs.Names.{cases_Bool, false≢true, nat_tests, Pid, MsgId, MessageKind, plain_kind, PlainMessage, Boot, id_eq-same, bind-is, Step, Line, Load, Receiver, IsStep, Part, Says, Routes, Again, Owns, Transmits, Spelled}
+use Rattle.dm_mirror.proofs.Names.{goes_out, packet_line, puts, spelled, Point, after, moved, group_of, Spot, Untaken, standing, times, View, Pair, after_put, at_least, gone_after, is_kernels, marked, oldest, own_id, view_after, routed_on}
+use Rattle.dm_mirror.proofs.Names.{with_pair, migrates, to_of, machine_of, Pairs, pair_stands, IsNet, IsNetLine, arrives_net, group_is, resends_net, stands_right, AllFit, onward, pair_same, migrates_fit, turns_fit, said, says_next}
+use Rattle.dm_mirror.proofs.Names.{transmits_next, Run, told_there, cases_zero, own_by, taken_pair}
 use Rattle.dm_rule.specs.Rule as rule
-use Rattle.dm_rule.specs.Rule.{group_of}
-use Rattle.dm_rule.specs.Spots.{Spot, StandsOutside, Untaken, standing, times}
-use Rattle.dm_rule.specs.View.{View, Pair, Told, after_put, at_least, gone_after, is_kernels, marked, oldest, own_id, taken_id, view_after, routed_on, with_pair}
-use Rattle.dm_rule.specs.Migrating.{migrates}
-use Rattle.dm_rule.specs.Homes.{to_of}
-use Rattle.dm_rulelaws.specs.Found.{machine_of}
-use Rattle.dm_rule.proofs.Pairs.{Pairs, pair_stands}
-use Rattle.dm_rule.proofs.Groups.{IsNet, IsNetLine, arrives_net, group_is, resends_net, stands_right}
-use Rattle.dm_rule.proofs.Pairs.Lines.{AllFit, onward, pair_same}
-use Rattle.dm_rule.proofs.Pairs.Migrating.{migrates_fit}
-use Rattle.dm_rule.proofs.Pairs.Turns.{turns_fit}
-use Rattle.dm_rule.proofs.States.{said, says_next, transmits_next}
-use Rattle.dm_rulelaws.proofs.Runs.{Run}
 use Rattle.dm_mirror.proofs.Counts.Acting.{line_acting}
 use Rattle.dm_mirror.proofs.Counts.Own.{PairsWithin}
 use Rattle.dm_mirror.proofs.Totals.{ids_of}
+use Rattle.dm_rule.proofs.Lines.{parts}
+pub use Rattle.dm_rule.proofs.Lines.{eq_is as same_of}
 
 -- a pair that had no message before has it from the acting machine, which it goes to at once, or it isn't taken yet
 pub record Fresh (u : View) (m : ℕ) (v : View) : Type 0 where
@@ -54,18 +24,6 @@ fresh_same u m v w acting pair h = record {
   new = subst (λ (f : ℕ → ℕ → Pair). (a c : ℕ) → 1 ≤ length (f a c).ids → (1 ≤ ids_of u a c) ⊎ ((a ≡ m) × ((a ≡ c) ⊎ ((f a c).taken ≡ 0)))) (sym pair) h.new;
   none = subst (λ (f : ℕ → ℕ → Pair). (a c : ℕ) → ids_of u a c ≡ 0 → a ≢ c → (f a c).taken ≡ 0) (sym pair) h.none;
 }
-
--- a put, and a packet
-pub same_of : (x y : ℕ) → (x == y) ≡ true → x ≡ y
-same_of x y t = grind (arith, nat_tests)
-
-none_or_some : (n : ℕ) → (n ≡ 0) ⊎ (1 ≤ n)
-none_or_some zero = inl refl
-none_or_some (suc n) = inr (omega arith)
-
-parts : (c d : Bool) → (c && d) ≡ true → (c ≡ true) × (d ≡ true)
-parts true d e = (refl, e)
-parts false d e = absurd (false≢true e)
 
 set_taken : (f : ℕ → ℕ → Pair) (a b : ℕ) (p : Pair) (c d : ℕ) (t : Bool) → ((a == c) && (b == d)) ≡ t → (a ≢ b → p.taken ≡ (f a b).taken) → c ≢ d → (if t then p else f c d).taken ≡ (f c d).taken
 set_taken f a b p c d true e h off =
@@ -88,7 +46,7 @@ fresh_by u m v w a h acting from taken others =
     let none : (c d : ℕ) → ids_of u c d ≡ 0 → c ≢ d → (w.pair c d).taken ≡ 0 = λ c d z off. taken c d off ∙ h.none c d z off in
     record {
       acting = acting ∙ h.acting;
-      new = λ c d some. elim (none_or_some (ids_of u c d)) [
+      new = λ c d some. elim (cases_zero (ids_of u c d)) [
         | inr had ↦ inl had
         | inl z ↦ elim (cases_Bool (c == m)) [
           | inl here ↦ elim (cases_Bool (c == d)) [
@@ -124,26 +82,26 @@ set_ids f a b p c d true e h =
     h ∙ ap (λ (g : ℕ). (f g b).ids) (same_of a c k.0) ∙ ap (λ (g : ℕ). (f c g).ids) (same_of b d k.1)
 set_ids f a b p c d false e h = refl
 
-fresh_packet : (u : View) (m : ℕ) (v : View) (a b k : ℕ) (l : Load) → Fresh u m v → Fresh u m (view_after v (line.Packet a b k l))
+fresh_packet : (u : View) (m : ℕ) (v : View) (a b k : ℕ) (l : Load) → Fresh u m v → Fresh u m (view_after v (Line.Packet a b k l))
 fresh_packet u m v a b k l h =
     let p : Pair = record (v.pair a b) { gone = gone_after l (v.pair a b).gone; wire = (v.pair a b).wire ++ record { load = l; delivered = false } ∷ [] } in
-    fresh_by u m v (view_after v (line.Packet a b k l)) m h refl refl
+    fresh_by u m v (view_after v (Line.Packet a b k l)) m h refl refl
     (λ c d off. set_taken v.pair a b p c d ((a == c) && (b == d)) refl (λ apart. refl) off)
     (λ c d off. ap (λ (ids : List MsgId). length ids) (set_ids v.pair a b p c d ((a == c) && (b == d)) refl refl))
 
 -- parts of a turn
-fresh_rest : (u : View) (m : ℕ) (pt next : Point) (a b k : ℕ) (l : Load) (home out : Bool) → Fresh u m pt.view → after pt (if home then [] else if out then line.Packet a b k l ∷ [] else []) ≡ Some next → Fresh u m next.view
+fresh_rest : (u : View) (m : ℕ) (pt next : Point) (a b k : ℕ) (l : Load) (home out : Bool) → Fresh u m pt.view → after pt (if home then [] else if out then Line.Packet a b k l ∷ [] else []) ≡ Some next → Fresh u m next.view
 fresh_rest u m pt next a b k l true out h e = let f : pt ≡ next = cc in subst (λ (q : Point). Fresh u m q.view) f h
 fresh_rest u m pt next a b k l false false h e = let f : pt ≡ next = cc in subst (λ (q : Point). Fresh u m q.view) f h
 fresh_rest u m pt next a b k l false true h e =
-    let f : moved pt (line.Packet a b k l) pt.kernel ≡ next = cc in
+    let f : moved pt (Line.Packet a b k l) pt.kernel ≡ next = cc in
     subst (λ (q : Point). Fresh u m q.view) f (fresh_packet u m pt.view a b k l h)
 
 fresh_puts : (u : View) (m : ℕ) (pt next : Point) (b : ℕ) (i : MsgId) (k : MessageKind) (q : Pid) (ls : List Line) → Some (puts pt.view b i k q) ≡ Some ls → after pt ls ≡ Some next → Fresh u m pt.view → Fresh u m next.view
 fresh_puts u m pt next b i k q ls is e h =
     let f : puts pt.view b i k q ≡ ls = cc in
     let a = pt.view.acting in
-    fresh_rest u m (moved pt (line.Put a b i k q) pt.kernel) next a b (length (pt.view.pair a b).wire) (load.Data (length (pt.view.pair a b).ids)) (a == b) (goes_out (pt.view.pair a b)) (fresh_put u m pt.view b i k q h) (ap (after pt) f ∙ e)
+    fresh_rest u m (moved pt (Line.Put a b i k q) pt.kernel) next a b (length (pt.view.pair a b).wire) (Load.Data (length (pt.view.pair a b).ids)) (a == b) (goes_out (pt.view.pair a b)) (fresh_put u m pt.view b i k q h) (ap (after pt) f ∙ e)
 
 fresh_parts : (ps : List Part) (f : ℕ → ℕ → Pair) (u : View) (m : ℕ) (pt : Point) (w : Spelled) → AllFit f ps → spelled pt ps ≡ Some w → Fresh u m pt.view → Fresh u m w.point.view
 fresh_parts [] f u m pt w fits e h = subst (λ (q : Point). Fresh u m q.view) (said pt w e) h
@@ -181,18 +139,10 @@ first_of : (ids : List MsgId) → 1 ≤ length ids → (i : MsgId) × (1 ≤ tim
 first_of [] some = absurd (omega (arith, some))
 first_of (i ∷ is) some = (i, let e : times i (i ∷ is) ≡ 1 + times i is = ap (λ (c : Bool). (if c then 1 else 0) + times i is) (id_eq-same i) in omega (arith, e))
 
-own_by : (c : Bool) (f : Spot → ℕ) (z : Spot) → 1 ≤ f z → StandsOutside c f → c ≡ true
-own_by true f z least h = refl
-own_by false f z least h = absurd (let e : f z ≡ 0 = h z in omega (arith, least, e))
-
-told_is : (o : Option Told) → is_some o ≡ true → (t : Told) × (o ≡ Some t)
-told_is None e = absurd (false≢true e)
-told_is (Some t) e = (t, refl)
-
 address_within : (b : Boot) (pt : Point) (i : MsgId) (z : Spot) (o : Option PlainMessage) → pt.kernel.bag i ≡ o → Run b pt → 1 ≤ standing pt.view i z → (pt.addresses (Receiver i)).at < pt.kernel.machines
 address_within b pt i z (Some x) there run stands = run.found.within (Receiver i) x.to (ap to_of there)
 address_within b pt i z None there run stands =
-    let (t, told) = told_is (pt.view.told i) (run.found.told i z stands) in
+    let (t, told) = told_there (pt.view.told i) (run.found.told i z stands) in
     run.found.own_within i t told (own_by (is_kernels i) (standing pt.view i) z stands (stands_right pt i run.based.phased.state None there))
 
 pub stood_within : (b : Boot) (pt : Point) (i : MsgId) (z : Spot) → Run b pt → 1 ≤ standing pt.view i z → machine_of z < pt.kernel.machines
@@ -218,38 +168,16 @@ fresh_within b u m n end machines small run h within = λ a c some.
           ]
     ]
 
--- what comes over wires routes nothing
-taken_pair : (v : View) (b : ℕ) (o : Option MsgId) → (taken_id v b o).pair ≡ v.pair
-taken_pair v b None = refl
-taken_pair v b (Some i) = refl
-
 pub net_ids : (v : View) (l : Line) → IsNetLine l → (a c : ℕ) → ((view_after v l).pair a c).ids ≡ (v.pair a c).ids
-net_ids v (line.Taken a b n) h c d =
+net_ids v (Line.Taken a b n) h c d =
     let p : Pair = record (v.pair a b) { taken = (v.pair a b).taken + 1; kept = filter (λ k. not (k == n)) (v.pair a b).kept } in
     ap (λ (f : ℕ → ℕ → Pair). (f c d).ids) (taken_pair (with_pair v a b p) b (oldest (v.pair a b))) ∙ set_ids v.pair a b p c d ((a == c) && (b == d)) refl refl
-net_ids v (line.Early a b n) h c d = set_ids v.pair a b (record (v.pair a b) { kept = n ∷ filter (λ k. not (k == n)) (v.pair a b).kept }) c d ((a == c) && (b == d)) refl refl
-net_ids v (line.Acked a b n) h c d = set_ids v.pair b a (record (v.pair b a) { acked = at_least (v.pair b a).acked n }) c d ((b == c) && (a == d)) refl refl
-net_ids v (line.Old a b n) h c d = refl
-net_ids v line.Nothing h c d = refl
-net_ids v (line.Resent m n) h c d = refl
-net_ids v (line.Head d) h c e = absurd h
-net_ids v (line.Idle m) h c e = absurd h
-net_ids v (line.Label x) h c e = absurd h
-net_ids v (line.Put a b i k q) h c e = absurd h
-net_ids v (line.Packet a b k x) h c e = absurd h
-net_ids v (line.Queued i) h c e = absurd h
-net_ids v (line.Held i) h c e = absurd h
-net_ids v (line.Forwarded i m) h c e = absurd h
-net_ids v (line.Updated i n) h c e = absurd h
-net_ids v (line.Migration s p) h c e = absurd h
-net_ids v (line.SentOn p n) h c e = absurd h
-net_ids v (line.Lacks p s b) h c e = absurd h
-net_ids v (line.Stays p) h c e = absurd h
-net_ids v (line.Here i) h c e = absurd h
-net_ids v (line.NoMove i) h c e = absurd h
-net_ids v (line.Proto i) h c e = absurd h
-net_ids v (line.NoChild p) h c e = absurd h
-net_ids v (line.Pinned p) h c e = absurd h
+net_ids v (Line.Early a b n) h c d = set_ids v.pair a b (record (v.pair a b) { kept = n ∷ filter (λ k. not (k == n)) (v.pair a b).kept }) c d ((a == c) && (b == d)) refl refl
+net_ids v (Line.Acked a b n) h c d = set_ids v.pair b a (record (v.pair b a) { acked = at_least (v.pair b a).acked n }) c d ((b == c) && (a == d)) refl refl
+net_ids v (Line.Old a b n) h c d = refl
+net_ids v Line.Nothing h c d = refl
+net_ids v (Line.Resent m n) h c d = refl
+net_ids v _ h c e = absurd h
 
 net_parts : (ps : List Part) (pt : Point) (w : Spelled) → IsNet ps → spelled pt ps ≡ Some w → (a c : ℕ) → (w.point.view.pair a c).ids ≡ (pt.view.pair a c).ids
 net_parts [] pt w h e a c = ap (λ (q : Point). (q.view.pair a c).ids) (sym (said pt w e))
@@ -269,30 +197,30 @@ ids_within n v w same h = λ a c some. h a c (let e = ap (λ (ids : List MsgId).
 
 -- each group
 pub within_group : (b : Boot) (pt : Point) (d : Step) (w : Spelled) (n : ℕ) → 0 < n → pt.kernel.machines ≡ n → w.point.kernel.machines ≡ n → IsStep n d → group_of b pt d ≡ Some w → Pairs pt.view → Run b w.point → PairsWithin n pt.view → PairsWithin n w.point.view
-within_group b pt (step.Turn m) w n some same after_ fit e pairs run h =
-    let g = group_is b pt (step.Turn m) w e in
-    let start = moved pt (line.Head (step.Turn m)) pt.kernel in
+within_group b pt (Step.Turn m) w n some same after_ fit e pairs run h =
+    let g = group_is b pt (Step.Turn m) w e in
+    let start = moved pt (Line.Head (Step.Turn m)) pt.kernel in
     let fresh = fresh_parts g.parts pt.view.pair pt.view m start g.rest (turns_fit pt.view.pair b pt m (pt.view.inbox m) g.parts g.is) g.said (fresh_start pt.view start.view m refl refl pairs) in
     fresh_within b pt.view m n w.point after_ fit run (subst (λ (q : Point). Fresh pt.view m q.view) g.point fresh) h
-within_group b pt (step.Tick m) w n some same after_ fit e pairs run h =
-    let g = group_is b pt (step.Tick m) w e in
-    let qs = Says (line.Resent m (rule.outstanding pt.view m pt.kernel.machines)) ∷ rule.resends pt.view m pt.kernel.machines in
+within_group b pt (Step.Tick m) w n some same after_ fit e pairs run h =
+    let g = group_is b pt (Step.Tick m) w e in
+    let qs = Says (Line.Resent m (rule.outstanding pt.view m pt.kernel.machines)) ∷ rule.resends pt.view m pt.kernel.machines in
     let f : qs ≡ g.parts = let k = g.is in cc in
-    let start = moved pt (line.Head (step.Tick m)) pt.kernel in
+    let start = moved pt (Line.Head (Step.Tick m)) pt.kernel in
     subst (λ (q : Point). PairsWithin n q.view) g.point
     (ids_within n pt.view g.rest.point.view (λ a c. net_parts qs start g.rest (tt, resends_net pt.view m pt.kernel.machines) (ap (spelled start) f ∙ g.said) a c) h)
-within_group b pt (step.Deliver a c k) w n some same after_ fit e pairs run h =
-    let g = group_is b pt (step.Deliver a c k) w e in
+within_group b pt (Step.Deliver a c k) w n some same after_ fit e pairs run h =
+    let g = group_is b pt (Step.Deliver a c k) w e in
     let there = slice_get (pt.view.pair a c).wire k in
     let qs = rule.arrives a c (pt.view.pair a c) (pt.view.pair c a) there in
     let f : qs ≡ g.parts = let t = g.is in cc in
-    let start = moved pt (line.Head (step.Deliver a c k)) pt.kernel in
+    let start = moved pt (Line.Head (Step.Deliver a c k)) pt.kernel in
     subst (λ (q : Point). PairsWithin n q.view) g.point
     (ids_within n pt.view g.rest.point.view
     (λ x y. net_parts qs start g.rest (arrives_net a c (pt.view.pair a c) (pt.view.pair c a) there) (ap (spelled start) f ∙ g.said) x y ∙ set_ids pt.view.pair a c (marked (pt.view.pair a c) k) x y ((a == x) && (c == y)) refl refl) h)
-within_group b pt (step.Migrate p m) w n some same after_ fit e pairs run h =
-    let g = group_is b pt (step.Migrate p m) w e in
+within_group b pt (Step.Migrate p m) w n some same after_ fit e pairs run h =
+    let g = group_is b pt (Step.Migrate p m) w e in
     let f : migrates pt p ≡ g.parts = let k = g.is in cc in
-    let start = moved pt (line.Head (step.Migrate p m)) pt.kernel in
+    let start = moved pt (Line.Head (Step.Migrate p m)) pt.kernel in
     let fresh = fresh_parts (migrates pt p) pt.view.pair pt.view 0 start g.rest (migrates_fit pt.view.pair pt p) (ap (spelled start) f ∙ g.said) (fresh_start pt.view start.view 0 refl refl pairs) in
     fresh_within b pt.view 0 n w.point after_ some run (subst (λ (q : Point). Fresh pt.view 0 q.view) g.point fresh) h

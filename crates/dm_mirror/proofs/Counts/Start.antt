@@ -1,23 +1,8 @@
 -- No count is too great at the start.
-use Rattle.std.proofs.Common.{◌≡◌, ℕ, zero, suc, ◌+◌, ◌*◌, ◌<◌, ◌≤◌, ◌==◌, ◌&&◌, ◌||◌, Bool, true, false, List, [], ◌∷◌, ◌++◌, length, map, refl, ap, ◌∙◌, sym, arith}
-use Rattle.std.specs.Prelude.{if◌then◌else◌, option_map, slice_get}
-use Rattle.std.specs.declared.option.Option.{Option}
-use Rattle.std.specs.declared.option.Option.TheVariants.{None, Some}
-use Rattle.std.proofs.lemmas.Bool.{false≢true}
-use Rattle.std.proofs.lemmas.Bool.Decides.{nat_tests}
-use Rattle.dm_link.specs.declared.Pid.{Pid}
-use Rattle.dm_link.specs.Names.{pid_eq}
-use Rattle.dm_link.specs.Plain.{plain_link}
-use Rattle.dm_onekernel.specs.declared.boot.Boot.{Boot}
-use Rattle.dm_onekernel.specs.declared.boot.BootImage.{BootImage}
-use Rattle.dm_onekernel.specs.declared.boot.BootProcess.{BootProcess}
-use Rattle.dm_onekernel.specs.Boot.{IsValid, manager, processes_are_valid, starting_at, switchboard}
-use Rattle.dm_onekernel.specs.Kernel.{Alive}
-use Rattle.dm_onekernel.specs.Start.{begun, life_at}
-use Rattle.dm_rule.specs.Point.{first_point}
-use Rattle.dm_rule.specs.View.{Known, first_view, known_at}
-use Rattle.dm_rule.specs.View as view
-use Rattle.dm_kernel.proofs.Opening.{room_from}
+use Rattle.dm_mirror.proofs.Names.{◌≡◌, ℕ, zero, suc, ◌+◌, ◌*◌, ◌<◌, ◌≤◌, ◌==◌, ◌&&◌, ◌||◌, Bool, true, false, List, [], ◌∷◌, ◌++◌, length, map, refl, ap, ◌∙◌, sym, arith, if◌then◌else◌, option_map, slice_get, Option, None, Some}
+use Rattle.dm_mirror.proofs.Names.{false≢true, nat_tests, Pid, pid_eq, plain_link, Boot, BootImage, BootProcess, IsValid, manager, processes_are_valid, starting_at, switchboard, Alive, life_at, first_point, Known, first_view, known_at}
+use Rattle.dm_mirror.proofs.Names.{room_from}
+use Rattle.dm_onekernel.specs.Start.{begun}
 use Rattle.dm_mirror.proofs.Counts.AtEnds.{Under}
 use Rattle.dm_mirror.proofs.Counts.Moves.{MovesFew}
 use Rattle.dm_mirror.proofs.Counts.Own.{OwnFew, PairsWithin}
@@ -101,19 +86,15 @@ own_start b n = λ within m. omega arith
 
 -- nothing comes at first
 abbrev comes_now : Known → Bool
-comes_now view.Unknown = false
-comes_now view.Here = false
-comes_now (view.Frozen to) = false
-comes_now (view.Incoming from) = true
-comes_now (view.Forward at_ moves) = false
-comes_now view.Ended = false
+comes_now (Known.Incoming from) = true
+comes_now _ = false
 
-start_if : (c : Bool) (k : Known) → comes_now k ≡ false → comes_now (if c then view.Here else k) ≡ false
+start_if : (c : Bool) (k : Known) → comes_now k ≡ false → comes_now (if c then Known.Here else k) ≡ false
 start_if true k e = refl
 start_if false k e = e
 
 none_comes : (ps : List BootProcess) (m : ℕ) (q : Pid) → comes_now (known_at ps m q) ≡ false
-none_comes [] m q = start_if ((m == 0) && (pid_eq q switchboard || pid_eq q manager)) view.Unknown refl
+none_comes [] m q = start_if ((m == 0) && (pid_eq q switchboard || pid_eq q manager)) Known.Unknown refl
 none_comes (p ∷ ps) m q = start_if (pid_eq p.pid q && (p.pid.home == m)) (known_at ps m q) (none_comes ps m q)
 
 pub moves_start : (b : Boot) (n : ℕ) → MovesFew n (first_view b)

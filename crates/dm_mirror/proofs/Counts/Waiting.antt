@@ -1,30 +1,8 @@
 -- What waits for a process was routed: it is no more than all that was.
-use Rattle.std.proofs.Common.{◌≡◌, ◌≢◌, ◌⊎◌, inl, inr, ℕ, zero, suc, ◌+◌, ◌<◌, ◌≤◌, ◌==◌, ◌&&◌, Bool, true, false, List, [], ◌∷◌, ◌++◌, length, length-append, is_some, refl, ap, ◌∙◌, sym, subst, arith}
-use Rattle.std.specs.Prelude.{if◌then◌else◌}
-use Rattle.std.specs.declared.option.Option.{Option}
-use Rattle.std.specs.declared.option.Option.TheVariants.{Some}
-use Rattle.std.proofs.lemmas.Bool.{cases_Bool, false≢true}
-use Rattle.std.proofs.lemmas.Bool.Decides.{nat_tests}
-use Rattle.dm_link.specs.declared.Pid.{Pid}
-use Rattle.dm_message.specs.Ids.{id_eq}
-use Rattle.dm_message.specs.declared.MsgId.{MsgId}
-use Rattle.dm_message.specs.declared.kind.MessageKind.{MessageKind}
-use Rattle.dm_onekernel.specs.declared.boot.Boot.{Boot}
-use Rattle.dm_laws.proofs.Equal.{id_eq-is, id_eq-same}
-use Rattle.dm_schedule.specs.declared.Step.{Step}
-use Rattle.dm_schedule.specs.declared.Step.TheVariants as step
-use Rattle.dm_line.specs.declared.line.Line.{Line}
-use Rattle.dm_line.specs.declared.line.Line.TheVariants as line
-use Rattle.dm_rule.specs.Parts.{Spelled}
-use Rattle.dm_rule.specs.Point.{Point}
-use Rattle.dm_rule.specs.Rule.{group_of}
-use Rattle.dm_rule.specs.Spots.{Held, Queue, standing, times}
-use Rattle.dm_rule.specs.View.{View, Pair, Told, after_put, first_told, first_view, gone_after, marked, routed_on, view_after}
-use Rattle.dm_rule.proofs.Hushed.{hushed, is_put}
-use Rattle.dm_rule.proofs.Pairs.Lines.{pair_same}
-use Rattle.dm_rule.proofs.Standing.{StandsAsBag-elsewhere, StandsAsBag-one, times-append}
-use Rattle.dm_rule.proofs.Letters.{letters}
-use Rattle.dm_rulelaws.proofs.Runs.{Run}
+use Rattle.dm_mirror.proofs.Names.{◌≡◌, ◌≢◌, inl, inr, ℕ, zero, suc, ◌+◌, ◌<◌, ◌≤◌, ◌==◌, ◌&&◌, Bool, true, false, List, [], ◌∷◌, ◌++◌, length, is_some, refl, ap, ◌∙◌, sym, subst, arith, if◌then◌else◌, Option, Some, cases_Bool, false≢true}
+use Rattle.dm_mirror.proofs.Names.{nat_tests, Pid, id_eq, MsgId, MessageKind, Boot, id_eq-is, id_eq-same, Step, Line, Spelled, Point, group_of, Held, Queue, standing, times, View, Pair, Told, after_put, first_told, first_view, gone_after}
+use Rattle.dm_mirror.proofs.Names.{marked, routed_on, view_after, hushed, is_put, pair_same, StandsAsBag-elsewhere, StandsAsBag-one, times-append, letters, Run, cases_zero, last_there}
+use Rattle.std.proofs.Common.{length-append}
 use Rattle.dm_mirror.proofs.Counts.Own.{PairsWithin, group_keeps}
 use Rattle.dm_mirror.proofs.Counts.Pairs.{net_ids, same_of, set_ids}
 use Rattle.dm_mirror.proofs.Totals.{from_one, ids_of, sum_to, total}
@@ -38,37 +16,18 @@ pub record IsRouted (v : View) (i : MsgId) : Type 0 where
 abbrev pub Routed : View → Type 0
 Routed v = (i : MsgId) → is_some (v.told i) ≡ true → IsRouted v i
 
-head_ids : (v : View) (d : Step) (x y : ℕ) → ((view_after v (line.Head d)).pair x y).ids ≡ (v.pair x y).ids
-head_ids v (step.Turn m) x y = refl
-head_ids v (step.Tick m) x y = refl
-head_ids v (step.Deliver a c k) x y = set_ids v.pair a c (marked (v.pair a c) k) x y ((a == x) && (c == y)) refl refl
-head_ids v (step.Migrate p m) x y = refl
+head_ids : (v : View) (d : Step) (x y : ℕ) → ((view_after v (Line.Head d)).pair x y).ids ≡ (v.pair x y).ids
+head_ids v (Step.Deliver a c k) x y = set_ids v.pair a c (marked (v.pair a c) k) x y ((a == x) && (c == y)) refl refl
+head_ids v _ x y = refl
 
 line_ids : (v : View) (l : Line) → is_put l ≡ false → (x y : ℕ) → ((view_after v l).pair x y).ids ≡ (v.pair x y).ids
-line_ids v (line.Head d) e x y = head_ids v d x y
-line_ids v (line.Idle m) e x y = ap (λ (f : ℕ → ℕ → Pair). (f x y).ids) (pair_same v (line.Idle m) refl)
-line_ids v (line.Label l) e x y = ap (λ (f : ℕ → ℕ → Pair). (f x y).ids) (pair_same v (line.Label l) refl)
-line_ids v (line.Put a b i k q) e x y = absurd (false≢true (sym e))
-line_ids v (line.Packet a b k l) e x y = set_ids v.pair a b (record (v.pair a b) { gone = gone_after l (v.pair a b).gone; wire = (v.pair a b).wire ++ record { load = l; delivered = false } ∷ [] }) x y ((a == x) && (b == y)) refl refl
-line_ids v (line.Taken a b n) e x y = net_ids v (line.Taken a b n) tt x y
-line_ids v (line.Old a b n) e x y = ap (λ (f : ℕ → ℕ → Pair). (f x y).ids) (pair_same v (line.Old a b n) refl)
-line_ids v (line.Early a b n) e x y = net_ids v (line.Early a b n) tt x y
-line_ids v (line.Acked a b n) e x y = net_ids v (line.Acked a b n) tt x y
-line_ids v line.Nothing e x y = ap (λ (f : ℕ → ℕ → Pair). (f x y).ids) (pair_same v line.Nothing refl)
-line_ids v (line.Resent m n) e x y = ap (λ (f : ℕ → ℕ → Pair). (f x y).ids) (pair_same v (line.Resent m n) refl)
-line_ids v (line.Queued i) e x y = ap (λ (f : ℕ → ℕ → Pair). (f x y).ids) (pair_same v (line.Queued i) refl)
-line_ids v (line.Held i) e x y = ap (λ (f : ℕ → ℕ → Pair). (f x y).ids) (pair_same v (line.Held i) refl)
-line_ids v (line.Forwarded i m) e x y = ap (λ (f : ℕ → ℕ → Pair). (f x y).ids) (pair_same v (line.Forwarded i m) refl)
-line_ids v (line.Updated i n) e x y = ap (λ (f : ℕ → ℕ → Pair). (f x y).ids) (pair_same v (line.Updated i n) refl)
-line_ids v (line.Migration s p) e x y = ap (λ (f : ℕ → ℕ → Pair). (f x y).ids) (pair_same v (line.Migration s p) refl)
-line_ids v (line.SentOn p n) e x y = ap (λ (f : ℕ → ℕ → Pair). (f x y).ids) (pair_same v (line.SentOn p n) refl)
-line_ids v (line.Lacks p s b) e x y = ap (λ (f : ℕ → ℕ → Pair). (f x y).ids) (pair_same v (line.Lacks p s b) refl)
-line_ids v (line.Stays p) e x y = ap (λ (f : ℕ → ℕ → Pair). (f x y).ids) (pair_same v (line.Stays p) refl)
-line_ids v (line.Here i) e x y = ap (λ (f : ℕ → ℕ → Pair). (f x y).ids) (pair_same v (line.Here i) refl)
-line_ids v (line.NoMove i) e x y = ap (λ (f : ℕ → ℕ → Pair). (f x y).ids) (pair_same v (line.NoMove i) refl)
-line_ids v (line.Proto i) e x y = ap (λ (f : ℕ → ℕ → Pair). (f x y).ids) (pair_same v (line.Proto i) refl)
-line_ids v (line.NoChild p) e x y = ap (λ (f : ℕ → ℕ → Pair). (f x y).ids) (pair_same v (line.NoChild p) refl)
-line_ids v (line.Pinned p) e x y = ap (λ (f : ℕ → ℕ → Pair). (f x y).ids) (pair_same v (line.Pinned p) refl)
+line_ids v (Line.Head d) e x y = head_ids v d x y
+line_ids v (Line.Put a b i k q) e x y = absurd (false≢true (sym e))
+line_ids v (Line.Packet a b k l) e x y = set_ids v.pair a b (record (v.pair a b) { gone = gone_after l (v.pair a b).gone; wire = (v.pair a b).wire ++ record { load = l; delivered = false } ∷ [] }) x y ((a == x) && (b == y)) refl refl
+line_ids v (Line.Taken a b n) e x y = net_ids v (Line.Taken a b n) tt x y
+line_ids v (Line.Early a b n) e x y = net_ids v (Line.Early a b n) tt x y
+line_ids v (Line.Acked a b n) e x y = net_ids v (Line.Acked a b n) tt x y
+line_ids v any_ e x y = ap (λ (f : ℕ → ℕ → Pair). (f x y).ids) (pair_same v any_ refl)
 
 still_routed : (v : View) (l : Line) → is_put l ≡ false → Routed v → Routed (view_after v l)
 still_routed v l off h = λ i told.
@@ -79,9 +38,6 @@ still_routed v l off h = λ i told.
 
 more_times : (j i : MsgId) (ids : List MsgId) → times j ids ≤ times j (ids ++ i ∷ [])
 more_times j i ids = let e = times-append j ids (i ∷ []) in omega (arith, e)
-
-last_times : (i : MsgId) (ids : List MsgId) → 1 ≤ times i (ids ++ i ∷ [])
-last_times i ids = let e = times-append i ids (i ∷ []) in let one : times i (i ∷ []) ≡ 1 = ap (λ (c : Bool). (if c then 1 else 0) + 0) (id_eq-same i) in omega (arith, e, one)
 
 put_more : (f : ℕ → ℕ → Pair) (a b : ℕ) (i j : MsgId) (c d : ℕ) (t : Bool) → ((a == c) && (b == d)) ≡ t → 1 ≤ times j (f c d).ids → 1 ≤ times j (if t then routed_on a b (f a b) i else f c d).ids
 put_more f a b i j c d true e least =
@@ -98,7 +54,7 @@ put_more f a b i j c d false e least = least
 put_there : (f : ℕ → ℕ → Pair) (a b : ℕ) (i : MsgId) → 1 ≤ times i (if (a == a) && (b == b) then routed_on a b (f a b) i else f a b).ids
 put_there f a b i =
     let here : ((a == a) && (b == b)) ≡ true = grind (arith, nat_tests) in
-    subst (λ (t : Bool). 1 ≤ times i (if t then routed_on a b (f a b) i else f a b).ids) (sym here) (last_times i (f a b).ids)
+    subst (λ (t : Bool). 1 ≤ times i (if t then routed_on a b (f a b) i else f a b).ids) (sym here) (last_there i (f a b).ids)
 
 put_routed : (v : View) (a b : ℕ) (i : MsgId) (k : MessageKind) (q : Pid) → Routed v → Routed (after_put v a b i k q)
 put_routed v a b i k q h = λ j told. elim (cases_Bool (id_eq i j)) [
@@ -110,30 +66,8 @@ put_routed v a b i k q h = λ j told. elim (cases_Bool (id_eq i j)) [
 ]
 
 line_routed : (v : View) (l : Line) → Routed v → Routed (view_after v l)
-line_routed v (line.Head d) h = still_routed v (line.Head d) refl h
-line_routed v (line.Idle m) h = still_routed v (line.Idle m) refl h
-line_routed v (line.Label l) h = still_routed v (line.Label l) refl h
-line_routed v (line.Put a b i k q) h = put_routed v a b i k q h
-line_routed v (line.Packet a b k l) h = still_routed v (line.Packet a b k l) refl h
-line_routed v (line.Taken a b n) h = still_routed v (line.Taken a b n) refl h
-line_routed v (line.Old a b n) h = still_routed v (line.Old a b n) refl h
-line_routed v (line.Early a b n) h = still_routed v (line.Early a b n) refl h
-line_routed v (line.Acked a b n) h = still_routed v (line.Acked a b n) refl h
-line_routed v line.Nothing h = still_routed v line.Nothing refl h
-line_routed v (line.Resent m n) h = still_routed v (line.Resent m n) refl h
-line_routed v (line.Queued i) h = still_routed v (line.Queued i) refl h
-line_routed v (line.Held i) h = still_routed v (line.Held i) refl h
-line_routed v (line.Forwarded i m) h = still_routed v (line.Forwarded i m) refl h
-line_routed v (line.Updated i n) h = still_routed v (line.Updated i n) refl h
-line_routed v (line.Migration s p) h = still_routed v (line.Migration s p) refl h
-line_routed v (line.SentOn p n) h = still_routed v (line.SentOn p n) refl h
-line_routed v (line.Lacks p s b) h = still_routed v (line.Lacks p s b) refl h
-line_routed v (line.Stays p) h = still_routed v (line.Stays p) refl h
-line_routed v (line.Here i) h = still_routed v (line.Here i) refl h
-line_routed v (line.NoMove i) h = still_routed v (line.NoMove i) refl h
-line_routed v (line.Proto i) h = still_routed v (line.Proto i) refl h
-line_routed v (line.NoChild p) h = still_routed v (line.NoChild p) refl h
-line_routed v (line.Pinned p) h = still_routed v (line.Pinned p) refl h
+line_routed v (Line.Put a b i k q) h = put_routed v a b i k q h
+line_routed v any_ h = still_routed v any_ refl h
 
 pub routed_group : (b : Boot) (pt : Point) (d : Step) (w : Spelled) → group_of b pt d ≡ Some w → Routed pt.view → Routed w.point.view
 routed_group b pt d w e h = group_keeps Routed line_routed b pt d w e h
@@ -225,11 +159,6 @@ routed_in v n i within r =
     let outer = list_times n (from_machine v n) i r.from at_.0 in
     omega (arith, there, inner, outer)
 
--- each message of a queue and a held list stands once
-none_or_some : (n : ℕ) → (n ≡ 0) ⊎ (1 ≤ n)
-none_or_some zero = inl refl
-none_or_some (suc n) = inr (omega arith)
-
 queue_held : (m : ℕ) (p : Pid) → Held m p ≢ Queue m p
 queue_held m p e = cc
 
@@ -239,8 +168,8 @@ waits_once b pt m p i run =
     let o = letters state.own pt.kernel.bag i in
     let f = standing pt.view i in
     let kept = state.stands.kept i in
-    elim (none_or_some (f (Queue m p))) [
-      | inl z ↦ elim (none_or_some (f (Held m p))) [
+    elim (cases_zero (f (Queue m p))) [
+      | inl z ↦ elim (cases_zero (f (Held m p))) [
         | inl y ↦ omega (arith, z, y)
         | inr some ↦ let e = StandsAsBag-one o f (Held m p) some kept in omega (arith, z, e)
       ]
@@ -253,8 +182,8 @@ waits_once b pt m p i run =
 waits_among : (b : Boot) (pt : Point) (n m : ℕ) (p : Pid) (i : MsgId) → Run b pt → PairsWithin n pt.view → Routed pt.view → times i (pt.view.queue m p) + times i (pt.view.held m p) ≤ times i (all_ids pt.view n)
 waits_among b pt n m p i run within routed =
     let once = waits_once b pt m p i run in
-    elim (none_or_some (times i (pt.view.queue m p))) [
-      | inl z ↦ elim (none_or_some (times i (pt.view.held m p))) [
+    elim (cases_zero (times i (pt.view.queue m p))) [
+      | inl z ↦ elim (cases_zero (times i (pt.view.held m p))) [
         | inl y ↦ omega (arith, z, y)
         | inr some ↦ let k = routed_in pt.view n i within (routed i (run.found.told i (Held m p) some)) in omega (arith, z, once, k)
       ]

@@ -1,30 +1,10 @@
 -- A packet comes: its mark, and the first line that it gives, make a world that stands.
-use Rattle.std.proofs.Common.{◌≡◌, ◌≢◌, ℕ, ◌+◌, ◌-◌, ◌<◌, ◌≤◌, List, [], ◌∷◌, ◌++◌, refl, ap, ◌∙◌, sym, subst, arith}
-use Rattle.std.specs.Prelude.{slice_get}
-use Rattle.std.specs.declared.option.Option.{Option}
-use Rattle.std.specs.declared.option.Option.TheVariants.{None, Some}
-use Rattle.std.proofs.lemmas.List.Elements.{All-push}
-use Rattle.dm_message.specs.declared.Message.{Message}
-use Rattle.dm_message.specs.declared.MsgId.{MsgId}
-use Rattle.dm_message.specs.Lawful.{IsLawfulMessage}
-use Rattle.dm_stream.specs.Sending.{with_acked}
-use Rattle.dm_stream.specs.Receiving.{advanced, after_arrival, kept_once}
-use Rattle.dm_stream.specs.Packets.{Data, Ack, load_at, marked}
+use Rattle.dm_mirror.proofs.Names.{◌≡◌, ◌≢◌, ℕ, ◌+◌, ◌-◌, ◌<◌, ◌≤◌, List, [], ◌∷◌, ◌++◌, refl, ap, ◌∙◌, sym, subst, arith, slice_get, Option, None, Some, All-push, Message, MsgId, IsLawfulMessage, with_acked, advanced, after_arrival}
+use Rattle.dm_mirror.proofs.Names.{kept_once, Data, Ack, load_at, after_mark, Boot, Step, Line, at_machine, at_pair, NothingElse, Pair, at_least, oldest, Inbox, times, Point, moved, Placed, lines_keep, NodeState, with_message}
+use Rattle.dm_mirror.proofs.Names.{with_receiver, with_sender, WorldState, AreMessages, History, StandsWith}
+use Rattle.dm_stream.specs.Packets.{marked}
 use Rattle.dm_wire.specs.Sent as wire
-use Rattle.dm_wire.specs.Wire.{after_mark}
-use Rattle.dm_onekernel.specs.declared.boot.Boot.{Boot}
-use Rattle.dm_schedule.specs.declared.Step.TheVariants as step
-use Rattle.dm_line.specs.declared.line.Line.TheVariants as line
-use Rattle.dm_line.specs.Sets.{at_machine, at_pair}
 use Rattle.dm_rule.specs.View as view
-use Rattle.dm_rule.specs.View.{NothingElse, Pair, View, at_least, gone_after, oldest}
-use Rattle.dm_rule.specs.Spots.{Inbox, times}
-use Rattle.dm_rule.specs.Point.{Point, moved}
-use Rattle.dm_places.specs.Placed.{Placed}
-use Rattle.dm_places.proofs.Lines.{lines_keep}
-use Rattle.dm_node.specs.State.{NodeState, with_message, with_receiver, with_sender}
-use Rattle.dm_world.specs.World.{WorldState}
-use Rattle.dm_mirror.specs.Stands.{AreMessages, History, StandsWith}
 use Rattle.dm_mirror.proofs.Deliver.Ends.{PairIs, ends_of}
 use Rattle.dm_mirror.proofs.Deliver.Kept.{after_early_is, after_old_is, after_taken_is, off}
 use Rattle.dm_mirror.proofs.Deliver.Events.{acked_comes, back_comes, early_comes, old_comes, other_comes, taken_comes}
@@ -35,7 +15,7 @@ use Rattle.dm_mirror.proofs.Deliver.Moves.{Taking, back_other, back_pair, ids_se
 
 -- the point behind the directive's line
 abbrev pub begun : Point → ℕ → ℕ → ℕ → Point
-begun pt a c k = moved pt (line.Head (step.Deliver a c k)) pt.kernel
+begun pt a c k = moved pt (Line.Head (Step.Deliver a c k)) pt.kernel
 
 -- the world behind the mark, where machine c is so
 abbrev pub come_to : WorldState → ℕ → ℕ → ℕ → NodeState → WorldState
@@ -52,10 +32,10 @@ module _ (b : Boot) (w : WorldState) (pt : Point) (l : Placed) (h : History) (a 
   back_pair_is = back_pair b w pt l h a c s a_in c_in apart
 
   -- a message that was taken before, whatever is read of it
-  pub old_stands : (k n : ℕ) (m : Message) → load_at (h.packets a c) k ≡ Some (Data n m) → (x : Message) → n < ((w.nodes c).receivers a).count → StandsWith b (come_to w a c k (with_receiver (w.nodes c) a (after_arrival ((w.nodes c).receivers a) n x))) (moved (begun pt a c k) (line.Old a c n) pt.kernel) l (marked_in h a c k)
+  pub old_stands : (k n : ℕ) (m : Message) → load_at (h.packets a c) k ≡ Some (Data n m) → (x : Message) → n < ((w.nodes c).receivers a).count → StandsWith b (come_to w a c k (with_receiver (w.nodes c) a (after_arrival ((w.nodes c).receivers a) n x))) (moved (begun pt a c k) (Line.Old a c n) pt.kernel) l (marked_in h a c k)
   old_stands k n m e x lt =
       let mark : Pair = view.marked (pt.view.pair a c) k in
-      let go : Moves b w pt l h a c (come_to w a c k (with_receiver (w.nodes c) a (after_arrival ((w.nodes c).receivers a) n x))) (moved (begun pt a c k) (line.Old a c n) pt.kernel) (marked_in h a c k) = record {
+      let go : Moves b w pt l h a c (come_to w a c k (with_receiver (w.nodes c) a (after_arrival ((w.nodes c).receivers a) n x))) (moved (begun pt a c k) (Line.Old a c n) pt.kernel) (marked_in h a c k) = record {
         acting = c;
         groups = pt.view.groups + 1;
         topic = NothingElse;
@@ -63,7 +43,7 @@ module _ (b : Boot) (w : WorldState) (pt : Point) (l : Placed) (h : History) (a 
         inbox = pt.view.inbox;
         point = refl;
         counted = ap (λ (i : ℕ). i + 1) s.groups;
-        mirrors = lines_keep (begun pt a c k) (moved (begun pt a c k) (line.Old a c n) pt.kernel) l (line.Old a c n) tt (lines_keep pt (begun pt a c k) l (line.Head (step.Deliver a c k)) tt s.mirrors refl) refl;
+        mirrors = lines_keep (begun pt a c k) (moved (begun pt a c k) (Line.Old a c n) pt.kernel) l (Line.Old a c n) tt (lines_keep pt (begun pt a c k) l (Line.Head (Step.Deliver a c k)) tt s.mirrors refl) refl;
         boxes = λ m off. refl;
         pairs = λ x y t u. two_other pt.view.pair a c mark x y t;
         ids = ids_set pt.view.pair a c mark refl;
@@ -104,15 +84,15 @@ module _ (b : Boot) (w : WorldState) (pt : Point) (l : Placed) (h : History) (a 
         back_sent = mark_other w.wires a c k c a (back_other a c apart);
         back_said = two_other pt.view.pair a c mark c a (back_other a c apart);
       } in
-      moves_stand b w pt l h a c (come_to w a c k (with_receiver (w.nodes c) a (after_arrival ((w.nodes c).receivers a) n x))) (moved (begun pt a c k) (line.Old a c n) pt.kernel) (marked_in h a c k) go s apart
+      moves_stand b w pt l h a c (come_to w a c k (with_receiver (w.nodes c) a (after_arrival ((w.nodes c).receivers a) n x))) (moved (begun pt a c k) (Line.Old a c n) pt.kernel) (marked_in h a c k) go s apart
 
   -- a message that comes early
-  pub early_stands : (k n : ℕ) (m : Message) → load_at (h.packets a c) k ≡ Some (Data n m) → ((w.nodes c).receivers a).count < n → StandsWith b (come_to w a c k (with_receiver (w.nodes c) a (after_arrival ((w.nodes c).receivers a) n m))) (moved (begun pt a c k) (line.Early a c n) pt.kernel) l (marked_in h a c k)
+  pub early_stands : (k n : ℕ) (m : Message) → load_at (h.packets a c) k ≡ Some (Data n m) → ((w.nodes c).receivers a).count < n → StandsWith b (come_to w a c k (with_receiver (w.nodes c) a (after_arrival ((w.nodes c).receivers a) n m))) (moved (begun pt a c k) (Line.Early a c n) pt.kernel) l (marked_in h a c k)
   early_stands k n m e gt =
       let mark : Pair = view.marked (pt.view.pair a c) k in
       let first : ℕ → ℕ → Pair = at_pair pt.view.pair a c mark in
       let p : Pair = record (first a c) { kept = n ∷ off n (first a c).kept } in
-      let go : Moves b w pt l h a c (come_to w a c k (with_receiver (w.nodes c) a (after_arrival ((w.nodes c).receivers a) n m))) (moved (begun pt a c k) (line.Early a c n) pt.kernel) (marked_in h a c k) = record {
+      let go : Moves b w pt l h a c (come_to w a c k (with_receiver (w.nodes c) a (after_arrival ((w.nodes c).receivers a) n m))) (moved (begun pt a c k) (Line.Early a c n) pt.kernel) (marked_in h a c k) = record {
         acting = c;
         groups = pt.view.groups + 1;
         topic = NothingElse;
@@ -120,7 +100,7 @@ module _ (b : Boot) (w : WorldState) (pt : Point) (l : Placed) (h : History) (a 
         inbox = pt.view.inbox;
         point = refl;
         counted = ap (λ (i : ℕ). i + 1) s.groups;
-        mirrors = lines_keep (begun pt a c k) (moved (begun pt a c k) (line.Early a c n) pt.kernel) l (line.Early a c n) tt (lines_keep pt (begun pt a c k) l (line.Head (step.Deliver a c k)) tt s.mirrors refl) refl;
+        mirrors = lines_keep (begun pt a c k) (moved (begun pt a c k) (Line.Early a c n) pt.kernel) l (Line.Early a c n) tt (lines_keep pt (begun pt a c k) l (Line.Head (Step.Deliver a c k)) tt s.mirrors refl) refl;
         boxes = λ m off. refl;
         pairs = λ x y t u. two_other first a c p x y t ∙ two_other pt.view.pair a c mark x y t;
         ids = λ x y. ids_set first a c p refl x y ∙ ids_set pt.view.pair a c mark refl x y;
@@ -161,10 +141,10 @@ module _ (b : Boot) (w : WorldState) (pt : Point) (l : Placed) (h : History) (a 
         back_sent = mark_other w.wires a c k c a (back_other a c apart);
         back_said = two_other first a c p c a (back_other a c apart) ∙ two_other pt.view.pair a c mark c a (back_other a c apart);
       } in
-      moves_stand b w pt l h a c (come_to w a c k (with_receiver (w.nodes c) a (after_arrival ((w.nodes c).receivers a) n m))) (moved (begun pt a c k) (line.Early a c n) pt.kernel) (marked_in h a c k) go s apart
+      moves_stand b w pt l h a c (come_to w a c k (with_receiver (w.nodes c) a (after_arrival ((w.nodes c).receivers a) n m))) (moved (begun pt a c k) (Line.Early a c n) pt.kernel) (marked_in h a c k) go s apart
 
   -- the message that is next
-  pub taken_stands : (k n : ℕ) (m : Message) → load_at (h.packets a c) k ≡ Some (Data n m) → n ≡ ((w.nodes c).receivers a).count → StandsWith b (come_to w a c k (with_message (with_receiver (w.nodes c) a (after_arrival ((w.nodes c).receivers a) n m)) m)) (moved (begun pt a c k) (line.Taken a c n) pt.kernel) l (marked_in h a c k)
+  pub taken_stands : (k n : ℕ) (m : Message) → load_at (h.packets a c) k ≡ Some (Data n m) → n ≡ ((w.nodes c).receivers a).count → StandsWith b (come_to w a c k (with_message (with_receiver (w.nodes c) a (after_arrival ((w.nodes c).receivers a) n m)) m)) (moved (begun pt a c k) (Line.Taken a c n) pt.kernel) l (marked_in h a c k)
   taken_stands k n m e is =
       let mark : Pair = view.marked (pt.view.pair a c) k in
       let first : ℕ → ℕ → Pair = at_pair pt.view.pair a c mark in
@@ -172,7 +152,7 @@ module _ (b : Boot) (w : WorldState) (pt : Point) (l : Placed) (h : History) (a 
       let given : slice_get (h.given a c) ((w.nodes c).receivers a).count ≡ Some m = ap (slice_get (h.given a c)) (sym is) ∙ there_pair_is.stream.sent.data_given k n m e in
       let t : Taking l (pt.view.pair a c) m = taking b l a c (ends_of w h a c) (w.wires a c) (pt.view.pair a c) m given there_pair_is in
       let oldest_one : oldest (first a c) ≡ Some m.id = ap oldest (two_same pt.view.pair a c mark) ∙ t.first in
-      let go : Moves b w pt l h a c (come_to w a c k (with_message (with_receiver (w.nodes c) a (after_arrival ((w.nodes c).receivers a) n m)) m)) (moved (begun pt a c k) (line.Taken a c n) pt.kernel) (marked_in h a c k) = record {
+      let go : Moves b w pt l h a c (come_to w a c k (with_message (with_receiver (w.nodes c) a (after_arrival ((w.nodes c).receivers a) n m)) m)) (moved (begun pt a c k) (Line.Taken a c n) pt.kernel) (marked_in h a c k) = record {
         acting = c;
         groups = pt.view.groups + 1;
         topic = NothingElse;
@@ -180,7 +160,7 @@ module _ (b : Boot) (w : WorldState) (pt : Point) (l : Placed) (h : History) (a 
         inbox = at_machine pt.view.inbox c (pt.view.inbox c ++ m.id ∷ []);
         point = ap (λ (o : Option MsgId). record { kernel = pt.kernel; view = view.taken_id (view.with_pair (begun pt a c k).view a c p) c o; addresses = pt.addresses }) oldest_one;
         counted = ap (λ (i : ℕ). i + 1) s.groups;
-        mirrors = lines_keep (begun pt a c k) (moved (begun pt a c k) (line.Taken a c n) pt.kernel) l (line.Taken a c n) tt (lines_keep pt (begun pt a c k) l (line.Head (step.Deliver a c k)) tt s.mirrors refl) refl;
+        mirrors = lines_keep (begun pt a c k) (moved (begun pt a c k) (Line.Taken a c n) pt.kernel) l (Line.Taken a c n) tt (lines_keep pt (begun pt a c k) l (Line.Head (Step.Deliver a c k)) tt s.mirrors refl) refl;
         boxes = λ i off. machine_other pt.view.inbox c (pt.view.inbox c ++ m.id ∷ []) i off;
         pairs = λ x y t u. two_other first a c p x y t ∙ two_other pt.view.pair a c mark x y t;
         ids = λ x y. ids_set first a c p refl x y ∙ ids_set pt.view.pair a c mark refl x y;
@@ -221,15 +201,15 @@ module _ (b : Boot) (w : WorldState) (pt : Point) (l : Placed) (h : History) (a 
         back_sent = mark_other w.wires a c k c a (back_other a c apart);
         back_said = two_other first a c p c a (back_other a c apart) ∙ two_other pt.view.pair a c mark c a (back_other a c apart);
       } in
-      moves_stand b w pt l h a c (come_to w a c k (with_message (with_receiver (w.nodes c) a (after_arrival ((w.nodes c).receivers a) n m)) m)) (moved (begun pt a c k) (line.Taken a c n) pt.kernel) (marked_in h a c k) go s apart
+      moves_stand b w pt l h a c (come_to w a c k (with_message (with_receiver (w.nodes c) a (after_arrival ((w.nodes c).receivers a) n m)) m)) (moved (begun pt a c k) (Line.Taken a c n) pt.kernel) (marked_in h a c k) go s apart
 
   -- an acknowledgement
-  pub acked_stands : (k n : ℕ) → load_at (h.packets a c) k ≡ Some (Ack n) → StandsWith b (come_to w a c k (with_sender (w.nodes c) a (with_acked ((w.nodes c).senders a) n))) (moved (begun pt a c k) (line.Acked a c n) pt.kernel) l (marked_in h a c k)
+  pub acked_stands : (k n : ℕ) → load_at (h.packets a c) k ≡ Some (Ack n) → StandsWith b (come_to w a c k (with_sender (w.nodes c) a (with_acked ((w.nodes c).senders a) n))) (moved (begun pt a c k) (Line.Acked a c n) pt.kernel) l (marked_in h a c k)
   acked_stands k n e =
       let mark : Pair = view.marked (pt.view.pair a c) k in
       let first : ℕ → ℕ → Pair = at_pair pt.view.pair a c mark in
       let p : Pair = record (first c a) { acked = at_least (first c a).acked n } in
-      let go : Moves b w pt l h a c (come_to w a c k (with_sender (w.nodes c) a (with_acked ((w.nodes c).senders a) n))) (moved (begun pt a c k) (line.Acked a c n) pt.kernel) (marked_in h a c k) = record {
+      let go : Moves b w pt l h a c (come_to w a c k (with_sender (w.nodes c) a (with_acked ((w.nodes c).senders a) n))) (moved (begun pt a c k) (Line.Acked a c n) pt.kernel) (marked_in h a c k) = record {
         acting = c;
         groups = pt.view.groups + 1;
         topic = NothingElse;
@@ -237,7 +217,7 @@ module _ (b : Boot) (w : WorldState) (pt : Point) (l : Placed) (h : History) (a 
         inbox = pt.view.inbox;
         point = refl;
         counted = ap (λ (i : ℕ). i + 1) s.groups;
-        mirrors = lines_keep (begun pt a c k) (moved (begun pt a c k) (line.Acked a c n) pt.kernel) l (line.Acked a c n) tt (lines_keep pt (begun pt a c k) l (line.Head (step.Deliver a c k)) tt s.mirrors refl) refl;
+        mirrors = lines_keep (begun pt a c k) (moved (begun pt a c k) (Line.Acked a c n) pt.kernel) l (Line.Acked a c n) tt (lines_keep pt (begun pt a c k) l (Line.Head (Step.Deliver a c k)) tt s.mirrors refl) refl;
         boxes = λ m off. refl;
         pairs = λ x y t u. two_other first c a p x y u ∙ two_other pt.view.pair a c mark x y t;
         ids = λ x y. ids_set first c a p refl x y ∙ ids_set pt.view.pair a c mark refl x y;
@@ -278,13 +258,13 @@ module _ (b : Boot) (w : WorldState) (pt : Point) (l : Placed) (h : History) (a 
         back_sent = mark_other w.wires a c k c a (back_other a c apart);
         back_said = two_same first c a p ∙ ap (λ (z : Pair). record z { acked = at_least z.acked n }) (two_other pt.view.pair a c mark c a (back_other a c apart));
       } in
-      moves_stand b w pt l h a c (come_to w a c k (with_sender (w.nodes c) a (with_acked ((w.nodes c).senders a) n))) (moved (begun pt a c k) (line.Acked a c n) pt.kernel) (marked_in h a c k) go s apart
+      moves_stand b w pt l h a c (come_to w a c k (with_sender (w.nodes c) a (with_acked ((w.nodes c).senders a) n))) (moved (begun pt a c k) (Line.Acked a c n) pt.kernel) (marked_in h a c k) go s apart
 
   -- there is no such packet
-  pub nothing_stands : (k : ℕ) → slice_get (pt.view.pair a c).wire k ≡ None → StandsWith b (record w { groups = w.groups + 1 }) (moved (begun pt a c k) line.Nothing pt.kernel) l h
+  pub nothing_stands : (k : ℕ) → slice_get (pt.view.pair a c).wire k ≡ None → StandsWith b (record w { groups = w.groups + 1 }) (moved (begun pt a c k) Line.Nothing pt.kernel) l h
   nothing_stands k e =
       let mark : Pair = view.marked (pt.view.pair a c) k in
-      let go : Moves b w pt l h a c (record w { groups = w.groups + 1 }) (moved (begun pt a c k) line.Nothing pt.kernel) h = record {
+      let go : Moves b w pt l h a c (record w { groups = w.groups + 1 }) (moved (begun pt a c k) Line.Nothing pt.kernel) h = record {
         acting = c;
         groups = pt.view.groups + 1;
         topic = NothingElse;
@@ -292,7 +272,7 @@ module _ (b : Boot) (w : WorldState) (pt : Point) (l : Placed) (h : History) (a 
         inbox = pt.view.inbox;
         point = refl;
         counted = ap (λ (i : ℕ). i + 1) s.groups;
-        mirrors = lines_keep (begun pt a c k) (moved (begun pt a c k) line.Nothing pt.kernel) l line.Nothing tt (lines_keep pt (begun pt a c k) l (line.Head (step.Deliver a c k)) tt s.mirrors refl) refl;
+        mirrors = lines_keep (begun pt a c k) (moved (begun pt a c k) Line.Nothing pt.kernel) l Line.Nothing tt (lines_keep pt (begun pt a c k) l (Line.Head (Step.Deliver a c k)) tt s.mirrors refl) refl;
         boxes = λ i off. refl;
         pairs = λ x y t u. two_other pt.view.pair a c mark x y t;
         ids = ids_set pt.view.pair a c mark refl;
@@ -333,4 +313,4 @@ module _ (b : Boot) (w : WorldState) (pt : Point) (l : Placed) (h : History) (a 
         back_sent = refl;
         back_said = two_other pt.view.pair a c mark c a (back_other a c apart);
       } in
-      moves_stand b w pt l h a c (record w { groups = w.groups + 1 }) (moved (begun pt a c k) line.Nothing pt.kernel) h go s apart
+      moves_stand b w pt l h a c (record w { groups = w.groups + 1 }) (moved (begun pt a c k) Line.Nothing pt.kernel) h go s apart

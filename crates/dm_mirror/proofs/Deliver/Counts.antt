@@ -1,33 +1,12 @@
 -- A delivery counts none of the kernels' own messages, by the lines and by the machine.
-use Rattle.std.proofs.Common.{◌≡◌, ℕ, zero, suc, ◌<◌, List, [], ◌∷◌, refl, ap, ◌∙◌, sym, subst, inl, inr}
-use Rattle.std.specs.Prelude.{if◌then◌else◌}
-use Rattle.std.specs.declared.option.Option.{Option}
-use Rattle.std.specs.declared.option.Option.TheVariants.{None, Some}
-use Rattle.std.proofs.lemmas.Bool.Decides.{eqb_tells}
-use Rattle.dm_laws.proofs.Steps.{bind-is}
-use Rattle.dm_message.specs.declared.Message.{Message}
-use Rattle.dm_message.specs.declared.MsgId.{MsgId}
-use Rattle.dm_stream.specs.Packets.{Load, Data, Ack}
-use Rattle.dm_stream.specs.Receiving.{after_arrival, after_next, arrival, next}
-use Rattle.dm_stream.specs.Sending.{due, window, with_acked, with_sent}
-use Rattle.dm_stream.specs.declared.receiver.Arrived.{Arrived}
-use Rattle.dm_stream.specs.declared.receiver.Arrived.TheVariants.{Taken, Old, Early}
-use Rattle.dm_onekernel.specs.Options.{bind}
-use Rattle.dm_line.specs.declared.line.Line.{Line}
-use Rattle.dm_line.specs.declared.line.Line.TheVariants as line
-use Rattle.dm_rule.specs.Parts as rule
-use Rattle.dm_rule.specs.Parts.{Part, Spelled, behind, lines_of, packet_line, spelled}
-use Rattle.dm_rule.specs.Point.{Point, after, moved}
-use Rattle.dm_line.specs.Sets.{at_machine}
+use Rattle.dm_mirror.proofs.Names.{◌≡◌, ℕ, zero, suc, ◌<◌, List, [], ◌∷◌, refl, ap, ◌∙◌, sym, subst, inl, inr, if◌then◌else◌, Option, None, Some, eqb_tells, bind-is, Message, MsgId, Data, Ack, after_arrival, after_next, arrival, next, due}
+use Rattle.dm_mirror.proofs.Names.{window, with_acked, with_sent, Arrived, Old, Early, bind, Line, Part, Spelled, packet_line, spelled, Point, after, moved, at_machine, View, view_after, IsNet, IsNetLine, comes_in, lets_go, lets_next}
+use Rattle.dm_mirror.proofs.Names.{takes_kept, takes_next, Acted, NodeState, with_message, with_receiver, with_sender, OneKernel, WorldState, CountsStand}
+use Rattle.dm_stream.specs.Packets.{Load}
+use Rattle.dm_stream.specs.declared.receiver.Arrived.TheVariants.{Taken}
+use Rattle.dm_rule.specs.Parts.{behind}
 use Rattle.dm_rule.specs.View as view
-use Rattle.dm_rule.specs.View.{View, view_after}
-use Rattle.dm_rule.proofs.Groups.{IsNet, IsNetLine}
-use Rattle.dm_node.specs.Acts.{arrives, comes_in, lets_go, lets_next, takes_kept, takes_next}
-use Rattle.dm_node.specs.Out.{Acted}
-use Rattle.dm_node.specs.State.{NodeState, with_message, with_receiver, with_sender}
-use Rattle.dm_onekernel.specs.Kernel.{OneKernel}
-use Rattle.dm_world.specs.World.{WorldState}
-use Rattle.dm_mirror.specs.Stands.{CountsStand}
+use Rattle.dm_node.specs.Acts.{arrives}
 
 -- the lines
 taken_count : (v : View) (b : ℕ) (o : Option MsgId) → (view.taken_id v b o).count ≡ v.count
@@ -35,57 +14,23 @@ taken_count v b None = refl
 taken_count v b (Some i) = refl
 
 line_count : (v : View) (l : Line) → IsNetLine l → (view_after v l).count ≡ v.count
-line_count v (line.Taken a c n) is = taken_count _ c (view.oldest (v.pair a c))
-line_count v (line.Old a c n) is = refl
-line_count v (line.Early a c n) is = refl
-line_count v (line.Acked a c n) is = refl
-line_count v line.Nothing is = refl
-line_count v (line.Resent n c) is = refl
-line_count v (line.Head d) is = absurd is
-line_count v (line.Idle n) is = absurd is
-line_count v (line.Label l) is = absurd is
-line_count v (line.Put a c i k q) is = absurd is
-line_count v (line.Packet a c k l) is = absurd is
-line_count v (line.Queued i) is = absurd is
-line_count v (line.Held i) is = absurd is
-line_count v (line.Forwarded i n) is = absurd is
-line_count v (line.Updated i n) is = absurd is
-line_count v (line.Migration s p) is = absurd is
-line_count v (line.SentOn p n) is = absurd is
-line_count v (line.Lacks p f c) is = absurd is
-line_count v (line.Stays p) is = absurd is
-line_count v (line.Here i) is = absurd is
-line_count v (line.NoMove i) is = absurd is
-line_count v (line.Proto i) is = absurd is
-line_count v (line.NoChild p) is = absurd is
-line_count v (line.Pinned p) is = absurd is
+line_count v (Line.Taken a c n) is = taken_count _ c (view.oldest (v.pair a c))
+line_count v (Line.Old a c n) is = refl
+line_count v (Line.Early a c n) is = refl
+line_count v (Line.Acked a c n) is = refl
+line_count v Line.Nothing is = refl
+line_count v (Line.Resent n c) is = refl
+line_count v _ is = absurd is
 
 -- none of them is a step
 line_goes : (pt : Point) (l : Line) → IsNetLine l → after pt (l ∷ []) ≡ Some (moved pt l pt.kernel)
-line_goes pt (line.Taken a c n) is = refl
-line_goes pt (line.Old a c n) is = refl
-line_goes pt (line.Early a c n) is = refl
-line_goes pt (line.Acked a c n) is = refl
-line_goes pt line.Nothing is = refl
-line_goes pt (line.Resent n c) is = refl
-line_goes pt (line.Head d) is = absurd is
-line_goes pt (line.Idle n) is = absurd is
-line_goes pt (line.Label l) is = absurd is
-line_goes pt (line.Put a c i k q) is = absurd is
-line_goes pt (line.Packet a c k l) is = absurd is
-line_goes pt (line.Queued i) is = absurd is
-line_goes pt (line.Held i) is = absurd is
-line_goes pt (line.Forwarded i n) is = absurd is
-line_goes pt (line.Updated i n) is = absurd is
-line_goes pt (line.Migration s p) is = absurd is
-line_goes pt (line.SentOn p n) is = absurd is
-line_goes pt (line.Lacks p f c) is = absurd is
-line_goes pt (line.Stays p) is = absurd is
-line_goes pt (line.Here i) is = absurd is
-line_goes pt (line.NoMove i) is = absurd is
-line_goes pt (line.Proto i) is = absurd is
-line_goes pt (line.NoChild p) is = absurd is
-line_goes pt (line.Pinned p) is = absurd is
+line_goes pt (Line.Taken a c n) is = refl
+line_goes pt (Line.Old a c n) is = refl
+line_goes pt (Line.Early a c n) is = refl
+line_goes pt (Line.Acked a c n) is = refl
+line_goes pt Line.Nothing is = refl
+line_goes pt (Line.Resent n c) is = refl
+line_goes pt _ is = absurd is
 
 -- the kernel and the counts stay
 pub record Same (pt end : Point) : Type 0 where
@@ -103,15 +48,15 @@ says_same pt next l is e =
 
 pub net_same : (ps : List Part) (pt : Point) (w : Spelled) → IsNet ps → spelled pt ps ≡ Some w → Same pt w.point
 net_same [] pt w h e = let f : record { lines = []; point = pt } ≡ w = cc in subst (λ (x : Spelled). Same pt x.point) f (record { kernel = refl; count = refl })
-net_same (rule.Routes i ∷ ps) pt w h e = absurd h.0
-net_same (rule.Again i b ∷ ps) pt w h e = absurd h.0
-net_same (rule.Owns k q b ∷ ps) pt w h e = absurd h.0
-net_same (rule.Says l ∷ ps) pt w h e =
+net_same (Part.Routes i ∷ ps) pt w h e = absurd h.0
+net_same (Part.Again i b ∷ ps) pt w h e = absurd h.0
+net_same (Part.Owns k q b ∷ ps) pt w h e = absurd h.0
+net_same (Part.Says l ∷ ps) pt w h e =
     let (next, comes, last) = bind-is (after pt (l ∷ [])) (λ next. bind (spelled next ps) (λ rest. Some (behind (l ∷ []) rest))) w e in
     let (rest, told, end) = bind-is (spelled next ps) (λ rest. Some (behind (l ∷ []) rest)) w last in
     let f : behind (l ∷ []) rest ≡ w = cc in
     subst (λ (x : Spelled). Same pt x.point) f (same_on pt next rest.point (says_same pt next l h.0 comes) (net_same ps next rest h.1 told))
-net_same (rule.Transmits a b x ∷ ps) pt w h e =
+net_same (Part.Transmits a b x ∷ ps) pt w h e =
     let l = packet_line pt.view a b x in
     let (rest, told, end) = bind-is (spelled (moved pt l pt.kernel) ps) (λ rest. Some (behind (l ∷ []) rest)) w e in
     let f : behind (l ∷ []) rest ≡ w = cc in

@@ -1,22 +1,9 @@
 -- Both ends of a pair's stream, its wire and what the lines say of it, as values; and a stream's events on them.
-use Rattle.std.proofs.Common.{◌≡◌, ℕ, List, drop, map, take, ◌∙◌, sym, subst, is_some}
-use Rattle.std.specs.List.{All}
-use Rattle.dm_message.specs.declared.Message.{Message}
-use Rattle.dm_message.specs.Lawful.{IsLawfulMessage}
-use Rattle.dm_stream.specs.Sending.{Sending}
-use Rattle.dm_stream.specs.Receiving.{Receiving, kept_under}
+use Rattle.dm_mirror.proofs.Names.{◌≡◌, ℕ, List, drop, map, take, ◌∙◌, sym, subst, is_some, All, Message, IsLawfulMessage, Sending, Receiving, kept_under, Stream, Event, happens, Stands-happens, Sent, Boot, Pair, Point, has, Placed}
+use Rattle.dm_mirror.proofs.Names.{WorldState, AreMessages, History, PairStands, bytes_of, line_of}
 use Rattle.dm_stream.specs.Packets.{Packet}
-use Rattle.dm_stream.specs.Stream.{Stream, Event, happens}
 use Rattle.dm_stream.specs.Order as order
-use Rattle.dm_stream.proofs.Together.{Stands-happens}
-use Rattle.dm_wire.specs.Sent.{Sent}
-use Rattle.dm_onekernel.specs.declared.boot.Boot.{Boot}
-use Rattle.dm_rule.specs.View.{Pair}
-use Rattle.dm_rule.specs.Point.{Point}
-use Rattle.dm_rule.specs.Rule.{has}
-use Rattle.dm_places.specs.Placed.{Placed}
-use Rattle.dm_world.specs.World.{WorldState}
-use Rattle.dm_mirror.specs.Stands.{AreMessages, History, PairStands, bytes_of, id_of, line_of}
+use Rattle.dm_mirror.specs.Stands.{id_of}
 
 -- what the sender and the receiver know, what was given, and all packets of both wires
 pub record Ends : Type 0 where

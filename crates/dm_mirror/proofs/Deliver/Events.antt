@@ -1,35 +1,19 @@
 -- What each event of a stream makes of a pair: the ends of its stream, its wire, and what the lines say of it.
-use Rattle.std.proofs.Common.{◌≡◌, ℕ, zero, suc, ◌+◌, ◌-◌, ◌<◌, max, false, List, [], ◌∷◌, ◌++◌, map, drop, refl, ap, ◌∙◌, sym, subst, arith}
-use Rattle.std.specs.Prelude.{slice_get, option_map}
-use Rattle.std.specs.declared.option.Option.{Option}
-use Rattle.std.specs.declared.option.Option.TheVariants.{None, Some}
-use Rattle.std.proofs.lemmas.Bool.Decides.{nat_tests}
-use Rattle.std.proofs.lemmas.List.{map-append}
-use Rattle.std.proofs.lemmas.Option.{slice_get-map}
-use Rattle.dm_message.specs.declared.Message.{Message}
-use Rattle.dm_message.specs.declared.MsgId.{MsgId}
+use Rattle.dm_mirror.proofs.Names.{◌≡◌, ℕ, zero, suc, ◌+◌, ◌-◌, ◌<◌, max, false, List, [], ◌∷◌, ◌++◌, map, drop, refl, ap, ◌∙◌, sym, subst, arith, slice_get, option_map, Option, None, Some, nat_tests, map-append, slice_get-map, Message}
+use Rattle.dm_mirror.proofs.Names.{MsgId, spelling, due, with_acked, with_sent, kept_once, advanced, next, Data, Ack, just_put, load_at, Stream, GoOut, Deliver, TakeKept, Acknowledge, DeliverBack, OtherAck, OtherData, happens}
+use Rattle.dm_mirror.proofs.Names.{MayCome-stands, get-drop, drop-more, Sent, Boot, Pair, at_least, gone_after, has, Placed, AreMessages, bytes_of, line_of}
 use Rattle.dm_packet.specs.declared.Packet.TheVariants as packet
-use Rattle.dm_packet.specs.Packets.{spelling}
-use Rattle.dm_stream.specs.Sending.{due, with_acked, with_sent}
-use Rattle.dm_stream.specs.Receiving.{kept_once, advanced, next}
-use Rattle.dm_stream.specs.Packets.{Packet, Load, Data, Ack, just_put, load_at, marked}
-use Rattle.dm_stream.specs.Stream.{Stream, GoOut, Deliver, TakeKept, Acknowledge, DeliverBack, OtherAck, OtherData, happens, arrives, hears, goes_out}
-use Rattle.dm_stream.proofs.Follows.{MayCome-stands}
-use Rattle.dm_stream.proofs.Lists.{get-drop, drop-more}
+use Rattle.dm_stream.specs.Packets.{Packet, Load, marked}
+use Rattle.dm_stream.specs.Stream.{arrives, hears, goes_out}
 use Rattle.dm_wire.specs.Sent as wire
-use Rattle.dm_wire.specs.Sent.{Sent}
-use Rattle.dm_onekernel.specs.declared.boot.Boot.{Boot}
 use Rattle.dm_line.specs.declared.line.Load.TheVariants as load
 use Rattle.dm_rule.specs.View as view
-use Rattle.dm_rule.specs.View.{Pair, at_least, gone_after}
-use Rattle.dm_rule.specs.Rule.{has}
-use Rattle.dm_places.specs.Placed.{Placed}
-use Rattle.dm_mirror.specs.Stands.{AreMessages, bytes_of, id_of, line_of}
+use Rattle.dm_mirror.specs.Stands.{id_of}
 use Rattle.dm_mirror.proofs.Deliver.Ends.{Ends, PairIs, event_stands, stream_with}
 use Rattle.dm_mirror.proofs.Deliver.Kept.{off, kept_taken, kept_early, after_taken_is, after_old_is, after_early_is, after_next_is}
 
 -- a mark on the wire, as the lines say it and as bytes
-mark_next : (s : view.Sent) (ss : List view.Sent) (k : ℕ) (o : Option view.Sent) → view.marked_at (s ∷ ss) (suc k) o ≡ s ∷ view.marked_at ss k o
+pub mark_next : (s : view.Sent) (ss : List view.Sent) (k : ℕ) (o : Option view.Sent) → view.marked_at (s ∷ ss) (suc k) o ≡ s ∷ view.marked_at ss k o
 mark_next s ss k None = refl
 mark_next s ss k (Some t) = refl
 

@@ -1,31 +1,11 @@
 -- What a machine gives, in order, is what the rule's parts say, and the world behind it stands.
-use Rattle.std.proofs.Common.{◌≡◌, ◌≢◌, ℕ, ◌==◌, Bool, true, false, List, [], ◌∷◌, refl, ap, ◌∙◌, sym, subst, inl, inr, arith}
-use Rattle.std.specs.Prelude.{if◌then◌else◌}
-use Rattle.std.specs.declared.option.Option.{Option}
-use Rattle.std.specs.declared.option.Option.TheVariants.{Some}
-use Rattle.std.proofs.Math.Path.{fun_ext}
-use Rattle.std.proofs.lemmas.Bool.Decides.{eqb_tells, nat_tests}
-use Rattle.dm_packet.specs.declared.Packet.{Packet}
-use Rattle.dm_onekernel.specs.declared.boot.Boot.{Boot}
-use Rattle.dm_onekernel.specs.Options.{bind}
-use Rattle.dm_line.specs.declared.line.Line.{Line}
-use Rattle.dm_line.specs.declared.line.Load.{Load}
-use Rattle.dm_line.specs.Sets.{at_machine}
+use Rattle.dm_mirror.proofs.Names.{◌≡◌, ◌≢◌, ℕ, ◌==◌, Bool, true, false, List, [], ◌∷◌, refl, ap, ◌∙◌, sym, subst, inl, inr, arith, if◌then◌else◌, Option, Some, fun_ext, eqb_tells, nat_tests, Packet, Boot, bind, Line, Load, at_machine}
+use Rattle.dm_mirror.proofs.Names.{Part, Spelled, spelled, Point, after, after_line, Placed, NodeState, Sends, Acted, before, spoken, with_packet, WorldState, History, StandsWith}
 use Rattle.dm_rule.specs.Parts as rule
-use Rattle.dm_rule.specs.Parts.{Part, Spelled, behind, spelled}
-use Rattle.dm_rule.specs.Point.{Point, after, after_line}
-use Rattle.dm_places.specs.Placed.{Placed}
-use Rattle.dm_node.specs.State.{NodeState}
-use Rattle.dm_node.specs.declared.out.Out.TheVariants.{Says, Sends}
-use Rattle.dm_node.specs.Out.{Acted}
-use Rattle.dm_node.specs.Acts.{before}
-use Rattle.dm_node.specs.Wired.{packet_line, spoken, with_packet}
-use Rattle.dm_world.specs.World.{WorldState}
-use Rattle.dm_mirror.specs.Stands.{History, StandsWith}
-
--- one value set
-pub machine_same : {X : Type 0} (f : ℕ → X) (m : ℕ) (x : X) → at_machine f m x m ≡ x
-machine_same f m x = let e : (m == m) ≡ true = grind (arith, nat_tests) in ap (λ (c : Bool). if c then x else f m) e
+use Rattle.dm_rule.specs.Parts.{behind}
+use Rattle.dm_node.specs.declared.out.Out.TheVariants.{Says}
+use Rattle.dm_node.specs.Wired.{packet_line}
+pub use Rattle.dm_rule.proofs.Lines.{at_machine_at as machine_same}
 
 pub machine_other : {X : Type 0} (f : ℕ → X) (m : ℕ) (x : X) (n : ℕ) → n ≢ m → at_machine f m x n ≡ f n
 machine_other f m x n apart = let e : (m == n) ≡ false = grind (arith, nat_tests) in ap (λ (c : Bool). if c then x else f n) e

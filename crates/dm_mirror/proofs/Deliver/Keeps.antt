@@ -1,22 +1,9 @@
 -- Where what is sent is read as it was put, the world stays readable, whatever its machines do.
-use Rattle.std.proofs.Common.{◌≡◌, ℕ, ◌+◌, ◌==◌, nat_lt, Bool, true, false, subst, arith}
-use Rattle.std.specs.Prelude.{if◌then◌else◌}
-use Rattle.std.specs.declared.option.Option.TheVariants.{None, Some}
-use Rattle.dm_message.specs.declared.Message.{Message}
+use Rattle.dm_mirror.proofs.Names.{◌≡◌, ℕ, ◌+◌, ◌==◌, nat_lt, Bool, true, false, subst, arith, if◌then◌else◌, None, Some, Message, fresh_sending, Boot, Step, after_mark, Turned, here, Acted, Goes, acts, tick, FitsLoad, WorldState, acted}
+use Rattle.dm_mirror.proofs.Names.{first_world, AreReadBack, IsReadable, NodeReads, SenderReads}
 use Rattle.dm_stream.specs.Packets.{Load}
-use Rattle.dm_stream.specs.Sending.{fresh_sending}
-use Rattle.dm_onekernel.specs.declared.boot.Boot.{Boot}
-use Rattle.dm_schedule.specs.declared.Step.{Step}
-use Rattle.dm_wire.specs.Wire.{after_mark}
-use Rattle.dm_kernel.specs.State.{Turned}
-use Rattle.dm_node.specs.State.{here}
-use Rattle.dm_node.specs.Out.{Acted, Goes}
-use Rattle.dm_node.specs.Acts.{acts, arrives, tick}
-use Rattle.dm_node.specs.May.{FitsLoad, MayAct, MayArrive}
-use Rattle.dm_node.proofs.Staying.{arrives_may}
-use Rattle.dm_world.specs.World.{WorldState, acted, first_world}
+use Rattle.dm_node.specs.Acts.{arrives}
 use Rattle.dm_mirror.proofs.Deliver.Outs.{ReadsOn, arrives_reads, marked_read, spoken_read, turn_reads}
-use Rattle.dm_world.specs.Readable.{AreReadBack, IsReadable, NodeReads, SenderReads}
 
 none_out : (t : Bool) (p : ℕ × Message) → (if t then None else None) ≡ Some p → ⊥
 none_out true p e = cc
@@ -46,8 +33,3 @@ pub arrival_readable : (w : WorldState) (e : Step) (a c k : ℕ) (carried : Load
     → IsReadable (acted (record w { wires = after_mark w.wires a c k }) e c (arrives (w.nodes c) a carried)).state
 arrival_readable w e a c k carried fits read h =
     acted_readable (record w { wires = after_mark w.wires a c k }) e c (arrives (w.nodes c) a carried) read (arrives_reads (w.nodes c) a carried fits (h.out c) read) (record { reads = marked_read w.wires a c k h.reads; out = h.out })
-
--- and each machine may act still
-pub arrival_may : (w : WorldState) (e : Step) (a c k : ℕ) (carried : Load Message) → MayArrive (w.nodes c) a carried → (m : ℕ) → MayAct (w.nodes m) → MayAct ((acted (record w { wires = after_mark w.wires a c k }) e c (arrives (w.nodes c) a carried)).state.nodes m)
-arrival_may w e a c k carried may m h =
-    elim (c == m) as (λ (t : Bool). MayAct (if t then (arrives (w.nodes c) a carried).state else w.nodes m)) [ true ↦ arrives_may (w.nodes c) a carried may | false ↦ h ]

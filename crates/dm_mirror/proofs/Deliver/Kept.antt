@@ -1,26 +1,13 @@
 -- The messages that a receiver keeps are those that the lines name as kept, after each arrival.
-use Rattle.std.proofs.Common.{◌≡◌, ℕ, zero, suc, ◌+◌, ◌-◌, ◌<◌, ◌≤◌, ◌==◌, ◌&&◌, ◌||◌, Bool, true, false, not, filter, nat_lt, List, [], ◌∷◌, length, refl, ap, ◌∙◌, is_some, arith}
-use Rattle.std.specs.Prelude.{◌≢◌, if◌then◌else◌}
-use Rattle.std.specs.declared.option.Option.{Option}
-use Rattle.std.specs.declared.option.Option.TheVariants.{Some}
-use Rattle.std.proofs.lemmas.Bool.Decides.{nat_tests}
-use Rattle.dm_stream.specs.Receiving.{Receiving, kept_under, advanced, moved_up, kept_once, arrival, after_arrival, next, after_next}
-use Rattle.dm_stream.specs.declared.receiver.Arrived.TheVariants.{Taken, Old, Early}
-use Rattle.dm_stream.proofs.Places.{place-moved_up, place-kept_same, place-kept_other}
-use Rattle.dm_rule.specs.Rule.{has, kept_from}
+use Rattle.dm_mirror.proofs.Names.{◌≡◌, ℕ, ◌+◌, ◌-◌, ◌<◌, ◌≤◌, ◌==◌, ◌&&◌, ◌||◌, Bool, true, false, not, filter, nat_lt, List, [], ◌∷◌, length, refl, ap, ◌∙◌, is_some, arith, ◌≢◌, if◌then◌else◌, Option, Some, nat_tests, Receiving}
+use Rattle.dm_mirror.proofs.Names.{kept_under, advanced, moved_up, kept_once, arrival, after_arrival, next, after_next, Old, Early, place-moved_up, place-kept_same, place-kept_other, has, eq_not}
+use Rattle.dm_stream.specs.declared.receiver.Arrived.TheVariants.{Taken}
+use Rattle.dm_rule.proofs.QuietTests.{eq_is}
+pub use Rattle.dm_rule.proofs.Trails.Leads.{less_test}
 
 -- the numbers without this one
 abbrev pub off : ℕ → List ℕ → List ℕ
 off n ks = filter (λ k. not (k == n)) ks
-
-equal_test : (m n : ℕ) → m ≡ n → (m == n) ≡ true
-equal_test m n e = grind (arith, nat_tests)
-
-apart_test : (m n : ℕ) → m ≢ n → (m == n) ≡ false
-apart_test m n e = grind (arith, nat_tests)
-
-pub less_test : (m n : ℕ) → m < n → nat_lt m n ≡ true
-less_test m n e = grind (arith, nat_tests)
 
 pub not_less_test : (m n : ℕ) → n ≤ m → nat_lt m n ≡ false
 not_less_test m n e = grind (arith, nat_tests)
@@ -40,33 +27,33 @@ module _ {M : Type 0} where
 
   pub after_taken_is : (r : Receiving M) (n : ℕ) (m : M) → n ≡ r.count → after_arrival r n m ≡ advanced r
   after_taken_is r n m e =
-      ap (λ (c : Bool). record { count = if c then r.count + 1 else r.count; kept = if c then moved_up r.kept else if nat_lt n r.count then r.kept else kept_once r.kept (n - r.count) m }) (equal_test n r.count e)
+      ap (λ (c : Bool). record { count = if c then r.count + 1 else r.count; kept = if c then moved_up r.kept else if nat_lt n r.count then r.kept else kept_once r.kept (n - r.count) m }) (eq_is n r.count e)
 
   pub arrival_taken : (r : Receiving M) (n : ℕ) (m : M) → n ≡ r.count → arrival r n m ≡ Taken m
-  arrival_taken r n m e = ap (λ (c : Bool). if c then Taken m else if nat_lt n r.count then Old else Early) (equal_test n r.count e)
+  arrival_taken r n m e = ap (λ (c : Bool). if c then Taken m else if nat_lt n r.count then Old else Early) (eq_is n r.count e)
 
   pub after_old_is : (r : Receiving M) (n : ℕ) (m : M) → n < r.count → after_arrival r n m ≡ r
   after_old_is r n m e =
       let apart : n ≢ r.count = omega arith in
-      ap (λ (c : Bool). record { count = if c then r.count + 1 else r.count; kept = if c then moved_up r.kept else if nat_lt n r.count then r.kept else kept_once r.kept (n - r.count) m }) (apart_test n r.count apart)
+      ap (λ (c : Bool). record { count = if c then r.count + 1 else r.count; kept = if c then moved_up r.kept else if nat_lt n r.count then r.kept else kept_once r.kept (n - r.count) m }) (eq_not n r.count apart)
       ∙ ap (λ (c : Bool). record { count = r.count; kept = if c then r.kept else kept_once r.kept (n - r.count) m }) (less_test n r.count e)
 
   pub arrival_old : (r : Receiving M) (n : ℕ) (m : M) → n < r.count → arrival r n m ≡ Old
   arrival_old r n m e =
       let apart : n ≢ r.count = omega arith in
-      ap (λ (c : Bool). if c then Taken m else if nat_lt n r.count then Old else Early) (apart_test n r.count apart)
+      ap (λ (c : Bool). if c then Taken m else if nat_lt n r.count then Old else Early) (eq_not n r.count apart)
       ∙ ap (λ (c : Bool). if c then Old else Early) (less_test n r.count e)
 
   pub after_early_is : (r : Receiving M) (n : ℕ) (m : M) → r.count < n → after_arrival r n m ≡ record { count = r.count; kept = kept_once r.kept (n - r.count) m }
   after_early_is r n m e =
       let apart : n ≢ r.count = omega arith in
-      ap (λ (c : Bool). record { count = if c then r.count + 1 else r.count; kept = if c then moved_up r.kept else if nat_lt n r.count then r.kept else kept_once r.kept (n - r.count) m }) (apart_test n r.count apart)
+      ap (λ (c : Bool). record { count = if c then r.count + 1 else r.count; kept = if c then moved_up r.kept else if nat_lt n r.count then r.kept else kept_once r.kept (n - r.count) m }) (eq_not n r.count apart)
       ∙ ap (λ (c : Bool). record { count = r.count; kept = if c then r.kept else kept_once r.kept (n - r.count) m }) (not_less_test n r.count (omega arith))
 
   pub arrival_early : (r : Receiving M) (n : ℕ) (m : M) → r.count < n → arrival r n m ≡ Early
   arrival_early r n m e =
       let apart : n ≢ r.count = omega arith in
-      ap (λ (c : Bool). if c then Taken m else if nat_lt n r.count then Old else Early) (apart_test n r.count apart)
+      ap (λ (c : Bool). if c then Taken m else if nat_lt n r.count then Old else Early) (eq_not n r.count apart)
       ∙ ap (λ (c : Bool). if c then Old else Early) (not_less_test n r.count (omega arith))
 
   -- the next kept message is the one under the count
@@ -80,10 +67,3 @@ module _ {M : Type 0} where
   -- a message comes early
   pub kept_early : (r : Receiving M) (ks : List ℕ) (k : ℕ) (m : M) → r.count < k → k < r.count + 8 → length r.kept ≡ 8 → ((n : ℕ) → is_some (kept_under r n) ≡ has n ks) → (n : ℕ) → is_some (kept_under (record { count = r.count; kept = kept_once r.kept (k - r.count) m }) n) ≡ has n (k ∷ off k ks)
   kept_early r ks k m low high places h n = grind (arith, nat_tests, place-kept_same, place-kept_other, h n, has_off n k ks)
-
--- from a number on only the numbers from there matter
-pub kept_from_same : (ks js : List ℕ) (n k : ℕ) → ((i : ℕ) → n ≤ i → has i ks ≡ has i js) → kept_from ks n k ≡ kept_from js n k
-kept_from_same ks js n zero h = refl
-kept_from_same ks js n (suc k) h =
-    ap (λ (c : Bool). if c then n ∷ kept_from ks (n + 1) k else []) (h n (omega arith))
-    ∙ ap (λ (rest : List ℕ). if has n js then n ∷ rest else []) (kept_from_same ks js (n + 1) k (λ i le. h i (omega arith)))

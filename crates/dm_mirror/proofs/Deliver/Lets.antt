@@ -1,34 +1,10 @@
 -- The messages that wait go out, as many as the window has room for.
-use Rattle.std.proofs.Common.{◌≡◌, ◌≢◌, ℕ, zero, suc, ◌+◌, ◌-◌, ◌<◌, ◌≤◌, Bool, true, false, nat_le, nat_lt, List, [], ◌∷◌, ◌++◌, length, drop, refl, ap, ◌∙◌, sym, subst, inl, inr, ◌⊎◌, arith}
-use Rattle.std.specs.Prelude.{if◌then◌else◌, slice_get}
-use Rattle.std.specs.declared.option.Option.{Option}
-use Rattle.std.specs.declared.option.Option.TheVariants.{None, Some}
-use Rattle.std.proofs.lemmas.Bool.{cases_Bool}
-use Rattle.std.proofs.lemmas.Bool.Decides.{nat_tests}
-use Rattle.std.proofs.lemmas.List.{length-map}
-use Rattle.std.proofs.lemmas.Option.{slice_get_cases, slice_get_past}
-use Rattle.dm_message.specs.declared.Message.{Message}
-use Rattle.dm_packet.specs.declared.Packet.TheVariants as packet
-use Rattle.dm_packet.specs.Packets.{spelling}
-use Rattle.dm_stream.specs.Sending.{Sending, due, numbered, with_sent}
-use Rattle.dm_stream.specs.Packets.{Data, just_put}
-use Rattle.dm_stream.proofs.Lists.{get-drop}
+use Rattle.dm_mirror.proofs.Names.{◌≡◌, ◌≢◌, ℕ, zero, suc, ◌+◌, ◌-◌, ◌<◌, ◌≤◌, Bool, true, false, nat_le, nat_lt, List, [], ◌∷◌, ◌++◌, length, drop, refl, ap, ◌∙◌, sym, subst, inl, inr, ◌⊎◌, arith, if◌then◌else◌, slice_get, Option, None}
+use Rattle.dm_mirror.proofs.Names.{Some, cases_Bool, nat_tests, length-map, slice_get_cases, slice_get_past, Message, Packet, Line, Load, spelling, Sending, due, numbered, with_sent, Data, just_put, get-drop, Boot, at_machine, at_pair}
+use Rattle.dm_mirror.proofs.Names.{Pair, gone_after, Point, moved, less, numbers_from, repeats, Placed, NodeState, here, with_sender, Sends, before, lets_go, lets_next, WorldState, History, StandsWith}
 use Rattle.dm_wire.specs.Wire.{after_put}
-use Rattle.dm_onekernel.specs.declared.boot.Boot.{Boot}
-use Rattle.dm_line.specs.declared.line.Line.TheVariants as line
-use Rattle.dm_line.specs.declared.line.Load.TheVariants as load
-use Rattle.dm_line.specs.Sets.{at_machine, at_pair}
 use Rattle.dm_rule.specs.Parts as rule
-use Rattle.dm_rule.specs.Parts.{Part}
-use Rattle.dm_rule.specs.View.{Pair, gone_after}
-use Rattle.dm_rule.specs.Point.{Point, moved}
-use Rattle.dm_rule.specs.Rule.{less, numbers_from, repeats}
-use Rattle.dm_places.specs.Placed.{Placed}
-use Rattle.dm_node.specs.State.{NodeState, here, with_sender}
-use Rattle.dm_node.specs.declared.out.Out.TheVariants.{Sends}
-use Rattle.dm_node.specs.Acts.{before, lets_go, lets_next}
-use Rattle.dm_world.specs.World.{WorldState}
-use Rattle.dm_mirror.specs.Stands.{History, StandsWith, id_of}
+use Rattle.dm_mirror.specs.Stands.{id_of}
 use Rattle.dm_mirror.proofs.Deliver.Ends.{PairIs, ends_of}
 use Rattle.dm_mirror.proofs.Deliver.Events.{gone_is}
 use Rattle.dm_mirror.proofs.Deliver.Kept.{less_test, not_less_test}
@@ -123,20 +99,20 @@ module _ (b : Boot) (l : Placed) (a c : ℕ) (apart : a ≢ c) where
       let n : ℕ = sender.gone in
       let goes : due sender ≡ Some (n, m) = due_is sender (h.given c a) m k.unacked k.acked_gone (omega (arith, room.2, k.acked, k.gone)) is in
       let next : NodeState = with_sender (w.nodes c) a (with_sent sender) in
-      let q : Point = moved pt (rule.packet_line pt.view c a (load.Data n)) pt.kernel in
-      let v : WorldState = record w { nodes = at_machine w.nodes c next; wires = after_put w.wires c a (spelling (packet.Data c a n m)) } in
+      let q : Point = moved pt (rule.packet_line pt.view c a (Load.Data n)) pt.kernel in
+      let v : WorldState = record w { nodes = at_machine w.nodes c next; wires = after_put w.wires c a (spelling (Packet.Data c a n m)) } in
       let g : History = record h { packets = at_pair h.packets c a (h.packets c a ++ just_put (Data n m) ∷ []) } in
       let stands : StandsWith b v q l g = gone_stands b w pt l h a c s a_in c_in apart n m goes refl in
-      let p : Pair = record back { gone = gone_after (load.Data n) back.gone; wire = back.wire ++ record { load = load.Data n; delivered = false } ∷ [] } in
+      let p : Pair = record back { gone = gone_after (Load.Data n) back.gone; wire = back.wire ++ record { load = Load.Data n; delivered = false } ∷ [] } in
       let now : q.view.pair c a ≡ p = two_same pt.view.pair c a p in
       let gone : p.gone ≡ back.gone + 1 = sym (gone_is n back.gone k.gone) in
       let left : j ≡ room_of (q.view.pair c a) = room.0 ∙ ap (λ (i : ℕ). less (length back.ids - i) (back.acked + 8 - i)) (sym gone) ∙ sym (ap room_of now) in
       let rest : Follows b c v q l (lets_go fuel (v.nodes c) a) (repeats c a (numbers_from (q.view.pair c a).gone j)) = on v q g stands a_in c_in j left le in
       let rest_here : Follows b c v q l (lets_go fuel next a) (repeats c a (numbers_from (q.view.pair c a).gone j)) = subst (λ (z : NodeState). Follows b c v q l (lets_go fuel z a) (repeats c a (numbers_from (q.view.pair c a).gone j))) (machine_same w.nodes c next) rest in
       let rest_from : Follows b c v q l (lets_go fuel next a) (repeats c a (numbers_from (back.gone + 1) j)) = subst (λ (i : ℕ). Follows b c v q l (lets_go fuel next a) (repeats c a (numbers_from i j))) (ap (λ (z : Pair). z.gone) now ∙ gone) rest_here in
-      let whole = sends_on b c w pt q l next (packet.Data c a n m) c a (load.Data n) (lets_go fuel next a) (repeats c a (numbers_from (back.gone + 1) j)) (λ i. line.Packet c a (k.wire i) (load.Data n)) refl rest_from in
-      let at_here = subst (λ (i : ℕ). Follows b c w pt l (before (Sends (packet.Data i a n m) ∷ []) (lets_go fuel next a)) (rule.Transmits c a (load.Data n) ∷ repeats c a (numbers_from (back.gone + 1) j))) (sym (s.nodes c c_in).kernel.here) whole in
-      let named = subst (λ (i : ℕ). Follows b c w pt l (before (Sends (packet.Data (here (w.nodes c)) a n m) ∷ []) (lets_go fuel next a)) (rule.Transmits c a (load.Data i) ∷ repeats c a (numbers_from (back.gone + 1) j))) k.gone at_here in
+      let whole = sends_on b c w pt q l next (Packet.Data c a n m) c a (Load.Data n) (lets_go fuel next a) (repeats c a (numbers_from (back.gone + 1) j)) (λ i. Line.Packet c a (k.wire i) (Load.Data n)) refl rest_from in
+      let at_here = subst (λ (i : ℕ). Follows b c w pt l (before (Sends (Packet.Data i a n m) ∷ []) (lets_go fuel next a)) (rule.Transmits c a (Load.Data n) ∷ repeats c a (numbers_from (back.gone + 1) j))) (sym (s.nodes c c_in).kernel.here) whole in
+      let named = subst (λ (i : ℕ). Follows b c w pt l (before (Sends (Packet.Data (here (w.nodes c)) a n m) ∷ []) (lets_go fuel next a)) (rule.Transmits c a (Load.Data i) ∷ repeats c a (numbers_from (back.gone + 1) j))) k.gone at_here in
       subst (λ (o : Option (ℕ × Message)). Follows b c w pt l (lets_next (w.nodes c) a o (λ n. lets_go fuel n a)) (repeats c a (numbers_from back.gone (suc j)))) (sym goes) named
 
   pub lets_follow : (fuel : ℕ) → LetsFollow fuel

@@ -1,48 +1,18 @@
 -- What each event of a delivery makes of the world, and that it stands behind it.
-use Rattle.std.proofs.Common.{◌≡◌, ◌≢◌, ℕ, ◌+◌, ◌<◌, ◌≤◌, ◌==◌, ◌&&◌, Bool, true, false, List, [], ◌∷◌, ◌++◌, refl, ap, ◌∙◌, sym, subst, inl, inr, arith}
-use Rattle.std.specs.Prelude.{if◌then◌else◌, slice_get}
-use Rattle.std.specs.declared.option.Option.{Option}
-use Rattle.std.specs.declared.option.Option.TheVariants.{Some}
-use Rattle.std.proofs.lemmas.Bool.{cases_Bool}
-use Rattle.std.proofs.lemmas.Bool.Decides.{nat_tests}
-use Rattle.std.proofs.lemmas.List.{map-append}
-use Rattle.std.proofs.lemmas.List.Elements.{All-push, All-get_or}
-use Rattle.std.proofs.lemmas.Option.{get_or_from_slice_get, slice_get_within}
-use Rattle.dm_message.specs.declared.Message.{Message}
-use Rattle.dm_message.specs.declared.MsgId.{MsgId}
-use Rattle.dm_message.specs.Lawful.{IsLawfulMessage}
-use Rattle.dm_packet.specs.declared.Packet.TheVariants as packet
-use Rattle.dm_packet.specs.Packets.{spelling}
-use Rattle.dm_stream.specs.Sending.{due, with_sent}
-use Rattle.dm_stream.specs.Receiving.{advanced, after_next, next}
-use Rattle.dm_stream.specs.Packets.{Data, Ack, just_put}
+use Rattle.dm_mirror.proofs.Names.{◌≡◌, ◌≢◌, ℕ, ◌+◌, ◌<◌, ◌≤◌, ◌==◌, ◌&&◌, Bool, true, false, List, [], ◌∷◌, ◌++◌, refl, ap, ◌∙◌, sym, subst, inl, inr, arith, if◌then◌else◌, slice_get, Option, Some, cases_Bool, nat_tests, map-append}
+use Rattle.dm_mirror.proofs.Names.{All-push, All-get_or, get_or_from_slice_get, slice_get_within, Message, MsgId, IsLawfulMessage, Packet, Line, Load, spelling, due, with_sent, advanced, after_next, next, Data, Ack, just_put, after_mark}
+use Rattle.dm_mirror.proofs.Names.{Boot, at_machine, at_pair, Pair, gone_after, oldest, Inbox, times, Point, moved, two_of, Placed, lines_keep, with_message, with_receiver, with_sender, WorldState, AreMessages, History, StandsWith}
 use Rattle.dm_wire.specs.Sent as wire
-use Rattle.dm_wire.specs.Wire.{after_mark, after_put}
-use Rattle.dm_onekernel.specs.declared.boot.Boot.{Boot}
-use Rattle.dm_line.specs.declared.line.Line.TheVariants as line
-use Rattle.dm_line.specs.declared.line.Load.TheVariants as load
-use Rattle.dm_line.specs.Sets.{at_machine, at_pair}
+use Rattle.dm_wire.specs.Wire.{after_put}
 use Rattle.dm_rule.specs.Parts as rule
 use Rattle.dm_rule.specs.View as view
-use Rattle.dm_rule.specs.View.{NothingElse, Pair, View, at_least, gone_after, oldest}
-use Rattle.dm_rule.specs.Spots.{Inbox, times}
-use Rattle.dm_rule.specs.Point.{Point, moved}
-use Rattle.dm_rule.proofs.Pairs.Stand.{two_of}
-use Rattle.dm_places.specs.Placed.{Placed}
-use Rattle.dm_places.proofs.Lines.{lines_keep}
-use Rattle.dm_node.specs.State.{with_message, with_receiver, with_sender}
-use Rattle.dm_world.specs.World.{WorldState}
-use Rattle.dm_mirror.specs.Stands.{AreMessages, History, StandsWith}
 use Rattle.dm_mirror.proofs.Deliver.Ends.{Ends, PairIs, ends_of, pair_is}
 use Rattle.dm_mirror.proofs.Deliver.Kept.{after_next_is, next_is, off}
 use Rattle.dm_mirror.proofs.Deliver.Events.{acknowledges, due_goes, kept_comes, message_is, oldest_is, other_acknowledges, other_goes}
 use Rattle.dm_mirror.proofs.Deliver.Stood.{came_one, took_set}
 use Rattle.dm_mirror.proofs.Deliver.Stands.{IsOther, Moves, moves_stand}
 use Rattle.dm_mirror.proofs.Deliver.Follows.{machine_same, machine_other}
-
--- a value of a pair of machines set
-pub two_same : {X : Type 0} (f : ℕ → ℕ → X) (a c : ℕ) (x : X) → at_pair f a c x a c ≡ x
-two_same f a c x = let e : ((a == a) && (c == c)) ≡ true = grind (arith, nat_tests) in ap (λ (t : Bool). if t then x else f a c) e
+pub use Rattle.dm_rule.proofs.Lines.{pair_at as two_same}
 
 pub two_other : {X : Type 0} (f : ℕ → ℕ → X) (a c : ℕ) (x : X) (m n : ℕ) → IsOther a c m n → at_pair f a c x m n ≡ f m n
 two_other f a c x m n e = ap (λ (t : Bool). if t then x else f m n) e
@@ -65,11 +35,6 @@ back_other a c apart = grind (arith, nat_tests)
 
 pub there_other : (a c : ℕ) → a ≢ c → IsOther c a a c
 there_other a c apart = grind (arith, nat_tests)
-
--- what was routed stays
-ids_by : (p q : Pair) (t : Bool) → p.ids ≡ q.ids → (if t then p else q).ids ≡ q.ids
-ids_by p q true e = e
-ids_by p q false e = refl
 
 pub ids_set : (f : ℕ → ℕ → Pair) (a c : ℕ) (p : Pair) → p.ids ≡ (f a c).ids → (m n : ℕ) → (at_pair f a c p m n).ids ≡ (f m n).ids
 ids_set f a c p e m n = elim (cases_Bool ((a == m) && (c == n))) [
@@ -107,12 +72,12 @@ module _ (b : Boot) (w : WorldState) (pt : Point) (l : Placed) (h : History) (a 
   back_pair = pair_is b pt l w h c a (s.pairs c a c_in a_in (λ e. apart (sym e)))
 
   -- a message that is kept is taken
-  pub kept_stands : (m : Message) → next ((w.nodes c).receivers a) ≡ Some m → StandsWith b (record w { nodes = at_machine w.nodes c (with_message (with_receiver (w.nodes c) a (after_next ((w.nodes c).receivers a))) m) }) (moved pt (line.Taken a c ((w.nodes c).receivers a).count) pt.kernel) l h
+  pub kept_stands : (m : Message) → next ((w.nodes c).receivers a) ≡ Some m → StandsWith b (record w { nodes = at_machine w.nodes c (with_message (with_receiver (w.nodes c) a (after_next ((w.nodes c).receivers a))) m) }) (moved pt (Line.Taken a c ((w.nodes c).receivers a).count) pt.kernel) l h
   kept_stands m e =
       let p : Pair = record (pt.view.pair a c) { taken = (pt.view.pair a c).taken + 1; kept = off ((w.nodes c).receivers a).count (pt.view.pair a c).kept } in
       let is : slice_get (h.given a c) ((w.nodes c).receivers a).count ≡ Some m = there_pair.stream.in_order.kept ((w.nodes c).receivers a).count m (sym (next_is ((w.nodes c).receivers a)) ∙ e) in
       let t : Taking l (pt.view.pair a c) m = taking b l a c (ends_of w h a c) (w.wires a c) (pt.view.pair a c) m is there_pair in
-      let k : Moves b w pt l h a c (record w { nodes = at_machine w.nodes c (with_message (with_receiver (w.nodes c) a (after_next ((w.nodes c).receivers a))) m) }) (moved pt (line.Taken a c ((w.nodes c).receivers a).count) pt.kernel) h = record {
+      let k : Moves b w pt l h a c (record w { nodes = at_machine w.nodes c (with_message (with_receiver (w.nodes c) a (after_next ((w.nodes c).receivers a))) m) }) (moved pt (Line.Taken a c ((w.nodes c).receivers a).count) pt.kernel) h = record {
         acting = pt.view.acting;
         groups = pt.view.groups;
         topic = pt.view.topic;
@@ -120,7 +85,7 @@ module _ (b : Boot) (w : WorldState) (pt : Point) (l : Placed) (h : History) (a 
         inbox = at_machine pt.view.inbox c (pt.view.inbox c ++ m.id ∷ []);
         point = ap (λ (o : Option MsgId). record { kernel = pt.kernel; view = view.taken_id (view.with_pair pt.view a c p) c o; addresses = pt.addresses }) t.first;
         counted = s.groups;
-        mirrors = lines_keep pt (moved pt (line.Taken a c ((w.nodes c).receivers a).count) pt.kernel) l (line.Taken a c ((w.nodes c).receivers a).count) tt s.mirrors refl;
+        mirrors = lines_keep pt (moved pt (Line.Taken a c ((w.nodes c).receivers a).count) pt.kernel) l (Line.Taken a c ((w.nodes c).receivers a).count) tt s.mirrors refl;
         boxes = λ i off. machine_other pt.view.inbox c (pt.view.inbox c ++ m.id ∷ []) i off;
         pairs = λ x y t k. two_other pt.view.pair a c p x y t;
         ids = ids_set pt.view.pair a c p refl;
@@ -161,13 +126,13 @@ module _ (b : Boot) (w : WorldState) (pt : Point) (l : Placed) (h : History) (a 
         back_sent = refl;
         back_said = two_other pt.view.pair a c p c a (back_other a c apart);
       } in
-      moves_stand b w pt l h a c (record w { nodes = at_machine w.nodes c (with_message (with_receiver (w.nodes c) a (after_next ((w.nodes c).receivers a))) m) }) (moved pt (line.Taken a c ((w.nodes c).receivers a).count) pt.kernel) h k s apart
+      moves_stand b w pt l h a c (record w { nodes = at_machine w.nodes c (with_message (with_receiver (w.nodes c) a (after_next ((w.nodes c).receivers a))) m) }) (moved pt (Line.Taken a c ((w.nodes c).receivers a).count) pt.kernel) h k s apart
 
   -- what was taken is acknowledged
-  pub acknowledged_stands : StandsWith b (record w { nodes = at_machine w.nodes c (w.nodes c); wires = after_put w.wires c a (spelling (packet.Ack c a ((w.nodes c).receivers a).count)) }) (moved pt (rule.packet_line pt.view c a (load.Ack ((w.nodes c).receivers a).count)) pt.kernel) l (record h { packets = at_pair h.packets c a (h.packets c a ++ just_put (Ack ((w.nodes c).receivers a).count) ∷ []) })
+  pub acknowledged_stands : StandsWith b (record w { nodes = at_machine w.nodes c (w.nodes c); wires = after_put w.wires c a (spelling (Packet.Ack c a ((w.nodes c).receivers a).count)) }) (moved pt (rule.packet_line pt.view c a (Load.Ack ((w.nodes c).receivers a).count)) pt.kernel) l (record h { packets = at_pair h.packets c a (h.packets c a ++ just_put (Ack ((w.nodes c).receivers a).count) ∷ []) })
   acknowledged_stands =
-      let p : Pair = record (pt.view.pair c a) { gone = gone_after (load.Ack ((w.nodes c).receivers a).count) (pt.view.pair c a).gone; wire = (pt.view.pair c a).wire ++ record { load = load.Ack ((w.nodes c).receivers a).count; delivered = false } ∷ [] } in
-      let k : Moves b w pt l h a c (record w { nodes = at_machine w.nodes c (w.nodes c); wires = after_put w.wires c a (spelling (packet.Ack c a ((w.nodes c).receivers a).count)) }) (moved pt (rule.packet_line pt.view c a (load.Ack ((w.nodes c).receivers a).count)) pt.kernel) (record h { packets = at_pair h.packets c a (h.packets c a ++ just_put (Ack ((w.nodes c).receivers a).count) ∷ []) }) = record {
+      let p : Pair = record (pt.view.pair c a) { gone = gone_after (Load.Ack ((w.nodes c).receivers a).count) (pt.view.pair c a).gone; wire = (pt.view.pair c a).wire ++ record { load = Load.Ack ((w.nodes c).receivers a).count; delivered = false } ∷ [] } in
+      let k : Moves b w pt l h a c (record w { nodes = at_machine w.nodes c (w.nodes c); wires = after_put w.wires c a (spelling (Packet.Ack c a ((w.nodes c).receivers a).count)) }) (moved pt (rule.packet_line pt.view c a (Load.Ack ((w.nodes c).receivers a).count)) pt.kernel) (record h { packets = at_pair h.packets c a (h.packets c a ++ just_put (Ack ((w.nodes c).receivers a).count) ∷ []) }) = record {
         acting = pt.view.acting;
         groups = pt.view.groups;
         topic = pt.view.topic;
@@ -175,7 +140,7 @@ module _ (b : Boot) (w : WorldState) (pt : Point) (l : Placed) (h : History) (a 
         inbox = pt.view.inbox;
         point = refl;
         counted = s.groups;
-        mirrors = lines_keep pt (moved pt (rule.packet_line pt.view c a (load.Ack ((w.nodes c).receivers a).count)) pt.kernel) l (rule.packet_line pt.view c a (load.Ack ((w.nodes c).receivers a).count)) tt s.mirrors refl;
+        mirrors = lines_keep pt (moved pt (rule.packet_line pt.view c a (Load.Ack ((w.nodes c).receivers a).count)) pt.kernel) l (rule.packet_line pt.view c a (Load.Ack ((w.nodes c).receivers a).count)) tt s.mirrors refl;
         boxes = λ m off. refl;
         pairs = λ x y t k. two_other pt.view.pair c a p x y k;
         ids = ids_set pt.view.pair c a p refl;
@@ -190,7 +155,7 @@ module _ (b : Boot) (w : WorldState) (pt : Point) (l : Placed) (h : History) (a 
         lawful = (s.nodes c c_in).lawful.inbox;
         other_senders = λ y off. refl;
         other_receivers = λ y off. refl;
-        wires = λ x y t k. put_other w.wires c a (spelling (packet.Ack c a ((w.nodes c).receivers a).count)) x y k;
+        wires = λ x y t k. put_other w.wires c a (spelling (Packet.Ack c a ((w.nodes c).receivers a).count)) x y k;
         given = λ x y. refl;
         packets = λ x y t k. two_other h.packets c a (h.packets c a ++ just_put (Ack ((w.nodes c).receivers a).count) ∷ []) x y k;
         there = record (ends_of w h a c) { back = h.packets c a ++ just_put (Ack ((w.nodes c).receivers a).count) ∷ [] };
@@ -202,10 +167,10 @@ module _ (b : Boot) (w : WorldState) (pt : Point) (l : Placed) (h : History) (a 
         there_given = refl;
         there_out = two_other h.packets c a (h.packets c a ++ just_put (Ack ((w.nodes c).receivers a).count) ∷ []) a c (there_other a c apart);
         there_back = two_same h.packets c a (h.packets c a ++ just_put (Ack ((w.nodes c).receivers a).count) ∷ []);
-        there_sent = put_other w.wires c a (spelling (packet.Ack c a ((w.nodes c).receivers a).count)) a c (there_other a c apart);
+        there_sent = put_other w.wires c a (spelling (Packet.Ack c a ((w.nodes c).receivers a).count)) a c (there_other a c apart);
         there_said = two_other pt.view.pair c a p a c (there_other a c apart);
         back = record (ends_of w h c a) { out = h.packets c a ++ just_put (Ack ((w.nodes c).receivers a).count) ∷ [] };
-        back_wire = w.wires c a ++ wire.just_put (spelling (packet.Ack c a ((w.nodes c).receivers a).count)) ∷ [];
+        back_wire = w.wires c a ++ wire.just_put (spelling (Packet.Ack c a ((w.nodes c).receivers a).count)) ∷ [];
         back_pair = p;
         back_stands = other_acknowledges b l c a (ends_of w h c a) (w.wires c a) (pt.view.pair c a) ((w.nodes c).receivers a).count back_pair;
         back_sender = refl;
@@ -213,16 +178,16 @@ module _ (b : Boot) (w : WorldState) (pt : Point) (l : Placed) (h : History) (a 
         back_given = refl;
         back_out = two_same h.packets c a (h.packets c a ++ just_put (Ack ((w.nodes c).receivers a).count) ∷ []);
         back_back = two_other h.packets c a (h.packets c a ++ just_put (Ack ((w.nodes c).receivers a).count) ∷ []) a c (there_other a c apart);
-        back_sent = put_same w.wires c a (spelling (packet.Ack c a ((w.nodes c).receivers a).count));
+        back_sent = put_same w.wires c a (spelling (Packet.Ack c a ((w.nodes c).receivers a).count));
         back_said = two_same pt.view.pair c a p;
       } in
-      moves_stand b w pt l h a c (record w { nodes = at_machine w.nodes c (w.nodes c); wires = after_put w.wires c a (spelling (packet.Ack c a ((w.nodes c).receivers a).count)) }) (moved pt (rule.packet_line pt.view c a (load.Ack ((w.nodes c).receivers a).count)) pt.kernel) (record h { packets = at_pair h.packets c a (h.packets c a ++ just_put (Ack ((w.nodes c).receivers a).count) ∷ []) }) k s apart
+      moves_stand b w pt l h a c (record w { nodes = at_machine w.nodes c (w.nodes c); wires = after_put w.wires c a (spelling (Packet.Ack c a ((w.nodes c).receivers a).count)) }) (moved pt (rule.packet_line pt.view c a (Load.Ack ((w.nodes c).receivers a).count)) pt.kernel) (record h { packets = at_pair h.packets c a (h.packets c a ++ just_put (Ack ((w.nodes c).receivers a).count) ∷ []) }) k s apart
 
   -- the message that is due to machine a goes out
-  pub gone_stands : (n : ℕ) (m : Message) → due ((w.nodes c).senders a) ≡ Some (n, m) → n ≡ ((w.nodes c).senders a).gone → StandsWith b (record w { nodes = at_machine w.nodes c (with_sender (w.nodes c) a (with_sent ((w.nodes c).senders a))); wires = after_put w.wires c a (spelling (packet.Data c a n m)) }) (moved pt (rule.packet_line pt.view c a (load.Data n)) pt.kernel) l (record h { packets = at_pair h.packets c a (h.packets c a ++ just_put (Data n m) ∷ []) })
+  pub gone_stands : (n : ℕ) (m : Message) → due ((w.nodes c).senders a) ≡ Some (n, m) → n ≡ ((w.nodes c).senders a).gone → StandsWith b (record w { nodes = at_machine w.nodes c (with_sender (w.nodes c) a (with_sent ((w.nodes c).senders a))); wires = after_put w.wires c a (spelling (Packet.Data c a n m)) }) (moved pt (rule.packet_line pt.view c a (Load.Data n)) pt.kernel) l (record h { packets = at_pair h.packets c a (h.packets c a ++ just_put (Data n m) ∷ []) })
   gone_stands n m e is =
-      let p : Pair = record (pt.view.pair c a) { gone = gone_after (load.Data n) (pt.view.pair c a).gone; wire = (pt.view.pair c a).wire ++ record { load = load.Data n; delivered = false } ∷ [] } in
-      let k : Moves b w pt l h a c (record w { nodes = at_machine w.nodes c (with_sender (w.nodes c) a (with_sent ((w.nodes c).senders a))); wires = after_put w.wires c a (spelling (packet.Data c a n m)) }) (moved pt (rule.packet_line pt.view c a (load.Data n)) pt.kernel) (record h { packets = at_pair h.packets c a (h.packets c a ++ just_put (Data n m) ∷ []) }) = record {
+      let p : Pair = record (pt.view.pair c a) { gone = gone_after (Load.Data n) (pt.view.pair c a).gone; wire = (pt.view.pair c a).wire ++ record { load = Load.Data n; delivered = false } ∷ [] } in
+      let k : Moves b w pt l h a c (record w { nodes = at_machine w.nodes c (with_sender (w.nodes c) a (with_sent ((w.nodes c).senders a))); wires = after_put w.wires c a (spelling (Packet.Data c a n m)) }) (moved pt (rule.packet_line pt.view c a (Load.Data n)) pt.kernel) (record h { packets = at_pair h.packets c a (h.packets c a ++ just_put (Data n m) ∷ []) }) = record {
         acting = pt.view.acting;
         groups = pt.view.groups;
         topic = pt.view.topic;
@@ -230,7 +195,7 @@ module _ (b : Boot) (w : WorldState) (pt : Point) (l : Placed) (h : History) (a 
         inbox = pt.view.inbox;
         point = refl;
         counted = s.groups;
-        mirrors = lines_keep pt (moved pt (rule.packet_line pt.view c a (load.Data n)) pt.kernel) l (rule.packet_line pt.view c a (load.Data n)) tt s.mirrors refl;
+        mirrors = lines_keep pt (moved pt (rule.packet_line pt.view c a (Load.Data n)) pt.kernel) l (rule.packet_line pt.view c a (Load.Data n)) tt s.mirrors refl;
         boxes = λ m off. refl;
         pairs = λ x y t k. two_other pt.view.pair c a p x y k;
         ids = ids_set pt.view.pair c a p refl;
@@ -245,7 +210,7 @@ module _ (b : Boot) (w : WorldState) (pt : Point) (l : Placed) (h : History) (a 
         lawful = (s.nodes c c_in).lawful.inbox;
         other_senders = λ y off. machine_other (w.nodes c).senders a (with_sent ((w.nodes c).senders a)) y off;
         other_receivers = λ y off. refl;
-        wires = λ x y t k. put_other w.wires c a (spelling (packet.Data c a n m)) x y k;
+        wires = λ x y t k. put_other w.wires c a (spelling (Packet.Data c a n m)) x y k;
         given = λ x y. refl;
         packets = λ x y t k. two_other h.packets c a (h.packets c a ++ just_put (Data n m) ∷ []) x y k;
         there = record (ends_of w h a c) { back = h.packets c a ++ just_put (Data n m) ∷ [] };
@@ -257,10 +222,10 @@ module _ (b : Boot) (w : WorldState) (pt : Point) (l : Placed) (h : History) (a 
         there_given = refl;
         there_out = two_other h.packets c a (h.packets c a ++ just_put (Data n m) ∷ []) a c (there_other a c apart);
         there_back = two_same h.packets c a (h.packets c a ++ just_put (Data n m) ∷ []);
-        there_sent = put_other w.wires c a (spelling (packet.Data c a n m)) a c (there_other a c apart);
+        there_sent = put_other w.wires c a (spelling (Packet.Data c a n m)) a c (there_other a c apart);
         there_said = two_other pt.view.pair c a p a c (there_other a c apart);
         back = record (ends_of w h c a) { sender = with_sent ((w.nodes c).senders a); out = h.packets c a ++ just_put (Data n m) ∷ [] };
-        back_wire = w.wires c a ++ wire.just_put (spelling (packet.Data c a n m)) ∷ [];
+        back_wire = w.wires c a ++ wire.just_put (spelling (Packet.Data c a n m)) ∷ [];
         back_pair = p;
         back_stands = due_goes b l c a (ends_of w h c a) (w.wires c a) (pt.view.pair c a) n m e is back_pair;
         back_sender = machine_same (w.nodes c).senders a (with_sent ((w.nodes c).senders a));
@@ -268,7 +233,7 @@ module _ (b : Boot) (w : WorldState) (pt : Point) (l : Placed) (h : History) (a 
         back_given = refl;
         back_out = two_same h.packets c a (h.packets c a ++ just_put (Data n m) ∷ []);
         back_back = two_other h.packets c a (h.packets c a ++ just_put (Data n m) ∷ []) a c (there_other a c apart);
-        back_sent = put_same w.wires c a (spelling (packet.Data c a n m));
+        back_sent = put_same w.wires c a (spelling (Packet.Data c a n m));
         back_said = two_same pt.view.pair c a p;
       } in
-      moves_stand b w pt l h a c (record w { nodes = at_machine w.nodes c (with_sender (w.nodes c) a (with_sent ((w.nodes c).senders a))); wires = after_put w.wires c a (spelling (packet.Data c a n m)) }) (moved pt (rule.packet_line pt.view c a (load.Data n)) pt.kernel) (record h { packets = at_pair h.packets c a (h.packets c a ++ just_put (Data n m) ∷ []) }) k s apart
+      moves_stand b w pt l h a c (record w { nodes = at_machine w.nodes c (with_sender (w.nodes c) a (with_sent ((w.nodes c).senders a))); wires = after_put w.wires c a (spelling (Packet.Data c a n m)) }) (moved pt (rule.packet_line pt.view c a (Load.Data n)) pt.kernel) (record h { packets = at_pair h.packets c a (h.packets c a ++ just_put (Data n m) ∷ []) }) k s apart

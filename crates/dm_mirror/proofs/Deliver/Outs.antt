@@ -1,34 +1,16 @@
 -- Where all packets that an event sends are read as they were put, what the machine has out then is so too, and each packet on
 -- the wires is read.
-use Rattle.std.proofs.Common.{◌≡◌, ◌⊎◌, ℕ, zero, suc, ◌==◌, ◌&&◌, Bool, true, false, List, [], ◌∷◌, ◌++◌, refl, ap, ◌∙◌, sym, subst, inl, inr}
-use Rattle.std.specs.Prelude.{⊤, if◌then◌else◌, Ok}
-use Rattle.std.specs.declared.option.Option.{Option}
-use Rattle.std.specs.declared.option.Option.TheVariants.{None, Some}
-use Rattle.std.proofs.lemmas.Bool.Decides.{eqb_tells}
-use Rattle.dm_message.specs.declared.Message.{Message}
-use Rattle.dm_packet.specs.declared.Packet.{Packet}
-use Rattle.dm_packet.specs.declared.Packet.TheVariants as packet
-use Rattle.dm_packet.specs.Packets.{packet_of, spelling}
-use Rattle.dm_stream.specs.Packets.{Load, Data, Ack}
-use Rattle.dm_stream.specs.Sending.{Sending, due, window, with_acked, with_given, with_sent}
-use Rattle.dm_stream.specs.Receiving.{after_arrival, after_next, arrival, next}
-use Rattle.dm_stream.specs.declared.receiver.Arrived.{Arrived}
-use Rattle.dm_stream.specs.declared.receiver.Arrived.TheVariants.{Taken, Old, Early}
+use Rattle.dm_mirror.proofs.Names.{◌≡◌, ◌⊎◌, ℕ, zero, suc, ◌==◌, ◌&&◌, Bool, true, false, List, [], ◌∷◌, ◌++◌, refl, ap, ◌∙◌, sym, subst, inl, inr, ⊤, if◌then◌else◌, Ok, Option, None, Some, eqb_tells, Message, Packet, packet_of, spelling}
+use Rattle.dm_mirror.proofs.Names.{Data, Ack, Sending, due, window, with_acked, with_given, with_sent, after_arrival, after_next, arrival, next, Arrived, Old, Early, Sent, bytes_at, after_mark, Turned, Out, NodeState, here, with_message}
+use Rattle.dm_mirror.proofs.Names.{with_receiver, with_sender, Acted, Acts, Goes, Worn, behind, then_, acts, comes_in, gives, is_worn, lets_go, lets_next, none_waits, routes, routes_away, routes_home, sends_due, takes_kept, takes_next}
+use Rattle.dm_mirror.proofs.Names.{FitsLoad, spoken, with_packet, AreReadBack, NodeReads, SenderReads, WiresRead}
+use Rattle.dm_stream.specs.Packets.{Load}
+use Rattle.dm_stream.specs.declared.receiver.Arrived.TheVariants.{Taken}
 use Rattle.dm_wire.specs.Sent as wire
-use Rattle.dm_wire.specs.Sent.{Sent, bytes_at}
-use Rattle.dm_wire.specs.Wire.{after_mark, after_put}
+use Rattle.dm_wire.specs.Wire.{after_put}
 use Rattle.dm_kernel.specs.declared.part.Part.{Part}
-use Rattle.dm_kernel.specs.declared.part.Part.TheVariants as part
-use Rattle.dm_kernel.specs.State.{Turned}
-use Rattle.dm_node.specs.declared.out.Out.{Out}
-use Rattle.dm_node.specs.declared.out.Out.TheVariants as out
-use Rattle.dm_node.specs.State.{NodeState, here, with_message, with_receiver, with_sender}
-use Rattle.dm_node.specs.Out.{Acted, Acts, Goes, Worn, behind, then_}
-use Rattle.dm_node.specs.Acts.{acts, arrives, comes_in, gives, is_worn, lets_go, lets_next, none_waits, routes, routes_away, routes_home, sends_due, takes_kept, takes_next}
-use Rattle.dm_node.specs.May.{FitsLoad}
-use Rattle.dm_node.specs.Wired.{spoken, with_packet}
+use Rattle.dm_node.specs.Acts.{arrives}
 use Rattle.dm_mirror.proofs.Deliver.Follows.{machine_same}
-use Rattle.dm_world.specs.Readable.{AreReadBack, NodeReads, SenderReads, WiresRead}
 use Rattle.dm_mirror.proofs.Deliver.Sent.{acked_reads, given_reads, sent_reads}
 
 -- ---- what a machine has out
@@ -36,8 +18,8 @@ use Rattle.dm_mirror.proofs.Deliver.Sent.{acked_reads, given_reads, sent_reads}
 -- what it sends is read as it was put
 read_parts : (xs ys : List Out) → AreReadBack (xs ++ ys) → AreReadBack xs × AreReadBack ys
 read_parts [] ys h = (tt, h)
-read_parts (out.Says l ∷ xs) ys h = read_parts xs ys h
-read_parts (out.Sends p ∷ xs) ys h = let (first, rest) = read_parts xs ys h.1 in ((h.0, first), rest)
+read_parts (Out.Says l ∷ xs) ys h = read_parts xs ys h
+read_parts (Out.Sends p ∷ xs) ys h = let (first, rest) = read_parts xs ys h.1 in ((h.0, first), rest)
 
 sender_reads : (n : NodeState) (b : ℕ) (s : Sending Message) → SenderReads (here n) b s → NodeReads n → NodeReads (with_sender n b s)
 sender_reads n b s k h y = elim (eqb_tells b y) [
@@ -80,8 +62,8 @@ routes_reads n m h =
 
 acts_reads : (n : NodeState) (ps : List Part) → NodeReads n → ReadsOn (acts n ps)
 acts_reads n [] h = λ read. h
-acts_reads n (part.Says l ∷ ps) h = behind_reads (out.Says l ∷ []) (acts n ps) (λ first. acts_reads n ps h)
-acts_reads n (part.Routes m ∷ ps) h = then_reads (routes n m) (λ next. acts next ps) (routes_reads n m h) (λ next k. acts_reads next ps k)
+acts_reads n (Part.Says l ∷ ps) h = behind_reads (Out.Says l ∷ []) (acts n ps) (λ first. acts_reads n ps h)
+acts_reads n (Part.Routes m ∷ ps) h = then_reads (routes n m) (λ next. acts next ps) (routes_reads n m h) (λ next k. acts_reads next ps k)
 
 -- a turn, of a kernel that stays on its machine
 pub turn_reads : (n : NodeState) (t : Turned) → t.state.here ≡ here n → NodeReads n → ReadsOn (acts (record n { kernel = t.state }) t.parts)
@@ -117,7 +99,7 @@ arrives_reads n a (Ack k) fits h read = let_go_reads window (with_sender n a (wi
 
 -- ---- what lies on the wires
 
-bytes_marked : (xs : List Sent) (k j : ℕ) → bytes_at (wire.marked xs k) j ≡ bytes_at xs j
+pub bytes_marked : (xs : List Sent) (k j : ℕ) → bytes_at (wire.marked xs k) j ≡ bytes_at xs j
 bytes_marked [] k j = refl
 bytes_marked (x ∷ xs) zero zero = refl
 bytes_marked (x ∷ xs) zero (suc j) = refl
@@ -149,10 +131,10 @@ put_read wires a c p read h x y j bytes e = put_by ((a == x) && (c == y)) e
     put_by false e = h x y j bytes e
 
 packet_read : (wires : ℕ → ℕ → List Sent) (p : Packet) → packet_of (spelling p) ≡ Ok p → WiresRead wires → WiresRead (with_packet wires p)
-packet_read wires (packet.Data a c k m) read h = put_read wires a c (packet.Data a c k m) read h
-packet_read wires (packet.Ack a c k) read h = put_read wires a c (packet.Ack a c k) read h
+packet_read wires (Packet.Data a c k m) read h = put_read wires a c (Packet.Data a c k m) read h
+packet_read wires (Packet.Ack a c k) read h = put_read wires a c (Packet.Ack a c k) read h
 
 pub spoken_read : (wires : ℕ → ℕ → List Sent) (outs : List Out) → AreReadBack outs → WiresRead wires → WiresRead (spoken wires outs).wires
 spoken_read wires [] read h = h
-spoken_read wires (out.Says l ∷ outs) read h = spoken_read wires outs read h
-spoken_read wires (out.Sends p ∷ outs) read h = spoken_read (with_packet wires p) outs read.1 (packet_read wires p read.0 h)
+spoken_read wires (Out.Says l ∷ outs) read h = spoken_read wires outs read h
+spoken_read wires (Out.Sends p ∷ outs) read h = spoken_read (with_packet wires p) outs read.1 (packet_read wires p read.0 h)

@@ -1,46 +1,19 @@
 -- Where each packet of a wire can be read, and what is out and not acknowledged is read as it was put, a delivery reads what
 -- was put; of a message that was acknowledged long ago, its number.
-use Rattle.std.proofs.Common.{◌≡◌, ◌≢◌, ℕ, ◌+◌, ◌-◌, ◌^◌, ◌<◌, ◌≤◌, ◌==◌, eqb, nat_le, nat_lt, Bool, true, not, List, length, drop, refl, ap, ◌∙◌, sym, subst, arith}
-use Rattle.std.specs.Prelude.{if◌then◌else◌, slice_get, option_map, Ok, Err}
-use Rattle.std.specs.declared.option.Option.{Option}
-use Rattle.std.specs.declared.option.Option.TheVariants.{None, Some}
-use Rattle.std.specs.declared.result.Result.{Result}
-use Rattle.std.proofs.lemmas.Bool.{eqb-true, eq-eqb}
-use Rattle.std.proofs.lemmas.Bool.Decides.{nat_tests}
-use Rattle.dm_link.specs.Lawful.{IsMachine}
-use Rattle.dm_message.specs.declared.Message.{Message}
-use Rattle.dm_packet.specs.declared.Bad.{Bad}
-use Rattle.dm_packet.specs.declared.Bad.TheVariants as bad
-use Rattle.dm_packet.specs.declared.Packet.{Packet}
-use Rattle.dm_packet.specs.declared.Packet.TheVariants as packet
-use Rattle.dm_packet.specs.declared.front.Opening.{Opening}
-use Rattle.dm_packet.specs.declared.front.PacketKind.TheVariants as kinds
-use Rattle.dm_packet.specs.Field.{◌>>=◌, both, number}
-use Rattle.dm_packet.specs.Fields.{machine}
-use Rattle.dm_packet.specs.Lawful.{IsRoute}
-use Rattle.dm_packet.specs.Packets.{ended, message, numbered_message, opening, other_machine, packet_kind, packet_of, read_rest, spell_message, spelling, version}
-use Rattle.dm_packet.proofs.Field.{IsField, IsField-both, IsField-for, IsField-made, IsField-number, IsField-tested, guard_ok}
-use Rattle.dm_packet.proofs.Fields.{machine_is}
-use Rattle.dm_packet.proofs.Coded.{packet_kind_is}
+use Rattle.dm_mirror.proofs.Names.{◌≡◌, ◌≢◌, ℕ, ◌+◌, ◌-◌, ◌^◌, ◌<◌, ◌≤◌, ◌==◌, eqb, nat_le, nat_lt, Bool, true, not, List, length, drop, refl, ap, ◌∙◌, sym, subst, arith, if◌then◌else◌, slice_get, option_map, Ok, Option, None, Some, Result}
+use Rattle.dm_mirror.proofs.Names.{eqb-true, eq-eqb, nat_tests, IsMachine, Message, Bad, PacketKind, Packet, Opening, ◌>>=◌, number, machine, IsRoute, ended, message, numbered_message, opening, other_machine, packet_kind, packet_of}
+use Rattle.dm_mirror.proofs.Names.{read_rest, spell_message, spelling, version, IsField, IsField-both, IsField-for, IsField-made, IsField-number, IsField-tested, guard_ok, machine_is, packet_kind_is, Sending, outstanding, Data, load_in}
+use Rattle.dm_mirror.proofs.Names.{MayCome-stands, get-drop, bytes_at, Boot, IsValid, Point, Placed, WorldState, History, StandsWith, IsReadable}
+use Rattle.std.specs.Prelude.{Err}
+use Rattle.dm_packet.specs.Field.{both}
 use Rattle.dm_stream.specs.Sending as sending
-use Rattle.dm_stream.specs.Sending.{Sending, outstanding}
-use Rattle.dm_stream.specs.Packets.{Load, Data, Ack, load_at, load_in}
+use Rattle.dm_stream.specs.Packets.{Load}
 use Rattle.dm_stream.specs.Packets as stream
-use Rattle.dm_stream.proofs.Follows.{MayCome-stands}
-use Rattle.dm_stream.proofs.Lists.{get-drop}
-use Rattle.dm_wire.specs.Sent.{bytes_at}
-use Rattle.dm_onekernel.specs.declared.boot.Boot.{Boot}
-use Rattle.dm_onekernel.specs.Boot.{IsValid}
-use Rattle.dm_rule.specs.Point.{Point}
-use Rattle.dm_places.specs.Placed.{Placed}
 use Rattle.dm_node.specs.Out as out
-use Rattle.dm_world.specs.World.{WorldState}
-use Rattle.dm_mirror.specs.Stands.{History, StandsWith}
 use Rattle.dm_mirror.proofs.Deliver.Ends.{PairIs, ends_of, stream_with}
 use Rattle.dm_mirror.proofs.Deliver.Kept.{less_test}
 use Rattle.dm_mirror.proofs.Deliver.Moves.{there_pair}
 use Rattle.dm_mirror.proofs.Deliver.Reads.{ReadsAs, bytes_are, bytes_for, load_is}
-use Rattle.dm_world.specs.Readable.{IsReadable}
 
 -- ---- the opening of a packet is read as it was spelled
 
@@ -52,8 +25,8 @@ not_same_test a b apart = grind (arith, nat_tests)
 
 opening_is : IsField opening (λ o. IsRoute o.from o.to)
 opening_is =
-    let four = IsField-for version (λ v. (v < 256 ^ 1) × (eqb v 4 ≡ true)) (λ v. v ≡ 4) (IsField-tested (number 1) (λ v. v < 256 ^ 1) (IsField-number 1) (λ v. v == 4) bad.Version) (λ v fits. eqb-true v 4 fits.1) (λ v e. (omega (arith, e), eq-eqb v 4 e)) in
-    let others = λ (a : ℕ). IsField-for (other_machine a) (λ b. IsMachine b × (not (eqb b a) ≡ true)) (λ b. IsMachine b × (b ≢ a)) (IsField-tested machine IsMachine machine_is (λ b. not (b == a)) bad.Machine) (λ b fits. (fits.0, not_same a b fits.1)) (λ b fits. (fits.0, not_same_test a b fits.1)) in
+    let four = IsField-for version (λ v. (v < 256 ^ 1) × (eqb v 4 ≡ true)) (λ v. v ≡ 4) (IsField-tested (number 1) (λ v. v < 256 ^ 1) (IsField-number 1) (λ v. v == 4) Bad.Version) (λ v fits. eqb-true v 4 fits.1) (λ v e. (omega (arith, e), eq-eqb v 4 e)) in
+    let others = λ (a : ℕ). IsField-for (other_machine a) (λ b. IsMachine b × (not (eqb b a) ≡ true)) (λ b. IsMachine b × (b ≢ a)) (IsField-tested machine IsMachine machine_is (λ b. not (b == a)) Bad.Machine) (λ b fits. (fits.0, not_same a b fits.1)) (λ b fits. (fits.0, not_same_test a b fits.1)) in
     let from_machines = IsField-both machine IsMachine machine_is other_machine (λ a b. IsMachine b × (b ≢ a)) others in
     let from_kind = IsField-both packet_kind (λ _. Unit {0}) packet_kind_is (λ _. both machine other_machine) (λ _ m. IsMachine m.0 × (IsMachine m.1 × (m.1 ≢ m.0))) (λ _. from_machines) in
     let parts = IsField-both version (λ v. v ≡ 4) four (λ _. both packet_kind (λ _. both machine other_machine)) (λ _ o. Unit {0} × (IsMachine o.1.0 × (IsMachine o.1.1 × (o.1.1 ≢ o.1.0)))) (λ _. from_kind) in
@@ -68,7 +41,7 @@ abbrev numbered_of : ℕ → Message × List ℕ → Result ((ℕ × Message) ×
 numbered_of n y = Ok ((n, y.0), y.1)
 
 abbrev data_of : ℕ → ℕ → (ℕ × Message) × List ℕ → Result (Packet × List ℕ) Bad
-data_of a c x = Ok (packet.Data a c x.0.0 x.0.1, x.1)
+data_of a c x = Ok (Packet.Data a c x.0.0 x.0.1, x.1)
 
 abbrev message_behind : ℕ × List ℕ → Result ((ℕ × Message) × List ℕ) Bad
 message_behind x = message.read x.1 >>= numbered_of x.0
@@ -76,25 +49,25 @@ message_behind x = message.read x.1 >>= numbered_of x.0
 abbrev with_number : ℕ → ℕ → ℕ → Result (Message × List ℕ) Bad → Result Packet Bad
 with_number a c n r = ((r >>= numbered_of n) >>= data_of a c) >>= ended
 
-read_on : (a c n : ℕ) (m : Message) → IsRoute a c → n < 256 ^ 4 → packet_of (spelling (packet.Data a c n m)) ≡ with_number a c n (message.read (spell_message m))
+read_on : (a c n : ℕ) (m : Message) → IsRoute a c → n < 256 ^ 4 → packet_of (spelling (Packet.Data a c n m)) ≡ with_number a c n (message.read (spell_message m))
 unfolding packet_of read_rest spelling
 read_on a c n m route small =
-    let first = opening_is.again (record { kind = kinds.Data; from = a; to = c }) (numbered_message.spell (n, m)) route in
+    let first = opening_is.again (record { kind = PacketKind.Data; from = a; to = c }) (numbered_message.spell (n, m)) route in
     let second = (IsField-number 4).again n (spell_message m) small in
     ap (λ (r : Result (Opening × List ℕ) Bad). r >>= λ o. read_rest o.0.kind o.0.from o.0.to o.1 >>= ended) first
     ∙ ap (λ (r : Result (ℕ × List ℕ) Bad). ((r >>= message_behind) >>= data_of a c) >>= ended) second
 
-numbered : (a c n : ℕ) (r : Result (Message × List ℕ) Bad) (p : Packet) → with_number a c n r ≡ Ok p → (x : Message) × (p ≡ packet.Data a c n x)
-numbered a c n (Ok y) p e = (y.0, sym (guard_ok (eqb (length y.1) 0) bad.Trailing (packet.Data a c n y.0) p e).1)
+numbered : (a c n : ℕ) (r : Result (Message × List ℕ) Bad) (p : Packet) → with_number a c n r ≡ Ok p → (x : Message) × (p ≡ Packet.Data a c n x)
+numbered a c n (Ok y) p e = (y.0, sym (guard_ok (eqb (length y.1) 0) Bad.Trailing (Packet.Data a c n y.0) p e).1)
 numbered a c n (Err d) p e = cc
 
-same_number : (a c n : ℕ) (m : Message) (p : Packet) → IsRoute a c → n < 256 ^ 4 → packet_of (spelling (packet.Data a c n m)) ≡ Ok p → (x : Message) × (p ≡ packet.Data a c n x)
+same_number : (a c n : ℕ) (m : Message) (p : Packet) → IsRoute a c → n < 256 ^ 4 → packet_of (spelling (Packet.Data a c n m)) ≡ Ok p → (x : Message) × (p ≡ Packet.Data a c n x)
 same_number a c n m p route small e = numbered a c n (message.read (spell_message m)) p (sym (read_on a c n m route small) ∙ e)
 
 -- ---- what a delivery reads
 
-same_message : (a c n : ℕ) (x m : Message) (bytes : List ℕ) → packet_of bytes ≡ Ok (packet.Data a c n x) → packet_of bytes ≡ Ok (packet.Data a c n m) → x ≡ m
-same_message a c n x m bytes e f = let g : Ok (packet.Data a c n x) ≡ Ok (packet.Data a c n m) = sym e ∙ f in cc
+same_message : (a c n : ℕ) (x m : Message) (bytes : List ℕ) → packet_of bytes ≡ Ok (Packet.Data a c n x) → packet_of bytes ≡ Ok (Packet.Data a c n m) → x ≡ m
+same_message a c n x m bytes e f = let g : Ok (Packet.Data a c n x) ≡ Ok (Packet.Data a c n m) = sym e ∙ f in cc
 
 few : (b : Boot) (m n : ℕ) → IsValid b → n ≡ length b.machines → m < n → m < 16
 few b m n valid are lt = let most : nat_le (length b.machines) 16 ≡ true = valid.few_machines in grind (arith, nat_tests)
@@ -120,8 +93,8 @@ reads_as b w pt l h a c k valid s a_in c_in apart machines_are readable n m e =
     let near : n < 2 ^ 32 - 1 = (MayCome-stands (stream_with (ends_of w h a c)) there.stream).numbered k n m e in
     let route : IsRoute a c = record { from = omega arith; to = omega arith; apart = λ same. apart (sym same) } in
     let loads : load_in (slice_get (h.packets a c) k) ≡ Some (Data n m) = sym (load_is (h.packets a c) k (slice_get (h.packets a c) k) refl) ∙ e in
-    let put : bytes_at (w.wires a c) k ≡ Some (spelling (packet.Data a c n m)) = bytes_are b l a c (ends_of w h a c) (w.wires a c) (pt.view.pair a c) k there ∙ put_is a c (slice_get (h.packets a c) k) (Data n m) loads in
-    let (p, read) = readable.reads a c k (spelling (packet.Data a c n m)) put in
+    let put : bytes_at (w.wires a c) k ≡ Some (spelling (Packet.Data a c n m)) = bytes_are b l a c (ends_of w h a c) (w.wires a c) (pt.view.pair a c) k there ∙ put_is a c (slice_get (h.packets a c) k) (Data n m) loads in
+    let (p, read) = readable.reads a c k (spelling (Packet.Data a c n m)) put in
     let (x, is) = same_number a c n m p route (omega arith) read in
     let given : slice_get (h.given a c) n ≡ Some m = there.stream.sent.data_given k n m e in
     record {
@@ -131,6 +104,6 @@ reads_as b w pt l h a c k valid s a_in c_in apart machines_are readable n m e =
           let sender = (w.nodes a).senders c in
           let above : sender.acked ≤ n = omega (arith, le, there.stream.in_order.acked_taken) in
           let is_out : outstanding sender (n - sender.acked) ≡ Some (n, m) = outstanding_is sender (h.given a c) n m there.stream.in_order.unacked above (there.stream.sent.data_gone k n m e) given in
-          let put_back : packet_of (spelling (packet.Data a c n m)) ≡ Ok (packet.Data a c n m) = subst (λ (i : ℕ). packet_of (spelling (packet.Data i c n m)) ≡ Ok (packet.Data i c n m)) (s.nodes a a_in).kernel.here ((readable.out a c).out (n - sender.acked) n m is_out) in
-          same_message a c n x m (spelling (packet.Data a c n m)) (read ∙ ap Ok is) put_back;
+          let put_back : packet_of (spelling (Packet.Data a c n m)) ≡ Ok (Packet.Data a c n m) = subst (λ (i : ℕ). packet_of (spelling (Packet.Data i c n m)) ≡ Ok (Packet.Data i c n m)) (s.nodes a a_in).kernel.here ((readable.out a c).out (n - sender.acked) n m is_out) in
+          same_message a c n x m (spelling (Packet.Data a c n m)) (read ∙ ap Ok is) put_back;
     }

@@ -1,23 +1,9 @@
 -- The packet of a delivery is read as it was put, and its machine may take it.
-use Rattle.std.proofs.Common.{◌≡◌, ◌≢◌, ℕ, ◌^◌, ◌<◌, ◌≤◌, List, refl, ap, ◌∙◌, sym, arith}
-use Rattle.std.specs.Prelude.{slice_get, option_map, Ok}
-use Rattle.std.specs.declared.option.Option.{Option}
-use Rattle.std.specs.declared.option.Option.TheVariants.{None, Some}
-use Rattle.std.proofs.lemmas.Option.{slice_get-map}
-use Rattle.dm_message.specs.declared.Message.{Message}
-use Rattle.dm_packet.specs.declared.Packet.TheVariants as packet
-use Rattle.dm_packet.specs.Packets.{packet_of, spelling}
-use Rattle.dm_packet.proofs.Packets.{packet_again}
+use Rattle.dm_mirror.proofs.Names.{◌≡◌, ◌≢◌, ℕ, ◌^◌, ◌<◌, ◌≤◌, List, refl, ap, ◌∙◌, sym, arith, slice_get, option_map, Ok, Option, None, Some, slice_get-map, Message, Packet, packet_of, spelling, packet_again, Data, Ack, load_at, load_in}
+use Rattle.dm_mirror.proofs.Names.{Sent, bytes_at, Boot, Pair, Placed, WorldState, History, bytes_of, line_of}
 use Rattle.dm_stream.specs.Packets as stream
-use Rattle.dm_stream.specs.Packets.{Load, Data, Ack, load_at, load_in}
-use Rattle.dm_wire.specs.Sent.{Sent, bytes_at}
-use Rattle.dm_onekernel.specs.declared.boot.Boot.{Boot}
 use Rattle.dm_rule.specs.View as view
-use Rattle.dm_rule.specs.View.{Pair}
-use Rattle.dm_places.specs.Placed.{Placed}
 use Rattle.dm_node.specs.Out as node
-use Rattle.dm_world.specs.World.{WorldState}
-use Rattle.dm_mirror.specs.Stands.{History, bytes_of, line_of}
 use Rattle.dm_mirror.proofs.Deliver.Ends.{Ends, PairIs}
 
 -- the bytes of the packet with this number
@@ -27,7 +13,7 @@ bytes_for a c p = spelling (node.packet_of a c p.load)
 -- what is read of the packet of a delivery that carries a message: its number, and where it wasn't taken yet, the message
 pub record IsReadAs (w : WorldState) (a c n : ℕ) (m : Message) : Type 0 where
   pub message : Message
-  pub read : packet_of (spelling (packet.Data a c n m)) ≡ Ok (packet.Data a c n message)
+  pub read : packet_of (spelling (Packet.Data a c n m)) ≡ Ok (Packet.Data a c n message)
   pub same : ((w.nodes c).receivers a).count ≤ n → message ≡ m
 
 abbrev pub ReadsAs : WorldState → History → ℕ → ℕ → ℕ → Type 0
@@ -51,5 +37,5 @@ unfolding load_at
 load_is ps k o e = ap load_in e
 
 -- an acknowledgement is read as it was put
-pub reads_ack : (a c n : ℕ) → a < 16 → c < 16 → a ≢ c → n < 2 ^ 32 → packet_of (spelling (packet.Ack a c n)) ≡ Ok (packet.Ack a c n)
-reads_ack a c n a_in c_in apart small = packet_again (packet.Ack a c n) (record { from = omega arith; to = omega arith; apart = λ e. apart (sym e) }) (omega arith)
+pub reads_ack : (a c n : ℕ) → a < 16 → c < 16 → a ≢ c → n < 2 ^ 32 → packet_of (spelling (Packet.Ack a c n)) ≡ Ok (Packet.Ack a c n)
+reads_ack a c n a_in c_in apart small = packet_again (Packet.Ack a c n) (record { from = omega arith; to = omega arith; apart = λ e. apart (sym e) }) (omega arith)

@@ -1,20 +1,8 @@
 -- Where what a machine sends is read as it was put, so is all that it has out and not acknowledged, and each packet on the wires
 -- is read: each event keeps it.
-use Rattle.std.proofs.Common.{◌≡◌, ℕ, zero, suc, ◌+◌, ◌-◌, ◌<◌, ◌≤◌, nat_lt, Bool, true, false, List, [], ◌∷◌, ◌++◌, length, refl, ap, ◌∙◌, sym, subst, inl, inr, arith}
-use Rattle.std.specs.Prelude.{if◌then◌else◌, slice_get, Ok}
-use Rattle.std.specs.declared.option.Option.{Option}
-use Rattle.std.specs.declared.option.Option.TheVariants.{None, Some}
-use Rattle.std.proofs.lemmas.Bool.{cases_Bool}
-use Rattle.std.proofs.lemmas.Bool.Decides.{nat_tests}
-use Rattle.std.proofs.lemmas.List.{length-append, length-drop}
-use Rattle.std.proofs.lemmas.Option.{slice_get_within}
-use Rattle.dm_message.specs.declared.Message.{Message}
-use Rattle.dm_packet.specs.declared.Packet.TheVariants as packet
-use Rattle.dm_packet.specs.Packets.{packet_of, spelling}
-use Rattle.dm_stream.specs.Sending.{Sending, due, numbered, outstanding, with_acked, with_given, with_sent}
-use Rattle.dm_stream.proofs.Lists.{get-drop}
+use Rattle.dm_mirror.proofs.Names.{◌≡◌, ℕ, zero, suc, ◌+◌, ◌-◌, ◌<◌, ◌≤◌, nat_lt, Bool, true, false, List, [], ◌∷◌, ◌++◌, length, refl, ap, ◌∙◌, sym, subst, inl, inr, arith, if◌then◌else◌, slice_get, Ok, Option, None, Some, cases_Bool}
+use Rattle.dm_mirror.proofs.Names.{nat_tests, length-append, length-drop, slice_get_within, Message, Packet, packet_of, spelling, Sending, due, numbered, outstanding, with_acked, with_given, with_sent, get-drop, SenderReads}
 use Rattle.dm_mirror.proofs.Deliver.Kept.{less_test}
-use Rattle.dm_world.specs.Readable.{SenderReads}
 
 -- an outstanding message, by its place
 record IsOut (s : Sending Message) (j n : ℕ) (m : Message) : Type 0 where
@@ -70,7 +58,7 @@ given_reads a c s x h = record {
 }
 
 -- the message that is due goes out, and is read as it was put
-pub sent_reads : (a c : ℕ) (s : Sending Message) (k : ℕ) (x : Message) → due s ≡ Some (k, x) → packet_of (spelling (packet.Data a c k x)) ≡ Ok (packet.Data a c k x) → SenderReads a c s → SenderReads a c (with_sent s)
+pub sent_reads : (a c : ℕ) (s : Sending Message) (k : ℕ) (x : Message) → due s ≡ Some (k, x) → packet_of (spelling (Packet.Data a c k x)) ≡ Ok (Packet.Data a c k x) → SenderReads a c s → SenderReads a c (with_sent s)
 sent_reads a c s k x is read h =
     let t = through (nat_lt s.gone (s.acked + 8)) s.gone (slice_get s.unacked (s.gone - s.acked)) k x is in
     record {
@@ -86,7 +74,7 @@ sent_reads a c s k x is read h =
                 let at : slice_get s.unacked j ≡ Some x = ap (slice_get s.unacked) (omega (arith, last)) ∙ t.there in
                 let f : Some m ≡ Some x = sym o.there ∙ at in
                 let one : m ≡ x = cc in
-                subst (λ (y : Message). packet_of (spelling (packet.Data a c n y)) ≡ Ok (packet.Data a c n y)) (sym one) (subst (λ (i : ℕ). packet_of (spelling (packet.Data a c i x)) ≡ Ok (packet.Data a c i x)) (sym same) read)
+                subst (λ (y : Message). packet_of (spelling (Packet.Data a c n y)) ≡ Ok (Packet.Data a c n y)) (sym one) (subst (λ (i : ℕ). packet_of (spelling (Packet.Data a c i x)) ≡ Ok (Packet.Data a c i x)) (sym same) read)
           ];
     }
 

@@ -1,28 +1,8 @@
 -- A machine's inbox and its streams with one other machine change: what stands then of the whole world.
-use Rattle.std.proofs.Common.{◌≡◌, ◌≢◌, ℕ, ◌≤◌, ◌==◌, ◌&&◌, false, List, length, ap, ◌∙◌, sym, subst, inl, inr, arith}
-use Rattle.std.specs.declared.option.Option.{Option}
-use Rattle.std.specs.List.{All}
-use Rattle.std.proofs.lemmas.Bool.{cases_Bool}
-use Rattle.std.proofs.lemmas.Bool.Decides.{eqb_tells, nat_tests}
-use Rattle.dm_link.specs.declared.Pid.{Pid}
-use Rattle.dm_records.specs.Records.{incoming_of}
+use Rattle.dm_mirror.proofs.Names.{◌≡◌, ◌≢◌, ℕ, ◌≤◌, ◌==◌, ◌&&◌, false, List, length, ap, ◌∙◌, sym, subst, inl, inr, arith, Option, All, cases_Bool, eqb_tells, nat_tests, Pid, incoming_of, Message, MsgId, IsLawfulMessage, Sending}
+use Rattle.dm_mirror.proofs.Names.{Receiving, Sent, Boot, About, Pair, Point, Spot, Queue, Held, Inbox, Untaken, standing, times, two_of, Placed, Mirrors, NodeState, WorldState, AreMessages, History, KernelStands, NodeStands, PairStands}
+use Rattle.dm_mirror.proofs.Names.{StandsWith, Carries, TokensStand, destination_of}
 use Rattle.dm_kernel.specs.State as machine
-use Rattle.dm_message.specs.declared.Message.{Message}
-use Rattle.dm_message.specs.declared.MsgId.{MsgId}
-use Rattle.dm_message.specs.Lawful.{IsLawfulMessage}
-use Rattle.dm_stream.specs.Sending.{Sending}
-use Rattle.dm_stream.specs.Receiving.{Receiving}
-use Rattle.dm_wire.specs.Sent.{Sent}
-use Rattle.dm_onekernel.specs.declared.boot.Boot.{Boot}
-use Rattle.dm_rule.specs.View.{About, Pair}
-use Rattle.dm_rule.specs.Point.{Point}
-use Rattle.dm_rule.specs.Spots.{Spot, Queue, Held, Inbox, Untaken, standing, times}
-use Rattle.dm_rule.proofs.Pairs.Stand.{two_of}
-use Rattle.dm_places.specs.Placed.{Placed, Mirrors}
-use Rattle.dm_node.specs.State.{NodeState}
-use Rattle.dm_world.specs.World.{WorldState}
-use Rattle.dm_mirror.specs.Stands.{AreMessages, CountsStand, History, KernelStands, NodeStands, PairStands, StandsWith}
-use Rattle.dm_mirror.specs.Tokens.{Carries, TokensStand, destination_of}
 use Rattle.dm_mirror.proofs.Deliver.Stood.{Stood, untaken_stood}
 use Rattle.dm_mirror.proofs.Deliver.Ends.{Ends, PairIs, ends_of, holds_stands, pair_is}
 
@@ -243,16 +223,6 @@ module _ (b : Boot) (w : WorldState) (pt : Point) (l : Placed) (h : History) (a 
         sender = k.sender;
         carries = subst (λ (f : Pid → Option machine.Known). Carries p k.process (pt.view.asked p) (incoming_of (f p)) k.message.what) (sym (records_at d)) k.carries;
       }
-
-  -- each machine has counted what it had
-  pub moves_count : CountsStand w pt → CountsStand v q
-  moves_count h = subst (CountsStand v) (sym e.point) (λ m lt. sent_at m ∙ h m lt)
-    where
-      sent_at : (m : ℕ) → (v.nodes m).kernel.sent ≡ (w.nodes m).kernel.sent
-      sent_at m = elim (eqb_tells m c) [
-        | inl f ↦ subst (λ (i : ℕ). (v.nodes i).kernel.sent ≡ (w.nodes i).kernel.sent) (sym f.1) (ap (λ (n : NodeState). n.kernel.sent) e.node)
-        | inr f ↦ ap (λ (n : NodeState). n.kernel.sent) (e.nodes m (let t : (m == c) ≡ false = f.0 in grind (arith, nat_tests)))
-      ]
 
   pub moves_stand : StandsWith b v q l g
   moves_stand = subst (λ (z : Point). StandsWith b v z l g) (sym e.point) (record {

@@ -1,16 +1,6 @@
 -- What stands after an event of a delivery stood before: a message that is taken comes from its stream into the inbox.
-use Rattle.std.proofs.Common.{◌≡◌, ℕ, zero, suc, ◌+◌, ◌≤◌, ◌==◌, ◌&&◌, Bool, true, false, List, [], ◌∷◌, ◌++◌, refl, ap, ◌∙◌, sym, subst, inl, inr, arith}
-use Rattle.std.specs.Prelude.{drop, if◌then◌else◌, slice_get}
-use Rattle.std.specs.declared.option.Option.TheVariants.{Some}
-use Rattle.std.proofs.lemmas.Bool.{cases_Bool}
-use Rattle.dm_message.specs.declared.MsgId.{MsgId}
-use Rattle.dm_message.specs.Ids.{id_eq}
-use Rattle.dm_laws.proofs.Equal.{id_eq-is, id_eq-same}
-use Rattle.dm_line.specs.Sets.{at_pair}
-use Rattle.dm_rule.specs.Spots.{Spot, Inbox, Untaken, standing, times, untaken}
-use Rattle.dm_rule.specs.View.{Pair, View, oldest}
-use Rattle.dm_rule.proofs.Standing.{times-append}
-use Rattle.dm_rule.proofs.Pairs.Stand.{two_of}
+use Rattle.dm_mirror.proofs.Names.{◌≡◌, ℕ, zero, suc, ◌+◌, ◌≤◌, ◌==◌, ◌&&◌, Bool, List, [], ◌∷◌, ◌++◌, refl, ap, ◌∙◌, sym, subst, inl, inr, arith, drop, if◌then◌else◌, slice_get, Some, cases_Bool, MsgId, id_eq, id_eq-is, id_eq-same}
+use Rattle.dm_mirror.proofs.Names.{at_pair, Spot, Inbox, Untaken, standing, times, untaken, Pair, View, oldest, times-append, two_of}
 
 -- a message stands somewhere
 abbrev pub Stood : View → MsgId → Type 0
@@ -48,10 +38,6 @@ get_times i (j ∷ js) zero e =
     subst (λ (k : MsgId). 1 ≤ times i (k ∷ js)) (sym f) (omega (arith, g))
 get_times i (j ∷ js) (suc n) e = get_times i js n e
 
-one_if : (i j : MsgId) (c : Bool) → id_eq i j ≡ c → 1 ≤ (if c then 1 else 0) → i ≡ j
-one_if i j true e least = id_eq-is i j e
-one_if i j false e least = absurd (omega (arith, least))
-
 pub came_one : (v : View) (a c : ℕ) (j i : MsgId) → oldest (v.pair a c) ≡ Some j → 1 ≤ times i (v.inbox c ++ j ∷ []) → Stood v i
 came_one v a c j i first least = elim (cases_Bool (id_eq i j)) [
   | inl same ↦
@@ -62,11 +48,6 @@ came_one v a c j i first least = elim (cases_Bool (id_eq i j)) [
       let none : times i (j ∷ []) ≡ 0 = ap (λ (t : Bool). (if t then 1 else 0) + 0) off in
       (Inbox c, omega (arith, parts, none, least))
 ]
-
--- one pair is set
-took_if : (p q : Pair) (t : Bool) → q.taken ≤ p.taken → q.taken ≤ (if t then p else q).taken
-took_if p q true e = e
-took_if p q false e = omega arith
 
 pub took_set : (f : ℕ → ℕ → Pair) (a c : ℕ) (p : Pair) → (f a c).taken ≤ p.taken → (m n : ℕ) → (f m n).taken ≤ (at_pair f a c p m n).taken
 took_set f a c p e m n = elim (cases_Bool ((a == m) && (c == n))) [

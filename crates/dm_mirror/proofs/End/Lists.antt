@@ -1,21 +1,8 @@
 -- Lines of homes and machines, one by one; the one machine that says something of a process; names of messages.
-use Rattle.std.proofs.Common.{◌≡◌, ◌≢◌, ℕ, zero, suc, ◌+◌, ◌<◌, ◌==◌, Bool, true, false, List, [], ◌∷◌, ◌++◌, refl, ap, ◌∙◌, sym, arith}
-use Rattle.std.specs.declared.option.Option.{Option}
-use Rattle.std.specs.declared.option.Option.TheVariants.{None, Some}
-use Rattle.std.proofs.lemmas.Bool.Decides.{nat_tests}
-use Rattle.dm_link.specs.declared.Pid.{Pid}
-use Rattle.dm_link.specs.Names.{pid_of}
-use Rattle.dm_message.specs.declared.Message.{Message}
-use Rattle.dm_message.specs.declared.MsgId.{MsgId}
-use Rattle.dm_onekernel.specs.Boot.{first_number}
-use Rattle.dm_line.specs.declared.end_line.EndLine.{EndLine}
-use Rattle.dm_line.specs.Todo.{or}
-use Rattle.dm_line.specs.Ends.{home_with, each_machine}
+use Rattle.dm_mirror.proofs.Names.{◌≡◌, ◌≢◌, ℕ, zero, suc, ◌+◌, ◌<◌, ◌==◌, Bool, true, false, List, [], ◌∷◌, ◌++◌, refl, ap, ◌∙◌, sym, arith, Option, None, Some, nat_tests, Pid, pid_of, Message, MsgId, first_number, EndLine, or, home_with}
+use Rattle.dm_mirror.proofs.Names.{each_machine, Point, WorldState, AreMessages}
 use Rattle.dm_rule.specs.Ends as rule
-use Rattle.dm_rule.specs.Point.{Point}
-use Rattle.dm_world.specs.World.{WorldState}
 use Rattle.dm_world.specs.Ends as world
-use Rattle.dm_mirror.specs.Stands.{AreMessages}
 
 -- so many processes of a home
 home_same : (f g : Pid → List EndLine) (home n : ℕ) → ((k : ℕ) → k < n → f (pid_of home (first_number + k)) ≡ g (pid_of home (first_number + k))) → home_with f home n ≡ home_with g home n

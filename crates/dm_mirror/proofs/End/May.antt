@@ -1,21 +1,6 @@
 -- Where the world stands, its lines at the end can be said.
-use Rattle.std.proofs.Common.{◌≡◌, ℕ, ◌<◌, ◌≤◌, List, ◌∷◌, [], length, map, ap, sym, subst, refl, ◌∙◌, arith}
-use Rattle.std.specs.Option.{IfSome}
-use Rattle.std.specs.declared.option.Option.{Option}
-use Rattle.std.specs.declared.option.Option.TheVariants.{None, Some}
-use Rattle.dm_onekernel.specs.declared.boot.Boot.{Boot}
-use Rattle.dm_onekernel.specs.Boot.{IsValid}
-use Rattle.dm_onekernel.specs.Kernel.{Manager}
-use Rattle.dm_procman.specs.Managing.{plain_child}
-use Rattle.dm_kernel.specs.Lawful.{IsLawfulPair}
-use Rattle.dm_kernel.specs.declared.kernel.Servers.{Servers}
-use Rattle.dm_schedule.specs.declared.Step.{Step}
-use Rattle.dm_rule.specs.Laws.{Leads}
-use Rattle.dm_rule.specs.Point.{Point, first_point}
-use Rattle.dm_places.specs.Placed.{Placed}
-use Rattle.dm_world.specs.Ends.{HasPlainEnd}
-use Rattle.dm_mirror.specs.Laws.{EndMay}
-use Rattle.dm_mirror.specs.Stands.{servers_at}
+use Rattle.dm_mirror.proofs.Names.{◌≡◌, ℕ, ◌<◌, ◌≤◌, List, ◌∷◌, [], length, map, ap, sym, subst, refl, ◌∙◌, arith, IfSome, Option, None, Some, Boot, IsValid, Manager, plain_child, IsLawfulPair, Servers, Step, Leads, Point, first_point}
+use Rattle.dm_mirror.proofs.Names.{Placed, HasPlainEnd, EndMay, servers_at}
 use Rattle.dm_mirror.proofs.Counts.FewRouted.{CountsFew}
 use Rattle.dm_mirror.proofs.Machines.{some_machine}
 use Rattle.dm_mirror.proofs.Next.{machines_stay}

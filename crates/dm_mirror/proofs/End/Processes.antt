@@ -1,50 +1,13 @@
 -- What is said of each process at the end: the machine that has it says it, or where it has ended, or where it comes to.
-use Rattle.std.proofs.Common.{◌≡◌, ◌≢◌, ◌⊎◌, ℕ, ◌+◌, ◌<◌, ◌==◌, ◌&&◌, ◌||◌, Bool, true, false, is_some, List, refl, ap, ◌∙◌, sym, subst, inl, inr, arith}
-use Rattle.std.specs.Prelude.{option_map}
-use Rattle.std.specs.declared.option.Option.{Option}
-use Rattle.std.specs.declared.option.Option.TheVariants.{None, Some}
-use Rattle.std.proofs.lemmas.Bool.Decides.{nat_tests}
-use Rattle.dm_link.specs.declared.Pid.{Pid}
-use Rattle.dm_link.specs.Names.{pid_of}
-use Rattle.dm_message.specs.declared.kind.MessageKind.TheVariants as kind
-use Rattle.dm_message.specs.Plain.{plain_what, with_what}
-use Rattle.dm_process.specs.declared.process.Process.{Process}
-use Rattle.dm_records.specs.Records.{incoming_of}
-use Rattle.dm_records.specs.declared.record.Record.TheVariants as record_
-use Rattle.dm_migrate.specs.Arrival.{Arrival}
+use Rattle.dm_mirror.proofs.Names.{◌≡◌, ◌≢◌, ◌⊎◌, ℕ, ◌+◌, ◌<◌, ◌==◌, ◌&&◌, ◌||◌, Bool, true, false, is_some, List, refl, ap, ◌∙◌, sym, subst, inl, inr, arith, option_map, Option, None, Some, nat_tests, Pid, pid_of, MessageKind, Record}
+use Rattle.dm_mirror.proofs.Names.{About, plain_what, with_what, Process, incoming_of, Arrival, Nothing, Boot, Why, first_number, Life, Alive, plain_process, EndLine, Standing, or, list_line, Stood, stood_at, first_with, is_away, is_due}
+use Rattle.dm_mirror.proofs.Names.{Point, Known, Unknown, Incoming, Ended, Told, not_true, is_server, Run, Placed, WorldState, alive_lines, awaited_lines, come_lines, first_awaited, first_had, first_says, lines_in, record_lines}
+use Rattle.dm_mirror.proofs.Names.{record_queue, told_of, History, KnownStands, StandsWith, Wants, alive-is}
 use Rattle.dm_migrate.specs.Way.{moved}
-use Rattle.dm_migrate.specs.declared.arriving.Wanted.TheVariants.{Nothing}
-use Rattle.dm_onekernel.specs.declared.boot.Boot.{Boot}
-use Rattle.dm_onekernel.specs.declared.label.Why.{Why}
-use Rattle.dm_onekernel.specs.Boot.{first_number}
-use Rattle.dm_onekernel.specs.Kernel.{Life, Alive}
-use Rattle.dm_onekernel.specs.Kernel as one
-use Rattle.dm_onekernel.specs.Plain.{plain_process}
-use Rattle.dm_onekernel.specs.PlainProcess.{PlainProcess}
 use Rattle.dm_onekernel.specs.Step as kernel
-use Rattle.dm_line.specs.declared.end_line.EndLine.{EndLine}
-use Rattle.dm_line.specs.declared.end_line.EndLine.TheVariants as end
-use Rattle.dm_line.specs.declared.end_line.Standing.{Standing}
-use Rattle.dm_line.specs.declared.end_line.Standing.TheVariants as standing
-use Rattle.dm_line.specs.Todo.{or}
-use Rattle.dm_line.specs.Ends.{list_line}
-use Rattle.dm_rule.specs.Ends.{Stood, stood_at, first_with}
 use Rattle.dm_rule.specs.Ends as rule
-use Rattle.dm_rule.specs.Phases.{is_away, is_due}
-use Rattle.dm_rule.specs.Point.{Point}
-use Rattle.dm_rule.specs.View.{Known, Unknown, Incoming, Ended, Told}
-use Rattle.dm_rule.specs.View as view
-use Rattle.dm_rule.proofs.Lines.{not_true}
-use Rattle.dm_rulelaws.specs.Fits.{is_server}
-use Rattle.dm_rulelaws.proofs.Runs.{Run}
 use Rattle.dm_kernel.specs.State as machine
-use Rattle.dm_places.specs.Placed.{Placed}
-use Rattle.dm_world.specs.World.{WorldState}
-use Rattle.dm_world.specs.Ends.{alive_lines, awaited_lines, come_lines, come_whole, first_awaited, first_had, first_says, lines_in, names_of, record_lines, record_queue}
 use Rattle.dm_world.specs.Ends as world
-use Rattle.dm_mirror.specs.Own.{told_of}
-use Rattle.dm_mirror.specs.Stands.{History, KnownStands, StandsWith}
-use Rattle.dm_mirror.specs.Tokens.{Wants}
 use Rattle.dm_mirror.proofs.End.Lines.{alive_same}
 use Rattle.dm_mirror.proofs.End.Lists.{first_at, first_none, names_are}
 use Rattle.dm_mirror.proofs.End.Records.{HasEnded, IsAt, IsComing, away_awaited, away_awaits, carried_own, come_all, has_ended, held_said, is_at, is_coming, restart_wants, silent_has, silent_lines, silent_queue}
@@ -122,14 +85,8 @@ within_over b pt p a run = run.found.known_within a.at p (λ is. let f : Ended �
 within_to : (b : Boot) (pt : Point) (p : Pid) (a : ComesTo pt.view p) → Run b pt → a.to < pt.kernel.machines
 within_to b pt p a run = run.found.known_within a.to p (λ is. let f : Incoming a.from ≡ Unknown = sym a.known ∙ is in cc)
 
--- the plain process is the one of the kernel
-lives : (o : Option Life) (y : PlainProcess) → kernel.alive o ≡ Some y → o ≡ Some (Alive y)
-lives None y e = cc
-lives (Some (Alive z)) y e = ap (λ (x : PlainProcess). Some (Alive x)) (some_same z y e)
-lives (Some (one.Ended z)) y e = cc
-
 alive_of : (b : Boot) (w : WorldState) (pt : Point) (l : Placed) (h : History) (p : Pid) (x : Process) → IsOfHome b w pt l h p → l.processes p ≡ Some x → pt.kernel.processes p ≡ Some (Alive (plain_process x))
-alive_of b w pt l h p x g placed = lives (pt.kernel.processes p) (plain_process x) (g.stands.mirrors.plain.processes p ∙ ap (option_map plain_process) placed)
+alive_of b w pt l h p x g placed = alive-is (pt.kernel.processes p) (plain_process x) (g.stands.mirrors.plain.processes p ∙ ap (option_map plain_process) placed)
 
 -- a process that a machine has
 at_machine : (b : Boot) (w : WorldState) (pt : Point) (l : Placed) (h : History) (p : Pid) (a : HasIt pt.view p) → IsOfHome b w pt l h p → IsAt l p (pt.view.queue a.at p) a.at a.standing ((w.nodes a.at).kernel.records p)
@@ -156,7 +113,7 @@ has_queue b w pt l h p a g =
     let i = at_machine b w pt l h p a g in
     queue_by b w pt l h p a.at g below a.others
     ∙ (ap lines_in i.queue
-    ∙ (ap (list_line (end.Queue p)) (names_are l.bag (pt.view.queue a.at p) i.process.queue (λ j m there. (g.stands.mirrors.places.message j m there).id) i.waits)
+    ∙ (ap (list_line (EndLine.Queue p)) (names_are l.bag (pt.view.queue a.at p) i.process.queue (λ j m there. (g.stands.mirrors.places.message j m there).id) i.waits)
     ∙ ap (rule.queue_at pt.view p) (sym (with_at pt p a.at below a.others ∙ ap (stood_at a.at) a.known))))
 
 -- a process that has ended
@@ -165,10 +122,10 @@ over_machine b w pt l h p a g =
     has_ended pt l p (pt.view.queue a.at p) (pt.view.held a.at p) ((w.nodes a.at).kernel.records p)
     (subst (λ (k : Known). KnownStands pt l p (pt.view.queue a.at p) (pt.view.held a.at p) k ((w.nodes a.at).kernel.records p)) a.known (knows_ b w pt l h p a.at g (within_over b pt p a g.run)))
 
-ended_is : (o : Option Life) (y : Why) → kernel.ended o ≡ Some y → o ≡ Some (one.Ended y)
+ended_is : (o : Option Life) (y : Why) → kernel.ended o ≡ Some y → o ≡ Some (Life.Ended y)
 ended_is None y e = cc
 ended_is (Some (Alive z)) y e = cc
-ended_is (Some (one.Ended z)) y e = ap (λ (x : Why). Some (one.Ended x)) (some_same z y e)
+ended_is (Some (Life.Ended z)) y e = ap (λ (x : Why). Some (Life.Ended x)) (some_same z y e)
 
 over_said : (b : Boot) (w : WorldState) (pt : Point) (l : Placed) (h : History) (p : Pid) (a : OverAt pt.view p) → IsOfHome b w pt l h p → world.process_lines pt.kernel.machines w p ≡ rule.process_lines pt p (pt.kernel.processes p)
 over_said b w pt l h p a g =
@@ -199,14 +156,14 @@ to_machine b w pt l h p a g =
     (subst (λ (k : Known). KnownStands pt l p (pt.view.queue a.to p) (pt.view.held a.to p) k ((w.nodes a.to).kernel.records p)) a.known (knows_ b w pt l h p a.to g (within_to b pt p a g.run)))
 
 -- all of it has come
-all_come : (b : Boot) (w : WorldState) (pt : Point) (l : Placed) (h : History) (p : Pid) (a : ComesTo pt.view p) (g : IsOfHome b w pt l h p) (c : Arrival) → (w.nodes a.to).kernel.records p ≡ Some (record_.Incoming c) → c.wanted ≡ Nothing
+all_come : (b : Boot) (w : WorldState) (pt : Point) (l : Placed) (h : History) (p : Pid) (a : ComesTo pt.view p) (g : IsOfHome b w pt l h p) (c : Arrival) → (w.nodes a.to).kernel.records p ≡ Some (Record.Incoming c) → c.wanted ≡ Nothing
 all_come b w pt l h p a g c is =
     let told = a.token.told in
-    let t = g.stands.tokens p a.id (record { kind = kind.Restart; receiver = pid_of a.to 0; about = view.Of p }) a.token.spot told refl refl a.token.stands in
+    let t = g.stands.tokens p a.id (record { kind = MessageKind.Restart; receiver = pid_of a.to 0; about = About.Of p }) a.token.spot told refl refl a.token.stands in
     let m = t.message in
     let none : plain_what m.what ≡ None = carried_own p t.process (pt.view.asked p) (incoming_of ((w.nodes a.to).kernel.records p)) m.what t.carries in
     let own = g.stands.own a.id m t.is (ap (with_what m) none) in
-    let same : told_of m ≡ record { kind = kind.Restart; receiver = pid_of a.to 0; about = view.Of p } = some_same (told_of m) (record { kind = kind.Restart; receiver = pid_of a.to 0; about = view.Of p }) (sym own.told ∙ told) in
+    let same : told_of m ≡ record { kind = MessageKind.Restart; receiver = pid_of a.to 0; about = About.Of p } = some_same (told_of m) (record { kind = MessageKind.Restart; receiver = pid_of a.to 0; about = About.Of p }) (sym own.told ∙ told) in
     subst (λ (o : Option machine.Known). Wants (incoming_of o) Nothing) is
     (restart_wants p t.process (pt.view.asked p) (incoming_of ((w.nodes a.to).kernel.records p)) m.what (ap (λ (x : Told). x.kind) same) t.carries)
 
@@ -221,11 +178,11 @@ to_said b w pt l h p a g =
     let f : ℕ → Option (List EndLine) = λ m. record_lines m p ((w.nodes m).kernel.records p) in
     let v : ℕ → Option (List EndLine) = λ m. awaited_lines m p ((w.nodes m).kernel.records p) in
     let had : first_had n w p ≡ None = first_none (first_says f) f n refl (λ m. refl) (λ m less. silent_machine b w pt l h p m g (none_has pt p a m) less) in
-    let awaited : first_awaited n w p ≡ Some (alive_lines a.to p standing.Arriving (moved x)) =
+    let awaited : first_awaited n w p ≡ Some (alive_lines a.to p Standing.Arriving (moved x)) =
     first_at (first_says v) v a.to n refl (λ m. refl) below (λ m less apart. away_machine b w pt l h p m g (a.others m apart) less)
     ∙ (ap (awaited_lines a.to p) i.is ∙ ap (come_lines a.to p) (come_all l p (pt.view.held a.to p) c i.comes (all_come b w pt l h p a g c i.is))) in
     let places = g.stands.mirrors.places.process p x there_ in
-    let there : Option Stood = Some (record { at = a.to; standing = standing.Arriving }) in
+    let there : Option Stood = Some (record { at = a.to; standing = Standing.Arriving }) in
     let has : first_with rule.has pt.view p n ≡ None =
     first_none (first_with rule.has pt.view p) (λ m. stood_at m (rule.has (pt.view.known m p))) n refl (λ m. refl) (λ m less. ap (stood_at m) (silent_has (pt.view.known m p) (none_has pt p a m))) in
     let awaits : first_with rule.awaits pt.view p n ≡ there =
@@ -234,7 +191,7 @@ to_said b w pt l h p a g =
     let stood : rule.stood pt.view p n ≡ there = ap (λ (o : Option Stood). or o (first_with rule.awaits pt.view p n)) has ∙ awaits in
     ap (λ (o : Option (List EndLine)). lines_in (or o (first_awaited n w p))) had
     ∙ (ap lines_in awaited
-    ∙ (alive_same pt.addresses a.to p standing.Arriving (moved x) places.slots
+    ∙ (alive_same pt.addresses a.to p Standing.Arriving (moved x) places.slots
     ∙ (ap (rule.alive_lines pt.addresses p (plain_process x)) (sym stood) ∙ ap (rule.process_lines pt p) (sym (alive_of b w pt l h p x g there_)))))
 
 to_queue : (b : Boot) (w : WorldState) (pt : Point) (l : Placed) (h : History) (p : Pid) (a : ComesTo pt.view p) → IsOfHome b w pt l h p
@@ -272,7 +229,7 @@ queue_said b w pt l h p g made = elim (somewhere b w pt l h p g made) [
 ]
 
 -- what a machine holds for it
-pub holding_said : (b : Boot) (w : WorldState) (pt : Point) (l : Placed) (h : History) (p : Pid) (m : ℕ) → IsOfHome b w pt l h p → m < pt.kernel.machines → world.held_line w m p ≡ list_line (end.Holding m p) (pt.view.held m p)
+pub holding_said : (b : Boot) (w : WorldState) (pt : Point) (l : Placed) (h : History) (p : Pid) (m : ℕ) → IsOfHome b w pt l h p → m < pt.kernel.machines → world.held_line w m p ≡ list_line (EndLine.Holding m p) (pt.view.held m p)
 holding_said b w pt l h p m g below =
-    ap (list_line (end.Holding m p))
+    ap (list_line (EndLine.Holding m p))
     (held_said pt l p (pt.view.queue m p) (pt.view.held m p) (pt.view.known m p) ((w.nodes m).kernel.records p) (λ i x there. (g.stands.mirrors.places.message i x there).id) (λ e. g.run.based.lists.held m p e) (knows_ b w pt l h p m g below))

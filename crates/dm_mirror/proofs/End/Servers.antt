@@ -1,32 +1,12 @@
 -- What is said of the servers at the end, and of the messages on the way between two machines.
-use Rattle.std.proofs.Common.{◌≡◌, ◌≢◌, ℕ, suc, ◌+◌, ◌-◌, ◌==◌, Bool, true, false, List, [], ◌∷◌, ◌++◌, map, drop, refl, ap, ◌∙◌, sym, arith}
-use Rattle.std.specs.Prelude.{if◌then◌else◌, slice_get}
-use Rattle.std.specs.declared.option.Option.TheVariants.{Some}
-use Rattle.std.proofs.lemmas.Bool.Decides.{nat_tests}
-use Rattle.std.proofs.lemmas.List.{drop-drop, drop-map, drop_all}
-use Rattle.dm_link.specs.declared.Addr.{Addr}
-use Rattle.dm_link.specs.Names.{place_of, Place}
-use Rattle.dm_link.specs.Plain.{plain_link}
-use Rattle.dm_message.specs.declared.Message.{Message}
+use Rattle.dm_mirror.proofs.Names.{◌≡◌, ◌≢◌, ℕ, suc, ◌+◌, ◌-◌, ◌==◌, Bool, true, false, List, [], ◌∷◌, ◌++◌, map, drop, refl, ap, ◌∙◌, sym, arith, if◌then◌else◌, slice_get, Some, nat_tests, drop-drop, drop-map, drop_all, Addr, place_of}
+use Rattle.dm_mirror.proofs.Names.{Place, plain_link, Message, Boot, switchboard, manager, Switchboard, Manager, Named, plain_named, Pending, plain_child, plain_pending, plain_manager, EndLine, Addresses, Child, Name, list_line, HomeStands}
+use Rattle.dm_mirror.proofs.Names.{Point, Placed, Mirrors, WorldState, History, PairStands}
 use Rattle.dm_message.specs.Ids as message
-use Rattle.dm_onekernel.specs.declared.boot.Boot.{Boot}
-use Rattle.dm_onekernel.specs.Boot.{switchboard, manager}
-use Rattle.dm_onekernel.specs.Kernel.{Switchboard, Manager}
-use Rattle.dm_switchboard.specs.Board.{Named, plain_named}
-use Rattle.dm_procman.specs.declared.pending.Pending.{Pending}
-use Rattle.dm_procman.specs.Managing.{plain_child, plain_pending, plain_manager}
-use Rattle.dm_line.specs.declared.end_line.EndLine.{EndLine}
-use Rattle.dm_line.specs.declared.end_line.EndLine.TheVariants as end
-use Rattle.dm_rule.specs.Addresses.{Addresses, Child, Name}
-use Rattle.dm_line.specs.Ends.{list_line}
 use Rattle.dm_rule.specs.Ends as rule
-use Rattle.dm_rule.specs.Pairs.{HomeStands}
-use Rattle.dm_rule.specs.Point.{Point}
 use Rattle.dm_rule.specs.Spots as spots
-use Rattle.dm_places.specs.Placed.{Placed, Mirrors}
-use Rattle.dm_world.specs.World.{WorldState}
 use Rattle.dm_world.specs.Ends as world
-use Rattle.dm_mirror.specs.Stands.{History, PairStands, id_of}
+use Rattle.dm_mirror.specs.Stands.{id_of}
 
 -- the names of the switchboard
 names_same : (a : Addresses) (n : ℕ) (ks : List Named) → ((j : ℕ) (k : Named) → slice_get ks j ≡ Some k → a (Name (n + j)) ≡ place_of k.link.addr) → world.name_lines ks ≡ rule.name_lines a n (map plain_named ks)
@@ -34,8 +14,8 @@ names_same a n [] leads = refl
 names_same a n (k ∷ ks) leads =
     let here : a (Name n) ≡ place_of k.link.addr = ap (λ (i : ℕ). a (Name i)) (let f : n ≡ n + 0 = omega arith in f) ∙ leads 0 k refl in
     let rest = names_same a (n + 1) ks (λ j k2 e. ap (λ (i : ℕ). a (Name i)) (let f : n + 1 + j ≡ n + suc j = omega arith in f) ∙ leads (suc j) k2 e) in
-    ap (λ (q : Place). end.Name (record { items = k.name }) (rule.leading (plain_link k.link) q) ∷ world.name_lines ks) (sym here)
-    ∙ ap (λ (ls : List EndLine). end.Name (record { items = k.name }) (rule.leading (plain_link k.link) (a (Name n))) ∷ ls) rest
+    ap (λ (q : Place). EndLine.Name (record { items = k.name }) (rule.leading (plain_link k.link) q) ∷ world.name_lines ks) (sym here)
+    ∙ ap (λ (ls : List EndLine). EndLine.Name (record { items = k.name }) (rule.leading (plain_link k.link) (a (Name n))) ∷ ls) rest
 
 -- the children of the manager, and its requests
 children_same : (a : Addresses) (n : ℕ) (cs : List Addr) → ((j : ℕ) (c : Addr) → slice_get cs j ≡ Some c → a (Child (n + j)) ≡ place_of c) → world.child_lines n cs ≡ rule.child_lines a n (map plain_child cs)
@@ -43,17 +23,17 @@ children_same a n [] leads = refl
 children_same a n (c ∷ cs) leads =
     let here : a (Child n) ≡ place_of c = ap (λ (i : ℕ). a (Child i)) (let f : n ≡ n + 0 = omega arith in f) ∙ leads 0 c refl in
     let rest = children_same a (n + 1) cs (λ j d e. ap (λ (i : ℕ). a (Child i)) (let f : n + 1 + j ≡ n + suc j = omega arith in f) ∙ leads (suc j) d e) in
-    ap (λ (q : Place). end.Child n c.pid q.at ∷ world.child_lines (n + 1) cs) (sym here) ∙ ap (λ (ls : List EndLine). end.Child n c.pid (a (Child n)).at ∷ ls) rest
+    ap (λ (q : Place). EndLine.Child n c.pid q.at ∷ world.child_lines (n + 1) cs) (sym here) ∙ ap (λ (ls : List EndLine). EndLine.Child n c.pid (a (Child n)).at ∷ ls) rest
 
 pending_same : (rs : List Pending) → world.pending_lines rs ≡ rule.pending_lines (map plain_pending rs)
 pending_same [] = refl
-pending_same (r ∷ rs) = ap (λ (ls : List EndLine). end.Pending (message.id_of manager r.n) ∷ ls) (pending_same rs)
+pending_same (r ∷ rs) = ap (λ (ls : List EndLine). EndLine.Pending (message.id_of manager r.n) ∷ ls) (pending_same rs)
 
 -- the lines of the servers
 abbrev servers_of : Addresses → Switchboard → Manager → List EndLine
 servers_of a b g =
-    end.Server switchboard b.sent
-    ∷ end.Server manager g.sent
+    EndLine.Server switchboard b.sent
+    ∷ EndLine.Server manager g.sent
     ∷ rule.name_lines a 0 b.names
     ++ rule.child_lines a 1 g.children
     ++ rule.pending_lines g.pending
@@ -61,8 +41,8 @@ servers_of a b g =
 pub servers_said : (pt : Point) (l : Placed) → Mirrors pt.kernel pt.view pt.addresses l → world.server_lines (Some (record { board = l.board; manager = l.manager })) ≡ rule.server_lines pt
 servers_said pt l h =
     let a = pt.addresses in
-    let first = (end.Server switchboard l.board.sent) in
-    let second = (end.Server manager l.manager.sent) in
+    let first = (EndLine.Server switchboard l.board.sent) in
+    let second = (EndLine.Server manager l.manager.sent) in
     let names = names_same a 0 l.board.names (λ j k e. ap (λ (i : ℕ). a (Name i)) (let f : 0 + j ≡ j = omega arith in f) ∙ h.places.name j k e) in
     let children = children_same a 1 l.manager.children (λ j c e. ap (λ (i : ℕ). a (Child i)) (let f : 1 + j ≡ suc j = omega arith in f) ∙ h.places.child (suc j) c e) in
     ap (λ (ls : List EndLine). first ∷ second ∷ ls ++ world.child_lines 1 l.manager.children ++ world.pending_lines l.manager.pending) names
@@ -88,11 +68,11 @@ home_untaken pt a h = drop_all (pt.view.pair a a).taken (pt.view.pair a a).ids (
 
 -- the line of a pair; a machine's pair with itself has none
 stream_by : (pt : Point) (w : WorldState) (a c : ℕ) (b : Bool) → (a == c) ≡ b → HomeStands (pt.view.pair a a) → (a ≢ c → world.names_of (world.untaken w a c) ≡ spots.untaken (pt.view.pair a c))
-    → (if b then [] else list_line (end.Stream a c) (world.names_of (world.untaken w a c))) ≡ list_line (end.Stream a c) (spots.untaken (pt.view.pair a c))
+    → (if b then [] else list_line (EndLine.Stream a c) (world.names_of (world.untaken w a c))) ≡ list_line (EndLine.Stream a c) (spots.untaken (pt.view.pair a c))
 stream_by pt w a c true e home apart =
     let same : a ≡ c = grind (arith, nat_tests) in
-    sym (ap (list_line (end.Stream a c)) (ap (λ (n : ℕ). spots.untaken (pt.view.pair a n)) (sym same) ∙ home_untaken pt a home))
-stream_by pt w a c false e home apart = ap (list_line (end.Stream a c)) (apart (let f : a ≢ c = grind (arith, nat_tests) in f))
+    sym (ap (list_line (EndLine.Stream a c)) (ap (λ (n : ℕ). spots.untaken (pt.view.pair a n)) (sym same) ∙ home_untaken pt a home))
+stream_by pt w a c false e home apart = ap (list_line (EndLine.Stream a c)) (apart (let f : a ≢ c = grind (arith, nat_tests) in f))
 
-pub stream_said : (b : Boot) (pt : Point) (l : Placed) (w : WorldState) (h : History) (a c : ℕ) → HomeStands (pt.view.pair a a) → (a ≢ c → PairStands b pt l w h a c) → world.stream_line w a c ≡ list_line (end.Stream a c) (spots.untaken (pt.view.pair a c))
+pub stream_said : (b : Boot) (pt : Point) (l : Placed) (w : WorldState) (h : History) (a c : ℕ) → HomeStands (pt.view.pair a a) → (a ≢ c → PairStands b pt l w h a c) → world.stream_line w a c ≡ list_line (EndLine.Stream a c) (spots.untaken (pt.view.pair a c))
 stream_said b pt l w h a c home pair = stream_by pt w a c (a == c) refl home (λ apart. untaken_said b pt l w h a c (pair apart))

@@ -1,46 +1,12 @@
 -- A directive to move a process: the manager's message goes to its child, or a line says why none does.
-use Rattle.std.proofs.Common.{◌≡◌, ℕ, ◌+◌, ◌≤◌, ◌==◌, ◌||◌, Bool, true, false, List, [], ◌∷◌, refl, ap, ◌∙◌, sym, subst, inl, inr, arith}
-use Rattle.std.specs.Prelude.{if◌then◌else◌, cond}
-use Rattle.std.specs.declared.option.Option.{Option}
-use Rattle.std.specs.declared.option.Option.TheVariants.{None, Some}
-use Rattle.std.specs.declared.result.Result.TheVariants.{Err}
-use Rattle.std.proofs.lemmas.Bool.{cases_Bool, false≢true}
-use Rattle.std.proofs.lemmas.Bool.Decides.{nat_tests}
-use Rattle.dm_link.specs.declared.Addr.{Addr}
-use Rattle.dm_link.specs.declared.Pid.{Pid}
-use Rattle.dm_link.specs.Names.{pid_eq, pid_of, place_of}
-use Rattle.dm_message.specs.declared.Message.{Message}
-use Rattle.dm_message.specs.declared.MsgId.{MsgId}
-use Rattle.dm_message.specs.declared.What.TheVariants as what
-use Rattle.dm_message.specs.declared.kind.MessageKind.TheVariants as kind
-use Rattle.dm_message.specs.Ids.{id_of}
-use Rattle.dm_records.specs.Records.{incoming_of}
-use Rattle.dm_onekernel.specs.declared.boot.Boot.{Boot}
-use Rattle.dm_onekernel.specs.Boot.{manager, switchboard}
-use Rattle.dm_procman.specs.declared.moving.MoveNo.TheVariants as no
-use Rattle.dm_procman.specs.Making.{address}
-use Rattle.dm_procman.specs.Moving.{child_named, moves_child, tells_to_move}
-use Rattle.dm_schedule.specs.declared.Step.TheVariants as step
-use Rattle.dm_kernel.specs.declared.part.Part.TheVariants as part
-use Rattle.dm_kernel.specs.Asking.{asks_manager, asks_move, told_to_move}
+use Rattle.dm_mirror.proofs.Names.{◌≡◌, ℕ, ◌+◌, ◌≤◌, ◌==◌, ◌||◌, Bool, true, false, List, [], ◌∷◌, refl, ap, ◌∙◌, sym, subst, inl, inr, arith, if◌then◌else◌, cond, Option, None, Some, Err, cases_Bool, false≢true, nat_tests, Addr, Pid}
+use Rattle.dm_mirror.proofs.Names.{pid_eq, pid_of, place_of, Message, MsgId, What, MessageKind, MoveNo, Step, id_of, incoming_of, Boot, manager, switchboard, address, child_named, moves_child, tells_to_move, asks_manager, asks_move}
+use Rattle.dm_mirror.proofs.Names.{told_to_move, KernelState, id_eq-same, pid_eq-is, Line, Receiver, Sender, child_number, place_of_child, unmoved, migrates, migrates_child, Point, after, moved, at_machine, Spot, Queue, standing, Run}
+use Rattle.dm_mirror.proofs.Names.{Placed, Mirrors, mirrors_view, child_place, no_child, AllOwnStand, KernelStands, AllRecords, TokensStand, Wants, destination_of}
+use Rattle.dm_kernel.specs.declared.part.Part.{Part}
 use Rattle.dm_kernel.specs.State as machine
-use Rattle.dm_kernel.specs.State.{KernelState, Turned, with_sent}
-use Rattle.dm_laws.proofs.Equal.{id_eq-same, pid_eq-is}
-use Rattle.dm_line.specs.declared.line.Line.{Line}
-use Rattle.dm_line.specs.declared.line.Line.TheVariants as line
-use Rattle.dm_rule.specs.Addresses.{Receiver, Sender, child_number, place_of_child, unmoved}
-use Rattle.dm_rule.specs.Migrating.{migrates, migrates_child}
+use Rattle.dm_kernel.specs.State.{with_sent}
 use Rattle.dm_rule.specs.Parts as rule
-use Rattle.dm_rule.specs.Point.{Point, after, moved}
-use Rattle.dm_line.specs.Sets.{at_machine}
-use Rattle.dm_rule.specs.Spots.{Spot, Queue, Held, Inbox, Untaken, standing}
-use Rattle.dm_rulelaws.proofs.Runs.{Run}
-use Rattle.dm_places.specs.Placed.{Placed, Mirrors}
-use Rattle.dm_places.proofs.Lines.{mirrors_view}
-use Rattle.dm_places.proofs.OwnPuts.{child_place, no_child}
-use Rattle.dm_mirror.specs.Own.{AllOwnStand}
-use Rattle.dm_mirror.specs.Stands.{KernelStands}
-use Rattle.dm_mirror.specs.Tokens.{AllRecords, TokensStand, Wants, destination_of}
 use Rattle.dm_mirror.proofs.Follow.Forwards.{next_free, next_untold}
 use Rattle.dm_mirror.proofs.Follow.Frames.{known_on}
 use Rattle.dm_mirror.proofs.Follow.Rows.{carries_on}
@@ -48,7 +14,7 @@ use Rattle.dm_mirror.proofs.Turning.{Elsewhere, MayOwn, Nothing, Own, Turns}
 
 -- behind the head of the directive
 abbrev pub asked_point : Point → Pid → ℕ → Point
-asked_point pt p to = moved pt (line.Head (step.Migrate p to)) pt.kernel
+asked_point pt p to = moved pt (Line.Head (Step.Migrate p to)) pt.kernel
 
 -- what is known then
 pub record Asks (b : Boot) (pt : Point) (l : Placed) (records : AllRecords) (k : KernelState) : Type 0 where
@@ -67,9 +33,7 @@ same_records records k n false mine is = refl
 
 stood : (pt : Point) (p : Pid) (to : ℕ) (i : MsgId) (z : Spot) → 1 ≤ standing (asked_point pt p to).view i z → 1 ≤ standing pt.view i z
 stood pt p to i (Queue n q) least = least
-stood pt p to i (Held n q) least = least
-stood pt p to i (Inbox n) least = least
-stood pt p to i (Untaken a d) least = least
+stood pt p to i _ least = least
 
 tokens_asked : (b : Boot) (pt : Point) (l : Placed) (records : AllRecords) (k : KernelState) (c : Asks b pt l records k) (p : Pid) (to : ℕ) → TokensStand (asked_point pt p to).view l (at_machine records 0 k.records)
 tokens_asked b pt l records k c p to q i t z told between about least =
@@ -128,8 +92,8 @@ elsewhere_asked pt l p to = record {
 }
 
 -- a line that changes nothing says why there is no message
-pub asked_line : (b : Boot) (pt : Point) (l : Placed) (records : AllRecords) (k : KernelState) (c : Asks b pt l records k) (p : Pid) (to : ℕ) (said : Line) → asks_move k p to ≡ Some (record { state = k; parts = part.Says said ∷ [] }) → migrates pt p ≡ rule.Says said ∷ []
-    → after (asked_point pt p to) (said ∷ []) ≡ Some (asked_point pt p to) → Turns b 0 (step.Migrate p to) (asks_move k p to) pt (asked_point pt p to) l records k
+pub asked_line : (b : Boot) (pt : Point) (l : Placed) (records : AllRecords) (k : KernelState) (c : Asks b pt l records k) (p : Pid) (to : ℕ) (said : Line) → asks_move k p to ≡ Some (record { state = k; parts = Part.Says said ∷ [] }) → migrates pt p ≡ rule.Says said ∷ []
+    → after (asked_point pt p to) (said ∷ []) ≡ Some (asked_point pt p to) → Turns b 0 (Step.Migrate p to) (asks_move k p to) pt (asked_point pt p to) l records k
 asked_line b pt l records k c p to said turn is goes = record {
   state = k;
   says = said ∷ [];
@@ -165,7 +129,7 @@ named_is (d ∷ ds) p c e = elim (cases_Bool (pid_eq d.pid p)) [
 
 -- the message that tells a child to move
 abbrev move_of : KernelState → Addr → ℕ → Message
-move_of k child to = record { id = machine.own_id k; to = child; sender = address; what = what.Migrate to }
+move_of k child to = record { id = machine.own_id k; to = child; sender = address; what = What.Migrate to }
 
 move_may : (b : Boot) (pt : Point) (l : Placed) (records all : AllRecords) (k : KernelState) (c : Asks b pt l records k) (p : Pid) (to : ℕ) (child : Addr) → child_named p l.manager.children ≡ Some child → MayOwn (asked_point pt p to) l all (move_of k child to)
 move_may b pt l records all k c p to child found =
@@ -187,8 +151,8 @@ move_may b pt l records all k c p to child found =
       carried = λ e q f. absurd (false≢true e);
     }
 
-asked_child : (b : Boot) (pt : Point) (l : Placed) (records : AllRecords) (k : KernelState) (c : Asks b pt l records k) (p : Pid) (to : ℕ) (child : Addr) → child_named p l.manager.children ≡ Some child → asks_move k p to ≡ Some (record { state = with_sent k; parts = part.Routes (move_of k child to) ∷ [] })
-    → migrates pt p ≡ migrates_child pt.addresses p (child_number pt.kernel p) → Turns b 0 (step.Migrate p to) (asks_move k p to) pt (asked_point pt p to) l records k
+asked_child : (b : Boot) (pt : Point) (l : Placed) (records : AllRecords) (k : KernelState) (c : Asks b pt l records k) (p : Pid) (to : ℕ) (child : Addr) → child_named p l.manager.children ≡ Some child → asks_move k p to ≡ Some (record { state = with_sent k; parts = Part.Routes (move_of k child to) ∷ [] })
+    → migrates pt p ≡ migrates_child pt.addresses p (child_number pt.kernel p) → Turns b 0 (Step.Migrate p to) (asks_move k p to) pt (asked_point pt p to) l records k
 asked_child b pt l records k c p to child found turn is =
     let (n, number, place) = child_place pt.kernel pt.view pt.addresses l p child c.mirrors found in
     let who : p ≡ child.pid = sym (named_is l.manager.children p child found) in
@@ -198,7 +162,7 @@ asked_child b pt l records k c p to child found turn is =
       routes = Own (move_of k child to) ∷ [];
       late = Nothing;
       turn = turn;
-      outcome = ap Some (is ∙ ap (migrates_child pt.addresses p) number ∙ (λ i. rule.Owns kind.Migrate (who i) (place i).at ∷ []));
+      outcome = ap Some (is ∙ ap (migrates_child pt.addresses p) number ∙ (λ i. rule.Owns MessageKind.Migrate (who i) (place i).at ∷ []));
       next = asked_point pt p to;
       after = refl;
       placed = l;
@@ -216,35 +180,35 @@ asked_child b pt l records k c p to child found turn is =
 
 -- a server doesn't move, nor does what is no child
 asked_server : (b : Boot) (pt : Point) (l : Placed) (records : AllRecords) (k : KernelState) (c : Asks b pt l records k) (p : Pid) (to : ℕ) → (pid_eq p switchboard || pid_eq p manager) ≡ true → asks_move k p to ≡ told_to_move k p (moves_child l.manager.children p to (machine.own_id k))
-    → Turns b 0 (step.Migrate p to) (asks_move k p to) pt (asked_point pt p to) l records k
+    → Turns b 0 (Step.Migrate p to) (asks_move k p to) pt (asked_point pt p to) l records k
 asked_server b pt l records k c p to server turn =
-    asked_line b pt l records k c p to (line.Pinned p) (turn ∙ ap (λ (t : Bool). told_to_move k p (if t then Err no.Pinned else tells_to_move (machine.own_id k) to (child_named p l.manager.children))) server)
+    asked_line b pt l records k c p to (Line.Pinned p) (turn ∙ ap (λ (t : Bool). told_to_move k p (if t then Err MoveNo.Pinned else tells_to_move (machine.own_id k) to (child_named p l.manager.children))) server)
     (pinned (pid_eq p switchboard) (pid_eq p manager) server) refl
   where
-    pinned : (s t : Bool) → (s || t) ≡ true → (if s then rule.Says (line.Pinned p) ∷ [] else if t then rule.Says (line.Pinned p) ∷ [] else migrates_child pt.addresses p (child_number pt.kernel p)) ≡ rule.Says (line.Pinned p) ∷ []
+    pinned : (s t : Bool) → (s || t) ≡ true → (if s then rule.Says (Line.Pinned p) ∷ [] else if t then rule.Says (Line.Pinned p) ∷ [] else migrates_child pt.addresses p (child_number pt.kernel p)) ≡ rule.Says (Line.Pinned p) ∷ []
     pinned true t e = refl
     pinned false true e = refl
     pinned false false e = cc
 
 asked_other : (b : Boot) (pt : Point) (l : Placed) (records : AllRecords) (k : KernelState) (c : Asks b pt l records k) (p : Pid) (to : ℕ) (o : Option Addr) → child_named p l.manager.children ≡ o → asks_move k p to ≡ told_to_move k p (tells_to_move (machine.own_id k) to (child_named p l.manager.children))
-    → migrates pt p ≡ migrates_child pt.addresses p (child_number pt.kernel p) → Turns b 0 (step.Migrate p to) (asks_move k p to) pt (asked_point pt p to) l records k
+    → migrates pt p ≡ migrates_child pt.addresses p (child_number pt.kernel p) → Turns b 0 (Step.Migrate p to) (asks_move k p to) pt (asked_point pt p to) l records k
 asked_other b pt l records k c p to None found turn is =
-    asked_line b pt l records k c p to (line.NoChild p) (turn ∙ ap (λ (o : Option Addr). told_to_move k p (tells_to_move (machine.own_id k) to o)) found)
+    asked_line b pt l records k c p to (Line.NoChild p) (turn ∙ ap (λ (o : Option Addr). told_to_move k p (tells_to_move (machine.own_id k) to o)) found)
     (is ∙ ap (migrates_child pt.addresses p) (no_child pt.kernel pt.view pt.addresses l p c.mirrors found)) refl
 asked_other b pt l records k c p to (Some child) found turn is =
     asked_child b pt l records k c p to child found (turn ∙ ap (λ (o : Option Addr). told_to_move k p (tells_to_move (machine.own_id k) to o)) found) is
 
-pub asks_turn : (b : Boot) (pt : Point) (l : Placed) (records : AllRecords) (k : KernelState) (p : Pid) (to : ℕ) → Asks b pt l records k → Turns b 0 (step.Migrate p to) (asks_move k p to) pt (moved pt (line.Head (step.Migrate p to)) pt.kernel) l records k
+pub asks_turn : (b : Boot) (pt : Point) (l : Placed) (records : AllRecords) (k : KernelState) (p : Pid) (to : ℕ) → Asks b pt l records k → Turns b 0 (Step.Migrate p to) (asks_move k p to) pt (moved pt (Line.Head (Step.Migrate p to)) pt.kernel) l records k
 asks_turn b pt l records k p to c =
     let turn : asks_move k p to ≡ told_to_move k p (moves_child l.manager.children p to (machine.own_id k)) = ap (asks_manager k p to) c.stands.servers in
     elim (cases_Bool (pid_eq p switchboard || pid_eq p manager)) [
       | inl server ↦ asked_server b pt l records k c p to server turn
       | inr other ↦
-          asked_other b pt l records k c p to (child_named p l.manager.children) refl (turn ∙ ap (λ (t : Bool). told_to_move k p (if t then Err no.Pinned else tells_to_move (machine.own_id k) to (child_named p l.manager.children))) other)
+          asked_other b pt l records k c p to (child_named p l.manager.children) refl (turn ∙ ap (λ (t : Bool). told_to_move k p (if t then Err MoveNo.Pinned else tells_to_move (machine.own_id k) to (child_named p l.manager.children))) other)
           (neither (pid_eq p switchboard) (pid_eq p manager) other)
     ]
   where
-    neither : (s t : Bool) → (s || t) ≡ false → (if s then rule.Says (line.Pinned p) ∷ [] else if t then rule.Says (line.Pinned p) ∷ [] else migrates_child pt.addresses p (child_number pt.kernel p)) ≡ migrates_child pt.addresses p (child_number pt.kernel p)
+    neither : (s t : Bool) → (s || t) ≡ false → (if s then rule.Says (Line.Pinned p) ∷ [] else if t then rule.Says (Line.Pinned p) ∷ [] else migrates_child pt.addresses p (child_number pt.kernel p)) ≡ migrates_child pt.addresses p (child_number pt.kernel p)
     neither true t e = cc
     neither false true e = cc
     neither false false e = refl

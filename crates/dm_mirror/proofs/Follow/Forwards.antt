@@ -1,58 +1,15 @@
 -- A message for a process that has gone on follows it, and its sender may be told.
-use Rattle.std.proofs.Common.{◌≡◌, ◌≢◌, ℕ, ◌+◌, ◌≤◌, Bool, true, false, List, [], ◌∷◌, map, refl, ap, ◌∙◌, sym, subst, is_some, arith}
-use Rattle.std.specs.Prelude.{if◌then◌else◌}
-use Rattle.std.specs.declared.option.Option.{Option}
-use Rattle.std.specs.declared.option.Option.TheVariants.{None, Some}
-use Rattle.std.proofs.lemmas.Bool.{false≢true}
-use Rattle.dm_link.specs.declared.Pid.{Pid}
-use Rattle.dm_link.specs.Names.{pid_of, place_of}
-use Rattle.dm_linkupdate.specs.Notice.{update_of}
-use Rattle.dm_message.specs.declared.Message.{Message}
-use Rattle.dm_message.specs.declared.MsgId.{MsgId}
-use Rattle.dm_message.specs.declared.What.{What}
-use Rattle.dm_message.specs.declared.What.TheVariants as what
-use Rattle.dm_message.specs.declared.kind.MessageKind.{MessageKind}
-use Rattle.dm_message.specs.declared.kind.MessageKind.TheVariants as kind
-use Rattle.dm_message.specs.Ids.{id_eq, id_of}
-use Rattle.dm_message.specs.Kinds.{kind_of, plain_kind}
-use Rattle.dm_message.specs.Plain as plain_
-use Rattle.dm_message.specs.Plain.{PlainMessage, PlainWhat, plain_message, plain_what, with_what}
-use Rattle.dm_records.specs.declared.record.Record.TheVariants as record_
-use Rattle.dm_records.specs.Records.{incoming_of}
-use Rattle.dm_migrate.specs.Departure.{sent_on}
-use Rattle.dm_onekernel.specs.declared.boot.Boot.{Boot}
-use Rattle.dm_onekernel.specs.Boot.{manager}
-use Rattle.dm_onekernel.specs.Kernel.{OneKernel}
-use Rattle.dm_onekernel.specs.Options.{bind}
-use Rattle.dm_kernel.specs.declared.part.Part.TheVariants as part
-use Rattle.dm_kernel.specs.Following.{forwards_and}
+use Rattle.dm_mirror.proofs.Names.{◌≡◌, ◌≢◌, ℕ, ◌+◌, ◌≤◌, Bool, true, false, List, [], ◌∷◌, map, refl, ap, ◌∙◌, sym, subst, is_some, arith, if◌then◌else◌, Option, None, Some, false≢true, Pid, pid_of, place_of, update_of}
+use Rattle.dm_mirror.proofs.Names.{Message, MsgId, What, Record, Line, MessageKind, id_eq, id_of, kind_of, plain_kind, PlainMessage, PlainWhat, plain_message, plain_what, with_what, incoming_of, sent_on, Boot, manager, OneKernel, bind}
+use Rattle.dm_mirror.proofs.Names.{forwards_and, KernelState, id_eq-same, id_eq-swap, Addresses, Receiver, Sender, is_told_back, unmoved, forwards_on, process_told, Point, moved, at_machine, Spot, Queue, Held, StandsOnce, standing, About}
+use Rattle.dm_mirror.proofs.Names.{Known, Forward, Told, forward_about, forwarded_for, handled, own_id, receiver_of, stands_right, WhatFits, is_fixed, own_sort, Run, Placed, Mirrors, free_off, plain_sent_on, forwarded_mirrors}
+use Rattle.dm_mirror.proofs.Names.{moves_forwarded, update_gets, parts, mirrors_view, AllOwnStand, OwnStands, KnownStands, AllRecords, Wants}
+use Rattle.dm_kernel.specs.declared.part.Part.{Part}
 use Rattle.dm_kernel.specs.State as machine
-use Rattle.dm_kernel.specs.State.{KernelState, Turned, with_sent}
-use Rattle.dm_laws.proofs.Equal.{id_eq-same, id_eq-swap}
-use Rattle.dm_line.specs.declared.line.Line.TheVariants as line
-use Rattle.dm_rule.specs.Addresses.{Addresses, Receiver, Sender, is_told_back, unmoved}
-use Rattle.dm_rule.specs.Migrating.{forwards_on, process_told}
+use Rattle.dm_kernel.specs.State.{with_sent}
 use Rattle.dm_rule.specs.Parts as rule
-use Rattle.dm_rule.specs.Point.{Point, moved}
 use Rattle.dm_rule.specs.Rule.{process_handles}
-use Rattle.dm_line.specs.Sets.{at_machine}
-use Rattle.dm_rule.specs.Spots.{Spot, Queue, Held, StandsOnce, standing}
-use Rattle.dm_rule.specs.View.{About, Known, Forward, Told, forward_about, forwarded_for, handled, own_id, receiver_of}
-use Rattle.dm_rule.specs.View as view
-use Rattle.dm_rule.proofs.Groups.{stands_right}
-use Rattle.dm_rulelaws.specs.Fits.{WhatFits}
-use Rattle.dm_rulelaws.specs.Found.{is_fixed}
-use Rattle.dm_rulelaws.proofs.Own.Told.{own_sort}
-use Rattle.dm_rulelaws.proofs.Runs.{Run}
-use Rattle.dm_places.specs.Placed.{Placed, Mirrors}
 use Rattle.dm_places.specs.PlacedStep.{with_message}
-use Rattle.dm_places.proofs.Changed.{free_off, plain_sent_on}
-use Rattle.dm_places.proofs.Followed.{forwarded_mirrors, moves_forwarded, update_gets}
-use Rattle.dm_places.proofs.Keeps.{parts}
-use Rattle.dm_places.proofs.Lines.{mirrors_view}
-use Rattle.dm_mirror.specs.Own.{AllOwnStand, OwnStands}
-use Rattle.dm_mirror.specs.Stands.{KnownStands}
-use Rattle.dm_mirror.specs.Tokens.{AllRecords, Wants}
 use Rattle.dm_mirror.proofs.Follow.Frames.{Fronts, apart_at, held_apart, known_on, queue_apart}
 use Rattle.dm_mirror.proofs.Follow.Fronts.{IsProcess, front_still, is_process_of, plain_kinds, plain_there}
 use Rattle.dm_mirror.proofs.Follow.Receivers.{machine_process, rule_process}
@@ -60,33 +17,20 @@ use Rattle.dm_mirror.proofs.Follow.Rows.{handled_point, handled_view, turns_foll
 use Rattle.dm_mirror.proofs.Turning.{AllMayPut, MayOwn, MayPut, On, Own, Route, TurnsAt, begun, owns, part_of, rule_part_of}
 
 -- of the kernels' own messages only requests to move a process are told back
-own_back : (w : What) → plain_what w ≡ None → is_told_back (kind_of w) ≡ true → kind_of w ≡ kind.Migrate
-own_back (what.Migrate machine) e back = refl
-own_back (what.Update about) e back = absurd (false≢true back)
-own_back (what.Ask pid blocks moves size asker) e back = absurd (false≢true back)
-own_back (what.Refuse pid slots blocks) e back = absurd (false≢true back)
-own_back (what.PullState pid chunk) e back = absurd (false≢true back)
-own_back (what.State pid chunk last bytes) e back = absurd (false≢true back)
-own_back (what.PullBlock pid block) e back = absurd (false≢true back)
-own_back (what.Memory pid block bytes) e back = absurd (false≢true back)
-own_back (what.AllTaken pid) e back = absurd (false≢true back)
-own_back (what.Restart pid) e back = absurd (false≢true back)
-own_back (what.CallOff pid) e back = absurd (false≢true back)
-own_back (what.Bury pid) e back = absurd (false≢true back)
-own_back (what.User code channel body links) e back = cc
-own_back what.Stop e back = cc
-own_back what.Resume e back = cc
-own_back what.Kill e back = cc
-own_back (what.Read base len) e back = cc
-own_back (what.Write base bytes) e back = cc
-own_back (what.Block bytes) e back = cc
-own_back what.Written e back = cc
-own_back what.Gone e back = cc
-own_back (what.Create image links) e back = cc
-own_back (what.Created pid) e back = cc
-own_back what.NoRoom e back = cc
-own_back (what.Move machine) e back = cc
-own_back (what.Moved outcome) e back = cc
+own_back : (w : What) → plain_what w ≡ None → is_told_back (kind_of w) ≡ true → kind_of w ≡ MessageKind.Migrate
+own_back (What.Migrate machine) e back = refl
+own_back (What.Update about) e back = absurd (false≢true back)
+own_back (What.Ask pid blocks moves size asker) e back = absurd (false≢true back)
+own_back (What.Refuse pid slots blocks) e back = absurd (false≢true back)
+own_back (What.PullState pid chunk) e back = absurd (false≢true back)
+own_back (What.State pid chunk last bytes) e back = absurd (false≢true back)
+own_back (What.PullBlock pid block) e back = absurd (false≢true back)
+own_back (What.Memory pid block bytes) e back = absurd (false≢true back)
+own_back (What.AllTaken pid) e back = absurd (false≢true back)
+own_back (What.Restart pid) e back = absurd (false≢true back)
+own_back (What.CallOff pid) e back = absurd (false≢true back)
+own_back (What.Bury pid) e back = absurd (false≢true back)
+own_back _ e back = cc
 
 -- the name of the kernel's next message is free
 once_told : (i : MsgId) (f : Spot → ℕ) (o : Option Told) → StandsOnce f → ((z : Spot) → 1 ≤ f z → is_some o ≡ true) → o ≡ None → ⊥
@@ -121,13 +65,13 @@ own_named : (b : Boot) (m : ℕ) (pt : Point) (l : Placed) (records : AllRecords
 own_named b m pt l records k y c = λ i. record { from = pid_of (c.stands.here i) 0; n = c.counted i; answer = false }
 
 -- what the machine knows
-forward_of : (pt : Point) (l : Placed) (p : Pid) (queue held_ : List MsgId) (at moves : ℕ) (r : Option machine.Known) → KnownStands pt l p queue held_ (Forward at moves) r → r ≡ Some (record_.Forward at moves)
-forward_of pt l p queue held_ at moves (Some (record_.Forward to count)) h = λ i. Some (record_.Forward (h.0 i) (h.1 i))
+forward_of : (pt : Point) (l : Placed) (p : Pid) (queue held_ : List MsgId) (at moves : ℕ) (r : Option machine.Known) → KnownStands pt l p queue held_ (Forward at moves) r → r ≡ Some (Record.Forward at moves)
+forward_of pt l p queue held_ at moves (Some (Record.Forward to count)) h = λ i. Some (Record.Forward (h.0 i) (h.1 i))
 forward_of pt l p queue held_ at moves r h = absurd h
 
 -- where the line leads
 abbrev forwarded : Point → ℕ → Message → ℕ → Point
-forwarded pt m y at = moved (begun pt m) (line.Forwarded y.id at) pt.kernel
+forwarded pt m y at = moved (begun pt m) (Line.Forwarded y.id at) pt.kernel
 
 -- the sender, as the rule names it
 sender_is : (b : Boot) (m : ℕ) (pt : Point) (l : Placed) (records : AllRecords) (k : KernelState) (y : Message) (c : Fronts b m pt l records k y) → plain_what y.what ≡ None → is_told_back (kind_of y.what) ≡ true → manager ≡ y.sender.pid
@@ -149,21 +93,21 @@ abbrev sent_by : KernelState → Bool → KernelState
 sent_by s true = with_sent s
 sent_by s false = s
 
-machine_forwards : (s : KernelState) (y : Message) (at moves : ℕ) (back : Bool) → forwards_and s y at moves back ≡ Some (record { state = sent_by s back; parts = part.Says (line.Forwarded y.id at) ∷ map part_of (routes_of y (machine.own_id s) s.here at moves back) })
+machine_forwards : (s : KernelState) (y : Message) (at moves : ℕ) (back : Bool) → forwards_and s y at moves back ≡ Some (record { state = sent_by s back; parts = Part.Says (Line.Forwarded y.id at) ∷ map part_of (routes_of y (machine.own_id s) s.here at moves back) })
 machine_forwards s y at moves true = refl
 machine_forwards s y at moves false = refl
 
 rule_forwards : (a : Addresses) (y : Message) (k : MessageKind) (sender : Pid) (id : MsgId) (here at moves : ℕ) (back : Bool) → is_told_back k ≡ back → (back ≡ true → sender ≡ y.sender.pid) → a (Sender y.id) ≡ place_of y.sender
-    → forwards_on a y.id k sender at ≡ rule.Says (line.Forwarded y.id at) ∷ map rule_part_of (routes_of y id here at moves back)
+    → forwards_on a y.id k sender at ≡ rule.Says (Line.Forwarded y.id at) ∷ map rule_part_of (routes_of y id here at moves back)
 rule_forwards a y k sender id here at moves true is who place =
-    ap (λ (t : Bool). rule.Says (line.Forwarded y.id at) ∷ rule.Again y.id at ∷ (if t then rule.Owns kind.Update sender (a (Sender y.id)).at ∷ [] else [])) is
-    ∙ (λ i. rule.Says (line.Forwarded y.id at) ∷ rule.Again y.id at ∷ rule.Owns kind.Update (who refl i) (place i).at ∷ [])
+    ap (λ (t : Bool). rule.Says (Line.Forwarded y.id at) ∷ rule.Again y.id at ∷ (if t then rule.Owns MessageKind.Update sender (a (Sender y.id)).at ∷ [] else [])) is
+    ∙ (λ i. rule.Says (Line.Forwarded y.id at) ∷ rule.Again y.id at ∷ rule.Owns MessageKind.Update (who refl i) (place i).at ∷ [])
 rule_forwards a y k sender id here at moves false is who place =
-    ap (λ (t : Bool). rule.Says (line.Forwarded y.id at) ∷ rule.Again y.id at ∷ (if t then rule.Owns kind.Update sender (a (Sender y.id)).at ∷ [] else [])) is
+    ap (λ (t : Bool). rule.Says (Line.Forwarded y.id at) ∷ rule.Again y.id at ∷ (if t then rule.Owns MessageKind.Update sender (a (Sender y.id)).at ∷ [] else [])) is
 
 outcome_forwards : (b : Boot) (m : ℕ) (pt : Point) (l : Placed) (records : AllRecords) (k : KernelState) (y : Message) (c : Fronts b m pt l records k y) (id : MsgId) (here at moves : ℕ) (back : Bool) (z : Option PlainMessage) → plain_message y ≡ z → is_told_back (kind_of y.what) ≡ back
-    → ((x : PlainMessage) → z ≡ Some x → process_handles pt m y.id x (Forward at moves) ≡ Some (rule.Says (line.Forwarded y.id at) ∷ map rule_part_of (routes_of y id here at moves back)))
-    × (z ≡ None → process_told pt m y.id c.told (Forward at moves) ≡ Some (rule.Says (line.Forwarded y.id at) ∷ map rule_part_of (routes_of y id here at moves back)))
+    → ((x : PlainMessage) → z ≡ Some x → process_handles pt m y.id x (Forward at moves) ≡ Some (rule.Says (Line.Forwarded y.id at) ∷ map rule_part_of (routes_of y id here at moves back)))
+    × (z ≡ None → process_told pt m y.id c.told (Forward at moves) ≡ Some (rule.Says (Line.Forwarded y.id at) ∷ map rule_part_of (routes_of y id here at moves back)))
 outcome_forwards b m pt l records k y c id here at moves back z plain has =
     let place = (c.mirrors.places.message y.id y c.there).sender in (
       λ x is. (let w = parts y x (plain ∙ is) in
@@ -173,7 +117,7 @@ outcome_forwards b m pt l records k y c id here at moves back z plain has =
 
 -- the update may be put
 update_may : (b : Boot) (m : ℕ) (pt : Point) (l : Placed) (records all : AllRecords) (k : KernelState) (y : Message) (c : Fronts b m pt l records k y) (at moves : ℕ) → pt.view.known m y.to.pid ≡ Forward at moves → is_told_back (kind_of y.what) ≡ true
-    → MayOwn (handled_point pt m y.id pt.view.held (view.Place y.to.pid at moves) (forwarded pt m y at).addresses) (with_message l y.id (Some (sent_on at moves y))) all (update_of y (machine.own_id k) k.here at moves)
+    → MayOwn (handled_point pt m y.id pt.view.held (About.Place y.to.pid at moves) (forwarded pt m y at).addresses) (with_message l y.id (Some (sent_on at moves y))) all (update_of y (machine.own_id k) k.here at moves)
 update_may b m pt l records all k y c at moves knows has =
     let start = mirrors_view pt.kernel pt.view (begun pt m).view pt.addresses l refl c.mirrors in
     let own = own_id (begun pt m).view in
@@ -196,12 +140,12 @@ update_may b m pt l records all k y c at moves knows has =
 
 -- the message that goes on may be put
 on_may : (b : Boot) (m : ℕ) (pt : Point) (l : Placed) (records all : AllRecords) (k : KernelState) (y : Message) (c : Fronts b m pt l records k y) (at moves : ℕ) → IsProcess y.to.pid
-    → MayPut (handled_point pt m y.id pt.view.held (view.Place y.to.pid at moves) (forwarded pt m y at).addresses) (with_message l y.id (Some (sent_on at moves y))) all (On (sent_on at moves y))
+    → MayPut (handled_point pt m y.id pt.view.held (About.Place y.to.pid at moves) (forwarded pt m y at).addresses) (with_message l y.id (Some (sent_on at moves y))) all (On (sent_on at moves y))
 on_may b m pt l records all k y c at moves is =
     (ap (λ (t : Bool). if t then Some (sent_on at moves y) else l.bag y.id) (id_eq-same y.id), (c.told, c.told_is, c.kind, c.receiver), front_still b m pt l records k y c is.number)
 
 all_may : (b : Boot) (m : ℕ) (pt : Point) (l : Placed) (records all : AllRecords) (k : KernelState) (y : Message) (c : Fronts b m pt l records k y) (at moves : ℕ) (back : Bool) → IsProcess y.to.pid → pt.view.known m y.to.pid ≡ Forward at moves → is_told_back (kind_of y.what) ≡ back
-    → AllMayPut (handled_point pt m y.id pt.view.held (view.Place y.to.pid at moves) (forwarded pt m y at).addresses) (with_message l y.id (Some (sent_on at moves y))) all (routes_of y (machine.own_id k) k.here at moves back)
+    → AllMayPut (handled_point pt m y.id pt.view.held (About.Place y.to.pid at moves) (forwarded pt m y at).addresses) (with_message l y.id (Some (sent_on at moves y))) all (routes_of y (machine.own_id k) k.here at moves back)
 all_may b m pt l records all k y c at moves true is knows has = (on_may b m pt l records all k y c at moves is, (update_may b m pt l records all k y c at moves knows has, tt))
 all_may b m pt l records all k y c at moves false is knows has = (on_may b m pt l records all k y c at moves is, tt)
 
@@ -237,7 +181,7 @@ forward_row b m pt l records k y c at moves back is knows has =
     let s = record k { inbox = c.rest } in
     let state = sent_by s back in
     let routes = routes_of y (machine.own_id k) k.here at moves back in
-    let topic = view.Place p at moves in
+    let topic = About.Place p at moves in
     let next = forwarded pt m y at in
     let placed = with_message l y.id (Some (sent_on at moves y)) in
     let r = forward_of pt l p (pt.view.queue m p) (pt.view.held m p) at moves (k.records p) (subst (λ (j : Known). KnownStands pt l p (pt.view.queue m p) (pt.view.held m p) j (k.records p)) knows (c.stands.known p is.server)) in
@@ -248,15 +192,15 @@ forward_row b m pt l records k y c at moves back is knows has =
     let bag_off = λ (j : MsgId) (off : id_eq y.id j ≡ false). ap (λ (t : Bool). if t then Some (sent_on at moves y) else l.bag j) off in
     turns_follow b m pt l records k y c (record {
       state = state;
-      said = line.Forwarded y.id at;
+      said = Line.Forwarded y.id at;
       routes = routes;
       held = pt.view.held;
       topic = topic;
       addresses = next.addresses;
       placed = placed;
       process = p;
-      turn = machine_process b s y (Some (record_.Forward at moves)) (Some (record { state = state; parts = part.Says (line.Forwarded y.id at) ∷ map part_of routes })) is r (ap (forwards_and s y at moves) has ∙ machine_forwards s y at moves back);
-      outcome = rule_process b m pt l records k y c (Forward at moves) (Some (rule.Says (line.Forwarded y.id at) ∷ map rule_part_of routes)) (plain_message y) is knows refl out.0 out.1;
+      turn = machine_process b s y (Some (Record.Forward at moves)) (Some (record { state = state; parts = Part.Says (Line.Forwarded y.id at) ∷ map part_of routes })) is r (ap (forwards_and s y at moves) has ∙ machine_forwards s y at moves back);
+      outcome = rule_process b m pt l records k y c (Forward at moves) (Some (rule.Says (Line.Forwarded y.id at) ∷ map rule_part_of routes)) (plain_message y) is knows refl out.0 out.1;
       after = ap (λ (o : Option Pid). Some (record { kernel = pt.kernel; view = forwarded_for (handled (begun pt m).view y.id) o; addresses = next.addresses })) (ap receiver_of c.told_is ∙ ap Some c.receiver)
           ∙ ap (λ (j : Known). Some (handled_point pt m y.id pt.view.held (forward_about p j) next.addresses)) knows;
       mirrors = mirrors_view pt.kernel next.view (handled_view pt m y.id pt.view.held topic) next.addresses placed (sym (moves_forwarded (handled (begun pt m).view y.id) (receiver_of (pt.view.told y.id)))) gone;

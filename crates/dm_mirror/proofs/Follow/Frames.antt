@@ -1,41 +1,14 @@
 -- The kernel of a machine still stands where the message at its front is held, goes on or makes links follow.
-use Rattle.std.proofs.Common.{◌≡◌, ◌≢◌, ℕ, ◌+◌, ◌≤◌, ◌<◌, ◌==◌, Bool, true, false, List, [], ◌∷◌, map, refl, ap, ◌∙◌, sym, subst, inl, inr, arith}
-use Rattle.std.specs.Prelude.{if◌then◌else◌}
-use Rattle.std.specs.declared.option.Option.{Option}
-use Rattle.std.specs.declared.option.Option.TheVariants.{None, Some}
-use Rattle.std.proofs.lemmas.Bool.{cases_Bool, false≢true}
-use Rattle.std.proofs.lemmas.Bool.Decides.{nat_tests}
-use Rattle.dm_link.specs.declared.Pid.{Pid}
-use Rattle.dm_message.specs.declared.MsgId.{MsgId}
-use Rattle.dm_message.specs.declared.Message.{Message}
-use Rattle.dm_message.specs.Ids.{id_eq}
-use Rattle.dm_message.specs.Kinds.{kind_of}
-use Rattle.dm_message.specs.Plain.{PlainMessage}
-use Rattle.dm_records.specs.declared.record.Record.TheVariants as record_
-use Rattle.dm_onekernel.specs.declared.boot.Boot.{Boot}
+use Rattle.dm_mirror.proofs.Names.{◌≡◌, ◌≢◌, ℕ, ◌+◌, ◌≤◌, ◌<◌, ◌==◌, Bool, true, false, List, [], ◌∷◌, map, refl, ap, ◌∙◌, sym, subst, inl, inr, arith, if◌then◌else◌, Option, None, Some, cases_Bool, false≢true, nat_tests, Pid, MsgId}
+use Rattle.dm_mirror.proofs.Names.{Message, id_eq, kind_of, PlainMessage, Record, Boot, KernelState, id_eq-is, id_eq-same, Point, at_machine, without_front, Spot, Held, Inbox, times, standing, StandsOnce, StandsOutside, StandsRight, Known}
+use Rattle.dm_mirror.proofs.Names.{Unknown, Here, Frozen, Incoming, Forward, Ended, Told, is_kernels, stands_right, once_at, OwnTold, Run, Placed, Mirrors, AllOwnStand, AreMessages, KnownStands, KernelStands, AllRecords, TokensStand}
 use Rattle.dm_onekernel.specs.Step as kernel
 use Rattle.dm_kernel.specs.State as machine
-use Rattle.dm_kernel.specs.State.{KernelState}
-use Rattle.dm_laws.proofs.Equal.{id_eq-is, id_eq-same}
-use Rattle.dm_rule.specs.Point.{Point}
-use Rattle.dm_line.specs.Sets.{at_machine, without_front}
-use Rattle.dm_rule.specs.Spots.{Spot, Queue, Held, Inbox, Untaken, times, standing, StandsOnce, StandsOutside, StandsRight}
-use Rattle.dm_rule.specs.View.{Known, Unknown, Here, Frozen, Incoming, Forward, Ended, Told, is_kernels}
-use Rattle.dm_rule.proofs.Groups.{stands_right}
-use Rattle.dm_rule.proofs.Standing.{once_at}
-use Rattle.dm_rulelaws.proofs.Own.Told.{OwnTold}
-use Rattle.dm_rulelaws.proofs.Runs.{Run}
-use Rattle.dm_places.specs.Placed.{Placed, Mirrors}
-use Rattle.dm_mirror.specs.Own.{AllOwnStand}
-use Rattle.dm_mirror.specs.Stands.{AreMessages, KnownStands, KernelStands}
-use Rattle.dm_mirror.specs.Tokens.{AllRecords, TokensStand}
-
--- messages by name
-pub times_self : (i : MsgId) (is : List MsgId) → 1 ≤ times i (i ∷ is)
-times_self i is = let e : times i (i ∷ is) ≡ 1 + times i is = ap (λ (c : Bool). (if c then 1 else 0) + times i is) (id_eq-same i) in omega (arith, e)
-
-pub times_more : (i j : MsgId) (is : List MsgId) → times i is ≤ times i (j ∷ is)
-times_more i j is = omega arith
+pub use Rattle.dm_rulelaws.proofs.Goes.Turns.{times_self}
+pub use Rattle.dm_rule.proofs.Lines.{eq_self}
+pub use Rattle.dm_rule.proofs.Lines.{at_machine_at as machine_self}
+pub use Rattle.dm_rulelaws.proofs.Goes.Turns.{times_more}
+pub use Rattle.dm_rulelaws.proofs.Goes.Always.{queue_apart}
 
 pub map_same : (f g : MsgId → Option Message) (ids : List MsgId) → ((j : MsgId) → 1 ≤ times j ids → g j ≡ f j) → map g ids ≡ map f ids
 map_same f g [] same = refl
@@ -48,23 +21,23 @@ map_same f g (j ∷ js) same =
 pub known_on : (pt next : Point) (l placed : Placed) (p : Pid) (queue held : List MsgId) (k : Known) (r : Option machine.Known) → placed.processes p ≡ l.processes p → next.kernel.processes p ≡ pt.kernel.processes p
     → ((j : MsgId) → 1 ≤ times j queue → placed.bag j ≡ l.bag j) → ((j : MsgId) → 1 ≤ times j held → placed.bag j ≡ l.bag j) → KnownStands pt l p queue held k r → KnownStands next placed p queue held k r
 known_on pt next l placed p queue held Unknown None same life bag back h = tt
-known_on pt next l placed p queue held Here (Some (record_.Here x)) same life bag back h = ((h.0.0, same ∙ h.0.1), map_same l.bag placed.bag queue bag ∙ h.1)
-known_on pt next l placed p queue held (Frozen to) (Some (record_.Frozen d)) same life bag back h = record {
+known_on pt next l placed p queue held Here (Some (Record.Here x)) same life bag back h = ((h.0.0, same ∙ h.0.1), map_same l.bag placed.bag queue bag ∙ h.1)
+known_on pt next l placed p queue held (Frozen to) (Some (Record.Frozen d)) same life bag back h = record {
   to = h.to;
   asker = h.asker;
   here = ((h.here.0.0, same ∙ h.here.0.1), map_same l.bag placed.bag queue bag ∙ h.here.1);
   held = map_same l.bag placed.bag held back ∙ h.held;
   whole = h.whole;
 }
-known_on pt next l placed p queue held (Incoming from) (Some (record_.Incoming a)) same life bag back h = record {
+known_on pt next l placed p queue held (Incoming from) (Some (Record.Incoming a)) same life bag back h = record {
   process = h.process;
   there = same ∙ h.there;
   whole = h.whole;
   pieces = h.pieces;
   held = map_same l.bag placed.bag held back ∙ h.held;
 }
-known_on pt next l placed p queue held (Forward at moves) (Some (record_.Forward to count)) same life bag back h = h
-known_on pt next l placed p queue held Ended (Some (record_.Ended y)) same life bag back h = ap kernel.ended life ∙ h
+known_on pt next l placed p queue held (Forward at moves) (Some (Record.Forward to count)) same life bag back h = h
+known_on pt next l placed p queue held Ended (Some (Record.Ended y)) same life bag back h = ap kernel.ended life ∙ h
 known_on pt next l placed p queue held k r same life bag back h = absurd h
 
 -- a message that stands somewhere stands there once, and nowhere else
@@ -130,13 +103,7 @@ apart_behind b m pt l records k y c j least =
 -- spots that aren't this inbox
 pub is_inbox : Spot → Bool
 is_inbox (Inbox m) = true
-is_inbox (Queue m p) = false
-is_inbox (Held m p) = false
-is_inbox (Untaken a b) = false
-
-pub queue_apart : (m n : ℕ) (p : Pid) → Queue n p ≢ Inbox m
-unfolding is_inbox
-queue_apart m n p e = false≢true (ap is_inbox e)
+is_inbox _ = false
 
 pub held_apart : (m n : ℕ) (p : Pid) → Held n p ≢ Inbox m
 unfolding is_inbox
@@ -152,12 +119,6 @@ eq_off m n apart = elim (cases_Bool (m == n)) [
   | inl same ↦ absurd (apart (let e : n ≡ m = grind (arith, nat_tests) in e))
   | inr off ↦ off
 ]
-
-pub eq_self : (m : ℕ) → (m == m) ≡ true
-eq_self m = grind (arith, nat_tests)
-
-pub machine_self : {X : Type 0} (f : ℕ → X) (m : ℕ) (x : X) → at_machine f m x m ≡ x
-machine_self f m x = ap (λ (c : Bool). if c then x else f m) (eq_self m)
 
 pub machine_off : {X : Type 0} (f : ℕ → X) (m n : ℕ) (x : X) → n ≢ m → at_machine f m x n ≡ f n
 machine_off f m n x apart = ap (λ (c : Bool). if c then x else f n) (eq_off m n apart)

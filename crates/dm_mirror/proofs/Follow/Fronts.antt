@@ -1,126 +1,55 @@
 -- The message at the front of an inbox: what it is, and what was told of it.
-use Rattle.std.proofs.Common.{◌≡◌, ℕ, ◌≤◌, ◌<◌, ◌==◌, ◌&&◌, ◌||◌, Bool, true, false, List, [], ◌∷◌, map, refl, ap, ◌∙◌, sym, subst, is_some}
-use Rattle.std.specs.declared.option.Option.{Option}
-use Rattle.std.specs.declared.option.Option.TheVariants.{None, Some}
-use Rattle.std.proofs.lemmas.Bool.{false≢true}
-use Rattle.dm_link.specs.declared.Pid.{Pid}
-use Rattle.dm_link.specs.Names.{pid_eq}
-use Rattle.dm_message.specs.declared.MsgId.{MsgId}
-use Rattle.dm_message.specs.declared.Message.{Message}
-use Rattle.dm_message.specs.declared.What.{What}
-use Rattle.dm_message.specs.declared.What.TheVariants as what
-use Rattle.dm_message.specs.declared.kind.MessageKind.{MessageKind}
-use Rattle.dm_message.specs.declared.kind.MessageKind.TheVariants as kind
-use Rattle.dm_message.specs.Kinds.{kind_of, plain_kind}
-use Rattle.dm_message.specs.Plain.{PlainMessage, PlainWhat, plain_message, plain_what, with_what}
-use Rattle.dm_onekernel.specs.declared.boot.Boot.{Boot}
-use Rattle.dm_onekernel.specs.Boot.{switchboard, manager}
-use Rattle.dm_onekernel.specs.Options.{bind}
-use Rattle.dm_kernel.specs.State.{KernelState}
-use Rattle.dm_rule.specs.Phases.{is_between}
-use Rattle.dm_rule.specs.Point.{Point}
-use Rattle.dm_rule.specs.Spots.{Inbox, times, standing}
-use Rattle.dm_rule.specs.View.{About, Told}
-use Rattle.dm_rulelaws.specs.Fits.{is_server}
-use Rattle.dm_rulelaws.specs.Found.{is_fixed}
-use Rattle.dm_rulelaws.proofs.Own.Told.{OwnTold, is_process, own_sort}
-use Rattle.dm_rulelaws.proofs.Runs.{Run}
-use Rattle.dm_places.specs.Placed.{Placed, Mirrors}
-use Rattle.dm_places.proofs.Keeps.{parts}
-use Rattle.dm_mirror.specs.Own.{AllOwnStand, told_of}
-use Rattle.dm_mirror.specs.Stands.{AreMessages, KernelStands}
-use Rattle.dm_mirror.specs.Tokens.{AllRecords, TokensStand}
+use Rattle.dm_mirror.proofs.Names.{◌≡◌, ℕ, ◌≤◌, ◌<◌, ◌==◌, ◌&&◌, ◌||◌, Bool, true, false, List, [], ◌∷◌, map, refl, ap, ◌∙◌, sym, subst, Option, None, Some, false≢true, Pid, pid_eq, MsgId, Message, What, MessageKind, kind_of, plain_kind}
+use Rattle.dm_mirror.proofs.Names.{PlainMessage, PlainWhat, plain_message, plain_what, with_what, Boot, switchboard, manager, bind, KernelState, is_between, Point, Inbox, times, standing, About, Told, is_server, is_fixed, OwnTold}
+use Rattle.dm_mirror.proofs.Names.{is_process, own_sort, Run, Placed, Mirrors, parts, AllOwnStand, told_of, AreMessages, KernelStands, AllRecords, TokensStand, told_there}
 use Rattle.dm_mirror.proofs.Follow.Frames.{Fronts, times_self}
 
 -- what has a plain meaning is no message of a migration under way, and its kind is the plain one
 plain_still : (w : What) (o : PlainWhat) → plain_what w ≡ Some o → is_between (kind_of w) ≡ false
-plain_still (what.User code channel body links) o e = refl
-plain_still what.Stop o e = refl
-plain_still what.Resume o e = refl
-plain_still what.Kill o e = refl
-plain_still (what.Read base len) o e = refl
-plain_still (what.Write base bytes) o e = refl
-plain_still (what.Block bytes) o e = refl
-plain_still what.Written o e = refl
-plain_still what.Gone o e = refl
-plain_still (what.Create image links) o e = refl
-plain_still (what.Created pid) o e = refl
-plain_still what.NoRoom o e = refl
-plain_still (what.Move machine) o e = refl
-plain_still (what.Moved outcome) o e = refl
-plain_still (what.Migrate machine) o e = cc
-plain_still (what.Update about) o e = cc
-plain_still (what.Ask pid blocks moves size asker) o e = cc
-plain_still (what.Refuse pid slots blocks) o e = cc
-plain_still (what.PullState pid chunk) o e = cc
-plain_still (what.State pid chunk last bytes) o e = cc
-plain_still (what.PullBlock pid block) o e = cc
-plain_still (what.Memory pid block bytes) o e = cc
-plain_still (what.AllTaken pid) o e = cc
-plain_still (what.Restart pid) o e = cc
-plain_still (what.CallOff pid) o e = cc
-plain_still (what.Bury pid) o e = cc
+plain_still (What.Migrate machine) o e = cc
+plain_still (What.Update about) o e = cc
+plain_still (What.Ask pid blocks moves size asker) o e = cc
+plain_still (What.Refuse pid slots blocks) o e = cc
+plain_still (What.PullState pid chunk) o e = cc
+plain_still (What.State pid chunk last bytes) o e = cc
+plain_still (What.PullBlock pid block) o e = cc
+plain_still (What.Memory pid block bytes) o e = cc
+plain_still (What.AllTaken pid) o e = cc
+plain_still (What.Restart pid) o e = cc
+plain_still (What.CallOff pid) o e = cc
+plain_still (What.Bury pid) o e = cc
+plain_still _ o e = refl
 
 abbrev kinds : Option PlainWhat → Option MessageKind
 kinds None = None
 kinds (Some o) = Some (plain_kind o)
 
 pub plain_kinds : (w : What) (o : PlainWhat) → plain_what w ≡ Some o → plain_kind o ≡ kind_of w
-plain_kinds (what.User code channel body links) o e = let g : Some (plain_kind o) ≡ Some (kind_of (what.User code channel body links)) = ap kinds (sym e) in cc
-plain_kinds what.Stop o e = let g : Some (plain_kind o) ≡ Some (kind_of what.Stop) = ap kinds (sym e) in cc
-plain_kinds what.Resume o e = let g : Some (plain_kind o) ≡ Some (kind_of what.Resume) = ap kinds (sym e) in cc
-plain_kinds what.Kill o e = let g : Some (plain_kind o) ≡ Some (kind_of what.Kill) = ap kinds (sym e) in cc
-plain_kinds (what.Read base len) o e = let g : Some (plain_kind o) ≡ Some (kind_of (what.Read base len)) = ap kinds (sym e) in cc
-plain_kinds (what.Write base bytes) o e = let g : Some (plain_kind o) ≡ Some (kind_of (what.Write base bytes)) = ap kinds (sym e) in cc
-plain_kinds (what.Block bytes) o e = let g : Some (plain_kind o) ≡ Some (kind_of (what.Block bytes)) = ap kinds (sym e) in cc
-plain_kinds what.Written o e = let g : Some (plain_kind o) ≡ Some (kind_of what.Written) = ap kinds (sym e) in cc
-plain_kinds what.Gone o e = let g : Some (plain_kind o) ≡ Some (kind_of what.Gone) = ap kinds (sym e) in cc
-plain_kinds (what.Create image links) o e = let g : Some (plain_kind o) ≡ Some (kind_of (what.Create image links)) = ap kinds (sym e) in cc
-plain_kinds (what.Created pid) o e = let g : Some (plain_kind o) ≡ Some (kind_of (what.Created pid)) = ap kinds (sym e) in cc
-plain_kinds what.NoRoom o e = let g : Some (plain_kind o) ≡ Some (kind_of what.NoRoom) = ap kinds (sym e) in cc
-plain_kinds (what.Move machine) o e = let g : Some (plain_kind o) ≡ Some (kind_of (what.Move machine)) = ap kinds (sym e) in cc
-plain_kinds (what.Moved outcome) o e = let g : Some (plain_kind o) ≡ Some (kind_of (what.Moved outcome)) = ap kinds (sym e) in cc
-plain_kinds (what.Migrate machine) o e = cc
-plain_kinds (what.Update about) o e = cc
-plain_kinds (what.Ask pid blocks moves size asker) o e = cc
-plain_kinds (what.Refuse pid slots blocks) o e = cc
-plain_kinds (what.PullState pid chunk) o e = cc
-plain_kinds (what.State pid chunk last bytes) o e = cc
-plain_kinds (what.PullBlock pid block) o e = cc
-plain_kinds (what.Memory pid block bytes) o e = cc
-plain_kinds (what.AllTaken pid) o e = cc
-plain_kinds (what.Restart pid) o e = cc
-plain_kinds (what.CallOff pid) o e = cc
-plain_kinds (what.Bury pid) o e = cc
+plain_kinds (What.Migrate machine) o e = cc
+plain_kinds (What.Update about) o e = cc
+plain_kinds (What.Ask pid blocks moves size asker) o e = cc
+plain_kinds (What.Refuse pid slots blocks) o e = cc
+plain_kinds (What.PullState pid chunk) o e = cc
+plain_kinds (What.State pid chunk last bytes) o e = cc
+plain_kinds (What.PullBlock pid block) o e = cc
+plain_kinds (What.Memory pid block bytes) o e = cc
+plain_kinds (What.AllTaken pid) o e = cc
+plain_kinds (What.Restart pid) o e = cc
+plain_kinds (What.CallOff pid) o e = cc
+plain_kinds (What.Bury pid) o e = cc
+plain_kinds any_ o e = let g : Some (plain_kind o) ≡ Some (kind_of any_) = ap kinds (sym e) in cc
 
 -- nor is a kernel's own message for a process or a server
 own_still : (k : MessageKind) (q : Pid) (a : About) → own_sort k q a ≡ true → (q.num == 0) ≡ false → is_between k ≡ false
-own_still kind.Ask q a e num = absurd (false≢true (sym (ap (λ (c : Bool). c && is_process a) num) ∙ e))
-own_still kind.Refuse q a e num = absurd (false≢true (sym (ap (λ (c : Bool). c && is_process a) num) ∙ e))
-own_still kind.PullState q a e num = absurd (false≢true (sym (ap (λ (c : Bool). c && is_process a) num) ∙ e))
-own_still kind.State q a e num = absurd (false≢true (sym (ap (λ (c : Bool). c && is_process a) num) ∙ e))
-own_still kind.PullBlock q a e num = absurd (false≢true (sym (ap (λ (c : Bool). c && is_process a) num) ∙ e))
-own_still kind.Memory q a e num = absurd (false≢true (sym (ap (λ (c : Bool). c && is_process a) num) ∙ e))
-own_still kind.AllTaken q a e num = absurd (false≢true (sym (ap (λ (c : Bool). c && is_process a) num) ∙ e))
-own_still kind.Restart q a e num = absurd (false≢true (sym (ap (λ (c : Bool). c && is_process a) num) ∙ e))
-own_still kind.User q a e num = refl
-own_still kind.Stop q a e num = refl
-own_still kind.Resume q a e num = refl
-own_still kind.Kill q a e num = refl
-own_still kind.Read q a e num = refl
-own_still kind.Write q a e num = refl
-own_still kind.Block q a e num = refl
-own_still kind.Written q a e num = refl
-own_still kind.Gone q a e num = refl
-own_still kind.Create q a e num = refl
-own_still kind.Created q a e num = refl
-own_still kind.NoRoom q a e num = refl
-own_still kind.Migrate q a e num = refl
-own_still kind.Update q a e num = refl
-own_still kind.Move q a e num = refl
-own_still kind.Moved q a e num = refl
-own_still kind.CallOff q a e num = refl
-own_still kind.Bury q a e num = refl
+own_still MessageKind.Ask q a e num = absurd (false≢true (sym (ap (λ (c : Bool). c && is_process a) num) ∙ e))
+own_still MessageKind.Refuse q a e num = absurd (false≢true (sym (ap (λ (c : Bool). c && is_process a) num) ∙ e))
+own_still MessageKind.PullState q a e num = absurd (false≢true (sym (ap (λ (c : Bool). c && is_process a) num) ∙ e))
+own_still MessageKind.State q a e num = absurd (false≢true (sym (ap (λ (c : Bool). c && is_process a) num) ∙ e))
+own_still MessageKind.PullBlock q a e num = absurd (false≢true (sym (ap (λ (c : Bool). c && is_process a) num) ∙ e))
+own_still MessageKind.Memory q a e num = absurd (false≢true (sym (ap (λ (c : Bool). c && is_process a) num) ∙ e))
+own_still MessageKind.AllTaken q a e num = absurd (false≢true (sym (ap (λ (c : Bool). c && is_process a) num) ∙ e))
+own_still MessageKind.Restart q a e num = absurd (false≢true (sym (ap (λ (c : Bool). c && is_process a) num) ∙ e))
+own_still _ q a e num = refl
 
 -- who is no kernel and no server
 pub record IsProcess (p : Pid) : Type 0 where
@@ -160,14 +89,10 @@ record WasTold (pt : Point) (y : Message) : Type 0 where
   kind : told.kind ≡ kind_of y.what
   receiver : told.receiver ≡ y.to.pid
 
-told_some : (o : Option Told) → is_some o ≡ true → (t : Told) × (o ≡ Some t)
-told_some None e = cc
-told_some (Some t) e = (t, refl)
-
 was_told : (b : Boot) (m : ℕ) (pt : Point) (l : Placed) (y : Message) (o : Option PlainMessage) → Run b pt → Mirrors pt.kernel pt.view pt.addresses l → AllOwnStand pt.view l → l.bag y.id ≡ Some y → 1 ≤ standing pt.view y.id (Inbox m) → plain_message y ≡ o → WasTold pt y
 was_told b m pt l y None run mirrors own there least e = let w = own y.id y there e in record { told = told_of y; is = w.told; kind = refl; receiver = refl }
 was_told b m pt l y (Some x) run mirrors own there least e =
-    let (t, is) = told_some (pt.view.told y.id) (run.found.told y.id (Inbox m) least) in
+    let (t, is) = told_there (pt.view.told y.id) (run.found.told y.id (Inbox m) least) in
     let bag : pt.kernel.bag y.id ≡ Some x = sym (mirrors.plain.bag y.id) ∙ ap (λ (z : Option Message). bind z plain_message) there ∙ e in
     let right = run.based.phased.sane.tells in
     let p = parts y x e in

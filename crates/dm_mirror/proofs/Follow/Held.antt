@@ -1,48 +1,21 @@
 -- A message for a process that leaves a machine or comes to it is held there.
-use Rattle.std.proofs.Common.{◌≡◌, ◌≢◌, ℕ, ◌+◌, ◌==◌, ◌&&◌, Bool, true, false, List, [], ◌∷◌, ◌++◌, map, refl, ap, ◌∙◌, sym, subst, inl, inr, arith}
-use Rattle.std.specs.Prelude.{if◌then◌else◌}
-use Rattle.std.specs.declared.option.Option.{Option}
-use Rattle.std.specs.declared.option.Option.TheVariants.{Some}
-use Rattle.std.proofs.lemmas.Bool.{cases_Bool, false≢true}
-use Rattle.std.proofs.lemmas.Bool.Decides.{nat_tests}
-use Rattle.dm_link.specs.declared.Pid.{Pid}
-use Rattle.dm_link.specs.Names.{pid_eq}
-use Rattle.dm_message.specs.declared.MsgId.{MsgId}
-use Rattle.dm_message.specs.declared.Message.{Message}
-use Rattle.dm_message.specs.Ids.{id_eq}
-use Rattle.dm_message.specs.Plain.{PlainMessage, plain_message}
-use Rattle.dm_records.specs.declared.record.Record.TheVariants as record_
-use Rattle.dm_records.specs.Records.{incoming_of}
-use Rattle.dm_migrate.specs.declared.arriving.Wanted.{Wanted}
+use Rattle.dm_mirror.proofs.Names.{◌≡◌, ◌≢◌, ℕ, ◌+◌, ◌==◌, ◌&&◌, Bool, true, false, List, [], ◌∷◌, ◌++◌, map, refl, ap, ◌∙◌, sym, subst, inl, inr, arith, if◌then◌else◌, Option, Some, cases_Bool, false≢true, nat_tests, Pid, pid_eq, MsgId}
+use Rattle.dm_mirror.proofs.Names.{Message, id_eq, PlainMessage, plain_message, Record, Line, incoming_of, Wanted, Arrival, Departure, Boot, KernelState, with_known, id_eq-swap, pid_eq-is, process_told, Point, at_record, times, Known}
+use Rattle.dm_mirror.proofs.Names.{Frozen, Incoming, handled, receiver_of, is_fixed, Placed, mirrors_view, AreMessages, ComesStand, KnownStands, LeavesStand, AllRecords, Wants}
+use Rattle.dm_kernel.specs.declared.part.Part.{Part}
 use Rattle.dm_migrate.specs.Arrival as arrival
-use Rattle.dm_migrate.specs.Arrival.{Arrival}
 use Rattle.dm_migrate.specs.Departure as departure
-use Rattle.dm_migrate.specs.Departure.{Departure}
-use Rattle.dm_onekernel.specs.declared.boot.Boot.{Boot}
-use Rattle.dm_kernel.specs.declared.part.Part.TheVariants as part
 use Rattle.dm_kernel.specs.Handle as machine_handle
-use Rattle.dm_kernel.specs.Handle.{handles}
 use Rattle.dm_kernel.specs.State as machine
-use Rattle.dm_kernel.specs.State.{KernelState, Turned, with_known}
-use Rattle.dm_laws.proofs.Equal.{id_eq-swap, pid_eq-is, pid_eq-same}
-use Rattle.dm_line.specs.declared.line.Line.TheVariants as line
-use Rattle.dm_rule.specs.Migrating.{process_told}
 use Rattle.dm_rule.specs.Parts as rule
-use Rattle.dm_rule.specs.Point.{Point}
 use Rattle.dm_rule.specs.Rule.{process_handles}
-use Rattle.dm_line.specs.Sets.{at_record}
-use Rattle.dm_rule.specs.Spots.{times}
-use Rattle.dm_rule.specs.View.{Known, Frozen, Incoming, handled, held_for, receiver_of}
-use Rattle.dm_rulelaws.specs.Found.{is_fixed}
-use Rattle.dm_places.specs.Placed.{Placed}
-use Rattle.dm_places.proofs.Lines.{mirrors_view}
-use Rattle.dm_mirror.specs.Stands.{AreMessages, ComesStand, KnownStands, LeavesStand}
-use Rattle.dm_mirror.specs.Tokens.{AllRecords, Wants}
+use Rattle.dm_rule.specs.View.{held_for}
 use Rattle.dm_mirror.proofs.Follow.Frames.{Fronts, eq_off, eq_self}
 use Rattle.dm_mirror.proofs.Follow.Fronts.{IsProcess, front_still, is_process_of}
 use Rattle.dm_mirror.proofs.Follow.Receivers.{machine_process, rule_process, set_self, set_other}
 use Rattle.dm_mirror.proofs.Follow.Rows.{handled_point, handled_view, turns_follow}
 use Rattle.dm_mirror.proofs.Turning.{TurnsAt, begun}
+pub use Rattle.dm_rule.proofs.Lines.{at_record_at as record_self}
 
 -- a list with one message more
 map_both : (f : MsgId → Option Message) (is js : List MsgId) → map f (is ++ js) ≡ map f is ++ map f js
@@ -70,9 +43,6 @@ grown f m p n q i j off = elim (cases_Bool ((m == n) && pid_eq p q)) [
   | inr apart ↦ ap (λ (c : Bool). times i (if c then f m p ++ j ∷ [] else f n q)) apart
 ]
 
-pub record_self : {X : Type 0} (f : ℕ → Pid → X) (m : ℕ) (p : Pid) (x : X) → at_record f m p x m p ≡ x
-record_self f m p x = ap (λ (c : Bool). if c && pid_eq p p then x else f m p) (eq_self m) ∙ ap (λ (c : Bool). if c then x else f m p) (pid_eq-same p)
-
 record_off : {X : Type 0} (f : ℕ → Pid → X) (m n : ℕ) (p q : Pid) (x : X) → n ≢ m → at_record f m p x n q ≡ f n q
 record_off f m n p q x apart = ap (λ (c : Bool). if c && pid_eq p q then x else f n q) (eq_off m n apart)
 
@@ -84,8 +54,8 @@ abbrev held_list : Point → ℕ → Pid → MsgId → ℕ → Pid → List MsgI
 held_list pt m p i = at_record pt.view.held m p (pt.view.held m p ++ i ∷ [])
 
 held_row : (b : Boot) (m : ℕ) (pt : Point) (l : Placed) (records : AllRecords) (k : KernelState) (y : Message) (c : Fronts b m pt l records k y) (w : Known) (r new : machine.Known) → IsProcess y.to.pid → pt.view.known m y.to.pid ≡ w → k.records y.to.pid ≡ Some r
-    → machine_handle.process_handles (record k { inbox = c.rest }) y (Some r) ≡ Some (record { state = with_known (record k { inbox = c.rest }) y.to.pid new; parts = part.Says (line.Held y.id) ∷ [] })
-    → ((x : PlainMessage) → process_handles pt m y.id x w ≡ Some (rule.Says (line.Held y.id) ∷ [])) → process_told pt m y.id c.told w ≡ Some (rule.Says (line.Held y.id) ∷ [])
+    → machine_handle.process_handles (record k { inbox = c.rest }) y (Some r) ≡ Some (record { state = with_known (record k { inbox = c.rest }) y.to.pid new; parts = Part.Says (Line.Held y.id) ∷ [] })
+    → ((x : PlainMessage) → process_handles pt m y.id x w ≡ Some (rule.Says (Line.Held y.id) ∷ [])) → process_told pt m y.id c.told w ≡ Some (rule.Says (Line.Held y.id) ∷ [])
     → KnownStands (handled_point pt m y.id (held_list pt m y.to.pid y.id) (begun pt m).view.topic pt.addresses) l y.to.pid (pt.view.queue m y.to.pid) (pt.view.held m y.to.pid ++ y.id ∷ []) w (Some new)
     → ((u : Wanted) → Wants (incoming_of (Some r)) u → Wants (incoming_of (Some new)) u) → TurnsAt b m pt l records k
 held_row b m pt l records k y c w r new is knows there turn bag own known wants =
@@ -95,15 +65,15 @@ held_row b m pt l records k y c w r new is knows there turn bag own known wants 
     let state = with_known (record k { inbox = c.rest }) p new in
     turns_follow b m pt l records k y c (record {
       state = state;
-      said = line.Held y.id;
+      said = Line.Held y.id;
       routes = [];
       held = held;
       topic = topic;
       addresses = pt.addresses;
       placed = l;
       process = p;
-      turn = machine_process b (record k { inbox = c.rest }) y (Some r) (Some (record { state = state; parts = part.Says (line.Held y.id) ∷ [] })) is there turn;
-      outcome = rule_process b m pt l records k y c w (Some (rule.Says (line.Held y.id) ∷ [])) (plain_message y) is knows refl (λ x e. bag x) (λ e. own);
+      turn = machine_process b (record k { inbox = c.rest }) y (Some r) (Some (record { state = state; parts = Part.Says (Line.Held y.id) ∷ [] })) is there turn;
+      outcome = rule_process b m pt l records k y c w (Some (rule.Says (Line.Held y.id) ∷ [])) (plain_message y) is knows refl (λ x e. bag x) (λ e. own);
       after = ap (λ (o : Option Pid). Some (record { kernel = pt.kernel; view = held_for (handled (begun pt m).view y.id) y.id o; addresses = pt.addresses })) (ap receiver_of c.told_is ∙ ap Some c.receiver);
       mirrors = mirrors_view pt.kernel pt.view (handled_view pt m y.id held topic) pt.addresses l refl c.mirrors;
       held_off = λ n q off. record_off pt.view.held m n p q (pt.view.held m p ++ y.id ∷ []) off;
@@ -137,20 +107,20 @@ held_row b m pt l records k y c w r new is knows there turn bag own known wants 
 -- what the machine has of a process that leaves, or comes
 record Leaves (l : Placed) (p : Pid) (queue held_ : List MsgId) (to : ℕ) (r : Option machine.Known) : Type 0 where
   leaving : Departure
-  is : r ≡ Some (record_.Frozen leaving)
+  is : r ≡ Some (Record.Frozen leaving)
   stands : LeavesStand l p queue held_ to leaving
 
 leaves_of : (pt : Point) (l : Placed) (p : Pid) (queue held_ : List MsgId) (to : ℕ) (r : Option machine.Known) → KnownStands pt l p queue held_ (Frozen to) r → Leaves l p queue held_ to r
-leaves_of pt l p queue held_ to (Some (record_.Frozen d)) h = record { leaving = d; is = refl; stands = h }
+leaves_of pt l p queue held_ to (Some (Record.Frozen d)) h = record { leaving = d; is = refl; stands = h }
 leaves_of pt l p queue held_ to r h = absurd h
 
 record Comes (l : Placed) (p : Pid) (held_ : List MsgId) (r : Option machine.Known) : Type 0 where
   arriving : Arrival
-  is : r ≡ Some (record_.Incoming arriving)
+  is : r ≡ Some (Record.Incoming arriving)
   stands : ComesStand l p held_ arriving
 
 comes_of : (pt : Point) (l : Placed) (p : Pid) (queue held_ : List MsgId) (from : ℕ) (r : Option machine.Known) → KnownStands pt l p queue held_ (Incoming from) r → Comes l p held_ r
-comes_of pt l p queue held_ from (Some (record_.Incoming a)) h = record { arriving = a; is = refl; stands = h }
+comes_of pt l p queue held_ from (Some (Record.Incoming a)) h = record { arriving = a; is = refl; stands = h }
 comes_of pt l p queue held_ from r h = absurd h
 
 -- held where the process leaves
@@ -161,7 +131,7 @@ held_leaving b m pt l records k y c to fixed knows =
     let leave = leaves_of pt l p (pt.view.queue m p) (pt.view.held m p) to (k.records p) (subst (λ (j : Known). KnownStands pt l p (pt.view.queue m p) (pt.view.held m p) j (k.records p)) knows (c.stands.known p is.server)) in
     let d = leave.leaving in
     let s = leave.stands in
-    held_row b m pt l records k y c (Frozen to) (record_.Frozen d) (record_.Frozen (departure.with_held d y)) is knows leave.is refl (λ x. refl) refl
+    held_row b m pt l records k y c (Frozen to) (Record.Frozen d) (Record.Frozen (departure.with_held d y)) is knows leave.is refl (λ x. refl) refl
     (record { to = s.to; asker = s.asker; here = s.here; held = are_more l.bag (pt.view.held m p) d.held y.id y s.held c.there; whole = s.whole }) (λ u h. h)
 
 -- held where it comes
@@ -172,5 +142,5 @@ held_coming b m pt l records k y c from fixed knows =
     let come = comes_of pt l p (pt.view.queue m p) (pt.view.held m p) from (k.records p) (subst (λ (j : Known). KnownStands pt l p (pt.view.queue m p) (pt.view.held m p) j (k.records p)) knows (c.stands.known p is.server)) in
     let a = come.arriving in
     let s = come.stands in
-    held_row b m pt l records k y c (Incoming from) (record_.Incoming a) (record_.Incoming (arrival.with_held a y)) is knows come.is refl (λ x. refl) refl
+    held_row b m pt l records k y c (Incoming from) (Record.Incoming a) (Record.Incoming (arrival.with_held a y)) is knows come.is refl (λ x. refl) refl
     (record { process = s.process; there = s.there; whole = s.whole; pieces = ap (λ (z : Arrival). arrival.with_held z y) s.pieces; held = are_more l.bag (pt.view.held m p) a.held y.id y s.held c.there }) (λ u h. h)

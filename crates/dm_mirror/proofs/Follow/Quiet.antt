@@ -1,48 +1,12 @@
 -- A message of a kernel that changes no process of its machine: what it leads to.
-use Rattle.std.proofs.Common.{◌≡◌, ◌≢◌, ℕ, ◌+◌, ◌==◌, false, List, [], ◌∷◌, refl, ap, ◌∙◌, sym, subst, arith}
-use Rattle.std.specs.Prelude.{option_map}
-use Rattle.std.specs.declared.option.Option.{Option}
-use Rattle.std.specs.declared.option.Option.TheVariants.{None, Some}
-use Rattle.dm_link.specs.declared.Addr.{Addr}
-use Rattle.dm_link.specs.declared.Pid.{Pid}
-use Rattle.dm_message.specs.declared.Message.{Message}
-use Rattle.dm_message.specs.declared.MsgId.{MsgId}
-use Rattle.dm_message.specs.declared.What.{What}
-use Rattle.dm_message.specs.declared.What.TheVariants as what
-use Rattle.dm_message.specs.declared.kind.MessageKind.{MessageKind}
-use Rattle.dm_message.specs.Kinds.{kind_of}
-use Rattle.dm_message.specs.Plain.{PlainMessage, plain_message, plain_what, with_what}
-use Rattle.dm_records.specs.declared.record.Record.TheVariants as record_
-use Rattle.dm_onekernel.specs.declared.boot.Boot.{Boot}
-use Rattle.dm_onekernel.specs.declared.label.Why.{Why}
-use Rattle.dm_onekernel.specs.Kernel.{Life}
-use Rattle.dm_onekernel.specs.Kernel as life
-use Rattle.dm_onekernel.specs.Plain.{plain_process}
+use Rattle.dm_mirror.proofs.Names.{◌≡◌, ◌≢◌, ℕ, ◌+◌, ◌==◌, false, List, [], ◌∷◌, refl, ap, ◌∙◌, sym, subst, arith, Option, None, Some, Addr, Pid, Message, MsgId, What, Record, MessageKind, kind_of, PlainMessage, plain_message, plain_what}
+use Rattle.dm_mirror.proofs.Names.{with_what, Boot, Why, Life, Managing, Board, Servers, handles, KernelState, Line, Addresses, ended_told, Point, after_line, moved, comes_to, Known, Ended, is_fixed, Placed, Mirrors, mirrors_view}
+use Rattle.dm_mirror.proofs.Names.{updated_ended_mirrors, about_of, told_of, KnownStands, servers_at, AllRecords, no_process}
+use Rattle.dm_kernel.specs.declared.part.Part.{Part}
 use Rattle.dm_onekernel.specs.Step as kernel
-use Rattle.dm_process.specs.declared.process.Process.{Process}
-use Rattle.dm_procman.specs.Managing.{Managing}
-use Rattle.dm_switchboard.specs.Board.{Board}
-use Rattle.dm_kernel.specs.declared.kernel.Servers.{Servers}
-use Rattle.dm_kernel.specs.declared.part.Part.TheVariants as part
 use Rattle.dm_kernel.specs.Handle as machine_handle
-use Rattle.dm_kernel.specs.Handle.{handles}
 use Rattle.dm_kernel.specs.State as machine
-use Rattle.dm_kernel.specs.State.{KernelState}
-use Rattle.dm_line.specs.declared.line.Line.{Line}
-use Rattle.dm_line.specs.declared.line.Line.TheVariants as line
-use Rattle.dm_rule.specs.Addresses.{Addresses}
-use Rattle.dm_rule.specs.Migrating.{ended_told}
 use Rattle.dm_rule.specs.Parts as rule
-use Rattle.dm_rule.specs.Point.{Point, after_line, moved}
-use Rattle.dm_rule.specs.Rule.{comes_to}
-use Rattle.dm_rule.specs.View.{Known, Ended}
-use Rattle.dm_rulelaws.specs.Found.{is_fixed}
-use Rattle.dm_places.specs.Placed.{Placed, Mirrors}
-use Rattle.dm_places.proofs.Lines.{mirrors_view}
-use Rattle.dm_places.proofs.Updated.{updated_ended_mirrors}
-use Rattle.dm_mirror.specs.Own.{about_of, told_of}
-use Rattle.dm_mirror.specs.Stands.{KnownStands, servers_at}
-use Rattle.dm_mirror.specs.Tokens.{AllRecords}
 use Rattle.dm_mirror.proofs.Follow.Frames.{Fronts, known_on}
 use Rattle.dm_mirror.proofs.Follow.Fronts.{front_still, is_process_of}
 use Rattle.dm_mirror.proofs.Follow.Receivers.{machine_process, rule_process}
@@ -62,7 +26,7 @@ pub record Quiet (b : Boot) (m : ℕ) (pt : Point) (l : Placed) (records : AllRe
   pub board : Board
   pub manager : Managing
   pub servers : Option Servers
-  pub turn : handles b (record k { inbox = c.rest }) y ≡ Some (record { state = serving b m pt l records k y c servers; parts = part.Says said ∷ [] })
+  pub turn : handles b (record k { inbox = c.rest }) y ≡ Some (record { state = serving b m pt l records k y c servers; parts = Part.Says said ∷ [] })
   pub outcome : comes_to b pt m y.id (pt.kernel.bag y.id) ≡ Some (rule.Says said ∷ [])
   pub after : after_line (begun pt m) said ≡ Some (handled_point pt m y.id pt.view.held (begun pt m).view.topic addresses)
   pub mirrors : Mirrors pt.kernel (handled_view pt m y.id pt.view.held (begun pt m).view.topic) addresses (with_servers l board manager)
@@ -128,25 +92,21 @@ no_plain y x none e = let f : None ≡ Some x = sym (ap (with_what y) none) ∙ 
 -- a process that has ended
 pub record Gone (l : Placed) (p : Pid) (r : Option machine.Known) : Type 0 where
   pub because : Why
-  pub is : r ≡ Some (record_.Ended because)
+  pub is : r ≡ Some (Record.Ended because)
   pub none : l.processes p ≡ None
 
 not_alive : (o : Option Life) (y : Why) → kernel.ended o ≡ Some y → kernel.alive o ≡ None
 not_alive None y e = refl
-not_alive (Some (life.Alive x)) y e = cc
-not_alive (Some (life.Ended because)) y e = refl
-
-none_there : (o : Option Process) → option_map plain_process o ≡ None → o ≡ None
-none_there None e = refl
-none_there (Some x) e = cc
+not_alive (Some (Life.Alive x)) y e = cc
+not_alive (Some (Life.Ended because)) y e = refl
 
 gone_of : (pt : Point) (l : Placed) (p : Pid) (queue held_ : List MsgId) (r : Option machine.Known) → Mirrors pt.kernel pt.view pt.addresses l → KnownStands pt l p queue held_ Ended r → Gone l p r
-gone_of pt l p queue held_ (Some (record_.Ended y)) mirrors h = record { because = y; is = refl; none = none_there (l.processes p) (sym (mirrors.plain.processes p) ∙ not_alive (pt.kernel.processes p) y h) }
+gone_of pt l p queue held_ (Some (Record.Ended y)) mirrors h = record { because = y; is = refl; none = no_process (l.processes p) (sym (mirrors.plain.processes p) ∙ not_alive (pt.kernel.processes p) y h) }
 gone_of pt l p queue held_ r mirrors h = absurd h
 
 -- at a process that has ended
 pub ended_quiet : (b : Boot) (m : ℕ) (pt : Point) (l : Placed) (records : AllRecords) (k : KernelState) (y : Message) (c : Fronts b m pt l records k y) (said : Line) (a : Addresses) → is_fixed y.to.pid ≡ false → pt.view.known m y.to.pid ≡ Ended → plain_what y.what ≡ None
-    → machine_handle.ended_handles (record k { inbox = c.rest }) y y.what ≡ Some (record { state = record k { inbox = c.rest }; parts = part.Says said ∷ [] }) → ended_told y.id (kind_of y.what) ≡ Some (rule.Says said ∷ [])
+    → machine_handle.ended_handles (record k { inbox = c.rest }) y y.what ≡ Some (record { state = record k { inbox = c.rest }; parts = Part.Says said ∷ [] }) → ended_told y.id (kind_of y.what) ≡ Some (rule.Says said ∷ [])
     → after_line (begun pt m) said ≡ Some (handled_point pt m y.id pt.view.held (begun pt m).view.topic a) → (l.processes y.to.pid ≡ None → Mirrors pt.kernel (handled_view pt m y.id pt.view.held (begun pt m).view.topic) a l) → TurnsAt b m pt l records k
 ended_quiet b m pt l records k y c said a fixed knows none turn told after mirrors =
     let p = y.to.pid in
@@ -159,7 +119,7 @@ ended_quiet b m pt l records k y c said a fixed knows none turn told after mirro
       board = l.board;
       manager = l.manager;
       servers = k.servers;
-      turn = machine_process b s y (Some (record_.Ended gone.because)) (Some (record { state = s; parts = part.Says said ∷ [] })) is gone.is turn;
+      turn = machine_process b s y (Some (Record.Ended gone.because)) (Some (record { state = s; parts = Part.Says said ∷ [] })) is gone.is turn;
       outcome = rule_process b m pt l records k y c Ended (Some (rule.Says said ∷ [])) (plain_message y) is knows refl (λ x e. absurd (no_plain y x none e)) (λ e. ap (λ (t : MessageKind). ended_told y.id t) c.kind ∙ told);
       after = after;
       mirrors = mirrors gone.none;
@@ -170,16 +130,16 @@ ended_quiet b m pt l records k y c said a fixed knows none turn told after mirro
     })
 
 -- a request to move a process that has ended
-pub no_move_turn : (b : Boot) (m : ℕ) (pt : Point) (l : Placed) (records : AllRecords) (k : KernelState) (y : Message) (c : Fronts b m pt l records k y) (to : ℕ) → is_fixed y.to.pid ≡ false → pt.view.known m y.to.pid ≡ Ended → y.what ≡ what.Migrate to → TurnsAt b m pt l records k
+pub no_move_turn : (b : Boot) (m : ℕ) (pt : Point) (l : Placed) (records : AllRecords) (k : KernelState) (y : Message) (c : Fronts b m pt l records k y) (to : ℕ) → is_fixed y.to.pid ≡ false → pt.view.known m y.to.pid ≡ Ended → y.what ≡ What.Migrate to → TurnsAt b m pt l records k
 no_move_turn b m pt l records k y c to fixed knows e =
-    ended_quiet b m pt l records k y c (line.NoMove y.id) pt.addresses fixed knows (ap plain_what e) (ap (machine_handle.ended_handles (record k { inbox = c.rest }) y) e) (ap (λ (w : What). ended_told y.id (kind_of w)) e) refl
+    ended_quiet b m pt l records k y c (Line.NoMove y.id) pt.addresses fixed knows (ap plain_what e) (ap (machine_handle.ended_handles (record k { inbox = c.rest }) y) e) (ap (λ (w : What). ended_told y.id (kind_of w)) e) refl
     (λ none. mirrors_view pt.kernel pt.view (handled_view pt m y.id pt.view.held (begun pt m).view.topic) pt.addresses l refl c.mirrors)
 
 -- an update of one that has ended
-pub updated_ended_turn : (b : Boot) (m : ℕ) (pt : Point) (l : Placed) (records : AllRecords) (k : KernelState) (y : Message) (c : Fronts b m pt l records k y) (about : Addr) → is_fixed y.to.pid ≡ false → pt.view.known m y.to.pid ≡ Ended → y.what ≡ what.Update about → TurnsAt b m pt l records k
+pub updated_ended_turn : (b : Boot) (m : ℕ) (pt : Point) (l : Placed) (records : AllRecords) (k : KernelState) (y : Message) (c : Fronts b m pt l records k y) (about : Addr) → is_fixed y.to.pid ≡ false → pt.view.known m y.to.pid ≡ Ended → y.what ≡ What.Update about → TurnsAt b m pt l records k
 updated_ended_turn b m pt l records k y c about fixed knows e =
     let is = is_process_of y.to.pid fixed in
     let told = (c.own y.id y c.there (ap (λ (w : What). with_what y (plain_what w)) e)).told in
     let start = mirrors_view pt.kernel pt.view (begun pt m).view pt.addresses l refl c.mirrors in
-    ended_quiet b m pt l records k y c (line.Updated y.id 0) (moved (begun pt m) (line.Updated y.id 0) pt.kernel).addresses fixed knows (ap plain_what e) (ap (machine_handle.ended_handles (record k { inbox = c.rest }) y) e) (ap (λ (w : What). ended_told y.id (kind_of w)) e) refl
+    ended_quiet b m pt l records k y c (Line.Updated y.id 0) (moved (begun pt m) (Line.Updated y.id 0) pt.kernel).addresses fixed knows (ap plain_what e) (ap (machine_handle.ended_handles (record k { inbox = c.rest }) y) e) (ap (λ (w : What). ended_told y.id (kind_of w)) e) refl
     (λ none. updated_ended_mirrors (begun pt m) l y.id 0 (told_of y) about.pid about.at about.moves start told (ap about_of e) is.board is.manager_ none)

@@ -1,30 +1,11 @@
 -- What a machine and the rule do with a message for a process, by what they know of it.
-use Rattle.std.proofs.Common.{◌≡◌, ℕ, ◌==◌, Bool, false, List, refl, ap, ◌∙◌, sym, subst}
-use Rattle.std.specs.Prelude.{if◌then◌else◌}
-use Rattle.std.specs.declared.option.Option.{Option}
-use Rattle.std.specs.declared.option.Option.TheVariants.{None, Some}
-use Rattle.dm_link.specs.declared.Pid.{Pid}
-use Rattle.dm_link.specs.Names.{pid_eq}
-use Rattle.dm_message.specs.declared.MsgId.{MsgId}
-use Rattle.dm_message.specs.declared.Message.{Message}
-use Rattle.dm_message.specs.Plain.{PlainMessage, plain_message}
-use Rattle.dm_records.specs.Records.{with_record}
-use Rattle.dm_onekernel.specs.declared.boot.Boot.{Boot}
-use Rattle.dm_onekernel.specs.Boot.{switchboard, manager}
+use Rattle.dm_mirror.proofs.Names.{◌≡◌, ℕ, ◌==◌, Bool, false, List, refl, ap, ◌∙◌, sym, subst, if◌then◌else◌, Option, None, Some, Pid, pid_eq, MsgId, Message, PlainMessage, plain_message, with_record, Boot, switchboard, manager, handles}
+use Rattle.dm_mirror.proofs.Names.{KernelState, Turned, pid_eq-same, process_told, Point, comes_to, hears, Known, Told, Placed, parts, AllRecords}
 use Rattle.dm_kernel.specs.Handle as machine_handle
-use Rattle.dm_kernel.specs.Handle.{handles}
 use Rattle.dm_kernel.specs.State as machine
-use Rattle.dm_kernel.specs.State.{KernelState, Turned, with_known}
-use Rattle.dm_laws.proofs.Equal.{pid_eq-same}
-use Rattle.dm_rule.specs.Migrating.{process_told}
 use Rattle.dm_rule.specs.Parts as rule
-use Rattle.dm_rule.specs.Point.{Point}
-use Rattle.dm_rule.specs.Rule.{comes_to, hears, process_handles}
+use Rattle.dm_rule.specs.Rule.{process_handles}
 use Rattle.dm_rule.specs.Rule as rules
-use Rattle.dm_rule.specs.View.{Known, Told}
-use Rattle.dm_places.specs.Placed.{Placed}
-use Rattle.dm_places.proofs.Keeps.{parts}
-use Rattle.dm_mirror.specs.Tokens.{AllRecords}
 use Rattle.dm_mirror.proofs.Follow.Frames.{Fronts}
 use Rattle.dm_mirror.proofs.Follow.Fronts.{IsProcess, plain_there}
 

@@ -1,81 +1,27 @@
 -- A row of a turn that says one line of the message at its front, and puts messages on: it leads to what a turn owes.
-use Rattle.std.proofs.Common.{◌≡◌, ◌≢◌, ℕ, ◌+◌, ◌≤◌, ◌==◌, Bool, true, false, not, List, [], ◌∷◌, ◌++◌, map, refl, ap, ◌∙◌, sym, subst, inl, inr, arith}
-use Rattle.std.specs.Prelude.{if◌then◌else◌, slice_get}
-use Rattle.std.specs.declared.option.Option.{Option}
-use Rattle.std.specs.declared.option.Option.TheVariants.{None, Some}
-use Rattle.std.proofs.lemmas.Bool.{cases_Bool, false≢true}
-use Rattle.std.proofs.lemmas.Bool.Decides.{nat_tests}
-use Rattle.dm_link.specs.declared.Pid.{Pid}
-use Rattle.dm_link.specs.Names.{pid_eq}
-use Rattle.dm_message.specs.declared.MsgId.{MsgId}
-use Rattle.dm_message.specs.declared.Message.{Message}
-use Rattle.dm_message.specs.declared.What.{What}
-use Rattle.dm_message.specs.declared.What.TheVariants as what
-use Rattle.dm_message.specs.Ids.{id_eq}
-use Rattle.dm_message.specs.Kinds.{kind_of}
-use Rattle.dm_message.specs.Plain.{plain_message}
-use Rattle.dm_process.specs.declared.process.Process.{Process}
-use Rattle.dm_records.specs.Records.{incoming_of}
-use Rattle.dm_room.specs.Room.{Taken}
-use Rattle.dm_migrate.specs.declared.arriving.Wanted.{Wanted}
-use Rattle.dm_migrate.specs.declared.arriving.Wanted.TheVariants as wanted
-use Rattle.dm_migrate.specs.Arrival.{Arrival}
-use Rattle.dm_onekernel.specs.declared.boot.Boot.{Boot}
-use Rattle.dm_onekernel.specs.Options.{bind}
+use Rattle.dm_mirror.proofs.Names.{◌≡◌, ◌≢◌, ℕ, ◌+◌, ◌≤◌, ◌==◌, Bool, true, false, not, List, [], ◌∷◌, ◌++◌, map, refl, ap, ◌∙◌, sym, subst, inl, inr, arith, if◌then◌else◌, slice_get, Option, None, Some, cases_Bool, false≢true, nat_tests}
+use Rattle.dm_mirror.proofs.Names.{Pid, pid_eq, MsgId, Message, What, id_eq, kind_of, plain_message, Process, incoming_of, Taken, Wanted, Arrival, Boot, bind, room_of, handles, KernelState, turns, id_eq-is, pid_eq-is, Line, Addresses}
+use Rattle.dm_mirror.proofs.Names.{is_between, Point, after, after_line, comes_to, taken_at, at_machine, without_front, Spot, Queue, Held, Inbox, times, standing, About, Told, Of, View, handled, is_server, Placed, Mirrors, AllOwnStand}
+use Rattle.dm_mirror.proofs.Names.{OwnStands, KnownStands, KernelStands, RoomStands, servers_at, AllRecords, Carries, TokensStand, Wants, destination_of}
+use Rattle.dm_kernel.specs.declared.part.Part.{Part}
 use Rattle.dm_kernel.specs.declared.part.Part as machine_part
-use Rattle.dm_kernel.specs.declared.part.Part.TheVariants as part
-use Rattle.dm_kernel.specs.Begun.{room_of}
-use Rattle.dm_kernel.specs.Handle.{handles}
 use Rattle.dm_kernel.specs.State as machine
-use Rattle.dm_kernel.specs.State.{KernelState, Turned}
-use Rattle.dm_kernel.specs.Turn.{turns}
-use Rattle.dm_laws.proofs.Equal.{id_eq-is, pid_eq-is}
-use Rattle.dm_line.specs.declared.line.Line.{Line}
-use Rattle.dm_rule.specs.Addresses.{Addresses}
 use Rattle.dm_rule.specs.Parts as rule
-use Rattle.dm_rule.specs.Phases.{is_between}
-use Rattle.dm_rule.specs.Point.{Point, after, after_line}
 use Rattle.dm_rule.specs.Rule as outcomes
-use Rattle.dm_rule.specs.Rule.{comes_to, taken_at, Room}
-use Rattle.dm_line.specs.Sets.{at_machine, without_front}
-use Rattle.dm_rule.specs.Spots.{Spot, Queue, Held, Inbox, Untaken, times, standing}
-use Rattle.dm_rule.specs.View.{About, Told, Of, View, handled}
-use Rattle.dm_rulelaws.specs.Fits.{is_server}
-use Rattle.dm_places.specs.Placed.{Placed, Mirrors}
-use Rattle.dm_mirror.specs.Own.{AllOwnStand, OwnStands}
-use Rattle.dm_mirror.specs.Stands.{KnownStands, KernelStands, RoomStands, servers_at}
-use Rattle.dm_mirror.specs.Tokens.{AllRecords, Carries, TokensStand, Wants, destination_of}
 use Rattle.dm_mirror.proofs.Follow.Frames.{Fronts, times_more, map_same, known_on, apart_at, apart_behind, queue_apart, held_apart, front_gone, machine_self, machine_off, eq_self}
 use Rattle.dm_mirror.proofs.Turning.{Elsewhere, Nothing, Route, TurnsAt, AllMayPut, begun, has_process, is_elsewhere, owns, part_of, rule_part_of}
 
 -- what is asked for stays, so what a message carries does
 pub carries_on : (p : Pid) (x : Process) (n : ℕ) (a c : Option Arrival) (w : What) → ((u : Wanted) → Wants a u → Wants c u) → Carries p x n a w → Carries p x n c w
-carries_on p x n a c (what.Ask pid blocks moves size asker) same h = h
-carries_on p x n a c (what.Refuse pid slots blocks) same h = h
-carries_on p x n a c (what.PullState pid chunk) same h = (h.0, h.1, same (wanted.Chunk chunk) h.2)
-carries_on p x n a c (what.State pid chunk last bytes) same h = (h.0, h.1, same (wanted.Chunk chunk) h.2)
-carries_on p x n a c (what.PullBlock pid block) same h = (h.0, h.1, same (wanted.Block block) h.2)
-carries_on p x n a c (what.Memory pid block bytes) same h = (h.0, h.1, same (wanted.Block block) h.2)
-carries_on p x n a c (what.AllTaken pid) same h = (h.0, same wanted.Nothing h.1)
-carries_on p x n a c (what.Restart pid) same h = (h.0, same wanted.Nothing h.1)
-carries_on p x n a c (what.Migrate machine) same h = absurd h
-carries_on p x n a c (what.Update about) same h = absurd h
-carries_on p x n a c (what.CallOff pid) same h = absurd h
-carries_on p x n a c (what.Bury pid) same h = absurd h
-carries_on p x n a c (what.User code channel body links) same h = absurd h
-carries_on p x n a c what.Stop same h = absurd h
-carries_on p x n a c what.Resume same h = absurd h
-carries_on p x n a c what.Kill same h = absurd h
-carries_on p x n a c (what.Read base len) same h = absurd h
-carries_on p x n a c (what.Write base bytes) same h = absurd h
-carries_on p x n a c (what.Block bytes) same h = absurd h
-carries_on p x n a c what.Written same h = absurd h
-carries_on p x n a c what.Gone same h = absurd h
-carries_on p x n a c (what.Create image links) same h = absurd h
-carries_on p x n a c (what.Created pid) same h = absurd h
-carries_on p x n a c what.NoRoom same h = absurd h
-carries_on p x n a c (what.Move machine) same h = absurd h
-carries_on p x n a c (what.Moved outcome) same h = absurd h
+carries_on p x n a c (What.Ask pid blocks moves size asker) same h = h
+carries_on p x n a c (What.Refuse pid slots blocks) same h = h
+carries_on p x n a c (What.PullState pid chunk) same h = (h.0, h.1, same (Wanted.Chunk chunk) h.2)
+carries_on p x n a c (What.State pid chunk last bytes) same h = (h.0, h.1, same (Wanted.Chunk chunk) h.2)
+carries_on p x n a c (What.PullBlock pid block) same h = (h.0, h.1, same (Wanted.Block block) h.2)
+carries_on p x n a c (What.Memory pid block bytes) same h = (h.0, h.1, same (Wanted.Block block) h.2)
+carries_on p x n a c (What.AllTaken pid) same h = (h.0, same Wanted.Nothing h.1)
+carries_on p x n a c (What.Restart pid) same h = (h.0, same Wanted.Nothing h.1)
+carries_on p x n a c _ same h = absurd h
 
 -- the message is handled, held lists may have grown, and addresses may have changed
 abbrev pub handled_view : Point → ℕ → MsgId → (ℕ → Pid → List MsgId) → About → View
@@ -94,7 +40,7 @@ pub record Follows (b : Boot) (m : ℕ) (pt : Point) (l : Placed) (records : All
   pub placed : Placed
   -- the process that it is for
   pub process : Pid
-  pub turn : handles b (record k { inbox = c.rest }) y ≡ Some (record { state = state; parts = part.Says said ∷ map part_of routes })
+  pub turn : handles b (record k { inbox = c.rest }) y ≡ Some (record { state = state; parts = Part.Says said ∷ map part_of routes })
   pub outcome : comes_to b pt m y.id (pt.kernel.bag y.id) ≡ Some (rule.Says said ∷ map rule_part_of routes)
   pub after : after_line (begun pt m) said ≡ Some (handled_point pt m y.id held topic addresses)
   pub mirrors : Mirrors pt.kernel (handled_view pt m y.id held topic) addresses placed
@@ -156,10 +102,9 @@ inbox_from m n pt y i ids false is box least = least
 
 stood : (b : Boot) (m : ℕ) (pt : Point) (l : Placed) (records : AllRecords) (k : KernelState) (y : Message) (c : Fronts b m pt l records k y) (h : Follows b m pt l records k y c) (i : MsgId) (z : Spot) → id_eq y.id i ≡ false
     → 1 ≤ standing (handled_view pt m y.id h.held h.topic) i z → 1 ≤ standing pt.view i z
-stood b m pt l records k y c h i (Queue n q) off least = least
 stood b m pt l records k y c h i (Held n q) off least = subst (λ (j : ℕ). 1 ≤ j) (h.held_from n q i off) least
 stood b m pt l records k y c h i (Inbox n) off least = inbox_from m n pt y.id i c.ids (m == n) refl c.box least
-stood b m pt l records k y c h i (Untaken a d) off least = least
+stood b m pt l records k y c h i _ off least = least
 
 -- a process that a message under way is about stays
 process_stays : (b : Boot) (m : ℕ) (pt : Point) (l : Placed) (records : AllRecords) (k : KernelState) (y : Message) (c : Fronts b m pt l records k y) (h : Follows b m pt l records k y c) (p : Pid) (i : MsgId) (t : Told) (z : Spot)
@@ -287,9 +232,7 @@ elsewhere_follows b m pt l records k y c h = record {
   where
     standing_begun : (s : Spot) (i : MsgId) → 1 ≤ standing (begun pt m).view i s → 1 ≤ standing pt.view i s
     standing_begun (Queue n p) i least = least
-    standing_begun (Held n p) i least = least
-    standing_begun (Inbox n) i least = least
-    standing_begun (Untaken a d) i least = least
+    standing_begun _ i least = least
 
 pub turns_follow : (b : Boot) (m : ℕ) (pt : Point) (l : Placed) (records : AllRecords) (k : KernelState) (y : Message) (c : Fronts b m pt l records k y) → Follows b m pt l records k y c → TurnsAt b m pt l records k
 turns_follow b m pt l records k y c h =
@@ -299,7 +242,7 @@ turns_follow b m pt l records k y c h =
       says = h.said ∷ [];
       routes = h.routes;
       late = Nothing;
-      turn = ap (turns b k) c.inbox ∙ h.turn ∙ ap (λ (ps : List machine_part.Part). Some (record { state = h.state; parts = part.Says h.said ∷ ps })) (sym (append_none (map part_of h.routes)));
+      turn = ap (turns b k) c.inbox ∙ h.turn ∙ ap (λ (ps : List machine_part.Part). Some (record { state = h.state; parts = Part.Says h.said ∷ ps })) (sym (append_none (map part_of h.routes)));
       outcome = ap (outcomes.turns b pt m) c.box ∙ h.outcome ∙ ap (λ (ps : List rule.Part). Some (rule.Says h.said ∷ ps)) (sym (append_none (map rule_part_of h.routes)));
       next = next;
       after = ap (λ (o : Option Point). bind o (λ (n : Point). after n [])) h.after;

@@ -1,26 +1,6 @@
 -- A message for a process that isn't here, an update, and a request to move a process that isn't here: by what the machine knows.
-use Rattle.std.proofs.Common.{◌≡◌, ◌≢◌, ℕ, ◌==◌, ◌&&◌, ◌||◌, Bool, true, false, not, refl, ap, ◌∙◌, sym, inl, inr}
-use Rattle.std.specs.declared.option.Option.TheVariants.{None}
-use Rattle.std.proofs.lemmas.Bool.{cases_Bool, false≢true}
-use Rattle.dm_link.specs.declared.Addr.{Addr}
-use Rattle.dm_link.specs.Names.{pid_eq}
-use Rattle.dm_message.specs.declared.Message.{Message}
-use Rattle.dm_message.specs.declared.What.{What}
-use Rattle.dm_message.specs.declared.What.TheVariants as what
-use Rattle.dm_message.specs.Kinds.{kind_of}
-use Rattle.dm_message.specs.Plain.{plain_what, with_what}
-use Rattle.dm_onekernel.specs.declared.boot.Boot.{Boot}
-use Rattle.dm_onekernel.specs.Boot.{manager, switchboard}
-use Rattle.dm_kernel.specs.State.{KernelState}
-use Rattle.dm_laws.proofs.Equal.{pid_eq-is}
-use Rattle.dm_rule.specs.Point.{Point}
-use Rattle.dm_rule.specs.Spots.{Inbox}
-use Rattle.dm_rule.specs.View.{Known, Unknown, Here, Frozen, Incoming, Forward, Ended}
-use Rattle.dm_rulelaws.specs.Fits.{is_server}
-use Rattle.dm_rulelaws.specs.Found.{is_fixed}
-use Rattle.dm_rulelaws.proofs.Own.Told.{is_place, is_target, own_sort}
-use Rattle.dm_places.specs.Placed.{Placed}
-use Rattle.dm_mirror.specs.Tokens.{AllRecords}
+use Rattle.dm_mirror.proofs.Names.{◌≡◌, ◌≢◌, ℕ, ◌==◌, ◌&&◌, ◌||◌, Bool, true, false, not, refl, ap, ◌∙◌, sym, inl, inr, None, cases_Bool, false≢true, Addr, pid_eq, Message, What, kind_of, plain_what, with_what, Boot, manager, switchboard}
+use Rattle.dm_mirror.proofs.Names.{KernelState, pid_eq-is, Point, Inbox, Known, Unknown, Here, Frozen, Incoming, Forward, Ended, is_server, is_fixed, is_place, is_target, own_sort, Placed, AllRecords}
 use Rattle.dm_mirror.proofs.Follow.Forwards.{forwards_turn}
 use Rattle.dm_mirror.proofs.Follow.Frames.{Fronts, at_front}
 use Rattle.dm_mirror.proofs.Follow.Held.{held_coming, held_leaving}
@@ -30,21 +10,17 @@ use Rattle.dm_mirror.proofs.Turning.{TurnsAt}
 
 -- a process that leaves, comes or has gone on
 abbrev pub is_apart : Known → Bool
-is_apart Unknown = false
-is_apart Here = false
 is_apart (Frozen to) = true
 is_apart (Incoming from) = true
 is_apart (Forward at moves) = true
-is_apart Ended = false
+is_apart _ = false
 
 -- whatever the message is, it is held or goes on
 pub apart_turn : (b : Boot) (m : ℕ) (pt : Point) (l : Placed) (records : AllRecords) (k : KernelState) (y : Message) (c : Fronts b m pt l records k y) (w : Known) → is_fixed y.to.pid ≡ false → pt.view.known m y.to.pid ≡ w → is_apart w ≡ true → TurnsAt b m pt l records k
-apart_turn b m pt l records k y c Unknown fixed knows e = absurd (false≢true e)
-apart_turn b m pt l records k y c Here fixed knows e = absurd (false≢true e)
 apart_turn b m pt l records k y c (Frozen to) fixed knows e = held_leaving b m pt l records k y c to fixed knows
 apart_turn b m pt l records k y c (Incoming from) fixed knows e = held_coming b m pt l records k y c from fixed knows
 apart_turn b m pt l records k y c (Forward at moves) fixed knows e = forwards_turn b m pt l records k y c at moves fixed knows
-apart_turn b m pt l records k y c Ended fixed knows e = absurd (false≢true e)
+apart_turn b m pt l records k y c _ fixed knows e = absurd (false≢true e)
 
 -- its receiver is known here
 pub front_known : (b : Boot) (m : ℕ) (pt : Point) (l : Placed) (records : AllRecords) (k : KernelState) (y : Message) (c : Fronts b m pt l records k y) → is_fixed y.to.pid ≡ false → pt.view.known m y.to.pid ≢ Unknown
@@ -61,7 +37,7 @@ left_true true b e = absurd (false≢true e)
 left_true false b e = refl
 
 -- an update, at a process
-update_known : (b : Boot) (m : ℕ) (pt : Point) (l : Placed) (records : AllRecords) (k : KernelState) (y : Message) (c : Fronts b m pt l records k y) (about : Addr) (w : Known) → is_fixed y.to.pid ≡ false → y.what ≡ what.Update about → pt.view.known m y.to.pid ≡ w → TurnsAt b m pt l records k
+update_known : (b : Boot) (m : ℕ) (pt : Point) (l : Placed) (records : AllRecords) (k : KernelState) (y : Message) (c : Fronts b m pt l records k y) (about : Addr) (w : Known) → is_fixed y.to.pid ≡ false → y.what ≡ What.Update about → pt.view.known m y.to.pid ≡ w → TurnsAt b m pt l records k
 update_known b m pt l records k y c about Unknown fixed e knows = absurd (front_known b m pt l records k y c fixed knows)
 update_known b m pt l records k y c about Here fixed e knows = updated_here_turn b m pt l records k y c about fixed knows e
 update_known b m pt l records k y c about (Frozen to) fixed e knows = held_leaving b m pt l records k y c to fixed knows
@@ -69,14 +45,14 @@ update_known b m pt l records k y c about (Incoming from) fixed e knows = held_c
 update_known b m pt l records k y c about (Forward at moves) fixed e knows = forwards_turn b m pt l records k y c at moves fixed knows
 update_known b m pt l records k y c about Ended fixed e knows = updated_ended_turn b m pt l records k y c about fixed knows e
 
-update_server : (b : Boot) (m : ℕ) (pt : Point) (l : Placed) (records : AllRecords) (k : KernelState) (y : Message) (c : Fronts b m pt l records k y) (about : Addr) (s : Bool) → is_server y.to.pid ≡ true → y.what ≡ what.Update about → pid_eq y.to.pid switchboard ≡ s → TurnsAt b m pt l records k
+update_server : (b : Boot) (m : ℕ) (pt : Point) (l : Placed) (records : AllRecords) (k : KernelState) (y : Message) (c : Fronts b m pt l records k y) (about : Addr) (s : Bool) → is_server y.to.pid ≡ true → y.what ≡ What.Update about → pid_eq y.to.pid switchboard ≡ s → TurnsAt b m pt l records k
 update_server b m pt l records k y c about true server e is = updated_board_turn b m pt l records k y c about (pid_eq-is y.to.pid switchboard is) e
 update_server b m pt l records k y c about false server e is =
     let f : pid_eq y.to.pid manager ≡ true = sym (ap (λ (s : Bool). s || pid_eq y.to.pid manager) is) ∙ server in
     updated_manager_turn b m pt l records k y c about (pid_eq-is y.to.pid manager f) e
 
 -- an update, wherever it comes
-pub update_turn : (b : Boot) (m : ℕ) (pt : Point) (l : Placed) (records : AllRecords) (k : KernelState) (y : Message) (c : Fronts b m pt l records k y) (about : Addr) → y.what ≡ what.Update about → TurnsAt b m pt l records k
+pub update_turn : (b : Boot) (m : ℕ) (pt : Point) (l : Placed) (records : AllRecords) (k : KernelState) (y : Message) (c : Fronts b m pt l records k y) (about : Addr) → y.what ≡ What.Update about → TurnsAt b m pt l records k
 update_turn b m pt l records k y c about e =
     let none = ap plain_what e in
     let sort : (not (y.to.pid.num == 0) && is_place c.told.about) ≡ true = ap (λ (w : What). own_sort (kind_of w) y.to.pid c.told.about) (sym e) ∙ front_sort b m pt l records k y c none in
@@ -87,13 +63,13 @@ update_turn b m pt l records k y c about e =
     ]
 
 -- a request to move is for a process
-pub migrate_process : (b : Boot) (m : ℕ) (pt : Point) (l : Placed) (records : AllRecords) (k : KernelState) (y : Message) (c : Fronts b m pt l records k y) (to : ℕ) → y.what ≡ what.Migrate to → is_fixed y.to.pid ≡ false
+pub migrate_process : (b : Boot) (m : ℕ) (pt : Point) (l : Placed) (records : AllRecords) (k : KernelState) (y : Message) (c : Fronts b m pt l records k y) (to : ℕ) → y.what ≡ What.Migrate to → is_fixed y.to.pid ≡ false
 migrate_process b m pt l records k y c to e =
     let sort : (not (is_fixed y.to.pid) && is_target c.told.about) ≡ true = ap (λ (w : What). own_sort (kind_of w) y.to.pid c.told.about) (sym e) ∙ front_sort b m pt l records k y c (ap plain_what e) in
     left_true (is_fixed y.to.pid) (is_target c.told.about) sort
 
 -- where the process isn't here
-pub migrate_apart : (b : Boot) (m : ℕ) (pt : Point) (l : Placed) (records : AllRecords) (k : KernelState) (y : Message) (c : Fronts b m pt l records k y) (to : ℕ) (w : Known) → y.what ≡ what.Migrate to → pt.view.known m y.to.pid ≡ w → w ≢ Here → TurnsAt b m pt l records k
+pub migrate_apart : (b : Boot) (m : ℕ) (pt : Point) (l : Placed) (records : AllRecords) (k : KernelState) (y : Message) (c : Fronts b m pt l records k y) (to : ℕ) (w : Known) → y.what ≡ What.Migrate to → pt.view.known m y.to.pid ≡ w → w ≢ Here → TurnsAt b m pt l records k
 migrate_apart b m pt l records k y c to Unknown e knows off = absurd (front_known b m pt l records k y c (migrate_process b m pt l records k y c to e) knows)
 migrate_apart b m pt l records k y c to Here e knows off = absurd (off refl)
 migrate_apart b m pt l records k y c to (Frozen d) e knows off = held_leaving b m pt l records k y c d (migrate_process b m pt l records k y c to e) knows

@@ -1,61 +1,19 @@
 -- An update makes the links of a process or of a server follow another process.
-use Rattle.std.proofs.Common.{◌≡◌, ◌≢◌, ℕ, ◌+◌, ◌≤◌, ◌==◌, Bool, true, false, List, [], ◌∷◌, refl, ap, ◌∙◌, sym, subst, is_some, nat_le, arith}
-use Rattle.std.specs.Prelude.{if◌then◌else◌, count_by, option_map}
-use Rattle.std.specs.declared.option.Option.{Option}
-use Rattle.std.specs.declared.option.Option.TheVariants.{None, Some}
-use Rattle.std.proofs.lemmas.Bool.{false≢true}
-use Rattle.dm_link.specs.declared.Addr.{Addr}
-use Rattle.dm_link.specs.declared.Pid.{Pid}
-use Rattle.dm_link.specs.Names.{pid_eq}
+use Rattle.dm_mirror.proofs.Names.{◌≡◌, ◌≢◌, ℕ, ◌+◌, ◌≤◌, ◌==◌, Bool, true, false, List, [], ◌∷◌, refl, ap, ◌∙◌, sym, subst, is_some, nat_le, arith, if◌then◌else◌, count_by, option_map, Option, None, Some, false≢true, Addr, Pid, pid_eq}
+use Rattle.dm_mirror.proofs.Names.{slot_is_behind, applied, Message, MsgId, What, Record, Line, kind_of, plain_message, plain_what, with_what, Process, incoming_of, named_is_behind, pending_is_behind, Boot, switchboard, manager, Life}
+use Rattle.dm_mirror.proofs.Names.{plain_process, Servers, board_follows, manager_follows, handles, KernelState, with_here, pid_eq-same, place_told, behind_count, here_told, process_told, server_told, updates, Phase, Rests, is_away}
+use Rattle.dm_mirror.proofs.Names.{is_between, is_here, knows, token_in, Point, moved, comes_to, hears, kernel_hears, Inbox, Spot, standing, Known, Unknown, Here, Of, Told, rests_here, is_fixed, Run, Placed, Mirrors, mirrors_view}
+use Rattle.dm_mirror.proofs.Names.{board_told, manager_told, updated_board_mirrors, updated_manager_mirrors, updated_mirrors, updated_board_count, updated_count, updated_manager_count, about_of, told_of, HereStands, KnownStands, servers_at}
+use Rattle.dm_mirror.proofs.Names.{AllRecords, Wants}
 use Rattle.dm_link.specs.Places as places
-use Rattle.dm_linktable.specs.Slots.{slot_is_behind}
-use Rattle.dm_linkupdate.specs.Applied.{applied}
-use Rattle.dm_message.specs.declared.Message.{Message}
-use Rattle.dm_message.specs.declared.MsgId.{MsgId}
-use Rattle.dm_message.specs.declared.What.{What}
-use Rattle.dm_message.specs.declared.What.TheVariants as what
-use Rattle.dm_message.specs.Kinds.{kind_of}
-use Rattle.dm_message.specs.Plain.{plain_message, plain_what, with_what}
-use Rattle.dm_process.specs.declared.process.Process.{Process}
-use Rattle.dm_records.specs.declared.record.Record.TheVariants as record_
-use Rattle.dm_records.specs.Records.{incoming_of}
-use Rattle.dm_switchboard.specs.Board.{named_is_behind}
+use Rattle.dm_kernel.specs.declared.part.Part.{Part}
 use Rattle.dm_switchboard.specs.Taking as board_
-use Rattle.dm_procman.specs.Managing.{pending_is_behind}
 use Rattle.dm_procman.specs.Taking as manage
-use Rattle.dm_onekernel.specs.declared.boot.Boot.{Boot}
-use Rattle.dm_onekernel.specs.Boot.{switchboard, manager}
-use Rattle.dm_onekernel.specs.Kernel.{Life}
-use Rattle.dm_onekernel.specs.Plain.{plain_process}
 use Rattle.dm_onekernel.specs.Step as kernel
-use Rattle.dm_kernel.specs.declared.kernel.Servers.{Servers}
-use Rattle.dm_kernel.specs.declared.part.Part.TheVariants as part
-use Rattle.dm_kernel.specs.Following.{board_follows, manager_follows}
 use Rattle.dm_kernel.specs.Handle as machine_handle
-use Rattle.dm_kernel.specs.Handle.{handles}
 use Rattle.dm_kernel.specs.State as machine
-use Rattle.dm_kernel.specs.State.{KernelState, Turned, with_here}
-use Rattle.dm_laws.proofs.Equal.{pid_eq-same}
-use Rattle.dm_line.specs.declared.line.Line.TheVariants as line
-use Rattle.dm_rule.specs.Addresses.{place_told}
-use Rattle.dm_rule.specs.Migrating.{behind_count, here_told, process_told, server_told, updates}
 use Rattle.dm_rule.specs.Parts as rule
-use Rattle.dm_rule.specs.Phases.{Phase, Rests, is_away, is_between, is_here, knows, token_in}
-use Rattle.dm_rule.specs.Point.{Point, moved}
-use Rattle.dm_rule.specs.Rule.{comes_to, hears, kernel_hears}
-use Rattle.dm_rule.specs.Spots.{Inbox, Spot, standing}
-use Rattle.dm_rule.specs.View.{Known, Unknown, Here, Frozen, Incoming, Forward, Ended, Of, Told}
-use Rattle.dm_rule.proofs.Phases.Rests.{rests_here}
-use Rattle.dm_rulelaws.specs.Found.{is_fixed}
-use Rattle.dm_rulelaws.proofs.Runs.{Run}
-use Rattle.dm_places.specs.Placed.{Placed, Mirrors}
 use Rattle.dm_places.specs.PlacedStep.{with_process}
-use Rattle.dm_places.proofs.Lines.{mirrors_view}
-use Rattle.dm_places.proofs.Updated.{board_told, manager_told, updated_board_mirrors, updated_manager_mirrors, updated_mirrors}
-use Rattle.dm_places.proofs.UpdatedCounts.{updated_board_count, updated_count, updated_manager_count}
-use Rattle.dm_mirror.specs.Own.{about_of, told_of}
-use Rattle.dm_mirror.specs.Stands.{HereStands, KnownStands, servers_at}
-use Rattle.dm_mirror.specs.Tokens.{AllRecords, Wants}
 use Rattle.dm_mirror.proofs.Follow.Frames.{Fronts, at_front, eq_off}
 use Rattle.dm_mirror.proofs.Follow.Fronts.{front_still, is_process_of, plain_there}
 use Rattle.dm_mirror.proofs.Follow.Quiet.{no_plain, own_told_of, turns_quiet}
@@ -66,11 +24,7 @@ use Rattle.dm_mirror.proofs.Turning.{TurnsAt, begun, has_process}
 -- a process that is here is nowhere else, and nothing of it is under way
 away_not : (k : Known) → is_away k ≡ true → has_process k ≡ true → ⊥
 away_not Unknown e h = cc
-away_not Here e h = cc
-away_not (Frozen to) e h = cc
-away_not (Incoming from) e h = cc
-away_not (Forward at moves) e h = cc
-away_not Ended e h = cc
+away_not _ e h = cc
 
 rests_away : (m n : ℕ) (k : Known) → n ≢ m → knows (Rests m) n k ≡ true → is_away k ≡ true
 rests_away m n k apart e = sym (ap (λ (c : Bool). if c then is_here k else is_away k) (eq_off m n apart)) ∙ e
@@ -92,26 +46,26 @@ none_under_way b m pt p i t z run here told between about least =
     cc
 
 -- what was told of an update
-pub update_told : (b : Boot) (m : ℕ) (pt : Point) (l : Placed) (records : AllRecords) (k : KernelState) (y : Message) (c : Fronts b m pt l records k y) (about : Addr) → y.what ≡ what.Update about → pt.view.told y.id ≡ Some (told_of y)
+pub update_told : (b : Boot) (m : ℕ) (pt : Point) (l : Placed) (records : AllRecords) (k : KernelState) (y : Message) (c : Fronts b m pt l records k y) (about : Addr) → y.what ≡ What.Update about → pt.view.told y.id ≡ Some (told_of y)
 update_told b m pt l records k y c about e = (c.own y.id y c.there (ap (λ (w : What). with_what y (plain_what w)) e)).told
 
 -- what the machine has of a process that is here
 record IsHere (l : Placed) (p : Pid) (queue : List MsgId) (r : Option machine.Known) : Type 0 where
   process : Process
-  is : r ≡ Some (record_.Here process)
+  is : r ≡ Some (Record.Here process)
   stands : HereStands l p queue process
 
 here_of : (pt : Point) (l : Placed) (p : Pid) (queue held_ : List MsgId) (r : Option machine.Known) → KnownStands pt l p queue held_ Here r → IsHere l p queue r
-here_of pt l p queue held_ (Some (record_.Here x)) h = record { process = x; is = refl; stands = h }
+here_of pt l p queue held_ (Some (Record.Here x)) h = record { process = x; is = refl; stands = h }
 here_of pt l p queue held_ r h = absurd h
 
 -- the rule's line
-counted_line : (pt : Point) (y : Message) (t : Told) (n : ℕ) → t ≡ told_of y → behind_count pt.kernel pt.addresses y.to.pid (place_told (about_of y.what)) ≡ n → updates pt y.id t ≡ rule.Says (line.Updated y.id n) ∷ []
+counted_line : (pt : Point) (y : Message) (t : Told) (n : ℕ) → t ≡ told_of y → behind_count pt.kernel pt.addresses y.to.pid (place_told (about_of y.what)) ≡ n → updates pt y.id t ≡ rule.Says (Line.Updated y.id n) ∷ []
 counted_line pt y t n is count =
-    ap (λ (u : Told). updates pt y.id u) is ∙ ap (λ (j : ℕ). rule.Says (line.Updated y.id j) ∷ []) count
+    ap (λ (u : Told). updates pt y.id u) is ∙ ap (λ (j : ℕ). rule.Says (Line.Updated y.id j) ∷ []) count
 
 -- the process is here: its links and its data move follow
-pub updated_here_turn : (b : Boot) (m : ℕ) (pt : Point) (l : Placed) (records : AllRecords) (k : KernelState) (y : Message) (c : Fronts b m pt l records k y) (about : Addr) → is_fixed y.to.pid ≡ false → pt.view.known m y.to.pid ≡ Here → y.what ≡ what.Update about → TurnsAt b m pt l records k
+pub updated_here_turn : (b : Boot) (m : ℕ) (pt : Point) (l : Placed) (records : AllRecords) (k : KernelState) (y : Message) (c : Fronts b m pt l records k y) (about : Addr) → is_fixed y.to.pid ≡ false → pt.view.known m y.to.pid ≡ Here → y.what ≡ What.Update about → TurnsAt b m pt l records k
 updated_here_turn b m pt l records k y c about fixed knows e =
     let p = y.to.pid in
     let is = is_process_of p fixed in
@@ -130,19 +84,19 @@ updated_here_turn b m pt l records k y c about fixed knows e =
     let placed = with_process l p (Some (applied r about.at about.moves z)) in
     let held = pt.view.held in
     let topic = (begun pt m).view.topic in
-    let a = (moved (begun pt m) (line.Updated y.id n) pt.kernel).addresses in
+    let a = (moved (begun pt m) (Line.Updated y.id n) pt.kernel).addresses in
     let count = updated_count pt.kernel pt.view pt.addresses l p r about.at about.moves (about_of y.what) z c.mirrors (ap about_of e) is.board is.manager_ there in
-    let parts_ = rule.Says (line.Updated y.id n) ∷ [] in
+    let parts_ = rule.Says (Line.Updated y.id n) ∷ [] in
     turns_follow b m pt l records k y c (record {
       state = state;
-      said = line.Updated y.id n;
+      said = Line.Updated y.id n;
       routes = [];
       held = held;
       topic = topic;
       addresses = a;
       placed = placed;
       process = p;
-      turn = machine_process b s y (Some (record_.Here x)) (Some (record { state = state; parts = part.Says (line.Updated y.id n) ∷ [] })) is here.is (ap (machine_handle.here_handles s y x) e);
+      turn = machine_process b s y (Some (Record.Here x)) (Some (record { state = state; parts = Part.Says (Line.Updated y.id n) ∷ [] })) is here.is (ap (machine_handle.here_handles s y x) e);
       outcome = rule_process b m pt l records k y c Here (Some parts_) (plain_message y) is knows refl (λ w f. absurd (no_plain y w (ap plain_what e) f))
           (λ f. ap (here_told pt m y.id c.told) (c.kind ∙ ap kind_of e) ∙ ap Some (counted_line pt y c.told n was count));
       after = refl;
@@ -158,7 +112,7 @@ updated_here_turn b m pt l records k y c about fixed knows e =
       board = λ off. refl;
       manager = λ off. refl;
       here = refl;
-      records_ = λ q off. set_other k.records p (record_.Here next) q off;
+      records_ = λ q off. set_other k.records p (Record.Here next) q off;
       ring = refl;
       inbox = refl;
       made = refl;
@@ -167,8 +121,8 @@ updated_here_turn b m pt l records k y c about fixed knows e =
       sent = (let f : k.sent ≡ k.sent + 0 = omega arith in f);
       single = omega arith;
       keeps = λ server. absurd (false≢true (sym is.server ∙ server));
-      known = λ server. subst (KnownStands (handled_point pt m y.id held topic a) placed p (pt.view.queue m p) (pt.view.held m p) (pt.view.known m p)) (sym (set_self k.records p (record_.Here next)))
-          (subst (λ (j : Known). KnownStands (handled_point pt m y.id held topic a) placed p (pt.view.queue m p) (pt.view.held m p) j (Some (record_.Here next))) (sym knows)
+      known = λ server. subst (KnownStands (handled_point pt m y.id held topic a) placed p (pt.view.queue m p) (pt.view.held m p) (pt.view.known m p)) (sym (set_self k.records p (Record.Here next)))
+          (subst (λ (j : Known). KnownStands (handled_point pt m y.id held topic a) placed p (pt.view.queue m p) (pt.view.held m p) j (Some (Record.Here next))) (sym knows)
           ((here.stands.0.0, ap (λ (t : Bool). if t then Some (applied r about.at about.moves z) else l.processes p) (pid_eq-same p)), here.stands.1));
       wants = λ u h. absurd (subst (λ (o : Option machine.Known). Wants (incoming_of o) u) here.is h);
       still = front_still b m pt l records k y c is.number;
@@ -201,18 +155,18 @@ server_manager b pt m id t o e h =
     ap (λ (q : Pid). if q.num == 0 then kernel_hears b pt m id t.kind t.about else if pid_eq q switchboard then server_told pt id t t.kind else if pid_eq q manager then server_told pt id t t.kind else process_told pt m id t (pt.view.known m q)) e ∙ h
 
 -- the machine at a server
-machine_board : (b : Boot) (s : KernelState) (y : Message) (v : Servers) (about : Addr) → y.to.pid ≡ switchboard → s.servers ≡ Some v → y.what ≡ what.Update about → handles b s y ≡ board_follows s y v about
+machine_board : (b : Boot) (s : KernelState) (y : Message) (v : Servers) (about : Addr) → y.to.pid ≡ switchboard → s.servers ≡ Some v → y.what ≡ What.Update about → handles b s y ≡ board_follows s y v about
 machine_board b s y v about to there e =
     ap (λ (q : Pid). if q.num == 0 then machine_handle.kernel_handles b s y y.what else if pid_eq q switchboard then machine_handle.board_handles s y s.servers else if pid_eq q manager then machine_handle.manager_handles s y s.servers else machine_handle.process_handles s y (s.records q)) to
     ∙ ap (machine_handle.board_handles s y) there ∙ ap (λ (w : What). machine_handle.board_took s y v (board_.takes v.board w)) e ∙ ap (machine_handle.told_board s y v) e
 
-machine_manager : (b : Boot) (s : KernelState) (y : Message) (v : Servers) (about : Addr) → y.to.pid ≡ manager → s.servers ≡ Some v → y.what ≡ what.Update about → handles b s y ≡ manager_follows s y v about
+machine_manager : (b : Boot) (s : KernelState) (y : Message) (v : Servers) (about : Addr) → y.to.pid ≡ manager → s.servers ≡ Some v → y.what ≡ What.Update about → handles b s y ≡ manager_follows s y v about
 machine_manager b s y v about to there e =
     ap (λ (q : Pid). if q.num == 0 then machine_handle.kernel_handles b s y y.what else if pid_eq q switchboard then machine_handle.board_handles s y s.servers else if pid_eq q manager then machine_handle.manager_handles s y s.servers else machine_handle.process_handles s y (s.records q)) to
     ∙ ap (machine_handle.manager_handles s y) there ∙ ap (λ (w : What). machine_handle.manager_took s y v (manage.takes v.manager y.id.n w)) e ∙ ap (machine_handle.told_manager s y v) e
 
 -- the switchboard's links follow
-pub updated_board_turn : (b : Boot) (m : ℕ) (pt : Point) (l : Placed) (records : AllRecords) (k : KernelState) (y : Message) (c : Fronts b m pt l records k y) (about : Addr) → y.to.pid ≡ switchboard → y.what ≡ what.Update about → TurnsAt b m pt l records k
+pub updated_board_turn : (b : Boot) (m : ℕ) (pt : Point) (l : Placed) (records : AllRecords) (k : KernelState) (y : Message) (c : Fronts b m pt l records k y) (about : Addr) → y.to.pid ≡ switchboard → y.what ≡ What.Update about → TurnsAt b m pt l records k
 updated_board_turn b m pt l records k y c about to e =
     let s = record k { inbox = c.rest } in
     let home = at_home b m pt l records k y c (ap is_fixed to) (ap (λ (p : Pid). p.home) to) in
@@ -228,14 +182,14 @@ updated_board_turn b m pt l records k y c about to e =
     let count = updated_board_count pt.kernel pt.view pt.addresses l y.to.pid r about.at about.moves (about_of y.what) c.mirrors (ap about_of e) to in
     let plain : pt.kernel.bag y.id ≡ None = plain_there b m pt l records k y c ∙ ap (λ (w : What). with_what y (plain_what w)) e in
     turns_quiet b m pt l records k y c (record {
-      said = line.Updated y.id n;
-      addresses = (moved (begun pt m) (line.Updated y.id n) pt.kernel).addresses;
+      said = Line.Updated y.id n;
+      addresses = (moved (begun pt m) (Line.Updated y.id n) pt.kernel).addresses;
       board = placed.board;
       manager = l.manager;
       servers = Some (record v { board = placed.board });
       turn = machine_board b s y v about to there e;
       outcome = ap (comes_to b pt m y.id) plain ∙ ap (hears b pt m y.id) c.told_is
-          ∙ server_board b pt m y.id c.told (Some (rule.Says (line.Updated y.id n) ∷ [])) (c.receiver ∙ to) (ap (server_told pt y.id c.told) (c.kind ∙ ap kind_of e) ∙ ap Some (counted_line pt y c.told n was count));
+          ∙ server_board b pt m y.id c.told (Some (rule.Says (Line.Updated y.id n) ∷ [])) (c.receiver ∙ to) (ap (server_told pt y.id c.told) (c.kind ∙ ap kind_of e) ∙ ap Some (counted_line pt y c.told n was count));
       after = refl;
       mirrors = updated_board_mirrors (begun pt m) l y.id n (told_of y) r about.at about.moves start told (ap about_of e) to none;
       board_stays = λ off. absurd (off home);
@@ -245,7 +199,7 @@ updated_board_turn b m pt l records k y c about to e =
     })
 
 -- the manager's links follow
-pub updated_manager_turn : (b : Boot) (m : ℕ) (pt : Point) (l : Placed) (records : AllRecords) (k : KernelState) (y : Message) (c : Fronts b m pt l records k y) (about : Addr) → y.to.pid ≡ manager → y.what ≡ what.Update about → TurnsAt b m pt l records k
+pub updated_manager_turn : (b : Boot) (m : ℕ) (pt : Point) (l : Placed) (records : AllRecords) (k : KernelState) (y : Message) (c : Fronts b m pt l records k y) (about : Addr) → y.to.pid ≡ manager → y.what ≡ What.Update about → TurnsAt b m pt l records k
 updated_manager_turn b m pt l records k y c about to e =
     let s = record k { inbox = c.rest } in
     let home = at_home b m pt l records k y c (ap is_fixed to) (ap (λ (p : Pid). p.home) to) in
@@ -261,14 +215,14 @@ updated_manager_turn b m pt l records k y c about to e =
     let count = updated_manager_count pt.kernel pt.view pt.addresses l y.to.pid r about.at about.moves (about_of y.what) c.mirrors (ap about_of e) to c.run.based.pending in
     let plain : pt.kernel.bag y.id ≡ None = plain_there b m pt l records k y c ∙ ap (λ (w : What). with_what y (plain_what w)) e in
     turns_quiet b m pt l records k y c (record {
-      said = line.Updated y.id n;
-      addresses = (moved (begun pt m) (line.Updated y.id n) pt.kernel).addresses;
+      said = Line.Updated y.id n;
+      addresses = (moved (begun pt m) (Line.Updated y.id n) pt.kernel).addresses;
       board = l.board;
       manager = placed.manager;
       servers = Some (record v { manager = placed.manager });
       turn = machine_manager b s y v about to there e;
       outcome = ap (comes_to b pt m y.id) plain ∙ ap (hears b pt m y.id) c.told_is
-          ∙ server_manager b pt m y.id c.told (Some (rule.Says (line.Updated y.id n) ∷ [])) (c.receiver ∙ to) (ap (server_told pt y.id c.told) (c.kind ∙ ap kind_of e) ∙ ap Some (counted_line pt y c.told n was count));
+          ∙ server_manager b pt m y.id c.told (Some (rule.Says (Line.Updated y.id n) ∷ [])) (c.receiver ∙ to) (ap (server_told pt y.id c.told) (c.kind ∙ ap kind_of e) ∙ ap Some (counted_line pt y c.told n was count));
       after = refl;
       mirrors = updated_manager_mirrors (begun pt m) l y.id n (told_of y) r about.at about.moves start told (ap about_of e) to none;
       board_stays = λ off. refl;

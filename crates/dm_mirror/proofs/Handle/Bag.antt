@@ -1,31 +1,7 @@
 -- A message of the bag at the inbox's front, for a kernel, a server, or a process that is here or has ended here.
-use Rattle.std.proofs.Common.{◌≡◌, ℕ, ◌<◌, ◌==◌, ◌||◌, Bool, true, false, List, ◌∷◌, refl, ap, ◌∙◌, sym, subst}
-use Rattle.std.specs.declared.option.Option.TheVariants.{None, Some}
-use Rattle.std.proofs.lemmas.Bool.{false≢true}
-use Rattle.dm_link.specs.declared.Pid.{Pid}
-use Rattle.dm_link.specs.Names.{pid_eq}
-use Rattle.dm_message.specs.declared.MsgId.{MsgId}
-use Rattle.dm_message.specs.declared.Message.{Message}
-use Rattle.dm_message.specs.Plain as said
-use Rattle.dm_message.specs.Plain.{PlainMessage, PlainWhat}
-use Rattle.dm_onekernel.specs.declared.boot.Boot.{Boot}
-use Rattle.dm_onekernel.specs.Boot.{IsValid, manager, switchboard}
-use Rattle.dm_onekernel.specs.Plain.{plain_process}
-use Rattle.dm_rule.specs.Parts.{Part}
-use Rattle.dm_rule.specs.Point.{Point}
+use Rattle.dm_mirror.proofs.Names.{◌≡◌, ℕ, ◌<◌, ◌==◌, ◌||◌, Bool, true, false, List, ◌∷◌, refl, ap, ◌∙◌, sym, subst, None, Some, false≢true, Pid, pid_eq, MsgId, Message, Known, PlainMessage, PlainWhat, Boot, IsValid, manager, switchboard}
+use Rattle.dm_mirror.proofs.Names.{plain_process, Part, Point, is_server, WhatFits, is_fixed, can_handle, OwnTold, Run, Placed, Mirrors, plainly, plainly_is, KernelState, MadeStands, AllOwnStand, KernelStands}
 use Rattle.dm_rule.specs.Rule as rule
-use Rattle.dm_rule.specs.View as view
-use Rattle.dm_rulelaws.specs.Fits.{is_server, WhatFits}
-use Rattle.dm_rulelaws.specs.Found.{is_fixed}
-use Rattle.dm_rulelaws.proofs.Goes.Servers.{can_handle}
-use Rattle.dm_rulelaws.proofs.Own.Told.{OwnTold}
-use Rattle.dm_rulelaws.proofs.Runs.{Run}
-use Rattle.dm_places.specs.Placed.{Placed, Mirrors}
-use Rattle.dm_places.proofs.Serves.{plainly, plainly_is}
-use Rattle.dm_kernel.specs.State.{KernelState}
-use Rattle.dm_mirror.specs.Made.{MadeStands}
-use Rattle.dm_mirror.specs.Own.{AllOwnStand}
-use Rattle.dm_mirror.specs.Stands.{KernelStands}
 use Rattle.dm_mirror.proofs.Handle.Created.{kernel_row}
 use Rattle.dm_mirror.proofs.Handle.Ended.{ended_row, is_ended}
 use Rattle.dm_mirror.proofs.Handle.Here.{IsHere, here_outcome, is_here}
@@ -41,26 +17,22 @@ use Rattle.dm_mirror.proofs.Turning.{Row}
 -- whom the message is for
 pub data BagFor (m : ℕ) (pt : Point) (p : Pid) : Type 0 where
   ForFixed : (fixed : is_fixed p ≡ true) → BagFor m pt p
-  ForHere : (here : pt.view.known m p ≡ view.Here) → BagFor m pt p
-  ForEnded : (over : pt.view.known m p ≡ view.Ended) → BagFor m pt p
+  ForHere : (here : pt.view.known m p ≡ Known.Here) → BagFor m pt p
+  ForEnded : (over : pt.view.known m p ≡ Known.Ended) → BagFor m pt p
 
 -- the receiver is here, a row a kind
 here_row : (b : Boot) (m : ℕ) (pt : Point) (l : Placed) (k : KernelState) (y : Message) (w : PlainWhat) (ps : List Part) (c : Taking b m pt l k y w) (h : IsHere b m pt l k y.to.pid) → WhatFits pt.kernel y.id (plainly y w) w
     → rule.here_handles pt m y.id (plainly y w) (plain_process h.x) w ≡ Some ps → Row b m pt l k
-here_row b m pt l k y (said.User code channel bytes ls) ps c h fits goes = user_row b m pt l k y code channel bytes ls c h
-here_row b m pt l k y said.Stop ps c h fits goes = stop_row b m pt l k y c h
-here_row b m pt l k y said.Resume ps c h fits goes = resume_row b m pt l k y c h
-here_row b m pt l k y said.Kill ps c h fits goes = kill_row b m pt l k y c h
-here_row b m pt l k y (said.Read base len) ps c h fits goes = read_row b m pt l k y base len c h fits
-here_row b m pt l k y (said.Write base bytes) ps c h fits goes = write_row b m pt l k y base bytes c h fits
-here_row b m pt l k y (said.Block bytes) ps c h fits goes = block_row b m pt l k y bytes ps c h goes
-here_row b m pt l k y said.Written ps c h fits goes = written_row b m pt l k y ps c h goes
-here_row b m pt l k y said.Gone ps c h fits goes = gone_row b m pt l k y ps c h goes
-here_row b m pt l k y (said.Create image links) ps c h fits goes = absurd (let f : None ≡ Some ps = goes in cc)
-here_row b m pt l k y (said.Created child) ps c h fits goes = absurd (let f : None ≡ Some ps = goes in cc)
-here_row b m pt l k y said.NoRoom ps c h fits goes = absurd (let f : None ≡ Some ps = goes in cc)
-here_row b m pt l k y (said.Move machine) ps c h fits goes = absurd (let f : None ≡ Some ps = goes in cc)
-here_row b m pt l k y (said.Moved outcome) ps c h fits goes = absurd (let f : None ≡ Some ps = goes in cc)
+here_row b m pt l k y (PlainWhat.User code channel bytes ls) ps c h fits goes = user_row b m pt l k y code channel bytes ls c h
+here_row b m pt l k y PlainWhat.Stop ps c h fits goes = stop_row b m pt l k y c h
+here_row b m pt l k y PlainWhat.Resume ps c h fits goes = resume_row b m pt l k y c h
+here_row b m pt l k y PlainWhat.Kill ps c h fits goes = kill_row b m pt l k y c h
+here_row b m pt l k y (PlainWhat.Read base len) ps c h fits goes = read_row b m pt l k y base len c h fits
+here_row b m pt l k y (PlainWhat.Write base bytes) ps c h fits goes = write_row b m pt l k y base bytes c h fits
+here_row b m pt l k y (PlainWhat.Block bytes) ps c h fits goes = block_row b m pt l k y bytes ps c h goes
+here_row b m pt l k y PlainWhat.Written ps c h fits goes = written_row b m pt l k y ps c h goes
+here_row b m pt l k y PlainWhat.Gone ps c h fits goes = gone_row b m pt l k y ps c h goes
+here_row b m pt l k y _ ps c h fits goes = absurd (let f : None ≡ Some ps = goes in cc)
 
 -- a process, by what the machine knows of it
 process_row : (b : Boot) (m : ℕ) (pt : Point) (l : Placed) (k : KernelState) (y : Message) (w : PlainWhat) (ps : List Part) (c : Taking b m pt l k y w) → IsProcess y.to.pid → BagFor m pt y.to.pid → WhatFits pt.kernel y.id (plainly y w) w

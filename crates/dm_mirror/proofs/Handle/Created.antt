@@ -1,59 +1,17 @@
 -- A kernel makes a process.
-use Rattle.std.proofs.Common.{◌≡◌, ◌≢◌, ℕ, ◌+◌, ◌/◌, ◌≤◌, ◌==◌, ◌&&◌, Bool, true, false, List, [], ◌∷◌, ◌++◌, length, map, refl, ap, ◌∙◌, sym, subst, is_some, arith}
-use Rattle.std.specs.Prelude.{if◌then◌else◌, slice_get}
-use Rattle.std.specs.declared.option.Option.{Option}
-use Rattle.std.specs.declared.option.Option.TheVariants.{None, Some}
-use Rattle.std.proofs.lemmas.Bool.{false≢true}
-use Rattle.dm_link.specs.declared.Pid.{Pid}
-use Rattle.dm_link.specs.Names.{pid_of, pid_eq}
-use Rattle.dm_link.specs.Plain.{PlainLink}
-use Rattle.dm_message.specs.declared.MsgId.{MsgId}
-use Rattle.dm_message.specs.declared.Message.{Message}
-use Rattle.dm_message.specs.declared.What.TheVariants as what
-use Rattle.dm_message.specs.Plain as said
-use Rattle.dm_message.specs.Plain.{PlainMessage, PlainWhat, plain_message}
-use Rattle.dm_records.specs.declared.record.Record.TheVariants as record_
-use Rattle.dm_process.specs.declared.process.Process.{Process}
-use Rattle.dm_process.specs.Begun.{begun as begun_process}
-use Rattle.dm_datamove.specs.Serving.{answer}
-use Rattle.dm_onekernel.specs.declared.boot.Boot.{Boot}
-use Rattle.dm_onekernel.specs.declared.boot.BootImage.{BootImage}
-use Rattle.dm_onekernel.specs.declared.boot.Format.{Format}
-use Rattle.dm_onekernel.specs.declared.label.Label.TheVariants as label
-use Rattle.dm_onekernel.specs.Boot.{first_number, image_is_valid, slots_of}
-use Rattle.dm_onekernel.specs.Kernel.{Alive, OneKernel, with_sent}
-use Rattle.dm_onekernel.specs.PlainProcess.{PlainProcess}
-use Rattle.dm_onekernel.specs.Options.{bind, when}
-use Rattle.dm_onekernel.specs.Pieces.{answer_id, answer_to}
+use Rattle.dm_mirror.proofs.Names.{◌≡◌, ◌≢◌, ℕ, ◌+◌, ◌/◌, ◌≤◌, ◌==◌, ◌&&◌, Bool, true, false, List, [], ◌∷◌, ◌++◌, length, map, refl, ap, ◌∙◌, sym, subst, is_some, arith, if◌then◌else◌, slice_get, Option, None, Some, false≢true, Pid}
+use Rattle.dm_mirror.proofs.Names.{pid_of, pid_eq, PlainLink, MsgId, Message, What, Record, Label, Line, PlainMessage, PlainWhat, plain_message, Process, begun_process, answer, Boot, BootImage, Format, first_number, image_is_valid}
+use Rattle.dm_mirror.proofs.Names.{slots_of, Alive, OneKernel, PlainProcess, bind, when, answer_id, answer_to, without_message, memory_of, slots_with, pid_eq-same, Part, Routes, Point, Room, and, blocks_of, taken_at, taken_by, takes_room}
+use Rattle.dm_mirror.proofs.Names.{at_record, without_front, Spot, Queue, Held, Inbox, standing, Known, after_label, is_kernels, bag_none, bag_created, has_no_queue, fresh_child, begun, Placed, plainly, create_what, child_of, with_child}
+use Rattle.dm_mirror.proofs.Names.{next_pid, KernelState, turned, KnownStands}
+use Rattle.dm_onekernel.specs.Kernel.{with_sent}
 use Rattle.dm_onekernel.specs.Service as service
-use Rattle.dm_onekernel.specs.Service.{without_message}
 use Rattle.dm_onekernel.specs.Start as one
-use Rattle.dm_onekernel.specs.Start.{memory_of, slots_with}
 use Rattle.dm_onekernel.specs.Step as kernel
-use Rattle.dm_laws.proofs.Equal.{pid_eq-same}
-use Rattle.dm_line.specs.declared.line.Line.TheVariants as line
-use Rattle.dm_rule.specs.Parts.{Part, Routes}
-use Rattle.dm_rule.specs.Point.{Point}
 use Rattle.dm_rule.specs.Rule as rule
-use Rattle.dm_rule.specs.Rule.{Room, and, blocks_of, taken_at, taken_by, takes_room}
-use Rattle.dm_line.specs.Sets.{at_record, without_front}
-use Rattle.dm_rule.specs.Spots.{Spot, Queue, Held, Inbox, standing}
-use Rattle.dm_rule.specs.View as view
-use Rattle.dm_rule.specs.View.{Known, View, after_label, handled, is_kernels}
-use Rattle.dm_rule.proofs.Bags.{bag_none, bag_created}
-use Rattle.dm_rulelaws.specs.Found.{has_no_queue}
-use Rattle.dm_rulelaws.proofs.Fits.Creates.{fresh_child}
-use Rattle.dm_rulelaws.proofs.Goes.Front.{begun}
-use Rattle.dm_places.specs.Placed.{Placed}
 use Rattle.dm_places.specs.PlacedStep as placed
-use Rattle.dm_places.proofs.Serves.{plainly}
-use Rattle.dm_places.proofs.Whats.{create_what}
 use Rattle.dm_kernel.specs.declared.part.Part.TheVariants as part
-use Rattle.dm_kernel.specs.Begun.{child_of, with_child}
-use Rattle.dm_kernel.specs.Handle.{next_pid}
 use Rattle.dm_kernel.specs.State as state
-use Rattle.dm_kernel.specs.State.{KernelState, Turned, turned}
-use Rattle.dm_mirror.specs.Stands.{KnownStands}
 use Rattle.dm_mirror.proofs.Handle.Frames.{eq_off, eq_self, machine_off, machine_self, map_same, pid_apart, record_off, record_others, record_self, stands_set}
 use Rattle.dm_mirror.proofs.Handle.Makes.{no_room_row, valid_at, free_of, room_same, kernel_is, create_turn, create_outcome, kernel_home, child_off, memory_length, blocks_are}
 use Rattle.dm_mirror.proofs.Handle.Rows.{IsLeft, Elsewhere, Over, Moves, unknown_left, after_one, elsewhere_apart, front_gone, kept_at, kept_behind, mirrors_one, own_back, own_kept, seen_point, standing_begun}
@@ -63,52 +21,52 @@ use Rattle.dm_mirror.proofs.Turning.{Row}
 
 -- it is made
 abbrev made_point : Point → ℕ → MsgId → Pid → OneKernel → Point
-made_point pt m i child next = seen_point pt m (label.Created i child) next (after_label (begun pt m).view (label.Created i child))
+made_point pt m i child next = seen_point pt m (Label.Created i child) next (after_label (begun pt m).view (Label.Created i child))
 
-made_known : (b : Boot) (m : ℕ) (pt : Point) (l : Placed) (k : KernelState) (y : Message) (w : PlainWhat) (c : Taking b m pt l k y w) (next : Point) (on : Placed) (p : Pid) (held : List MsgId) (x : Process) (r : Option state.Known) → pt.view.known m p ≡ view.Unknown → r ≡ Some (record_.Here x) → x.queue ≡ [] → on.processes p ≡ Some x
-    → (known : Known) → known ≡ view.Here → KnownStands next on p (pt.view.queue m p) held known r
+made_known : (b : Boot) (m : ℕ) (pt : Point) (l : Placed) (k : KernelState) (y : Message) (w : PlainWhat) (c : Taking b m pt l k y w) (next : Point) (on : Placed) (p : Pid) (held : List MsgId) (x : Process) (r : Option state.Known) → pt.view.known m p ≡ Known.Unknown → r ≡ Some (Record.Here x) → x.queue ≡ [] → on.processes p ≡ Some x
+    → (known : Known) → known ≡ Known.Here → KnownStands next on p (pt.view.queue m p) held known r
 made_known b m pt l k y w c next on p held x r none is empty there known here =
     let waits : pt.view.queue m p ≡ [] = c.run.based.lists.queue m p (ap has_no_queue none) in
     subst (λ (z : Known). KnownStands next on p (pt.view.queue m p) held z r) (sym here)
-    (subst (KnownStands next on p (pt.view.queue m p) held view.Here) (sym is)
+    (subst (KnownStands next on p (pt.view.queue m p) held Known.Here) (sym is)
     ((x.queue, there), ap (map on.bag) waits ∙ ap (map Some) (sym empty)))
 
-made_taken : (m : ℕ) (next : Point) (p : Pid) (g : BootImage) (x : PlainProcess) → next.view.known m p ≡ view.Here → kernel.alive (next.kernel.processes p) ≡ Some x → x.memory ≡ memory_of g → image_is_valid g ≡ true → taken_by next m p ≡ record { slots = 1; blocks = g.blocks }
+made_taken : (m : ℕ) (next : Point) (p : Pid) (g : BootImage) (x : PlainProcess) → next.view.known m p ≡ Known.Here → kernel.alive (next.kernel.processes p) ≡ Some x → x.memory ≡ memory_of g → image_is_valid g ≡ true → taken_by next m p ≡ record { slots = 1; blocks = g.blocks }
 made_taken m next p g x here alive memory valid =
     ap (λ (z : Known). record { slots = takes_room z; blocks = if takes_room z == 0 then 0 else blocks_of (kernel.alive (next.kernel.processes p)) }) here
     ∙ ap (λ (n : ℕ). record { slots = 1; blocks = n }) (ap blocks_of alive ∙ ap (λ (bytes : List ℕ). length bytes / 256) memory ∙ blocks_are (length (memory_of g)) g.blocks (memory_length g valid))
 
-pub created_row : (b : Boot) (m : ℕ) (pt : Point) (l : Placed) (k : KernelState) (y : Message) (image : ℕ) (ls : List PlainLink) (g : BootImage) → Taking b m pt l k y (said.Create image ls) → (y.to.pid.num == 0) ≡ true → slice_get b.images image ≡ Some g
+pub created_row : (b : Boot) (m : ℕ) (pt : Point) (l : Placed) (k : KernelState) (y : Message) (image : ℕ) (ls : List PlainLink) (g : BootImage) → Taking b m pt l k y (PlainWhat.Create image ls) → (y.to.pid.num == 0) ≡ true → slice_get b.images image ≡ Some g
     → rule.has_room (rule.free_room b pt m) g.blocks ≡ true → image_is_valid g ≡ true → Row b m pt l k
 created_row b m pt l k y image ls g c num found some valid =
     let s = pt.kernel in
     let p = y.to.pid in
     let v = (begun pt m).view in
-    let x = plainly y (said.Create image ls) in
+    let x = plainly y (PlainWhat.Create image ls) in
     let k0 = record k { inbox = c.rest } in
     let child = pid_of m (first_number + s.made m) in
-    let e = label.Created y.id child in
+    let e = Label.Created y.id child in
     let w = create_what y.what image ls c.says in
     let links = w.links.items in
     let z = child_of b child g links in
     let first = one.begun s.format g ls in
     let free = free_of k.room (slice_get b.machines m) (taken_at pt m s.machines) c.stands.room in
-    let a = answer m 0 y (what.Created child) in
+    let a = answer m 0 y (What.Created child) in
     let u = service.with_child (without_message s y.id) child g ls in
-    let next = with_sent u (Some (answer_to x (said.Created child))) in
+    let next = with_sent u (Some (answer_to x (PlainWhat.Created child))) in
     let there : slice_get s.images image ≡ Some g = ap (λ (gs : List BootImage). slice_get gs image) c.run.based.images ∙ found in
     let on = placed.with_sent (placed.with_child (placed.without_message l y.id) s.format child g links) (Some a) in
-    let home = kernel_home b m pt l k y (said.Create image ls) c num in
+    let home = kernel_home b m pt l k y (PlainWhat.Create image ls) c num in
     let named : pid_eq child (pid_of p.home (first_number + s.made p.home)) ≡ true = ap (λ (n : ℕ). pid_eq child (pid_of n (first_number + s.made n))) home ∙ pid_eq-same child in
     let step : kernel.step s e ≡ Some next =
     ap (λ (o : Option PlainMessage). bind o (λ (q : PlainMessage). service.creates s y.id q child q.what)) c.front.there ∙ ap (λ (o : Option BootImage). bind o (service.creates_of s y.id x child ls)) there
     ∙ ap (λ (d : Bool). when (d && pid_eq child (pid_of p.home (first_number + s.made p.home))) next) (kernel_is s p m num home c.below) ∙ ap (λ (d : Bool). when d next) named in
-    let seen = sane_of b m pt l k y (said.Create image ls) c in
+    let seen = sane_of b m pt l k y (PlainWhat.Create image ls) c in
     let bag = bag_created seen.r seen.e s next y.id child step seen.sound in
     let fresh : (n : Message) → Some a ≡ Some n → s.bag n.id ≡ None =
     λ n is. (let same : a ≡ n = cc in ap (λ (q : Message). s.bag q.id) (sym same) ∙ bag_none seen.r seen.e s (answer_id y.id) (bag.fresh (answer_id y.id) refl) seen.sound.entered) in
     let none = fresh_child seen.r seen.e s child m refl seen.sound in
-    let unknown : (n : ℕ) → pt.view.known n child ≡ view.Unknown = c.run.based.phased.ground.lives.none child none (omega arith) in
+    let unknown : (n : ℕ) → pt.view.known n child ≡ Known.Unknown = c.run.based.phased.ground.lives.none child none (omega arith) in
     let left : (q : Pid) → IsLeft m pt q → pid_eq child q ≡ false = λ q is. unknown_left pt m child q unknown is in
     let off = child_off m (s.made m) in
     let goal = made_point pt m y.id child next in
@@ -117,7 +75,7 @@ created_row b m pt l k y image ls g c num found some valid =
     ∙ ap (placed.creates m s.format s.images (placed.without_message l y.id) y child) w.is
     ∙ ap (λ (o : Option BootImage). bind o (λ (i : BootImage). Some (placed.with_sent (placed.with_child (placed.without_message l y.id) s.format child i links) (Some a)))) there in
     let name : next_pid k0 ≡ child = (λ i. pid_of (c.stands.here i) (first_number + c.stands.made i)) in
-    let here : at_record pt.view.known m child view.Here m child ≡ view.Here = record_self pt.view.known m child view.Here (pid_eq-same child) in
+    let here : at_record pt.view.known m child Known.Here m child ≡ Known.Here = record_self pt.view.known m child Known.Here (pid_eq-same child) in
     let lives : next.processes child ≡ Some (Alive first) = ap (λ (d : Bool). if d then Some (Alive first) else s.processes child) (pid_eq-same child) in
     let stands_there : on.processes child ≡ Some z =
     ap (λ (d : Bool). if d then Some (begun_process child (memory_of g) (slots_with (slots_of s.format) links)) else l.processes child) (pid_eq-same child)
@@ -129,13 +87,13 @@ created_row b m pt l k y image ls g c num found some valid =
     let other : (n : Message) → Some a ≡ Some n → is_kernels n.id ≡ false =
     λ n is. (let same : a ≡ n = cc in ap (λ (q : Message). is_kernels q.id) (sym same) ∙ sent_other pt e next on a step mirrors.plain a_there refl seen) in
     let both : (n : Message) → Some a ≡ Some n → (s.bag n.id ≡ None) × (is_kernels n.id ≡ false) = λ n is. (fresh n is, other n is) in
-    let kept : (q : Spot) (j : MsgId) → q ≢ Inbox m → 1 ≤ standing pt.view j q → on.bag j ≡ l.bag j = kept_at b m pt l k y (said.Create image ls) c on (Some a) bag_is both in
+    let kept : (q : Spot) (j : MsgId) → q ≢ Inbox m → 1 ≤ standing pt.view j q → on.bag j ≡ l.bag j = kept_at b m pt l k y (PlainWhat.Create image ls) c on (Some a) bag_is both in
     let takes = made_taken m goal child g first here (ap kernel.alive lives) refl valid in
     let others : (q : Pid) → q ≢ child → taken_by goal m q ≡ taken_by pt m q =
     λ q apart. (let o = pid_apart child q apart in
     (λ i. record {
-      slots = takes_room (record_others pt.view.known m child q view.Here o i);
-      blocks = if takes_room (record_others pt.view.known m child q view.Here o i) == 0 then 0 else blocks_of (kernel.alive (ap (λ (d : Bool). if d then Some (Alive first) else s.processes q) o i));
+      slots = takes_room (record_others pt.view.known m child q Known.Here o i);
+      blocks = if takes_room (record_others pt.view.known m child q Known.Here o i) == 0 then 0 else blocks_of (kernel.alive (ap (λ (d : Bool). if d then Some (Alive first) else s.processes q) o i));
     })) in
     let others_placed : (q : Pid) → pid_eq child q ≡ false → on.processes q ≡ l.processes q = λ q o. ap (λ (d : Bool). if d then Some (begun_process child (memory_of g) (slots_with (slots_of s.format) links)) else l.processes q) o in
     let others_live : (q : Pid) → pid_eq child q ≡ false → next.processes q ≡ s.processes q = λ q o. ap (λ (d : Bool). if d then Some (Alive first) else s.processes q) o in
@@ -144,12 +102,12 @@ created_row b m pt l k y image ls g c num found some valid =
     let all = taken_made pt goal m m refl c.below made_here made_off others ∙ ap (and (taken_at pt m s.machines)) takes in
     record {
       state = with_child k0 child z g.blocks;
-      says = line.Label e ∷ [];
+      says = Line.Label e ∷ [];
       route = Some a;
-      turn = turn_is b m pt l k y (said.Create image ls) c (turned (with_child k0 child z g.blocks) (state.says e ∷ part.Routes a ∷ []))
+      turn = turn_is b m pt l k y (PlainWhat.Create image ls) c (turned (with_child k0 child z g.blocks) (state.says e ∷ part.Routes a ∷ []))
           (create_turn b k0 y image w.links g true num w.is found (room_same k.room (rule.free_room b pt m) g.blocks free ∙ some)
-          ∙ (λ i. turned (with_child k0 (name i) (child_of b (name i) g links) g.blocks) (state.says (label.Created y.id (name i)) ∷ part.Routes (answer (c.stands.here i) 0 y (what.Created (name i))) ∷ [])));
-      outcome = outcome_is b m pt l k y (said.Create image ls) c (Some (rule.says e ∷ Routes (answer_id y.id) ∷ [])) (create_outcome b m pt y.id x image ls g true num refl found some);
+          ∙ (λ i. turned (with_child k0 (name i) (child_of b (name i) g links) g.blocks) (state.says (Label.Created y.id (name i)) ∷ part.Routes (answer (c.stands.here i) 0 y (What.Created (name i))) ∷ [])));
+      outcome = outcome_is b m pt l k y (PlainWhat.Create image ls) c (Some (rule.says e ∷ Routes (answer_id y.id) ∷ [])) (create_outcome b m pt y.id x image ls g true num refl found some);
       next = goal;
       after = after_one pt m e next (after_label v e) step refl;
       placed = on;
@@ -157,21 +115,21 @@ created_row b m pt l k y image ls g c num found some valid =
       kernel = stands_set b pt goal l on m k (with_child k0 child z g.blocks) child
           (record {
             here = refl;
-            records = λ q o. ap (λ (d : Bool). if d then Some (record_.Here z) else k.records q) o;
+            records = λ q o. ap (λ (d : Bool). if d then Some (Record.Here z) else k.records q) o;
             queue = λ q o. refl;
             held = λ q o. refl;
-            known = λ q o. record_others pt.view.known m child q view.Here o;
+            known = λ q o. record_others pt.view.known m child q Known.Here o;
             processes = others_placed;
             lives = others_live;
             bag = λ q j o least. kept (Queue m q) j (queue_apart m m q) least;
             holds = λ q j o least. kept (Held m q) j (held_apart m m q) least;
-            mine = λ o. made_known b m pt l k y (said.Create image ls) c goal on child (pt.view.held m child) z (if pid_eq child child then Some (record_.Here z) else k.records child) (unknown m)
-                (ap (λ (d : Bool). if d then Some (record_.Here z) else k.records child) (pid_eq-same child)) refl stands_there (at_record pt.view.known m child view.Here m child) here;
+            mine = λ o. made_known b m pt l k y (PlainWhat.Create image ls) c goal on child (pt.view.held m child) z (if pid_eq child child then Some (Record.Here z) else k.records child) (unknown m)
+                (ap (λ (d : Bool). if d then Some (Record.Here z) else k.records child) (pid_eq-same child)) refl stands_there (at_record pt.view.known m child Known.Here m child) here;
             keeps = λ is. absurd (false≢true (sym off ∙ is));
           }) c.stands
           (ap (λ (ps : List Pid). ps ++ child ∷ []) c.stands.ring ∙ sym (machine_self pt.view.ring m (pt.view.ring m ++ child ∷ [])))
           (ap (map on.bag) (machine_self pt.view.inbox m (without_front y.id (pt.view.inbox m)) ∙ front_gone y.id c.ids (pt.view.inbox m) c.box)
-          ∙ map_same l.bag on.bag c.ids (kept_behind b m pt l k y (said.Create image ls) c on (Some a) bag_is both) ∙ c.others)
+          ∙ map_same l.bag on.bag c.ids (kept_behind b m pt l k y (PlainWhat.Create image ls) c on (Some a) bag_is both) ∙ c.others)
           (ap (λ (n : ℕ). n + 1) c.stands.made ∙ sym made_here)
           (record {
             slots = c.stands.room.slots;
@@ -185,7 +143,7 @@ created_row b m pt l k y image ls g c num found some valid =
         pair = λ f d. refl;
         inbox = λ n o. machine_off pt.view.inbox m n (without_front y.id (pt.view.inbox m)) o;
         ring = λ n o. machine_off pt.view.ring m n (pt.view.ring m ++ child ∷ []) o;
-        known = λ n q o. record_off pt.view.known m n child q view.Here o;
+        known = λ n q o. record_off pt.view.known m n child q Known.Here o;
         queue = λ n q o. refl;
         held = λ n q o. refl;
         count = λ n. refl;
@@ -202,8 +160,8 @@ created_row b m pt l k y image ls g c num found some valid =
       sent = (a_there, refl);
       still = refl;
       count = refl;
-      moving = λ q is. let o = left q (Moves is) in (others_placed q o, ap (λ (d : Bool). if d then Some (record_.Here z) else k.records q) o);
-      own = own_kept b m pt l k y (said.Create image ls) c on (Some a) bag_is other;
+      moving = λ q is. let o = left q (Moves is) in (others_placed q o, ap (λ (d : Bool). if d then Some (Record.Here z) else k.records q) o);
+      own = own_kept b m pt l k y (PlainWhat.Create image ls) c on (Some a) bag_is other;
       own_back = own_back l on y.id (Some a) bag_is a_plain;
     }
 
@@ -212,7 +170,7 @@ abbrev room_for : Room → Option BootImage → Bool
 room_for r None = false
 room_for r (Some g) = rule.has_room r g.blocks
 
-asks_row : (b : Boot) (m : ℕ) (pt : Point) (l : Placed) (k : KernelState) (y : Message) (image : ℕ) (ls : List PlainLink) (ps : List Part) (o : Option BootImage) (d : Bool) → Taking b m pt l k y (said.Create image ls) → (y.to.pid.num == 0) ≡ true → slice_get b.images image ≡ o
+asks_row : (b : Boot) (m : ℕ) (pt : Point) (l : Placed) (k : KernelState) (y : Message) (image : ℕ) (ls : List PlainLink) (ps : List Part) (o : Option BootImage) (d : Bool) → Taking b m pt l k y (PlainWhat.Create image ls) → (y.to.pid.num == 0) ≡ true → slice_get b.images image ≡ o
     → room_for (rule.free_room b pt m) o ≡ d → rule.creates pt m y.id (rule.free_room b pt m) o ≡ Some ps → Row b m pt l k
 asks_row b m pt l k y image ls ps None d c num found room goes = absurd (let f : None ≡ Some ps = goes in cc)
 asks_row b m pt l k y image ls ps (Some g) true c num found room goes = created_row b m pt l k y image ls g c num found room (valid_at b.images image g found c.valid.images)
@@ -220,5 +178,5 @@ asks_row b m pt l k y image ls ps (Some g) false c num found room goes = no_room
 
 -- a row for the kernel
 pub kernel_row : (b : Boot) (m : ℕ) (pt : Point) (l : Placed) (k : KernelState) (y : Message) (w : PlainWhat) (ps : List Part) → Taking b m pt l k y w → (y.to.pid.num == 0) ≡ true → rule.kernel_handles b pt m y.id w ≡ Some ps → Row b m pt l k
-kernel_row b m pt l k y (said.Create image ls) ps c num goes = asks_row b m pt l k y image ls ps (slice_get b.images image) (room_for (rule.free_room b pt m) (slice_get b.images image)) c num refl refl goes
+kernel_row b m pt l k y (PlainWhat.Create image ls) ps c num goes = asks_row b m pt l k y image ls ps (slice_get b.images image) (room_for (rule.free_room b pt m) (slice_get b.images image)) c num refl refl goes
 kernel_row b m pt l k y w ps c num goes = absurd (let f : None ≡ Some ps = goes in cc)

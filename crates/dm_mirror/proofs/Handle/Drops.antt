@@ -1,50 +1,22 @@
 -- The queue of a process that has ended is dropped, message by message.
-use Rattle.std.proofs.Common.{◌≡◌, ℕ, ◌≤◌, ◌==◌, ◌&&◌, Bool, true, false, List, [], ◌∷◌, ◌++◌, map, refl, ap, ◌∙◌, sym, subst, inl, inr, arith}
-use Rattle.std.specs.Prelude.{if◌then◌else◌}
-use Rattle.std.specs.declared.option.Option.{Option}
-use Rattle.std.specs.declared.option.Option.TheVariants.{None, Some}
-use Rattle.std.proofs.lemmas.Bool.{cases_Bool}
-use Rattle.std.proofs.lemmas.Bool.Decides.{nat_tests}
-use Rattle.dm_link.specs.declared.Pid.{Pid}
-use Rattle.dm_link.specs.Names.{pid_eq}
-use Rattle.dm_message.specs.declared.MsgId.{MsgId}
-use Rattle.dm_message.specs.declared.Message.{Message}
-use Rattle.dm_message.specs.Ids.{id_eq}
-use Rattle.dm_message.specs.Plain as what
-use Rattle.dm_message.specs.Plain.{PlainMessage, PlainWhat}
-use Rattle.dm_onekernel.specs.declared.label.Label.TheVariants as label
-use Rattle.dm_onekernel.specs.declared.label.Why.{Why}
-use Rattle.dm_onekernel.specs.Kernel.{Ended, OneKernel}
-use Rattle.dm_onekernel.specs.Options.{bind}
-use Rattle.dm_onekernel.specs.Service.{is_dropped, without_message}
+use Rattle.dm_mirror.proofs.Names.{◌≡◌, ℕ, ◌≤◌, ◌==◌, ◌&&◌, Bool, true, false, List, [], ◌∷◌, ◌++◌, map, refl, ap, ◌∙◌, sym, subst, inl, inr, arith, if◌then◌else◌, Option, None, Some, cases_Bool, Pid, pid_eq, MsgId, Message, id_eq, Label}
+use Rattle.dm_mirror.proofs.Names.{Why, OneKernel, bind, without_message, id_eq-is, id_eq-same, pid_eq-same, out_off, Line, Point, after, moved, without_front, times, View, handled, Droppable, droppable_on, dropped_is, Placed, Mirrors}
+use Rattle.dm_mirror.proofs.Names.{mirrors_view, placed_follows, AreMessages, user_dropped, machine_same}
+use Rattle.dm_kernel.specs.declared.part.Part.{Part}
+use Rattle.dm_onekernel.specs.Kernel.{Ended}
 use Rattle.dm_onekernel.specs.Step as kernel
-use Rattle.dm_laws.proofs.Equal.{id_eq-is, id_eq-same, pid_eq-same}
-use Rattle.dm_laws.proofs.Movers.{out_off}
-use Rattle.dm_line.specs.declared.line.Line.{Line}
-use Rattle.dm_line.specs.declared.line.Line.TheVariants as line
-use Rattle.dm_rule.specs.Point.{Point, after, moved}
 use Rattle.dm_rule.specs.Rule as rule
 use Rattle.dm_rule.specs.Parts as rule_part
-use Rattle.dm_line.specs.Sets.{at_machine, without_front}
-use Rattle.dm_rule.specs.Spots.{times}
 use Rattle.dm_rule.specs.View as view
-use Rattle.dm_rule.specs.View.{View, handled}
-use Rattle.dm_rulelaws.proofs.Goes.Turns.{Droppable, droppable_on, dropped_is}
-use Rattle.dm_rulelaws.proofs.Queued.{is_user}
-use Rattle.dm_places.specs.Placed.{Placed, Mirrors}
 use Rattle.dm_places.specs.PlacedStep as placed
-use Rattle.dm_places.proofs.Lines.{mirrors_view}
-use Rattle.dm_places.proofs.Steps.{placed_follows}
-use Rattle.dm_kernel.specs.declared.part.Part.TheVariants as part
 use Rattle.dm_kernel.specs.State as state
-use Rattle.dm_mirror.specs.Stands.{AreMessages}
 use Rattle.dm_mirror.proofs.Handle.Ended.{front_none}
 use Rattle.dm_mirror.proofs.Handle.Frames.{record_self, times_more, times_self}
 use Rattle.dm_mirror.proofs.Handle.Rows.{out_back}
 use Rattle.dm_mirror.proofs.Turning.{are_still}
 
 abbrev pub drop_line : MsgId → Line
-drop_line i = line.Label (label.Dropped i)
+drop_line i = Line.Label (Label.Dropped i)
 
 -- what the drops leave
 pub record Drops (pt : Point) (l : Placed) (p : Pid) (ids : List MsgId) : Type 0 where
@@ -72,21 +44,11 @@ pub record Drops (pt : Point) (l : Placed) (p : Pid) (ids : List MsgId) : Type 0
   pub board : on.board ≡ l.board
   pub manager : on.manager ≡ l.manager
 
-user_drops : (w : PlainWhat) → is_user w ≡ true → is_dropped w ≡ true
-user_drops (what.User code channel body links) e = refl
-user_drops w e = cc
-
 -- a message that isn't there
 pub times_off : (j i : MsgId) (is : List MsgId) → times j (i ∷ is) ≡ 0 → (id_eq i j ≡ false) × (times j is ≡ 0)
 times_off j i is none = elim (cases_Bool (id_eq i j)) [
   | inl same ↦ absurd (let e : i ≡ j = id_eq-is i j same in let one : 1 ≤ times j (i ∷ is) = subst (λ (z : MsgId). 1 ≤ times z (i ∷ is)) e (times_self i is) in omega (arith, none, one))
   | inr off ↦ (off, let more = times_more j i is in omega (arith, none, more))
-]
-
-inbox_same : (f : ℕ → List MsgId) (m : ℕ) (x : List MsgId) → x ≡ f m → (n : ℕ) → at_machine f m x n ≡ f n
-inbox_same f m x e n = elim (cases_Bool (m == n)) [
-  | inl same ↦ ap (λ (c : Bool). if c then x else f n) same ∙ e ∙ (let g : m ≡ n = grind (arith, nat_tests) in ap f g)
-  | inr off ↦ ap (λ (c : Bool). if c then x else f n) off
 ]
 
 -- the view after one
@@ -96,15 +58,15 @@ dropped_view v j p = view.dropped_for (handled v j) j (Some p)
 abbrev dropped_point : Point → MsgId → Pid → Point
 dropped_point pt j p = record { kernel = without_message pt.kernel j; view = dropped_view pt.view j p; addresses = pt.addresses }
 
-one_after : (pt : Point) (j : MsgId) (p : Pid) (rest : List Line) → kernel.step pt.kernel (label.Dropped j) ≡ Some (without_message pt.kernel j) → view.receiver_of (pt.view.told j) ≡ Some p → after pt (drop_line j ∷ rest) ≡ after (dropped_point pt j p) rest
+one_after : (pt : Point) (j : MsgId) (p : Pid) (rest : List Line) → kernel.step pt.kernel (Label.Dropped j) ≡ Some (without_message pt.kernel j) → view.receiver_of (pt.view.told j) ≡ Some p → after pt (drop_line j ∷ rest) ≡ after (dropped_point pt j p) rest
 one_after pt j p rest step told =
     ap (λ (o : Option OneKernel). bind (bind o (λ (s : OneKernel). Some (moved pt (drop_line j) s))) (λ (n : Point). after n rest)) step
     ∙ ap (λ (o : Option Pid). after (record { kernel = without_message pt.kernel j; view = view.dropped_for (handled pt.view j) j o; addresses = pt.addresses }) rest) told
 
-one_mirrors : (pt : Point) (l : Placed) (j : MsgId) (p : Pid) → kernel.step pt.kernel (label.Dropped j) ≡ Some (without_message pt.kernel j) → Mirrors pt.kernel pt.view pt.addresses l
+one_mirrors : (pt : Point) (l : Placed) (j : MsgId) (p : Pid) → kernel.step pt.kernel (Label.Dropped j) ≡ Some (without_message pt.kernel j) → Mirrors pt.kernel pt.view pt.addresses l
     → Mirrors (without_message pt.kernel j) (dropped_view pt.view j p) pt.addresses (placed.without_message l j)
 one_mirrors pt l j p step h =
-    let (on, found, mirrors) = placed_follows pt.kernel (without_message pt.kernel j) pt.view pt.addresses l pt.view.acting (label.Dropped j) h refl tt step in
+    let (on, found, mirrors) = placed_follows pt.kernel (without_message pt.kernel j) pt.view pt.addresses l pt.view.acting (Label.Dropped j) h refl tt step in
     let same : on ≡ placed.without_message l j = let f : Some on ≡ Some (placed.without_message l j) = sym found in cc in
     subst (Mirrors (without_message pt.kernel j) (dropped_view pt.view j p) pt.addresses) same (mirrors_view (without_message pt.kernel j) pt.view (dropped_view pt.view j p) pt.addresses on refl mirrors)
 
@@ -139,10 +101,10 @@ all_dropped (j ∷ js) pt l p y front ended drops told inbox h =
     let s = pt.kernel in
     let v = pt.view in
     let m = v.acting in
-    let step = dropped_is s j drops.0.x y drops.0.there (ap s.processes drops.0.to ∙ ended) (user_drops drops.0.x.what drops.0.user) in
+    let step = dropped_is s j drops.0.x y drops.0.there (ap s.processes drops.0.to ∙ ended) (user_dropped drops.0.x.what drops.0.user) in
     let first = told j (times_self j js) in
     let mid = dropped_point pt j p in
-    let boxes = inbox_same v.inbox m (without_front j (v.inbox m)) (front_none j (v.inbox m) (inbox j (times_self j js))) in
+    let boxes = machine_same v.inbox m (without_front j (v.inbox m)) (front_none j (v.inbox m) (inbox j (times_self j js))) in
     let left : mid.view.queue m p ≡ js =
     record_self v.queue m p (without_front j (v.queue m p)) (pid_eq-same p) ∙ ap (without_front j) front ∙ ap (λ (c : Bool). if c then js else j ∷ js) (id_eq-same j) in
     let more : (i : MsgId) → 1 ≤ times i js → 1 ≤ times i (j ∷ js) = λ i least. (let f = times_more i j js in omega (arith, least, f)) in
@@ -179,20 +141,20 @@ all_dropped (j ∷ js) pt l p y front ended drops told inbox h =
     }
 
 -- the parts
-pub drops_are : (bag : MsgId → Option Message) (ids : List MsgId) (ms : List Message) → ((i : MsgId) (x : Message) → bag i ≡ Some x → x.id ≡ i) → AreMessages bag ids ms → state.drops ms ≡ map part.Says (map drop_line ids) ++ []
+pub drops_are : (bag : MsgId → Option Message) (ids : List MsgId) (ms : List Message) → ((i : MsgId) (x : Message) → bag i ≡ Some x → x.id ≡ i) → AreMessages bag ids ms → state.drops ms ≡ map Part.Says (map drop_line ids) ++ []
 drops_are bag [] [] names h = refl
 drops_are bag (j ∷ js) (z ∷ zs) names h =
     let first : bag j ≡ Some z = cc in
     let rest : map bag js ≡ map Some zs = cc in
     let more = drops_are bag js zs names rest in
     let name = names j z first in
-    λ i. state.says (label.Dropped (name i)) ∷ more i
+    λ i. state.says (Label.Dropped (name i)) ∷ more i
 drops_are bag [] (z ∷ zs) names h = cc
 drops_are bag (j ∷ js) [] names h = cc
 
 pub rule_drops : (ids : List MsgId) → rule.drops ids ≡ map rule_part.Says (map drop_line ids) ++ []
 rule_drops [] = refl
-rule_drops (j ∷ js) = ap (λ (ps : List rule_part.Part). rule.says (label.Dropped j) ∷ ps) (rule_drops js)
+rule_drops (j ∷ js) = ap (λ (ps : List rule_part.Part). rule.says (Label.Dropped j) ∷ ps) (rule_drops js)
 
 pub drops_still : (ids : List MsgId) → are_still (map drop_line ids) ≡ true
 drops_still [] = refl

@@ -1,39 +1,13 @@
 -- The kernel of a machine still stands for a point where one process has changed.
-use Rattle.std.proofs.Common.{◌≡◌, ◌≢◌, ℕ, ◌+◌, ◌≤◌, ◌==◌, ◌&&◌, Bool, true, false, List, [], ◌∷◌, map, refl, ap, ◌∙◌, sym, subst, inl, inr, arith}
-use Rattle.std.specs.Prelude.{if◌then◌else◌, slice_get}
-use Rattle.std.specs.declared.option.Option.{Option}
-use Rattle.std.specs.declared.option.Option.TheVariants.{None, Some}
-use Rattle.std.proofs.lemmas.Bool.{cases_Bool}
-use Rattle.std.proofs.lemmas.Bool.Decides.{nat_tests}
-use Rattle.dm_link.specs.declared.Pid.{Pid}
-use Rattle.dm_link.specs.Names.{pid_eq}
-use Rattle.dm_message.specs.declared.MsgId.{MsgId}
-use Rattle.dm_message.specs.declared.Message.{Message}
-use Rattle.dm_records.specs.declared.record.Record.TheVariants as record_
-use Rattle.dm_process.specs.declared.process.Process.{Process}
-use Rattle.dm_migrate.specs.Departure.{Departure}
-use Rattle.dm_migrate.specs.Arrival.{Arrival}
-use Rattle.dm_onekernel.specs.declared.boot.Boot.{Boot}
+use Rattle.dm_mirror.proofs.Names.{◌≡◌, ◌≢◌, ℕ, ◌≤◌, ◌==◌, ◌&&◌, Bool, true, false, List, [], ◌∷◌, map, refl, ap, ◌∙◌, sym, subst, inl, inr, arith, if◌then◌else◌, slice_get, Option, None, Some, cases_Bool, nat_tests, Pid, pid_eq, MsgId}
+use Rattle.dm_mirror.proofs.Names.{Message, Record, Process, Departure, Arrival, Boot, room_of, KernelState, pid_eq-is, Point, taken_at, at_machine, at_record, times, Known, Unknown, Here, Frozen, Incoming, Forward, Ended, is_server}
+use Rattle.dm_mirror.proofs.Names.{Placed, AreMessages, HereStands, LeavesStand, ComesStand, KnownStands, KernelStands, RoomStands, servers_at}
 use Rattle.dm_onekernel.specs.Step as kernel
-use Rattle.dm_kernel.specs.Begun.{room_of}
 use Rattle.dm_kernel.specs.State as machine
-use Rattle.dm_kernel.specs.State.{KernelState}
-use Rattle.dm_laws.proofs.Equal.{id_eq-same, pid_eq-is}
-use Rattle.dm_rule.specs.Point.{Point}
-use Rattle.dm_rule.specs.Rule.{taken_at}
-use Rattle.dm_line.specs.Sets.{at_machine, at_record}
-use Rattle.dm_rule.specs.Spots.{times}
-use Rattle.dm_rule.specs.View.{Known, Unknown, Here, Frozen, Incoming, Forward, Ended}
-use Rattle.dm_rulelaws.specs.Fits.{is_server}
-use Rattle.dm_places.specs.Placed.{Placed}
-use Rattle.dm_mirror.specs.Stands.{AreMessages, HereStands, LeavesStand, ComesStand, KnownStands, KernelStands, RoomStands, servers_at}
-
--- messages by name
-pub times_self : (i : MsgId) (is : List MsgId) → 1 ≤ times i (i ∷ is)
-times_self i is = let e : times i (i ∷ is) ≡ 1 + times i is = ap (λ (c : Bool). (if c then 1 else 0) + times i is) (id_eq-same i) in omega (arith, e)
-
-pub times_more : (i j : MsgId) (is : List MsgId) → times i is ≤ times i (j ∷ is)
-times_more i j is = omega arith
+pub use Rattle.dm_rulelaws.proofs.Goes.Turns.{times_self}
+pub use Rattle.dm_rule.proofs.Lines.{eq_self}
+pub use Rattle.dm_rule.proofs.Lines.{at_machine_at as machine_self}
+pub use Rattle.dm_rulelaws.proofs.Goes.Turns.{times_more}
 
 pub map_same : (f g : MsgId → Option Message) (ids : List MsgId) → ((j : MsgId) → 1 ≤ times j ids → g j ≡ f j) → map g ids ≡ map f ids
 map_same f g [] same = refl
@@ -80,11 +54,11 @@ comes_on l placed p held a same holds h = record {
 pub known_on : (pt next : Point) (l placed : Placed) (p : Pid) (queue held : List MsgId) (k : Known) (r : Option machine.Known) → placed.processes p ≡ l.processes p → next.kernel.processes p ≡ pt.kernel.processes p
     → ((j : MsgId) → 1 ≤ times j queue → placed.bag j ≡ l.bag j) → ((j : MsgId) → 1 ≤ times j held → placed.bag j ≡ l.bag j) → KnownStands pt l p queue held k r → KnownStands next placed p queue held k r
 known_on pt next l placed p queue held Unknown None same life bag holds h = tt
-known_on pt next l placed p queue held Here (Some (record_.Here x)) same life bag holds h = here_on l placed p queue x same bag h
-known_on pt next l placed p queue held (Frozen to) (Some (record_.Frozen d)) same life bag holds h = leaves_on l placed p queue held to d same bag holds h
-known_on pt next l placed p queue held (Incoming from) (Some (record_.Incoming a)) same life bag holds h = comes_on l placed p held a same holds h
-known_on pt next l placed p queue held (Forward at moves) (Some (record_.Forward to count)) same life bag holds h = h
-known_on pt next l placed p queue held Ended (Some (record_.Ended y)) same life bag holds h = ap kernel.ended life ∙ h
+known_on pt next l placed p queue held Here (Some (Record.Here x)) same life bag holds h = here_on l placed p queue x same bag h
+known_on pt next l placed p queue held (Frozen to) (Some (Record.Frozen d)) same life bag holds h = leaves_on l placed p queue held to d same bag holds h
+known_on pt next l placed p queue held (Incoming from) (Some (Record.Incoming a)) same life bag holds h = comes_on l placed p held a same holds h
+known_on pt next l placed p queue held (Forward at moves) (Some (Record.Forward to count)) same life bag holds h = h
+known_on pt next l placed p queue held Ended (Some (Record.Ended y)) same life bag holds h = ap kernel.ended life ∙ h
 known_on pt next l placed p queue held k r same life bag holds h = absurd h
 
 -- another kernel of machine m for another point, where only process p may have changed
@@ -142,12 +116,6 @@ eq_off m n apart = elim (cases_Bool (m == n)) [
   | inl same ↦ absurd (apart (let e : n ≡ m = grind (arith, nat_tests) in e))
   | inr off ↦ off
 ]
-
-pub eq_self : (m : ℕ) → (m == m) ≡ true
-eq_self m = grind (arith, nat_tests)
-
-pub machine_self : {X : Type 0} (f : ℕ → X) (m : ℕ) (x : X) → at_machine f m x m ≡ x
-machine_self f m x = ap (λ (c : Bool). if c then x else f m) (eq_self m)
 
 pub machine_off : {X : Type 0} (f : ℕ → X) (m n : ℕ) (x : X) → n ≢ m → at_machine f m x n ≡ f n
 machine_off f m n x apart = ap (λ (c : Bool). if c then x else f n) (eq_off m n apart)

@@ -1,44 +1,14 @@
 -- A message that is served by the kernel of its receiver, a process that is here and goes on.
-use Rattle.std.proofs.Common.{◌≡◌, ℕ, ◌/◌, Bool, true, List, ◌∷◌, length, map, refl, ap, ◌∙◌, sym, subst, is_some}
-use Rattle.std.specs.Prelude.{if◌then◌else◌}
-use Rattle.std.specs.declared.option.Option.{Option}
-use Rattle.std.specs.declared.option.Option.TheVariants.{None, Some}
-use Rattle.std.proofs.lemmas.Bool.{false≢true}
-use Rattle.dm_link.specs.declared.Pid.{Pid}
-use Rattle.dm_message.specs.declared.MsgId.{MsgId}
-use Rattle.dm_message.specs.declared.Message.{Message}
-use Rattle.dm_message.specs.Kinds.{plain_kind}
-use Rattle.dm_message.specs.Plain.{PlainMessage, PlainWhat, plain_message}
-use Rattle.dm_records.specs.declared.record.Record.TheVariants as record_
-use Rattle.dm_process.specs.declared.process.Process.{Process}
-use Rattle.dm_onekernel.specs.declared.boot.Boot.{Boot}
-use Rattle.dm_onekernel.specs.declared.label.Label.TheVariants as label
+use Rattle.dm_mirror.proofs.Names.{◌≡◌, ℕ, ◌/◌, Bool, true, List, ◌∷◌, length, map, refl, ap, ◌∙◌, sym, subst, is_some, if◌then◌else◌, Option, None, Some, false≢true, Pid, MsgId, Message, plain_kind, PlainMessage, PlainWhat, plain_message}
+use Rattle.dm_mirror.proofs.Names.{Record, Label, Process, Boot, Alive, Life, OneKernel, bind, plain_process, PlainProcess, pid_eq-same, Part, Point, blocks_of, Known, View, handled, agrees, alive_of, begun, served_is, Placed, of_map}
+use Rattle.dm_mirror.proofs.Names.{with_queue, plainly, handles, here_handles, process_handles, KernelState, Turned, turned, with_here, AreMessages, KnownStands}
 use Rattle.dm_onekernel.specs.Kernel as kernels
-use Rattle.dm_onekernel.specs.Kernel.{Alive, Life, OneKernel}
-use Rattle.dm_onekernel.specs.Options.{bind}
-use Rattle.dm_onekernel.specs.Plain.{plain_process}
-use Rattle.dm_onekernel.specs.PlainProcess.{PlainProcess}
 use Rattle.dm_onekernel.specs.Service as service
 use Rattle.dm_onekernel.specs.Step as kernel
-use Rattle.dm_laws.proofs.Equal.{pid_eq-same}
-use Rattle.dm_rule.specs.Parts.{Part}
-use Rattle.dm_rule.specs.Point.{Point}
 use Rattle.dm_rule.specs.Rule as rule
-use Rattle.dm_rule.specs.Rule.{blocks_of}
 use Rattle.dm_rule.specs.View as view
-use Rattle.dm_rule.specs.View.{Known, View, handled}
-use Rattle.dm_rulelaws.specs.KnownStands.{agrees}
-use Rattle.dm_rulelaws.proofs.Goes.Process.{alive_of}
-use Rattle.dm_rulelaws.proofs.Goes.Front.{begun, served_is}
-use Rattle.dm_places.specs.Placed.{Placed}
 use Rattle.dm_places.specs.PlacedStep as placed
-use Rattle.dm_places.proofs.Keeps.{of_map}
-use Rattle.dm_places.proofs.Queues.{with_queue}
-use Rattle.dm_places.proofs.Serves.{plainly}
-use Rattle.dm_kernel.specs.Handle.{handles, here_handles, process_handles}
 use Rattle.dm_kernel.specs.State as state
-use Rattle.dm_kernel.specs.State.{KernelState, Turned, turned, with_here}
-use Rattle.dm_mirror.specs.Stands.{AreMessages, KnownStands}
 use Rattle.dm_mirror.proofs.Handle.Frames.{map_same}
 use Rattle.dm_mirror.proofs.Handle.Receivers.{IsProcess, not_server, to_process, rule_to_process}
 use Rattle.dm_mirror.proofs.Handle.Rows.{turns_row, handled_point, here_left}
@@ -51,7 +21,7 @@ pub record IsHere (b : Boot) (m : ℕ) (pt : Point) (l : Placed) (k : KernelStat
   pub process : IsProcess p
   pub x : Process
   pub queue : List Message
-  pub there : k.records p ≡ Some (record_.Here x)
+  pub there : k.records p ≡ Some (Record.Here x)
   pub placed : l.processes p ≡ Some (with_queue x queue)
   pub waits : AreMessages l.bag (pt.view.queue m p) x.queue
   pub life : pt.kernel.processes p ≡ Some (Alive (plain_process x))
@@ -61,12 +31,12 @@ pub record IsHere (b : Boot) (m : ℕ) (pt : Point) (l : Placed) (k : KernelStat
 record Found (pt : Point) (l : Placed) (p : Pid) (queue : List MsgId) (r : Option state.Known) : Type 0 where
   x : Process
   q : List Message
-  there : r ≡ Some (record_.Here x)
+  there : r ≡ Some (Record.Here x)
   placed : l.processes p ≡ Some (with_queue x q)
   waits : AreMessages l.bag queue x.queue
 
 here_record : (pt : Point) (l : Placed) (p : Pid) (queue held : List MsgId) (r : Option state.Known) → KnownStands pt l p queue held view.Here r → Found pt l p queue r
-here_record pt l p queue held (Some (record_.Here x)) h = record { x = x; q = h.0.0; there = refl; placed = h.0.1; waits = h.1 }
+here_record pt l p queue held (Some (Record.Here x)) h = record { x = x; q = h.0.0; there = refl; placed = h.0.1; waits = h.1 }
 here_record pt l p queue held r h = absurd h
 
 pub is_here : (b : Boot) (m : ℕ) (pt : Point) (l : Placed) (k : KernelState) (y : Message) (w : PlainWhat) → Taking b m pt l k y w → IsProcess y.to.pid → pt.view.known m y.to.pid ≡ view.Here → IsHere b m pt l k y.to.pid
@@ -99,12 +69,12 @@ here_outcome b m pt l k y w h o e =
     ∙ ap (λ (z : Option Life). bind (kernel.alive z) (λ (v : PlainProcess). rule.here_handles pt m y.id (plainly y w) v w)) h.life ∙ e
 
 -- the kernel's step for a served message
-pub served_step : (s : OneKernel) (i : MsgId) (x : PlainMessage) (z : PlainProcess) (t : OneKernel) → s.bag i ≡ Some x → s.processes x.to ≡ Some (Alive z) → service.serves s i x z x.what ≡ Some t → kernel.step s (label.Served i) ≡ Some t
+pub served_step : (s : OneKernel) (i : MsgId) (x : PlainMessage) (z : PlainProcess) (t : OneKernel) → s.bag i ≡ Some x → s.processes x.to ≡ Some (Alive z) → service.serves s i x z x.what ≡ Some t → kernel.step s (Label.Served i) ≡ Some t
 served_step s i x z t there alive e =
     ap (λ (o : Option PlainMessage). bind o (λ (v : PlainMessage). bind (kernel.alive (s.processes v.to)) (λ (p : PlainProcess). service.serves s i v p v.what))) there
     ∙ ap (λ (o : Option Life). bind (kernel.alive o) (λ (p : PlainProcess). service.serves s i x p x.what)) alive ∙ e
 
-pub served_placed : (pt : Point) (l on : Placed) (m : ℕ) (y : Message) (x : Process) → l.bag y.id ≡ Some y → l.processes y.to.pid ≡ Some x → placed.serves m (placed.without_message l y.id) y x y.what ≡ Some on → placed.placed_step m pt.kernel.format pt.kernel.images l (label.Served y.id) ≡ Some on
+pub served_placed : (pt : Point) (l on : Placed) (m : ℕ) (y : Message) (x : Process) → l.bag y.id ≡ Some y → l.processes y.to.pid ≡ Some x → placed.serves m (placed.without_message l y.id) y x y.what ≡ Some on → placed.placed_step m pt.kernel.format pt.kernel.images l (Label.Served y.id) ≡ Some on
 served_placed pt l on m y x there stands e =
     ap (λ (o : Option Message). bind o (λ (v : Message). bind (l.processes v.to.pid) (λ (p : Process). placed.serves m (placed.without_message l y.id) v p v.what))) there
     ∙ ap (λ (o : Option Process). bind o (λ (p : Process). placed.serves m (placed.without_message l y.id) y p y.what)) stands ∙ e
@@ -117,15 +87,15 @@ pub record Served (b : Boot) (m : ℕ) (pt : Point) (l : Placed) (k : KernelStat
   pub q : Option PlainMessage
   pub serves : service.serves pt.kernel y.id (plainly y w) (plain_process h.x) w ≡ Some (kernels.with_sent (service.changed pt.kernel y.id (plainly y w) pz) q)
   pub placed_is : placed.serves m (placed.without_message l y.id) y (with_queue h.x h.queue) y.what ≡ Some (placed.with_sent (placed.with_process (placed.without_message l y.id) y.to.pid (Some (with_queue z h.queue))) o)
-  pub turn : here_handles (record k { inbox = c.rest }) y h.x y.what ≡ turned (with_here (record k { inbox = c.rest }) y.to.pid z) (state.says (label.Served y.id) ∷ routed o)
-  pub outcome : rule.here_handles pt m y.id (plainly y w) (plain_process h.x) w ≡ Some (rule.says (label.Served y.id) ∷ rule_routed o)
+  pub turn : here_handles (record k { inbox = c.rest }) y h.x y.what ≡ turned (with_here (record k { inbox = c.rest }) y.to.pid z) (state.says (Label.Served y.id) ∷ routed o)
+  pub outcome : rule.here_handles pt m y.id (plainly y w) (plain_process h.x) w ≡ Some (rule.says (Label.Served y.id) ∷ rule_routed o)
   pub queue : z.queue ≡ h.x.queue
   pub memory : length pz.memory ≡ length h.x.memory
   pub fresh : (a : Message) → o ≡ Some a → pt.kernel.bag a.id ≡ None
   pub plain : (a : Message) → o ≡ Some a → is_some (plain_message a) ≡ true
   pub quiet : (v : View) (p : Pid) → view.kills (plain_kind w) v (Some p) ≡ v
 
-pub here_known : (next : Point) (on : Placed) (p : Pid) (queue held : List MsgId) (z : Process) (q : List Message) (r : Option state.Known) (n : Known) → r ≡ Some (record_.Here z) → n ≡ view.Here → on.processes p ≡ Some (with_queue z q) → AreMessages on.bag queue z.queue → KnownStands next on p queue held n r
+pub here_known : (next : Point) (on : Placed) (p : Pid) (queue held : List MsgId) (z : Process) (q : List Message) (r : Option state.Known) (n : Known) → r ≡ Some (Record.Here z) → n ≡ view.Here → on.processes p ≡ Some (with_queue z q) → AreMessages on.bag queue z.queue → KnownStands next on p queue held n r
 here_known next on p queue held z q r n is here there waits =
     subst (λ (v : Known). KnownStands next on p queue held v r) (sym here) (subst (KnownStands next on p queue held view.Here) (sym is) ((q, there), waits))
 
@@ -139,7 +109,7 @@ served_row b m pt l k y w c h d =
     let next = kernels.with_sent u d.q in
     let set = placed.with_process (placed.without_message l y.id) p (Some (with_queue d.z h.queue)) in
     let on = placed.with_sent set d.o in
-    let e = label.Served y.id in
+    let e = Label.Served y.id in
     let v = handled (begun pt m).view y.id in
     let alive : next.processes p ≡ Some (Alive d.pz) = sent_processes u d.q p ∙ ap (λ (g : Bool). if g then Some (Alive d.pz) else s.processes p) (pid_eq-same p) in
     turns_row b m pt l k y w c (record {
@@ -166,7 +136,7 @@ served_row b m pt l k y w c h d =
       fresh = d.fresh;
       plain = d.plain;
       here = refl;
-      records = λ q off. ap (λ (g : Bool). if g then Some (record_.Here d.z) else k.records q) off;
+      records = λ q off. ap (λ (g : Bool). if g then Some (Record.Here d.z) else k.records q) off;
       ring = refl;
       inbox = refl;
       count = refl;
@@ -175,13 +145,13 @@ served_row b m pt l k y w c h d =
       servers = c.stands.servers ∙ sym (placed_servers set d.o m);
       keeps = λ server. absurd (false≢true (sym (not_server p h.process) ∙ server));
       mine = λ off same holds. here_known (handled_point pt m y.id e next) on p (pt.view.queue m p) (pt.view.held m p) d.z h.queue ((with_here k0 p d.z).records p) (pt.view.known m p)
-          (ap (λ (g : Bool). if g then Some (record_.Here d.z) else k.records p) (pid_eq-same p)) h.known
+          (ap (λ (g : Bool). if g then Some (Record.Here d.z) else k.records p) (pid_eq-same p)) h.known
           (placed_processes set d.o p ∙ ap (λ (g : Bool). if g then Some (with_queue d.z h.queue) else l.processes p) (pid_eq-same p))
           (map_same l.bag on.bag (pt.view.queue m p) same ∙ h.waits ∙ ap (map Some) (sym d.queue));
       left = λ q is. let off = here_left pt m p q c.run.based.phased.phases h.known is in (
         placed_processes set d.o q ∙ ap (λ (g : Bool). if g then Some (with_queue d.z h.queue) else l.processes q) off,
         sent_processes u d.q q ∙ ap (λ (g : Bool). if g then Some (Alive d.pz) else s.processes q) off,
-        ap (λ (g : Bool). if g then Some (record_.Here d.z) else k.records q) off,
+        ap (λ (g : Bool). if g then Some (Record.Here d.z) else k.records q) off,
       );
     })
   where

@@ -1,55 +1,19 @@
 -- A process that is here is killed: it ends, and its queue is dropped.
-use Rattle.std.proofs.Common.{◌≡◌, ◌≢◌, ℕ, zero, suc, ◌+◌, ◌/◌, ◌≤◌, ◌<◌, ◌==◌, ◌&&◌, Bool, true, false, not, List, [], ◌∷◌, ◌++◌, length, map, refl, ap, ◌∙◌, sym, subst, is_some, arith}
-use Rattle.std.specs.Prelude.{if◌then◌else◌, slice_get}
-use Rattle.std.specs.declared.option.Option.{Option}
-use Rattle.std.specs.declared.option.Option.TheVariants.{None, Some}
-use Rattle.std.proofs.lemmas.Bool.{false≢true}
-use Rattle.dm_link.specs.declared.Pid.{Pid}
-use Rattle.dm_link.specs.Names.{pid_eq}
-use Rattle.dm_message.specs.declared.MsgId.{MsgId}
-use Rattle.dm_message.specs.declared.Message.{Message}
+use Rattle.dm_mirror.proofs.Names.{◌≡◌, ◌≢◌, ℕ, ◌+◌, ◌/◌, ◌≤◌, ◌<◌, ◌==◌, ◌&&◌, Bool, true, false, not, List, [], ◌∷◌, ◌++◌, length, map, refl, ap, ◌∙◌, sym, subst, is_some, arith, if◌then◌else◌, slice_get, Option, None, Some, false≢true}
+use Rattle.dm_mirror.proofs.Names.{Pid, pid_eq, MsgId, Message, plain_message, Record, Label, Line, Process, Taken, with_released, Boot, Why, Alive, Life, OneKernel, with_process, bind, plain_process, without_message, pid_eq-same, out_off}
+use Rattle.dm_mirror.proofs.Names.{Point, after, moved, Room, blocks_of, taken_at, taken_by, takes_room, without, without_front, Spot, Queue, Held, Inbox, times, standing, StandsAsBag, Known, View, after_label, handled, stands_right}
+use Rattle.dm_mirror.proofs.Names.{StandsAsBag-elsewhere, begun, served_is, droppable_on, Run, Placed, Mirrors, with_queue, plainly, kill_what, room_of, here_handles, KernelState, turned, without_process, KnownStands, RoomStands}
+use Rattle.dm_mirror.proofs.Names.{told_there, zero_if}
 use Rattle.dm_message.specs.Plain as said
-use Rattle.dm_message.specs.Plain.{plain_message}
-use Rattle.dm_records.specs.declared.record.Record.TheVariants as record_
-use Rattle.dm_process.specs.declared.process.Process.{Process}
-use Rattle.dm_room.specs.Room.{Taken, with_released}
-use Rattle.dm_onekernel.specs.declared.boot.Boot.{Boot}
-use Rattle.dm_onekernel.specs.declared.label.Label.TheVariants as label
-use Rattle.dm_onekernel.specs.declared.label.Why.{Why}
-use Rattle.dm_onekernel.specs.declared.label.Why.TheVariants as why
-use Rattle.dm_onekernel.specs.Kernel.{Alive, Ended, Life, OneKernel, with_process}
-use Rattle.dm_onekernel.specs.Options.{bind}
-use Rattle.dm_onekernel.specs.Plain.{plain_process}
-use Rattle.dm_onekernel.specs.Service.{without_message}
+use Rattle.dm_kernel.specs.declared.part.Part.{Part}
+use Rattle.dm_onekernel.specs.Kernel.{Ended}
 use Rattle.dm_onekernel.specs.Step as kernel
-use Rattle.dm_laws.proofs.Equal.{pid_eq-same}
-use Rattle.dm_laws.proofs.Movers.{out_off}
-use Rattle.dm_line.specs.declared.line.Line.TheVariants as line
 use Rattle.dm_rule.specs.Parts as rule_part
-use Rattle.dm_rule.specs.Point.{Point, after, moved}
 use Rattle.dm_rule.specs.Rule as rule
-use Rattle.dm_rule.specs.Rule.{Room, blocks_of, taken_at, taken_by, takes_room}
-use Rattle.dm_line.specs.Sets.{without, without_front}
-use Rattle.dm_rule.specs.Spots.{Spot, Queue, Held, Inbox, Untaken, times, standing, StandsAsBag}
 use Rattle.dm_rule.specs.View as view
-use Rattle.dm_rule.specs.View.{Known, Told, View, after_label, handled}
-use Rattle.dm_rule.proofs.Groups.{stands_right}
-use Rattle.dm_rule.proofs.Standing.{StandsAsBag-elsewhere}
-use Rattle.dm_rulelaws.proofs.Goes.Front.{begun, served_is}
-use Rattle.dm_rulelaws.proofs.Goes.Turns.{droppable_on}
-use Rattle.dm_rulelaws.proofs.Runs.{Run}
-use Rattle.dm_places.specs.Placed.{Placed, Mirrors}
 use Rattle.dm_places.specs.PlacedStep as placed
-use Rattle.dm_places.proofs.Queues.{with_queue}
-use Rattle.dm_places.proofs.Serves.{plainly}
-use Rattle.dm_places.proofs.Whats.{kill_what}
 use Rattle.dm_kernel.specs.declared.part.Part as part_
-use Rattle.dm_kernel.specs.declared.part.Part.TheVariants as part
-use Rattle.dm_kernel.specs.Begun.{room_of}
-use Rattle.dm_kernel.specs.Handle.{here_handles}
 use Rattle.dm_kernel.specs.State as state
-use Rattle.dm_kernel.specs.State.{KernelState, turned, without_process}
-use Rattle.dm_mirror.specs.Stands.{KnownStands, RoomStands}
 use Rattle.dm_mirror.proofs.Handle.Drops.{Drops, all_dropped, drop_line, drops_are, drops_still, rule_drops}
 use Rattle.dm_mirror.proofs.Handle.Frames.{eq_off, eq_self, machine_off, machine_self, map_same, pid_apart, record_off, record_others, record_self, stands_set, times_more}
 use Rattle.dm_mirror.proofs.Handle.Here.{IsHere, here_outcome, here_turn, served_placed, served_step}
@@ -64,22 +28,17 @@ abbrev ended_view : Point → ℕ → MsgId → Pid → View
 ended_view pt m i p = view.ended (handled (begun pt m).view i) p
 
 abbrev ended_kernel : Point → MsgId → Pid → OneKernel
-ended_kernel pt i p = with_process (without_message pt.kernel i) p (Ended why.Killed)
+ended_kernel pt i p = with_process (without_message pt.kernel i) p (Ended Why.Killed)
 
 abbrev ended_point : Point → ℕ → MsgId → Pid → Point
-ended_point pt m i p = seen_point pt m (label.Served i) (ended_kernel pt i p) (ended_view pt m i p)
+ended_point pt m i p = seen_point pt m (Label.Served i) (ended_kernel pt i p) (ended_view pt m i p)
 
 abbrev ended_placed : Placed → MsgId → Pid → Placed
 ended_placed l i p = placed.with_process (placed.without_message l i) p None
 
--- a message of its queue stands nowhere else
-none_listed : (n : ℕ) → (1 ≤ n → ⊥) → n ≡ 0
-none_listed zero h = refl
-none_listed (suc n) h = absurd (h (omega arith))
-
 in_queue : (pt : Point) (m : ℕ) (p : Pid) (s : Spot) (j : MsgId) (b : Boot) (l : Placed) (k : KernelState) (y : Message) (w : said.PlainWhat) → Taking b m pt l k y w → s ≢ Queue m p → 1 ≤ standing pt.view j s → times j (pt.view.queue m p) ≡ 0
 in_queue pt m p s j b l k y w c apart least =
-    none_listed (times j (pt.view.queue m p)) (λ there.
+    zero_if (times j (pt.view.queue m p)) (λ there.
     let q = waits b pt m p j c.run there in
     let once : StandsAsBag (Some q.x) (standing pt.view j) = stands_right pt j c.run.based.phased.state (Some q.x) q.there in
     let none : times j (pt.view.queue m p) ≡ 0 = StandsAsBag-elsewhere (Some q.x) (standing pt.view j) s (Queue m p) least (λ e. apart (sym e)) once in
@@ -88,16 +47,14 @@ in_queue pt m p s j b l k y w c apart least =
 -- nor is a kernel's own message in it
 own_unqueued : (b : Boot) (pt : Point) (m : ℕ) (p : Pid) (l : Placed) (j : MsgId) (x : Message) → Run b pt → Mirrors pt.kernel pt.view pt.addresses l → plain_message x ≡ None → l.bag j ≡ Some x → times j (pt.view.queue m p) ≡ 0
 own_unqueued b pt m p l j x run mirrors none there =
-    none_listed (times j (pt.view.queue m p)) (λ least.
+    zero_if (times j (pt.view.queue m p)) (λ least.
     let q = waits b pt m p j run least in
     let is : Some q.x ≡ None = sym q.there ∙ sym (mirrors.plain.bag j) ∙ ap (λ (o : Option Message). bind o plain_message) there ∙ none in
     cc)
 
 abbrev spot_process : Spot → Pid → Pid
 spot_process (Queue m p) q = p
-spot_process (Held m p) q = q
-spot_process (Inbox m) q = q
-spot_process (Untaken a c) q = q
+spot_process _ q = q
 
 other_queue : (m : ℕ) (p q : Pid) → pid_eq p q ≡ false → Queue m q ≢ Queue m p
 other_queue m p q off e =
@@ -108,7 +65,7 @@ elsewhere_queue : (m : ℕ) (p : Pid) (s : Spot) → is_elsewhere m s ≡ true �
 elsewhere_queue m p s is e = false≢true (sym (ap not (eq_self m)) ∙ ap (is_elsewhere m) (sym e) ∙ is)
 
 -- what is known of it then
-ended_known : (next : Point) (on : Placed) (p : Pid) (queue held : List MsgId) (z : Why) (r : Option state.Known) (n : Known) → r ≡ Some (record_.Ended z) → n ≡ view.Ended → kernel.ended (next.kernel.processes p) ≡ Some z → KnownStands next on p queue held n r
+ended_known : (next : Point) (on : Placed) (p : Pid) (queue held : List MsgId) (z : Why) (r : Option state.Known) (n : Known) → r ≡ Some (Record.Ended z) → n ≡ view.Ended → kernel.ended (next.kernel.processes p) ≡ Some z → KnownStands next on p queue held n r
 ended_known next on p queue held z r n is gone ended = subst (λ (v : Known). KnownStands next on p queue held v r) (sym gone) (subst (KnownStands next on p queue held view.Ended) (sym is) ended)
 
 -- what it took is free again
@@ -126,21 +83,16 @@ released t given o n blocks h slots pieces =
     let c = h.taken_blocks in
     record { slots = h.slots; blocks = h.blocks; taken_slots = omega (arith, a, slots); taken_blocks = omega (arith, c, pieces) }
 
--- what was told of what waits for it
-told_some : (o : Option Told) → is_some o ≡ true → (t : Told) × (o ≡ Some t)
-told_some None e = cc
-told_some (Some t) e = (t, refl)
-
 queued_told : (b : Boot) (m : ℕ) (pt : Point) (l : Placed) (k : KernelState) (y : Message) (w : said.PlainWhat) → Taking b m pt l k y w → (p : Pid) (j : MsgId) → 1 ≤ times j (pt.view.queue m p) → view.receiver_of (pt.view.told j) ≡ Some p
 queued_told b m pt l k y w c p j least =
     let q = waits b pt m p j c.run least in
-    let (t, told) = told_some (pt.view.told j) (c.run.found.told j (Queue m p) least) in
+    let (t, told) = told_there (pt.view.told j) (c.run.found.told j (Queue m p) least) in
     ap view.receiver_of told ∙ ap Some ((sane_of b m pt l k y w c).tells.receiver j q.x t q.there told ∙ q.to)
 
 -- the queue of the process can go
 record Goes (b : Boot) (m : ℕ) (pt : Point) (l : Placed) (k : KernelState) (y : Message) (c : Taking b m pt l k y said.Kill) (h : IsHere b m pt l k y.to.pid) : Type 0 where
-  view : after_label (begun pt m).view (label.Served y.id) ≡ ended_view pt m y.id y.to.pid
-  step : kernel.step pt.kernel (label.Served y.id) ≡ Some (ended_kernel pt y.id y.to.pid)
+  view : after_label (begun pt m).view (Label.Served y.id) ≡ ended_view pt m y.id y.to.pid
+  step : kernel.step pt.kernel (Label.Served y.id) ≡ Some (ended_kernel pt y.id y.to.pid)
   drops : Drops (ended_point pt m y.id y.to.pid) (ended_placed l y.id y.to.pid) y.to.pid (pt.view.queue m y.to.pid)
 
 goes : (b : Boot) (m : ℕ) (pt : Point) (l : Placed) (k : KernelState) (y : Message) (c : Taking b m pt l k y said.Kill) (h : IsHere b m pt l k y.to.pid) → Goes b m pt l k y c h
@@ -155,11 +107,11 @@ goes b m pt l k y c h =
     let ids = pt.view.queue m p in
     let on = ended_placed l i p in
     let mid = ended_point pt m i p in
-    let view_is : after_label (begun pt m).view (label.Served i) ≡ ended_view pt m i p = served_is b m pt i x v w refl c.front in
+    let view_is : after_label (begun pt m).view (Label.Served i) ≡ ended_view pt m i p = served_is b m pt i x v w refl c.front in
     let step = served_step s i x (plain_process h.x) t c.front.there h.life refl in
     let placed_is = served_placed pt l on m y (with_queue h.x h.queue) c.there h.placed (ap (placed.serves m (placed.without_message l i) y (with_queue h.x h.queue)) (kill_what y.what c.says)) in
-    let mirrors = mirrors_one pt m (label.Served i) t (ended_view pt m i p) l on step view_is tt placed_is c.mirrors in
-    let ended : t.processes p ≡ Some (Ended why.Killed) = ap (λ (d : Bool). if d then Some (Ended why.Killed) else s.processes p) (pid_eq-same p) in
+    let mirrors = mirrors_one pt m (Label.Served i) t (ended_view pt m i p) l on step view_is tt placed_is c.mirrors in
+    let ended : t.processes p ≡ Some (Ended Why.Killed) = ap (λ (d : Bool). if d then Some (Ended Why.Killed) else s.processes p) (pid_eq-same p) in
     let off : (j : MsgId) → 1 ≤ times j ids → t.bag j ≡ s.bag j = λ j least. out_off s i j (apart_at b m pt l k y w c (Queue m p) j (queue_apart m m p) least) in
     let told : (j : MsgId) → 1 ≤ times j ids → view.receiver_of (pt.view.told j) ≡ Some p = λ j least. queued_told b m pt l k y w c p j least in
     let inbox : (j : MsgId) → 1 ≤ times j ids → times j (mid.view.inbox m) ≡ 0 = λ j least. (
@@ -170,7 +122,7 @@ goes b m pt l k y c h =
     let more = times_more j i c.ids in
     let behind : times j c.ids ≡ 0 = omega (arith, all, more) in
     ap (times j) (machine_self pt.view.inbox m (without_front i (pt.view.inbox m)) ∙ front_gone i c.ids (pt.view.inbox m) c.box) ∙ behind) in
-    record { view = view_is; step = step; drops = all_dropped ids mid on p why.Killed refl ended (droppable_on s t p ids off (c.front.drops p)) told inbox mirrors }
+    record { view = view_is; step = step; drops = all_dropped ids mid on p Why.Killed refl ended (droppable_on s t p ids off (c.front.drops p)) told inbox mirrors }
 
 none_some : (a : Message) → None ≡ Some a → ⊥
 none_some a f = cc
@@ -181,14 +133,14 @@ kill_row b m pt l k y c h =
     let w = said.Kill in
     let p = y.to.pid in
     let i = y.id in
-    let e = label.Served i in
+    let e = Label.Served i in
     let k0 = record k { inbox = c.rest } in
     let on = ended_placed l i p in
     let ids = pt.view.queue m p in
     let all = goes b m pt l k y c h in
     let g = all.drops in
-    let end = without_process k0 p h.x why.Killed in
-    let says = line.Label e ∷ map drop_line ids in
+    let end = without_process k0 p h.x Why.Killed in
+    let says = Line.Label e ∷ map drop_line ids in
     let drops = drops_are l.bag ids h.x.queue (λ j z there. (c.mirrors.places.message j z there).id) h.waits in
     let kept : (q : Spot) (j : MsgId) → q ≢ Inbox m → 1 ≤ standing pt.view j q → on.bag j ≡ l.bag j = kept_at b m pt l k y w c on None (λ j. refl) (λ a f. absurd (none_some a f)) in
     let behind : (j : MsgId) → 1 ≤ times j c.ids → g.on.bag j ≡ l.bag j = λ j least. (
@@ -196,9 +148,9 @@ kill_row b m pt l k y c h =
     let there : 1 ≤ standing pt.view j (Inbox m) = subst (λ (z : List MsgId). 1 ≤ times j z) (sym c.box) (omega (arith, least, more)) in
     g.bag j (in_queue pt m p (Inbox m) j b l k y w c (λ f. queue_apart m m p (sym f)) there) ∙ kept_behind b m pt l k y w c on None (λ n. refl) (λ a f. absurd (none_some a f)) j least) in
     let known : g.next.view.known m p ≡ view.Ended = g.known m p ∙ record_self pt.view.known m p view.Ended (pid_eq-same p) in
-    let life : g.next.kernel.processes p ≡ Some (Ended why.Killed) = g.lives p ∙ ap (λ (d : Bool). if d then Some (Ended why.Killed) else s.processes p) (pid_eq-same p) in
+    let life : g.next.kernel.processes p ≡ Some (Ended Why.Killed) = g.lives p ∙ ap (λ (d : Bool). if d then Some (Ended Why.Killed) else s.processes p) (pid_eq-same p) in
     let others_known : (q : Pid) → pid_eq p q ≡ false → g.next.view.known m q ≡ pt.view.known m q = λ q off. g.known m q ∙ record_others pt.view.known m p q view.Ended off in
-    let others_live : (q : Pid) → pid_eq p q ≡ false → g.next.kernel.processes q ≡ s.processes q = λ q off. g.lives q ∙ ap (λ (d : Bool). if d then Some (Ended why.Killed) else s.processes q) off in
+    let others_live : (q : Pid) → pid_eq p q ≡ false → g.next.kernel.processes q ≡ s.processes q = λ q off. g.lives q ∙ ap (λ (d : Bool). if d then Some (Ended Why.Killed) else s.processes q) off in
     let others_placed : (q : Pid) → pid_eq p q ≡ false → g.on.processes q ≡ l.processes q = λ q off. g.processes q ∙ ap (λ (d : Bool). if d then None else l.processes q) off in
     let left : (q : Pid) → IsLeft m pt q → pid_eq p q ≡ false = λ q is. here_left pt m p q c.run.based.phased.phases h.known is in
     let there : is_some (s.processes p) ≡ true = ap is_some h.life in
@@ -219,18 +171,18 @@ kill_row b m pt l k y c h =
       state = end;
       says = says;
       route = None;
-      turn = turn_is b m pt l k y w c (turned end (map part.Says says ++ [])) (here_turn b m pt l k y w c h (turned end (map part.Says says ++ []))
+      turn = turn_is b m pt l k y w c (turned end (map Part.Says says ++ [])) (here_turn b m pt l k y w c h (turned end (map Part.Says says ++ []))
           (ap (here_handles k0 y h.x) (kill_what y.what c.says) ∙ ap (λ (ps : List part_.Part). turned end (state.says e ∷ ps)) drops));
       outcome = outcome_is b m pt l k y w c (Some (map rule_part.Says says ++ [])) (here_outcome b m pt l k y w h (Some (map rule_part.Says says ++ [])) (ap (λ (ps : List rule_part.Part). Some (rule.says e ∷ ps)) (rule_drops ids)));
       next = g.next;
-      after = ap (λ (o : Option OneKernel). bind (bind o (λ (z : OneKernel). Some (moved (begun pt m) (line.Label e) z))) (λ (n : Point). after n (map drop_line ids))) all.step
+      after = ap (λ (o : Option OneKernel). bind (bind o (λ (z : OneKernel). Some (moved (begun pt m) (Line.Label e) z))) (λ (n : Point). after n (map drop_line ids))) all.step
           ∙ ap (λ (u : View). after (seen_point pt m e (ended_kernel pt i p) u) (map drop_line ids)) all.view ∙ g.after;
       placed = g.on;
       mirrors = g.mirrors;
       kernel = stands_set b pt g.next l g.on m k end p
           (record {
             here = refl;
-            records = λ q off. ap (λ (d : Bool). if d then Some (record_.Ended why.Killed) else k.records q) off;
+            records = λ q off. ap (λ (d : Bool). if d then Some (Record.Ended Why.Killed) else k.records q) off;
             queue = λ q off. g.queue m q (ap (λ (d : Bool). d && pid_eq p q) (eq_self m) ∙ off);
             held = λ q off. g.held m q;
             known = others_known;
@@ -238,7 +190,7 @@ kill_row b m pt l k y c h =
             lives = others_live;
             bag = λ q j off least. g.bag j (in_queue pt m p (Queue m q) j b l k y w c (other_queue m p q off) least) ∙ kept (Queue m q) j (queue_apart m m q) least;
             holds = λ q j off least. g.bag j (in_queue pt m p (Held m q) j b l k y w c (held_no_queue m m p q) least) ∙ kept (Held m q) j (held_apart m m q) least;
-            mine = λ off. ended_known g.next g.on p (g.next.view.queue m p) (g.next.view.held m p) why.Killed (end.records p) (g.next.view.known m p) (ap (λ (d : Bool). if d then Some (record_.Ended why.Killed) else k.records p) (pid_eq-same p)) known (ap kernel.ended life);
+            mine = λ off. ended_known g.next g.on p (g.next.view.queue m p) (g.next.view.held m p) Why.Killed (end.records p) (g.next.view.known m p) (ap (λ (d : Bool). if d then Some (Record.Ended Why.Killed) else k.records p) (pid_eq-same p)) known (ap kernel.ended life);
             keeps = λ server. absurd (false≢true (sym (not_server p h.process) ∙ server));
           }) c.stands
           (ap (without p) c.stands.ring ∙ sym (g.ring m ∙ machine_self pt.view.ring m (without p (pt.view.ring m))))
@@ -271,7 +223,7 @@ kill_row b m pt l k y c h =
       sent = tt;
       still = drops_still ids;
       count = refl;
-      moving = λ q is. let off = left q (Moves is) in (others_placed q off, ap (λ (d : Bool). if d then Some (record_.Ended why.Killed) else k.records q) off);
+      moving = λ q is. let off = left q (Moves is) in (others_placed q off, ap (λ (d : Bool). if d then Some (Record.Ended Why.Killed) else k.records q) off);
       own = λ j a none there. g.bag j (own_unqueued b pt m p l j a c.run c.mirrors none there) ∙ own_kept b m pt l k y w c on None (λ n. refl) (λ z f. absurd (none_some z f)) j a none there;
       own_back = λ j a none there. own_back l on i None (λ n. refl) (λ z f. absurd (none_some z f)) j a none (g.back j a there);
     }

@@ -1,62 +1,15 @@
 -- A piece of a process's own data move lands: the next request goes out, or the move is over.
-use Rattle.std.proofs.Common.{◌≡◌, ℕ, ◌+◌, ◌-◌, ◌≤◌, ◌==◌, ◌&&◌, Bool, true, false, List, [], ◌∷◌, length, refl, ap, ◌∙◌, sym, subst, is_some, nat_le, nat_lt, arith}
-use Rattle.std.specs.Prelude.{if◌then◌else◌}
-use Rattle.std.specs.declared.option.Option.{Option}
-use Rattle.std.specs.declared.option.Option.TheVariants.{None, Some}
-use Rattle.std.proofs.lemmas.Bool.Decides.{nat_tests}
-use Rattle.dm_link.specs.declared.Addr.{Addr}
-use Rattle.dm_link.specs.declared.Pid.{Pid}
-use Rattle.dm_message.specs.declared.MsgId.{MsgId}
-use Rattle.dm_message.specs.declared.Message.{Message}
-use Rattle.dm_message.specs.declared.What.{What}
-use Rattle.dm_message.specs.Ids.{id_of}
-use Rattle.dm_message.specs.Kinds.{plain_kind}
-use Rattle.dm_message.specs.Plain as said
-use Rattle.dm_message.specs.Plain.{PlainMessage, PlainWhat, plain_message, plain_what}
-use Rattle.dm_process.specs.declared.process.Process.{Process}
-use Rattle.dm_process.specs.declared.process.Direction.{Direction}
-use Rattle.dm_process.specs.declared.process.Direction.TheVariants as direction
-use Rattle.dm_process.specs.declared.process.Status.{Status}
-use Rattle.dm_process.specs.declared.process.Status.TheVariants as status
-use Rattle.dm_datamove.specs.declared.Landed.{Landed}
-use Rattle.dm_datamove.specs.declared.Landed.TheVariants as landed
-use Rattle.dm_datamove.specs.declared.Rest.{Rest}
+use Rattle.dm_mirror.proofs.Names.{◌≡◌, ℕ, ◌+◌, ◌-◌, ◌≤◌, ◌==◌, ◌&&◌, Bool, true, false, List, [], ◌∷◌, length, refl, ap, ◌∙◌, sym, subst, is_some, nat_le, nat_lt, arith, if◌then◌else◌, Option, None, Some, nat_tests, Addr, Pid, MsgId}
+use Rattle.dm_mirror.proofs.Names.{Message, What, id_of, plain_kind, Label, Reply, PlainMessage, PlainWhat, plain_message, plain_what, Process, Direction, Status, Landed, Rest, Landing, plain_landed, ends_plainly, goes_on_plainly}
+use Rattle.dm_mirror.proofs.Names.{length-written, Boot, Alive, OneKernel, bind, piece_of, written_at, plain_process, plain_status, PlainProcess, counts, is_counted, unentered, lands-is, counts_process, not_server, bind-is, Part, Routes}
+use Rattle.dm_mirror.proofs.Names.{Point, View, bag_none, both, Placed, after_landing, parts, lands_match, with_queue, plainly, block_what, written_what, gone_what, here_handles, KernelState}
 use Rattle.dm_datamove.specs.Landing as landing
-use Rattle.dm_datamove.specs.Landing.{Landing, plain_landed}
-use Rattle.dm_datamove.proofs.Landings.{ends_plainly, goes_on_plainly}
-use Rattle.dm_datamove.proofs.Services.{length-written}
-use Rattle.dm_onekernel.specs.declared.boot.Boot.{Boot}
-use Rattle.dm_onekernel.specs.declared.label.Label.TheVariants as label
-use Rattle.dm_onekernel.specs.declared.label.Reply.TheVariants as reply
-use Rattle.dm_onekernel.specs.Kernel.{Alive, OneKernel}
-use Rattle.dm_onekernel.specs.Options.{bind}
 use Rattle.dm_onekernel.specs.Pieces as pieces
-use Rattle.dm_onekernel.specs.Pieces.{piece_of, written_at}
-use Rattle.dm_onekernel.specs.Plain.{plain_process, plain_status}
-use Rattle.dm_onekernel.specs.PlainProcess.{PlainProcess}
 use Rattle.dm_onekernel.specs.Service as service
-use Rattle.dm_laws.proofs.Entered.{counts, is_counted, unentered}
-use Rattle.dm_laws.proofs.Services.{lands-is}
-use Rattle.dm_laws.proofs.Sound.{counts_process, not_server}
-use Rattle.dm_laws.proofs.Steps.{bind-is}
-use Rattle.dm_rule.specs.Parts.{Part, Routes}
-use Rattle.dm_rule.specs.Point.{Point}
 use Rattle.dm_rule.specs.Rule as rule
 use Rattle.dm_rule.specs.View as view
-use Rattle.dm_rule.specs.View.{View}
-use Rattle.dm_rule.proofs.Bags.{bag_none}
-use Rattle.dm_rulelaws.proofs.Fits.Rises.{both}
-use Rattle.dm_places.specs.Placed.{Placed}
 use Rattle.dm_places.specs.PlacedStep as placed
-use Rattle.dm_places.specs.PlacedStep.{after_landing}
-use Rattle.dm_places.proofs.Keeps.{parts}
-use Rattle.dm_places.proofs.Matches.{lands_match}
-use Rattle.dm_places.proofs.Queues.{with_queue}
-use Rattle.dm_places.proofs.Serves.{plainly}
-use Rattle.dm_places.proofs.Whats.{block_what, written_what, gone_what}
 use Rattle.dm_kernel.specs.Handle as machine
-use Rattle.dm_kernel.specs.Handle.{here_handles}
-use Rattle.dm_kernel.specs.State.{KernelState}
 use Rattle.dm_mirror.proofs.Handle.Here.{IsHere, served_row}
 use Rattle.dm_mirror.proofs.Handle.Taking.{Taking, sane_of}
 use Rattle.dm_mirror.proofs.Turning.{Row}
@@ -79,7 +32,7 @@ if_same x false c d h k = k
 
 goes_same : (here : ℕ) (x : Process) (r : Rest) → Same x (landing.goes_on here x r)
 goes_same here x r =
-    if_same x (r.left - piece_of r.left == 0) (landing.done reply.Done x) (landing.asks here x (landing.behind r)) (record { queue = refl; memory = refl }) (record { queue = refl; memory = refl })
+    if_same x (r.left - piece_of r.left == 0) (landing.done Reply.Done x) (landing.asks here x (landing.behind r)) (record { queue = refl; memory = refl }) (record { queue = refl; memory = refl })
 
 goes_lands : (here : ℕ) (p : Pid) (x y : Process) (o : Option Landing) (r : Rest) (c : pieces.Landed) → o ≡ Some (landing.goes_on here y r) → y.pid ≡ p → y.queue ≡ x.queue → length y.memory ≡ length x.memory
     → pieces.goes_on p (plain_process y) r.dir r.owner.pid r.base r.own r.left (piece_of r.left) ≡ c → Lands p x o c
@@ -108,26 +61,26 @@ piece_within left own size n e =
 
 lands_what_of : (here : ℕ) (p : Pid) (x : Process) (dir : Direction) (owner : Addr) (base own left : ℕ) (w : What) (u : PlainWhat) (c : pieces.Landed) → plain_what w ≡ Some u → x.pid ≡ p
     → pieces.lands_what p (plain_process x) dir owner.pid base own left u ≡ Some c → Lands p x (landing.lands_what here x (record { dir = dir; owner = owner; base = base; own = own; left = left }) dir w) c
-lands_what_of here p x direction.FromArea owner base own left w (said.Block bytes) c is pid e =
-    let r : Rest = record { dir = direction.FromArea; owner = owner; base = base; own = own; left = left } in
+lands_what_of here p x Direction.FromArea owner base own left w (PlainWhat.Block bytes) c is pid e =
+    let r : Rest = record { dir = Direction.FromArea; owner = owner; base = base; own = own; left = left } in
     let b = block_what w bytes is in
     let y : Process = record x { memory = written_at x.memory own b.body.items } in
-    let f = some_is ((length bytes == piece_of left) && nat_le (own + left) (length x.memory)) (pieces.goes_on p (record (plain_process x) { memory = written_at x.memory own bytes }) direction.FromArea owner.pid base own left (piece_of left)) c e in
+    let f = some_is ((length bytes == piece_of left) && nat_le (own + left) (length x.memory)) (pieces.goes_on p (record (plain_process x) { memory = written_at x.memory own bytes }) Direction.FromArea owner.pid base own left (piece_of left)) c e in
     let fits : own + length b.body.items ≤ length x.memory = subst (λ (bs : List ℕ). own + length bs ≤ length x.memory) (sym b.bytes_are) (piece_within left own (length x.memory) (length bytes) f.0) in
-    goes_lands here p x y (landing.lands_what here x r direction.FromArea w) r c (ap (landing.lands_what here x r direction.FromArea) b.is) pid refl (length-written x.memory own b.body.items fits)
-    (ap (λ (bs : List ℕ). pieces.goes_on p (record (plain_process x) { memory = written_at x.memory own bs }) direction.FromArea owner.pid base own left (piece_of left)) b.bytes_are ∙ f.1)
-lands_what_of here p x direction.IntoArea owner base own left w said.Written c is pid e =
-    let r : Rest = record { dir = direction.IntoArea; owner = owner; base = base; own = own; left = left } in
-    let f = some_is (nat_le (own + left) (length x.memory)) (pieces.goes_on p (plain_process x) direction.IntoArea owner.pid base own left (piece_of left)) c e in
-    goes_lands here p x x (landing.lands_what here x r direction.IntoArea w) r c (ap (landing.lands_what here x r direction.IntoArea) (written_what w is)) pid refl refl f.1
-lands_what_of here p x direction.FromArea owner base own left w said.Gone c is pid e =
-    let r : Rest = record { dir = direction.FromArea; owner = owner; base = base; own = own; left = left } in
-    let f : pieces.done reply.Gone (plain_process x) ≡ c = cc in
-    record { d = landing.done reply.Gone x; lands = ap (landing.lands_what here x r direction.FromArea) (gone_what w is); plain = ends_plainly reply.Gone x ∙ ap Some f; queue = refl; memory = refl }
-lands_what_of here p x direction.IntoArea owner base own left w said.Gone c is pid e =
-    let r : Rest = record { dir = direction.IntoArea; owner = owner; base = base; own = own; left = left } in
-    let f : pieces.done reply.Gone (plain_process x) ≡ c = cc in
-    record { d = landing.done reply.Gone x; lands = ap (landing.lands_what here x r direction.IntoArea) (gone_what w is); plain = ends_plainly reply.Gone x ∙ ap Some f; queue = refl; memory = refl }
+    goes_lands here p x y (landing.lands_what here x r Direction.FromArea w) r c (ap (landing.lands_what here x r Direction.FromArea) b.is) pid refl (length-written x.memory own b.body.items fits)
+    (ap (λ (bs : List ℕ). pieces.goes_on p (record (plain_process x) { memory = written_at x.memory own bs }) Direction.FromArea owner.pid base own left (piece_of left)) b.bytes_are ∙ f.1)
+lands_what_of here p x Direction.IntoArea owner base own left w PlainWhat.Written c is pid e =
+    let r : Rest = record { dir = Direction.IntoArea; owner = owner; base = base; own = own; left = left } in
+    let f = some_is (nat_le (own + left) (length x.memory)) (pieces.goes_on p (plain_process x) Direction.IntoArea owner.pid base own left (piece_of left)) c e in
+    goes_lands here p x x (landing.lands_what here x r Direction.IntoArea w) r c (ap (landing.lands_what here x r Direction.IntoArea) (written_what w is)) pid refl refl f.1
+lands_what_of here p x Direction.FromArea owner base own left w PlainWhat.Gone c is pid e =
+    let r : Rest = record { dir = Direction.FromArea; owner = owner; base = base; own = own; left = left } in
+    let f : pieces.done Reply.Gone (plain_process x) ≡ c = cc in
+    record { d = landing.done Reply.Gone x; lands = ap (landing.lands_what here x r Direction.FromArea) (gone_what w is); plain = ends_plainly Reply.Gone x ∙ ap Some f; queue = refl; memory = refl }
+lands_what_of here p x Direction.IntoArea owner base own left w PlainWhat.Gone c is pid e =
+    let r : Rest = record { dir = Direction.IntoArea; owner = owner; base = base; own = own; left = left } in
+    let f : pieces.done Reply.Gone (plain_process x) ≡ c = cc in
+    record { d = landing.done Reply.Gone x; lands = ap (landing.lands_what here x r Direction.IntoArea) (gone_what w is); plain = ends_plainly Reply.Gone x ∙ ap Some f; queue = refl; memory = refl }
 lands_what_of here p x dir owner base own left w u c is pid e = cc
 
 lands_if : (here : ℕ) (p : Pid) (x : Process) (b : Bool) (dir : Direction) (owner : Addr) (base own left : ℕ) (w : What) (u : PlainWhat) (c : pieces.Landed) → plain_what w ≡ Some u → x.pid ≡ p
@@ -136,9 +89,9 @@ lands_if here p x true dir owner base own left w u c is pid e = lands_what_of he
 lands_if here p x false dir owner base own left w u c is pid e = cc
 
 lands_of : (here : ℕ) (p : Pid) (x : Process) (m : Message) (u : PlainWhat) (st : Status) (c : pieces.Landed) → plain_what m.what ≡ Some u → x.pid ≡ p → pieces.lands p (plain_process x) (plainly m u) (plain_status st) ≡ Some c → Lands p x (landing.landing here x m.what st) c
-lands_of here p x m u (status.Moving dir owner base own left pending) c is pid e = lands_if here p x (m.id.n == pending) dir owner base own left m.what u c is pid e
-lands_of here p x m u status.Ready c is pid e = cc
-lands_of here p x m u (status.Waiting mask base size) c is pid e = cc
+lands_of here p x m u (Status.Moving dir owner base own left pending) c is pid e = lands_if here p x (m.id.n == pending) dir owner base own left m.what u c is pid e
+lands_of here p x m u Status.Ready c is pid e = cc
+lands_of here p x m u (Status.Waiting mask base size) c is pid e = cc
 
 -- a number that its sender doesn't count yet
 own_fresh : (b : Boot) (m : ℕ) (pt : Point) (l : Placed) (k : KernelState) (y : Message) (w : PlainWhat) (c : Taking b m pt l k y w) (p : Pid) (z : PlainProcess) → pt.kernel.processes p ≡ Some (Alive z) → pt.kernel.bag (id_of p z.sent) ≡ None
@@ -160,7 +113,7 @@ landed_row : (b : Boot) (m : ℕ) (pt : Point) (l : Placed) (k : KernelState) (y
     → rule.here_handles pt m y.id (plainly y w) (plain_process h.x) w ≡ rule.lands y.id (pieces.lands y.to.pid (plain_process h.x) (plainly y w) (plain_process h.x).status)
     → ((v : View) (p : Pid) → view.kills (plain_kind w) v (Some p) ≡ v) → landing.landing m h.x y.what h.x.status ≡ Some d → pieces.lands y.to.pid (plain_process h.x) (plainly y w) (plain_process h.x).status ≡ Some f
     → plain_landed d.landed d.process ≡ Some f → d.process.queue ≡ h.x.queue → length d.process.memory ≡ length h.x.memory → Row b m pt l k
-landed_row b m pt l k y w c h f d (landed.Done r) e serves_as placed_as turn_as outcome_as quiet lands plain_lands plain queue memory =
+landed_row b m pt l k y w c h f d (Landed.Done r) e serves_as placed_as turn_as outcome_as quiet lands plain_lands plain queue memory =
     let s = pt.kernel in
     let k0 = record k { inbox = c.rest } in
     let x = plainly y w in
@@ -183,7 +136,7 @@ landed_row b m pt l k y w c h f d (landed.Done r) e serves_as placed_as turn_as 
       plain = λ a g. cc;
       quiet = quiet;
     })
-landed_row b m pt l k y w c h f d (landed.Next n) e serves_as placed_as turn_as outcome_as quiet lands plain_lands plain queue memory =
+landed_row b m pt l k y w c h f d (Landed.Next n) e serves_as placed_as turn_as outcome_as quiet lands plain_lands plain queue memory =
     let s = pt.kernel in
     let k0 = record k { inbox = c.rest } in
     let p = y.to.pid in
@@ -203,7 +156,7 @@ landed_row b m pt l k y w c h f d (landed.Next n) e serves_as placed_as turn_as 
       serves = serves_as s y.id x px ∙ ap (λ (o : Option pieces.Landed). bind o (λ (g : pieces.Landed). Some (service.landed s y.id x g))) is;
       placed_is = placed_as ∙ lands_match m (placed.without_message l y.id) y h.x h.queue d lands ∙ ap (λ (g : Landed). Some (after_landing (placed.without_message l y.id) p g (with_queue z h.queue))) e;
       turn = turn_as ∙ ap (λ (g : ℕ). machine.lands k0 y (landing.landing g h.x y.what h.x.status)) c.stands.here ∙ ap (machine.lands k0 y) lands ∙ ap (machine.lands_as k0 y z) e;
-      outcome = outcome_as ∙ ap (rule.lands y.id) is ∙ ap (λ (i : MsgId). Some (rule.says (label.Served y.id) ∷ Routes i ∷ [])) (sym name);
+      outcome = outcome_as ∙ ap (rule.lands y.id) is ∙ ap (λ (i : MsgId). Some (rule.says (Label.Served y.id) ∷ Routes i ∷ [])) (sym name);
       queue = queue;
       memory = memory;
       fresh = λ a g. let same : n ≡ a = cc in ap (λ (v : Message). s.bag v.id) (sym same) ∙ ap s.bag (name ∙ so.0.id) ∙ own_fresh b m pt l k y w c p px h.life;
@@ -226,17 +179,17 @@ land_row b m pt l k y w ps c h serves_as placed_as turn_as outcome_as quiet goes
     let g = lands_of m y.to.pid h.x y w h.x.status f c.says h.pid is in
     landed_row b m pt l k y w c h f g.d g.d.landed refl serves_as placed_as turn_as outcome_as quiet g.lands is g.plain g.queue g.memory
 
-pub block_row : (b : Boot) (m : ℕ) (pt : Point) (l : Placed) (k : KernelState) (y : Message) (bytes : List ℕ) (ps : List Part) (c : Taking b m pt l k y (said.Block bytes)) (h : IsHere b m pt l k y.to.pid) → rule.here_handles pt m y.id (plainly y (said.Block bytes)) (plain_process h.x) (said.Block bytes) ≡ Some ps → Row b m pt l k
+pub block_row : (b : Boot) (m : ℕ) (pt : Point) (l : Placed) (k : KernelState) (y : Message) (bytes : List ℕ) (ps : List Part) (c : Taking b m pt l k y (PlainWhat.Block bytes)) (h : IsHere b m pt l k y.to.pid) → rule.here_handles pt m y.id (plainly y (PlainWhat.Block bytes)) (plain_process h.x) (PlainWhat.Block bytes) ≡ Some ps → Row b m pt l k
 block_row b m pt l k y bytes ps c h goes =
     let is = (block_what y.what bytes c.says).is in
-    land_row b m pt l k y (said.Block bytes) ps c h (λ s i x z. refl) (ap (placed.serves m (placed.without_message l y.id) y (with_queue h.x h.queue)) is) (ap (here_handles (record k { inbox = c.rest }) y h.x) is) refl (λ v p. refl) goes
+    land_row b m pt l k y (PlainWhat.Block bytes) ps c h (λ s i x z. refl) (ap (placed.serves m (placed.without_message l y.id) y (with_queue h.x h.queue)) is) (ap (here_handles (record k { inbox = c.rest }) y h.x) is) refl (λ v p. refl) goes
 
-pub written_row : (b : Boot) (m : ℕ) (pt : Point) (l : Placed) (k : KernelState) (y : Message) (ps : List Part) (c : Taking b m pt l k y said.Written) (h : IsHere b m pt l k y.to.pid) → rule.here_handles pt m y.id (plainly y said.Written) (plain_process h.x) said.Written ≡ Some ps → Row b m pt l k
+pub written_row : (b : Boot) (m : ℕ) (pt : Point) (l : Placed) (k : KernelState) (y : Message) (ps : List Part) (c : Taking b m pt l k y PlainWhat.Written) (h : IsHere b m pt l k y.to.pid) → rule.here_handles pt m y.id (plainly y PlainWhat.Written) (plain_process h.x) PlainWhat.Written ≡ Some ps → Row b m pt l k
 written_row b m pt l k y ps c h goes =
     let is = written_what y.what c.says in
-    land_row b m pt l k y said.Written ps c h (λ s i x z. refl) (ap (placed.serves m (placed.without_message l y.id) y (with_queue h.x h.queue)) is) (ap (here_handles (record k { inbox = c.rest }) y h.x) is) refl (λ v p. refl) goes
+    land_row b m pt l k y PlainWhat.Written ps c h (λ s i x z. refl) (ap (placed.serves m (placed.without_message l y.id) y (with_queue h.x h.queue)) is) (ap (here_handles (record k { inbox = c.rest }) y h.x) is) refl (λ v p. refl) goes
 
-pub gone_row : (b : Boot) (m : ℕ) (pt : Point) (l : Placed) (k : KernelState) (y : Message) (ps : List Part) (c : Taking b m pt l k y said.Gone) (h : IsHere b m pt l k y.to.pid) → rule.here_handles pt m y.id (plainly y said.Gone) (plain_process h.x) said.Gone ≡ Some ps → Row b m pt l k
+pub gone_row : (b : Boot) (m : ℕ) (pt : Point) (l : Placed) (k : KernelState) (y : Message) (ps : List Part) (c : Taking b m pt l k y PlainWhat.Gone) (h : IsHere b m pt l k y.to.pid) → rule.here_handles pt m y.id (plainly y PlainWhat.Gone) (plain_process h.x) PlainWhat.Gone ≡ Some ps → Row b m pt l k
 gone_row b m pt l k y ps c h goes =
     let is = gone_what y.what c.says in
-    land_row b m pt l k y said.Gone ps c h (λ s i x z. refl) (ap (placed.serves m (placed.without_message l y.id) y (with_queue h.x h.queue)) is) (ap (here_handles (record k { inbox = c.rest }) y h.x) is) refl (λ v p. refl) goes
+    land_row b m pt l k y PlainWhat.Gone ps c h (λ s i x z. refl) (ap (placed.serves m (placed.without_message l y.id) y (with_queue h.x h.queue)) is) (ap (here_handles (record k { inbox = c.rest }) y h.x) is) refl (λ v p. refl) goes

@@ -1,50 +1,16 @@
 -- A message for the kernel itself: what is free and what a new process is, and the answer where there is no room for it.
-use Rattle.std.proofs.Common.{◌≡◌, ℕ, zero, suc, ◌+◌, ◌*◌, ◌/◌, ◌<◌, ◌==◌, ◌&&◌, ◌||◌, Bool, true, false, List, [], ◌∷◌, length, refl, ap, ◌∙◌, sym, is_some, nat_le, nat_lt, arith}
-use Rattle.std.specs.Prelude.{if◌then◌else◌, slice_get}
-use Rattle.std.specs.declared.option.Option.{Option}
-use Rattle.std.specs.declared.option.Option.TheVariants.{None, Some}
-use Rattle.std.proofs.lemmas.Bool.Decides.{nat_tests}
-use Rattle.std.proofs.lemmas.Grind.{common_steps}
-use Rattle.dm_link.specs.declared.Pid.{Pid}
-use Rattle.dm_link.specs.Names.{pid_of, pid_eq}
-use Rattle.dm_link.specs.Plain.{PlainLink}
-use Rattle.dm_message.specs.declared.MsgId.{MsgId}
-use Rattle.dm_message.specs.declared.Message.{Message}
-use Rattle.dm_message.specs.declared.What.TheVariants as what
-use Rattle.dm_message.specs.Plain as said
-use Rattle.dm_message.specs.Plain.{PlainMessage, PlainWhat, plain_message}
-use Rattle.dm_room.specs.Room.{Taken, free_slots, free_blocks}
-use Rattle.dm_datamove.specs.Serving.{answer}
-use Rattle.dm_onekernel.specs.declared.boot.Boot.{Boot}
-use Rattle.dm_onekernel.specs.declared.boot.BootImage.{BootImage}
-use Rattle.dm_onekernel.specs.declared.boot.BootMachine.{BootMachine}
-use Rattle.dm_onekernel.specs.declared.label.Label.TheVariants as label
-use Rattle.dm_onekernel.specs.Boot.{first_number, images_are_valid, image_is_valid, manager, switchboard}
-use Rattle.dm_onekernel.specs.Kernel.{OneKernel, with_sent}
-use Rattle.dm_onekernel.specs.Options.{bind, when}
-use Rattle.dm_onekernel.specs.Pieces.{answer_id, answer_to}
+use Rattle.dm_mirror.proofs.Names.{◌≡◌, ℕ, zero, suc, ◌+◌, ◌*◌, ◌/◌, ◌<◌, ◌==◌, ◌&&◌, ◌||◌, Bool, true, false, List, [], ◌∷◌, length, refl, ap, ◌∙◌, sym, is_some, nat_le, nat_lt, arith, if◌then◌else◌, slice_get, Option, None, Some}
+use Rattle.dm_mirror.proofs.Names.{nat_tests, common_steps, Pid, pid_of, pid_eq, PlainLink, MsgId, Message, What, Label, PlainMessage, PlainWhat, plain_message, Taken, free_slots, free_blocks, answer, Boot, BootImage, BootMachine}
+use Rattle.dm_mirror.proofs.Names.{first_number, images_are_valid, image_is_valid, manager, switchboard, OneKernel, bind, when, answer_id, answer_to, without_message, memory_of, Routes, Point, Room, taken_at, bag_none, bag_no_space}
+use Rattle.dm_mirror.proofs.Names.{is_server, home_of, Placed, plainly, create_what, room_of, handles, kernel_handles, makes, KernelState, turned, RoomStands, and-both}
+use Rattle.dm_kernel.specs.declared.part.Part.{Part}
+use Rattle.dm_onekernel.specs.Kernel.{with_sent}
 use Rattle.dm_onekernel.specs.Service as service
-use Rattle.dm_onekernel.specs.Service.{without_message}
-use Rattle.dm_onekernel.specs.Start.{memory_of}
 use Rattle.dm_onekernel.specs.Step as kernel
-use Rattle.dm_rule.specs.Parts.{Routes}
-use Rattle.dm_rule.specs.Point.{Point}
 use Rattle.dm_rule.specs.Rule as rule
-use Rattle.dm_rule.specs.Rule.{Room, blocks_of, taken_at, taken_by, takes_room}
-use Rattle.dm_rule.proofs.Bags.{bag_none, bag_no_space}
-use Rattle.dm_rulelaws.specs.Fits.{is_server}
-use Rattle.dm_rulelaws.proofs.Goes.Front.{home_of}
-use Rattle.dm_places.specs.Placed.{Placed}
 use Rattle.dm_places.specs.PlacedStep as placed
-use Rattle.dm_places.proofs.Serves.{plainly}
-use Rattle.dm_places.proofs.Whats.{create_what}
-use Rattle.dm_kernel.specs.declared.part.Part.TheVariants as part
-use Rattle.dm_kernel.specs.Begun.{room_of}
 use Rattle.dm_kernel.specs.Handle as machine
-use Rattle.dm_kernel.specs.Handle.{handles, kernel_handles, makes, next_pid}
 use Rattle.dm_kernel.specs.State as state
-use Rattle.dm_kernel.specs.State.{KernelState, Turned, turned}
-use Rattle.dm_mirror.specs.Stands.{RoomStands}
 use Rattle.dm_mirror.proofs.Handle.Frames.{known_on}
 use Rattle.dm_mirror.proofs.Handle.Receivers.{to_kernel, rule_to_kernel}
 use Rattle.dm_mirror.proofs.Handle.Rows.{handled_point, turns_row}
@@ -67,37 +33,37 @@ kernel_is s p m num home below = ap (λ (c : Bool). c && nat_lt p.home s.machine
 pub kernel_home : (b : Boot) (m : ℕ) (pt : Point) (l : Placed) (k : KernelState) (y : Message) (w : PlainWhat) → Taking b m pt l k y w → (y.to.pid.num == 0) ≡ true → y.to.pid.home ≡ m
 kernel_home b m pt l k y w c num = home_of b m pt y.id (plainly y w) (ap (λ (d : Bool). d || is_server y.to.pid) num) c.front
 
-pub create_turn : (b : Boot) (k0 : KernelState) (y : Message) (image : ℕ) (links : _) (g : BootImage) (c : Bool) → (y.to.pid.num == 0) ≡ true → y.what ≡ what.Create image links → slice_get b.images image ≡ Some g → machine.has_room k0.room g.blocks ≡ c
+pub create_turn : (b : Boot) (k0 : KernelState) (y : Message) (image : ℕ) (links : _) (g : BootImage) (c : Bool) → (y.to.pid.num == 0) ≡ true → y.what ≡ What.Create image links → slice_get b.images image ≡ Some g → machine.has_room k0.room g.blocks ≡ c
     → handles b k0 y ≡ makes b k0 y links.items g c
 create_turn b k0 y image links g c num is found room =
     to_kernel b k0 y num ∙ ap (kernel_handles b k0 y) is ∙ ap (machine.makes_of b k0 y links.items) found ∙ ap (makes b k0 y links.items g) room
 
-pub create_outcome : (b : Boot) (m : ℕ) (pt : Point) (i : MsgId) (x : PlainMessage) (image : ℕ) (ls : List PlainLink) (g : BootImage) (c : Bool) → (x.to.num == 0) ≡ true → x.what ≡ said.Create image ls → slice_get b.images image ≡ Some g → rule.has_room (rule.free_room b pt m) g.blocks ≡ c
-    → rule.handles b pt m i x ≡ Some ((if c then rule.says (label.Created i (pid_of m (first_number + pt.kernel.made m))) else rule.says (label.NoSpace i (rule.free_room b pt m).slots (rule.free_room b pt m).blocks)) ∷ Routes (answer_id i) ∷ [])
+pub create_outcome : (b : Boot) (m : ℕ) (pt : Point) (i : MsgId) (x : PlainMessage) (image : ℕ) (ls : List PlainLink) (g : BootImage) (c : Bool) → (x.to.num == 0) ≡ true → x.what ≡ PlainWhat.Create image ls → slice_get b.images image ≡ Some g → rule.has_room (rule.free_room b pt m) g.blocks ≡ c
+    → rule.handles b pt m i x ≡ Some ((if c then rule.says (Label.Created i (pid_of m (first_number + pt.kernel.made m))) else rule.says (Label.NoSpace i (rule.free_room b pt m).slots (rule.free_room b pt m).blocks)) ∷ Routes (answer_id i) ∷ [])
 create_outcome b m pt i x image ls g c num is found room =
     rule_to_kernel b pt m i x num ∙ ap (rule.kernel_handles b pt m i) is ∙ ap (rule.creates pt m i (rule.free_room b pt m)) found
-    ∙ ap (λ (d : Bool). Some ((if d then rule.says (label.Created i (pid_of m (first_number + pt.kernel.made m))) else rule.says (label.NoSpace i (rule.free_room b pt m).slots (rule.free_room b pt m).blocks)) ∷ Routes (answer_id i) ∷ [])) room
+    ∙ ap (λ (d : Bool). Some ((if d then rule.says (Label.Created i (pid_of m (first_number + pt.kernel.made m))) else rule.says (Label.NoSpace i (rule.free_room b pt m).slots (rule.free_room b pt m).blocks)) ∷ Routes (answer_id i) ∷ [])) room
 
 -- there is no room for it
-pub no_room_row : (b : Boot) (m : ℕ) (pt : Point) (l : Placed) (k : KernelState) (y : Message) (image : ℕ) (ls : List PlainLink) (g : BootImage) → Taking b m pt l k y (said.Create image ls) → (y.to.pid.num == 0) ≡ true → slice_get b.images image ≡ Some g
+pub no_room_row : (b : Boot) (m : ℕ) (pt : Point) (l : Placed) (k : KernelState) (y : Message) (image : ℕ) (ls : List PlainLink) (g : BootImage) → Taking b m pt l k y (PlainWhat.Create image ls) → (y.to.pid.num == 0) ≡ true → slice_get b.images image ≡ Some g
     → rule.has_room (rule.free_room b pt m) g.blocks ≡ false → Row b m pt l k
 no_room_row b m pt l k y image ls g c num found none =
     let s = pt.kernel in
     let p = y.to.pid in
-    let x = plainly y (said.Create image ls) in
+    let x = plainly y (PlainWhat.Create image ls) in
     let k0 = record k { inbox = c.rest } in
     let r = rule.free_room b pt m in
-    let e = label.NoSpace y.id r.slots r.blocks in
+    let e = Label.NoSpace y.id r.slots r.blocks in
     let w = create_what y.what image ls c.says in
     let free = free_of k.room (slice_get b.machines m) (taken_at pt m s.machines) c.stands.room in
-    let a = answer m 0 y what.NoRoom in
-    let next = with_sent (without_message s y.id) (Some (answer_to x said.NoRoom)) in
+    let a = answer m 0 y What.NoRoom in
+    let next = with_sent (without_message s y.id) (Some (answer_to x PlainWhat.NoRoom)) in
     let on = placed.with_sent (placed.without_message l y.id) (Some a) in
     let step : kernel.step s e ≡ Some next =
-    ap (λ (o : Option PlainMessage). bind o (λ (v : PlainMessage). service.has_no_room s y.id v v.what)) c.front.there ∙ ap (λ (d : Bool). when d next) (kernel_is s p m num (kernel_home b m pt l k y (said.Create image ls) c num) c.below) in
-    let seen = sane_of b m pt l k y (said.Create image ls) c in
+    ap (λ (o : Option PlainMessage). bind o (λ (v : PlainMessage). service.has_no_room s y.id v v.what)) c.front.there ∙ ap (λ (d : Bool). when d next) (kernel_is s p m num (kernel_home b m pt l k y (PlainWhat.Create image ls) c num) c.below) in
+    let seen = sane_of b m pt l k y (PlainWhat.Create image ls) c in
     let bag = bag_no_space seen.r seen.e s next y.id r.slots r.blocks step seen.sound in
-    turns_row b m pt l k y (said.Create image ls) c (record {
+    turns_row b m pt l k y (PlainWhat.Create image ls) c (record {
       label = e;
       next = next;
       placed = on;
@@ -107,9 +73,9 @@ no_room_row b m pt l k y image ls g c num found none =
       step = step;
       view = refl;
       needs = tt;
-      placed_is = ap (λ (o : Option Message). bind o (λ (z : Message). Some (placed.with_sent (placed.without_message l y.id) (Some (answer m 0 z what.NoRoom))))) c.there;
+      placed_is = ap (λ (o : Option Message). bind o (λ (z : Message). Some (placed.with_sent (placed.without_message l y.id) (Some (answer m 0 z What.NoRoom))))) c.there;
       turn = create_turn b k0 y image w.links g false num w.is found (room_same k.room r g.blocks free ∙ none)
-          ∙ (λ i. turned k0 (state.says (label.NoSpace y.id (free.0 i) (free.1 i)) ∷ part.Routes (answer (c.stands.here i) 0 y what.NoRoom) ∷ []));
+          ∙ (λ i. turned k0 (state.says (Label.NoSpace y.id (free.0 i) (free.1 i)) ∷ Part.Routes (answer (c.stands.here i) 0 y What.NoRoom) ∷ []));
       outcome = create_outcome b m pt y.id x image ls g false num refl found none;
       machines = refl;
       made = λ n. refl;
@@ -141,15 +107,10 @@ child_off m n =
     let d : pid_eq (pid_of m (first_number + n)) manager ≡ false = grind (arith, nat_tests) in
     ap (λ (c : Bool). c || pid_eq (pid_of m (first_number + n)) manager) e ∙ d
 
--- an image's memory
-two : (a c : Bool) → (a && c) ≡ true → (a ≡ true) × (c ≡ true)
-two true c e = (refl, e)
-two false c e = cc
-
 pub valid_at : (images : List BootImage) (n : ℕ) (g : BootImage) → slice_get images n ≡ Some g → images_are_valid images ≡ true → image_is_valid g ≡ true
 valid_at [] n g e h = cc
-valid_at (x ∷ xs) zero g e h = let f : x ≡ g = cc in sym (ap image_is_valid f) ∙ (two (image_is_valid x) (images_are_valid xs) h).0
-valid_at (x ∷ xs) (suc n) g e h = valid_at xs n g e (two (image_is_valid x) (images_are_valid xs) h).1
+valid_at (x ∷ xs) zero g e h = let f : x ≡ g = cc in sym (ap image_is_valid f) ∙ (and-both (image_is_valid x) (images_are_valid xs) h).0
+valid_at (x ∷ xs) (suc n) g e h = valid_at xs n g e (and-both (image_is_valid x) (images_are_valid xs) h).1
 
 pub memory_length : (g : BootImage) → image_is_valid g ≡ true → length (memory_of g) ≡ 256 * g.blocks
 memory_length g valid = grind (arith, common_steps, nat_tests)

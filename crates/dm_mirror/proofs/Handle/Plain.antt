@@ -1,25 +1,9 @@
 -- What the servers send has a plain meaning.
-use Rattle.std.proofs.Common.{◌≡◌, ℕ, ◌+◌, ◌*◌, ◌==◌, ◌&&◌, Bool, true, false, List, [], ◌∷◌, refl, ap, ◌∙◌, sym, is_some, nat_lt}
-use Rattle.std.specs.Prelude.{if◌then◌else◌}
-use Rattle.std.specs.declared.option.Option.{Option}
-use Rattle.std.specs.declared.option.Option.TheVariants.{None, Some}
-use Rattle.dm_link.specs.declared.Addr.{Addr}
-use Rattle.dm_link.specs.declared.Link.{Link}
-use Rattle.dm_message.specs.declared.MsgId.{MsgId}
-use Rattle.dm_message.specs.declared.Message.{Message}
-use Rattle.dm_message.specs.declared.What.{What}
-use Rattle.dm_message.specs.declared.What.TheVariants as what
-use Rattle.dm_message.specs.Plain.{PlainWhat, plain_message, plain_what, with_what}
-use Rattle.dm_onekernel.specs.Options.{bind}
-use Rattle.dm_switchboard.specs.Board.{Board}
+use Rattle.dm_mirror.proofs.Names.{◌≡◌, ℕ, ◌+◌, ◌*◌, ◌==◌, ◌&&◌, Bool, true, false, List, [], ◌∷◌, refl, ap, ◌∙◌, sym, is_some, nat_lt, if◌then◌else◌, Option, None, Some, Addr, Link, MsgId, Message, What, PlainWhat, plain_message}
+use Rattle.dm_mirror.proofs.Names.{plain_what, with_what, bind, Board, answer_over, message_to, kernel_of, Managing, Routes, parts}
 use Rattle.dm_switchboard.specs.Taking as board
-use Rattle.dm_procman.specs.Making.{answer_over, message_to}
-use Rattle.dm_link.specs.Places.{kernel_at as kernel_of}
-use Rattle.dm_procman.specs.Managing.{Managing}
 use Rattle.dm_procman.specs.Taking as manage
-use Rattle.dm_rule.specs.Parts.{Routes}
 use Rattle.dm_rule.specs.Rule as rule
-use Rattle.dm_places.proofs.Keeps.{parts}
 use Rattle.dm_mirror.proofs.Handle.Taking.{some_of}
 use Rattle.dm_mirror.proofs.Turning.{rule_routed}
 
@@ -52,7 +36,7 @@ wants_plain g machine image [] = bad_plain g []
 wants_plain g machine image (k ∷ ks) = wants_if (nat_lt machine g.machines && nat_lt image g.images)
   where
     wants_if : (c : Bool) → IsPlain (if c then manage.asks_for g machine image k ks else manage.bad_request g (k ∷ ks)).message
-    wants_if true = plain_one (message_to g.sent (kernel_of machine) (what.Create image (record { items = ks }))) refl
+    wants_if true = plain_one (message_to g.sent (kernel_of machine) (What.Create image (record { items = ks }))) refl
     wants_if false = bad_plain g (k ∷ ks)
 
 requests_plain : (g : Managing) (body : List ℕ) (ls : List Link) → IsPlain (manage.requests g body ls).message
@@ -78,10 +62,10 @@ control_plain g child (Some w) ls h = plain_one (message_to g.sent child w) (pla
 control_of_plain : (operation : ℕ) (w : What) → manage.control_of operation ≡ Some w → is_some (plain_what w) ≡ true
 control_of_plain operation w e = by (operation == 2) (operation == 3) (operation == 4) e
   where
-    by : (c d f : Bool) → (if c then Some what.Stop else if d then Some what.Resume else if f then Some what.Kill else None) ≡ Some w → is_some (plain_what w) ≡ true
-    by true d f e = let g : what.Stop ≡ w = cc in ap (λ (u : What). is_some (plain_what u)) (sym g)
-    by false true f e = let g : what.Resume ≡ w = cc in ap (λ (u : What). is_some (plain_what u)) (sym g)
-    by false false true e = let g : what.Kill ≡ w = cc in ap (λ (u : What). is_some (plain_what u)) (sym g)
+    by : (c d f : Bool) → (if c then Some What.Stop else if d then Some What.Resume else if f then Some What.Kill else None) ≡ Some w → is_some (plain_what w) ≡ true
+    by true d f e = let g : What.Stop ≡ w = cc in ap (λ (u : What). is_some (plain_what u)) (sym g)
+    by false true f e = let g : What.Resume ≡ w = cc in ap (λ (u : What). is_some (plain_what u)) (sym g)
+    by false false true e = let g : What.Kill ≡ w = cc in ap (λ (u : What). is_some (plain_what u)) (sym g)
     by false false false e = cc
 
 controls_plain : (g : Managing) (o : Option Addr) (body : List ℕ) (ls : List Link) → IsPlain (manage.controls g o body ls).message

@@ -1,49 +1,22 @@
 -- Messages that stop and resume a process, and requests for a piece of its memory.
-use Rattle.std.proofs.Common.{◌≡◌, ℕ, ◌+◌, ◌≤◌, Bool, true, false, List, length, take, drop, refl, ap, ◌∙◌, sym, is_some, nat_le, arith}
-use Rattle.std.specs.Prelude.{if◌then◌else◌}
-use Rattle.std.specs.declared.option.Option.{Option}
-use Rattle.std.specs.declared.option.Option.TheVariants.{None, Some}
-use Rattle.std.proofs.lemmas.Bool.Decides.{nat_tests}
-use Rattle.dm_message.specs.declared.MsgId.{MsgId}
-use Rattle.dm_message.specs.declared.Message.{Message}
-use Rattle.dm_message.specs.declared.What.{What}
-use Rattle.dm_message.specs.declared.What.TheVariants as what
-use Rattle.dm_message.specs.Plain as said
-use Rattle.dm_message.specs.Plain.{PlainMessage, PlainWhat, plain_message}
-use Rattle.dm_datamove.specs.Serving.{after_serving, answer, answer_of, answer_with, serving_answer}
-use Rattle.dm_datamove.proofs.Services.{length-written}
-use Rattle.dm_onekernel.specs.declared.boot.Boot.{Boot}
-use Rattle.dm_onekernel.specs.declared.label.Label.TheVariants as label
+use Rattle.dm_mirror.proofs.Names.{◌≡◌, ℕ, ◌+◌, ◌≤◌, Bool, true, false, List, length, take, drop, refl, ap, ◌∙◌, sym, is_some, nat_le, arith, if◌then◌else◌, Option, None, Some, nat_tests, MsgId, Message, What, Label, PlainMessage}
+use Rattle.dm_mirror.proofs.Names.{PlainWhat, plain_message, after_serving, answer, answer_of, answer_with, serving_answer, length-written, Boot, Alive, Life, OneKernel, bind, answer_id, answer_to, written_at, plain_process, PlainProcess}
+use Rattle.dm_mirror.proofs.Names.{Point, bag_none, bag_served, served_id, has_bytes, WhatFits, Placed, answers_match, with_queue, plainly, read_what, write_what, stop_what, resume_what, here_handles, KernelState}
 use Rattle.dm_onekernel.specs.Kernel as kernels
-use Rattle.dm_onekernel.specs.Kernel.{Alive, Life, OneKernel}
-use Rattle.dm_onekernel.specs.Options.{bind}
 use Rattle.dm_onekernel.specs.Pieces as pieces
-use Rattle.dm_onekernel.specs.Pieces.{answer_id, answer_to, written_at}
-use Rattle.dm_onekernel.specs.Plain.{plain_process}
-use Rattle.dm_onekernel.specs.PlainProcess.{PlainProcess}
 use Rattle.dm_onekernel.specs.Service as service
 use Rattle.dm_onekernel.specs.Step as kernel
-use Rattle.dm_rule.specs.Point.{Point}
-use Rattle.dm_rule.proofs.Bags.{bag_none, bag_served, served_id}
-use Rattle.dm_rulelaws.specs.Fits.{has_bytes, WhatFits}
-use Rattle.dm_places.specs.Placed.{Placed}
 use Rattle.dm_places.specs.PlacedStep as placed
-use Rattle.dm_places.proofs.Matches.{answers_match}
-use Rattle.dm_places.proofs.Queues.{with_queue}
-use Rattle.dm_places.proofs.Serves.{plainly}
-use Rattle.dm_places.proofs.Whats.{read_what, write_what, stop_what, resume_what}
 use Rattle.dm_kernel.specs.Handle as machine
-use Rattle.dm_kernel.specs.Handle.{here_handles}
-use Rattle.dm_kernel.specs.State.{KernelState}
 use Rattle.dm_mirror.proofs.Handle.Here.{IsHere, served_row, served_step}
 use Rattle.dm_mirror.proofs.Handle.Taking.{Taking, sane_of}
 use Rattle.dm_mirror.proofs.Turning.{Row}
 
 -- stop, resume
-pub stop_row : (b : Boot) (m : ℕ) (pt : Point) (l : Placed) (k : KernelState) (y : Message) (c : Taking b m pt l k y said.Stop) → IsHere b m pt l k y.to.pid → Row b m pt l k
+pub stop_row : (b : Boot) (m : ℕ) (pt : Point) (l : Placed) (k : KernelState) (y : Message) (c : Taking b m pt l k y PlainWhat.Stop) → IsHere b m pt l k y.to.pid → Row b m pt l k
 stop_row b m pt l k y c h =
     let is = stop_what y.what c.says in
-    served_row b m pt l k y said.Stop c h (record {
+    served_row b m pt l k y PlainWhat.Stop c h (record {
       z = record h.x { stopped = true };
       pz = record (plain_process h.x) { stopped = true };
       o = None;
@@ -59,10 +32,10 @@ stop_row b m pt l k y c h =
       quiet = λ v p. refl;
     })
 
-pub resume_row : (b : Boot) (m : ℕ) (pt : Point) (l : Placed) (k : KernelState) (y : Message) (c : Taking b m pt l k y said.Resume) → IsHere b m pt l k y.to.pid → Row b m pt l k
+pub resume_row : (b : Boot) (m : ℕ) (pt : Point) (l : Placed) (k : KernelState) (y : Message) (c : Taking b m pt l k y PlainWhat.Resume) → IsHere b m pt l k y.to.pid → Row b m pt l k
 resume_row b m pt l k y c h =
     let is = resume_what y.what c.says in
-    served_row b m pt l k y said.Resume c h (record {
+    served_row b m pt l k y PlainWhat.Resume c h (record {
       z = record h.x { stopped = false };
       pz = record (plain_process h.x) { stopped = false };
       o = None;
@@ -79,7 +52,7 @@ resume_row b m pt l k y c h =
     })
 
 -- what a served message sends is new
-pub served_fresh : (b : Boot) (m : ℕ) (pt : Point) (l : Placed) (k : KernelState) (y : Message) (w : PlainWhat) (c : Taking b m pt l k y w) (h : IsHere b m pt l k y.to.pid) (t : OneKernel) (i : MsgId) → kernel.step pt.kernel (label.Served y.id) ≡ Some t
+pub served_fresh : (b : Boot) (m : ℕ) (pt : Point) (l : Placed) (k : KernelState) (y : Message) (w : PlainWhat) (c : Taking b m pt l k y w) (h : IsHere b m pt l k y.to.pid) (t : OneKernel) (i : MsgId) → kernel.step pt.kernel (Label.Served y.id) ≡ Some t
     → served_id y.id (plainly y w) (plain_process h.x) w ≡ Some i → pt.kernel.bag i ≡ None
 served_fresh b m pt l k y w c h t i step is =
     let s = pt.kernel in
@@ -95,17 +68,17 @@ served_fresh b m pt l k y w c h t i step is =
 within_is : (n : ℕ) (o : Option Life) (z : PlainProcess) → o ≡ Some (Alive z) → has_bytes n o ≡ true → nat_le n (length z.memory) ≡ true
 within_is n o z alive e = sym (ap (has_bytes n) alive) ∙ e
 
-pub read_row : (b : Boot) (m : ℕ) (pt : Point) (l : Placed) (k : KernelState) (y : Message) (base len : ℕ) (c : Taking b m pt l k y (said.Read base len)) → IsHere b m pt l k y.to.pid → WhatFits pt.kernel y.id (plainly y (said.Read base len)) (said.Read base len) → Row b m pt l k
+pub read_row : (b : Boot) (m : ℕ) (pt : Point) (l : Placed) (k : KernelState) (y : Message) (base len : ℕ) (c : Taking b m pt l k y (PlainWhat.Read base len)) → IsHere b m pt l k y.to.pid → WhatFits pt.kernel y.id (plainly y (PlainWhat.Read base len)) (PlainWhat.Read base len) → Row b m pt l k
 read_row b m pt l k y base len c h fits =
     let s = pt.kernel in
-    let w = said.Read base len in
+    let w = PlainWhat.Read base len in
     let k0 = record k { inbox = c.rest } in
     let x = plainly y w in
     let px = plain_process h.x in
     let is = read_what y.what base len c.says in
     let bytes = take len (drop base h.x.memory) in
-    let a = answer m h.x.moves y (what.Block (record { items = bytes })) in
-    let q = answer_to x (said.Block bytes) in
+    let a = answer m h.x.moves y (What.Block (record { items = bytes })) in
+    let q = answer_to x (PlainWhat.Block bytes) in
     let z = after_serving h.x y.what in
     let within = within_is (base + len) (s.processes y.to.pid) px h.life fits.0 in
     let reads : pieces.reads px x base len ≡ Some (record { process = px; answer = q }) = ap (λ (d : Bool). if d then Some (record { process = px; answer = q }) else None) within in
@@ -127,16 +100,16 @@ read_row b m pt l k y base len c h fits =
       quiet = λ v p. refl;
     })
 
-pub write_row : (b : Boot) (m : ℕ) (pt : Point) (l : Placed) (k : KernelState) (y : Message) (base : ℕ) (bytes : List ℕ) (c : Taking b m pt l k y (said.Write base bytes)) → IsHere b m pt l k y.to.pid → WhatFits pt.kernel y.id (plainly y (said.Write base bytes)) (said.Write base bytes) → Row b m pt l k
+pub write_row : (b : Boot) (m : ℕ) (pt : Point) (l : Placed) (k : KernelState) (y : Message) (base : ℕ) (bytes : List ℕ) (c : Taking b m pt l k y (PlainWhat.Write base bytes)) → IsHere b m pt l k y.to.pid → WhatFits pt.kernel y.id (plainly y (PlainWhat.Write base bytes)) (PlainWhat.Write base bytes) → Row b m pt l k
 write_row b m pt l k y base bytes c h fits =
     let s = pt.kernel in
-    let w = said.Write base bytes in
+    let w = PlainWhat.Write base bytes in
     let k0 = record k { inbox = c.rest } in
     let x = plainly y w in
     let px = plain_process h.x in
     let g = write_what y.what base bytes c.says in
-    let a = answer m h.x.moves y what.Written in
-    let q = answer_to x said.Written in
+    let a = answer m h.x.moves y What.Written in
+    let q = answer_to x PlainWhat.Written in
     let z = after_serving h.x y.what in
     let pz : PlainProcess = record px { memory = written_at px.memory base bytes } in
     let within = within_is (base + length bytes) (s.processes y.to.pid) px h.life fits.0 in

@@ -1,33 +1,9 @@
 -- A user message for a process that is here: it is queued.
-use Rattle.std.proofs.Common.{◌≡◌, ℕ, Bool, List, [], ◌∷◌, ◌++◌, map, refl, ap, ◌∙◌, sym}
-use Rattle.std.specs.Prelude.{if◌then◌else◌}
-use Rattle.std.specs.declared.option.Option.{Option}
-use Rattle.std.specs.declared.option.Option.TheVariants.{None, Some}
-use Rattle.std.proofs.lemmas.Bool.{false≢true}
-use Rattle.dm_link.specs.declared.Pid.{Pid}
-use Rattle.dm_link.specs.Plain.{PlainLink}
-use Rattle.dm_message.specs.declared.MsgId.{MsgId}
-use Rattle.dm_message.specs.declared.Message.{Message}
+use Rattle.dm_mirror.proofs.Names.{◌≡◌, ℕ, Bool, List, [], ◌∷◌, ◌++◌, map, refl, ap, ◌∙◌, sym, if◌then◌else◌, Option, None, Some, false≢true, Pid, PlainLink, MsgId, Message, Record, Line, Boot, pid_eq-same, Says, Point, Room, at_record}
+use Rattle.dm_mirror.proofs.Names.{without_front, View, handled, begun, told_receiver, Placed, mirrors_view, plainly, user_what, here_handles, queued, KernelState, turned, with_here, AreMessages}
 use Rattle.dm_message.specs.Plain as said
-use Rattle.dm_records.specs.declared.record.Record.TheVariants as record_
-use Rattle.dm_onekernel.specs.declared.boot.Boot.{Boot}
-use Rattle.dm_laws.proofs.Equal.{pid_eq-same}
-use Rattle.dm_line.specs.declared.line.Line.TheVariants as line
-use Rattle.dm_rule.specs.Parts.{Says}
-use Rattle.dm_rule.specs.Point.{Point}
-use Rattle.dm_rule.specs.Rule.{Room}
-use Rattle.dm_line.specs.Sets.{at_record, without_front}
+use Rattle.dm_kernel.specs.declared.part.Part.{Part}
 use Rattle.dm_rule.specs.View as view
-use Rattle.dm_rule.specs.View.{Known, View, handled}
-use Rattle.dm_rulelaws.proofs.Goes.Front.{begun, told_receiver}
-use Rattle.dm_places.specs.Placed.{Placed}
-use Rattle.dm_places.proofs.Lines.{mirrors_view}
-use Rattle.dm_places.proofs.Serves.{plainly}
-use Rattle.dm_places.proofs.Whats.{user_what}
-use Rattle.dm_kernel.specs.declared.part.Part.TheVariants as part
-use Rattle.dm_kernel.specs.Handle.{here_handles, queued}
-use Rattle.dm_kernel.specs.State.{KernelState, turned, with_here}
-use Rattle.dm_mirror.specs.Stands.{AreMessages}
 use Rattle.dm_mirror.proofs.Handle.Frames.{machine_off, machine_self, record_off, record_others, record_self, stands_set}
 use Rattle.dm_mirror.proofs.Handle.Here.{IsHere, here_known, here_outcome, here_turn}
 use Rattle.dm_mirror.proofs.Handle.Receivers.{not_server}
@@ -66,10 +42,10 @@ user_row b m pt l k y code channel bytes ls c h =
     let taken = taken_same pt next m refl (λ n. refl) (λ q. refl) in
     record {
       state = with_here k0 p z;
-      says = line.Queued i ∷ [];
+      says = Line.Queued i ∷ [];
       route = None;
-      turn = turn_is b m pt l k y w c (turned (with_here k0 p z) (part.Says (line.Queued i) ∷ [])) (here_turn b m pt l k y w c h (turned (with_here k0 p z) (part.Says (line.Queued i) ∷ [])) (ap (here_handles k0 y h.x) is));
-      outcome = outcome_is b m pt l k y w c (Some (Says (line.Queued i) ∷ [])) (here_outcome b m pt l k y w h (Some (Says (line.Queued i) ∷ [])) refl);
+      turn = turn_is b m pt l k y w c (turned (with_here k0 p z) (Part.Says (Line.Queued i) ∷ [])) (here_turn b m pt l k y w c h (turned (with_here k0 p z) (Part.Says (Line.Queued i) ∷ [])) (ap (here_handles k0 y h.x) is));
+      outcome = outcome_is b m pt l k y w c (Some (Says (Line.Queued i) ∷ [])) (here_outcome b m pt l k y w h (Some (Says (Line.Queued i) ∷ [])) refl);
       next = next;
       after = ap (λ (o : Option Pid). Some (record { kernel = pt.kernel; view = view.queued_for v i o; addresses = pt.addresses })) (told_is b m pt l k y w c);
       placed = l;
@@ -77,7 +53,7 @@ user_row b m pt l k y code channel bytes ls c h =
       kernel = stands_set b pt next l l m k (with_here k0 p z) p
           (record {
             here = refl;
-            records = λ q off. ap (λ (d : Bool). if d then Some (record_.Here z) else k.records q) off;
+            records = λ q off. ap (λ (d : Bool). if d then Some (Record.Here z) else k.records q) off;
             queue = λ q off. record_others pt.view.queue m p q xs off;
             held = λ q off. refl;
             known = λ q off. refl;
@@ -85,7 +61,7 @@ user_row b m pt l k y code channel bytes ls c h =
             lives = λ q off. refl;
             bag = λ q j off least. refl;
             holds = λ q j off least. refl;
-            mine = λ off. here_known next l p (at_record pt.view.queue m p xs m p) (pt.view.held m p) z h.queue ((with_here k0 p z).records p) (pt.view.known m p) (ap (λ (d : Bool). if d then Some (record_.Here z) else k.records p) (pid_eq-same p)) h.known h.placed
+            mine = λ off. here_known next l p (at_record pt.view.queue m p xs m p) (pt.view.held m p) z h.queue ((with_here k0 p z).records p) (pt.view.known m p) (ap (λ (d : Bool). if d then Some (Record.Here z) else k.records p) (pid_eq-same p)) h.known h.placed
                 (ap (map l.bag) (record_self pt.view.queue m p xs (pid_eq-same p)) ∙ last_message l.bag (pt.view.queue m p) h.x.queue i y h.waits c.there);
             keeps = λ server. absurd (false≢true (sym (not_server p h.process) ∙ server));
           }) c.stands
@@ -121,7 +97,7 @@ user_row b m pt l k y code channel bytes ls c h =
       sent = tt;
       still = refl;
       count = refl;
-      moving = λ q is. (refl, ap (λ (d : Bool). if d then Some (record_.Here z) else k.records q) (here_left pt m p q c.run.based.phased.phases h.known (Moves is)));
+      moving = λ q is. (refl, ap (λ (d : Bool). if d then Some (Record.Here z) else k.records q) (here_left pt m p q c.run.based.phased.phases h.known (Moves is)));
       own = λ j a none there. there;
       own_back = λ j a none there. there;
     }

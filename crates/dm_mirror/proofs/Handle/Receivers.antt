@@ -1,24 +1,9 @@
 -- Whom a message that is handled is for, in the machine's terms and the rule's.
-use Rattle.std.proofs.Common.{◌≡◌, ℕ, ◌==◌, ◌||◌, Bool, true, false, List, ap, ◌∙◌, sym, length, arith}
-use Rattle.std.specs.Prelude.{if◌then◌else◌}
-use Rattle.std.specs.declared.option.Option.{Option}
-use Rattle.std.proofs.lemmas.Bool.{false≢true}
-use Rattle.std.proofs.lemmas.Bool.Decides.{nat_tests}
-use Rattle.dm_link.specs.declared.Pid.{Pid}
-use Rattle.dm_link.specs.Names.{pid_eq}
-use Rattle.dm_message.specs.declared.MsgId.{MsgId}
-use Rattle.dm_message.specs.declared.Message.{Message}
-use Rattle.dm_message.specs.Plain.{PlainMessage}
-use Rattle.dm_onekernel.specs.declared.boot.Boot.{Boot}
-use Rattle.dm_onekernel.specs.Boot.{switchboard, manager}
+use Rattle.dm_mirror.proofs.Names.{◌≡◌, ℕ, ◌==◌, ◌||◌, Bool, true, false, List, ap, ◌∙◌, sym, length, arith, if◌then◌else◌, Option, false≢true, nat_tests, Pid, pid_eq, MsgId, Message, PlainMessage, Boot, switchboard, manager, Point, Part}
+use Rattle.dm_mirror.proofs.Names.{is_server, handles, kernel_handles, board_handles, manager_handles, process_handles, KernelState}
 use Rattle.dm_onekernel.specs.Manager as manage
 use Rattle.dm_onekernel.specs.Switchboard as board
-use Rattle.dm_rule.specs.Point.{Point}
-use Rattle.dm_rule.specs.Parts.{Part}
 use Rattle.dm_rule.specs.Rule as rule
-use Rattle.dm_rulelaws.specs.Fits.{is_server}
-use Rattle.dm_kernel.specs.Handle.{handles, kernel_handles, board_handles, manager_handles, process_handles}
-use Rattle.dm_kernel.specs.State.{KernelState}
 
 -- a process: it has neither number 0 nor a server's name
 pub record IsProcess (p : Pid) : Type 0 where

@@ -1,46 +1,12 @@
 -- A row of a turn that says one label, by which one process may go on, and sends at most one message.
-use Rattle.std.proofs.Common.{◌≡◌, ◌≢◌, ℕ, ◌≤◌, ◌==◌, Bool, true, false, not, List, [], ◌∷◌, map, refl, ap, ◌∙◌, sym, subst, inl, inr, is_some, arith}
-use Rattle.std.specs.Prelude.{if◌then◌else◌}
-use Rattle.std.specs.declared.option.Option.{Option}
-use Rattle.std.specs.declared.option.Option.TheVariants.{None, Some}
-use Rattle.std.proofs.lemmas.Bool.{cases_Bool, false≢true}
-use Rattle.dm_link.specs.declared.Pid.{Pid}
-use Rattle.dm_link.specs.Names.{pid_eq}
-use Rattle.dm_message.specs.declared.MsgId.{MsgId}
-use Rattle.dm_message.specs.declared.Message.{Message}
-use Rattle.dm_message.specs.Ids.{id_eq}
-use Rattle.dm_message.specs.Plain.{PlainWhat, plain_message}
-use Rattle.dm_onekernel.specs.declared.boot.Boot.{Boot}
-use Rattle.dm_onekernel.specs.declared.label.Label.{Label}
-use Rattle.dm_onekernel.specs.Kernel.{Life, OneKernel}
-use Rattle.dm_onekernel.specs.Options.{bind}
+use Rattle.dm_mirror.proofs.Names.{◌≡◌, ◌≢◌, ℕ, ◌≤◌, ◌==◌, Bool, true, false, not, List, [], ◌∷◌, map, refl, ap, ◌∙◌, sym, subst, inl, inr, is_some, arith, if◌then◌else◌, Option, None, Some, cases_Bool, false≢true, Pid, pid_eq, MsgId}
+use Rattle.dm_mirror.proofs.Names.{Message, id_eq, PlainWhat, plain_message, Boot, Label, Life, OneKernel, bind, id_eq-is, pid_eq-is, Line, addresses_after, Point, after, moved, Taken, Room, blocks_of, taken_by, takes_room, without_front}
+use Rattle.dm_mirror.proofs.Names.{Spot, Queue, Held, Inbox, times, standing, View, Known, Unknown, Here, Frozen, Incoming, Ended, after_label, handled, is_kernels, Phase, Rests, is_away, is_here, knows, rests_here, InPhases, is_server}
+use Rattle.dm_mirror.proofs.Names.{begun, StepNeeds, Placed, Mirrors, placed_step, mirrors_view, moves_label, plainly, placed_follows, handles, KernelState, id_eq-same, KnownStands, servers_at}
 use Rattle.dm_onekernel.specs.Step as kernel
-use Rattle.dm_laws.proofs.Equal.{id_eq-is, pid_eq-is}
-use Rattle.dm_line.specs.declared.line.Line.TheVariants as line
-use Rattle.dm_rule.specs.Addresses.{addresses_after}
-use Rattle.dm_rule.specs.Point.{Point, after, moved}
 use Rattle.dm_rule.specs.Rule as rule
-use Rattle.dm_room.specs.Room.{Taken}
-use Rattle.dm_rule.specs.Rule.{Room, blocks_of, taken_at, taken_by, takes_room}
-use Rattle.dm_line.specs.Sets.{without_front}
-use Rattle.dm_rule.specs.Spots.{Spot, Queue, Held, Inbox, Untaken, times, standing}
-use Rattle.dm_rule.specs.View.{View, Known, Unknown, Here, Frozen, Incoming, Forward, Ended, after_label, handled, is_kernels}
-use Rattle.dm_rule.specs.Phases.{Phase, Rests, is_away, is_here, knows}
-use Rattle.dm_rule.proofs.Phases.Rests.{rests_here}
-use Rattle.dm_rule.proofs.Phases.Stand.{InPhases}
-use Rattle.dm_rulelaws.specs.Fits.{is_server}
-use Rattle.dm_rulelaws.proofs.Goes.Front.{begun}
-use Rattle.dm_places.specs.Laws.{StepNeeds}
-use Rattle.dm_places.specs.Placed.{Placed, Mirrors}
-use Rattle.dm_places.specs.PlacedStep.{placed_step, with_sent, without_message}
-use Rattle.dm_places.proofs.Lines.{mirrors_view, moves_label}
-use Rattle.dm_places.proofs.Serves.{plainly}
-use Rattle.dm_places.proofs.Steps.{placed_follows}
-use Rattle.dm_kernel.specs.Handle.{handles}
+use Rattle.dm_places.specs.PlacedStep.{with_sent, without_message}
 use Rattle.dm_kernel.specs.State as machine
-use Rattle.dm_kernel.specs.State.{KernelState}
-use Rattle.dm_laws.proofs.Equal.{id_eq-same}
-use Rattle.dm_mirror.specs.Stands.{KnownStands, servers_at}
 use Rattle.dm_mirror.proofs.Handle.Frames.{times_more, map_same, stands_set, eq_off, eq_self, machine_self, machine_off}
 use Rattle.dm_mirror.proofs.Handle.Taking.{Taking, turn_is, outcome_is, plainly_says, sane_of, apart_at, apart_behind, fresh_at, sent_other, bag_kept, queue_apart, held_apart, sent_there}
 use Rattle.dm_mirror.proofs.Rooms.{taken_same}
@@ -48,31 +14,29 @@ use Rattle.dm_mirror.proofs.Turning.{is_elsewhere, has_process, is_moving, route
 
 -- where the head of the turn, a label and another view lead
 abbrev pub seen_point : Point → ℕ → Label → OneKernel → View → Point
-seen_point pt m e s v = record { kernel = s; view = v; addresses = addresses_after pt.kernel (begun pt m).view pt.addresses (line.Label e) }
+seen_point pt m e s v = record { kernel = s; view = v; addresses = addresses_after pt.kernel (begun pt m).view pt.addresses (Line.Label e) }
 
 -- the message is handled
 abbrev pub handled_point : Point → ℕ → MsgId → Label → OneKernel → Point
 handled_point pt m i e s = seen_point pt m e s (handled (begun pt m).view i)
 
-pub after_one : (pt : Point) (m : ℕ) (e : Label) (s : OneKernel) (v : View) → kernel.step pt.kernel e ≡ Some s → after_label (begun pt m).view e ≡ v → after (begun pt m) (line.Label e ∷ []) ≡ Some (seen_point pt m e s v)
+pub after_one : (pt : Point) (m : ℕ) (e : Label) (s : OneKernel) (v : View) → kernel.step pt.kernel e ≡ Some s → after_label (begun pt m).view e ≡ v → after (begun pt m) (Line.Label e ∷ []) ≡ Some (seen_point pt m e s v)
 after_one pt m e s v step is =
-    ap (λ (o : Option OneKernel). bind (bind o (λ (z : OneKernel). Some (moved (begun pt m) (line.Label e) z))) (λ (n : Point). after n [])) step ∙ ap (λ (u : View). Some (seen_point pt m e s u)) is
+    ap (λ (o : Option OneKernel). bind (bind o (λ (z : OneKernel). Some (moved (begun pt m) (Line.Label e) z))) (λ (n : Point). after n [])) step ∙ ap (λ (u : View). Some (seen_point pt m e s u)) is
 
 pub mirrors_one : (pt : Point) (m : ℕ) (e : Label) (s : OneKernel) (v : View) (l placed : Placed) → kernel.step pt.kernel e ≡ Some s → after_label (begun pt m).view e ≡ v → StepNeeds pt.kernel (begun pt m).view e
-    → placed_step m pt.kernel.format pt.kernel.images l e ≡ Some placed → Mirrors pt.kernel pt.view pt.addresses l → Mirrors s v (addresses_after pt.kernel (begun pt m).view pt.addresses (line.Label e)) placed
+    → placed_step m pt.kernel.format pt.kernel.images l e ≡ Some placed → Mirrors pt.kernel pt.view pt.addresses l → Mirrors s v (addresses_after pt.kernel (begun pt m).view pt.addresses (Line.Label e)) placed
 mirrors_one pt m e s v l placed step is needs placed_is h =
     let start = mirrors_view pt.kernel pt.view (begun pt m).view pt.addresses l refl h in
     let (on, found, mirrors) = placed_follows pt.kernel s (begun pt m).view pt.addresses l m e start refl needs step in
     let same : on ≡ placed = let f : Some on ≡ Some placed = sym found ∙ placed_is in cc in
-    let a = addresses_after pt.kernel (begun pt m).view pt.addresses (line.Label e) in
+    let a = addresses_after pt.kernel (begun pt m).view pt.addresses (Line.Label e) in
     subst (Mirrors s v a) same (mirrors_view s (begun pt m).view v a on (ap (λ (u : View). u.moves) (sym is) ∙ moves_label (begun pt m).view e) mirrors)
 
 -- the head of a turn moves no message
 pub standing_begun : (pt : Point) (m : ℕ) (i : MsgId) (s : Spot) → standing (begun pt m).view i s ≡ standing pt.view i s
 standing_begun pt m i (Queue n p) = refl
-standing_begun pt m i (Held n p) = refl
-standing_begun pt m i (Inbox n) = refl
-standing_begun pt m i (Untaken a c) = refl
+standing_begun pt m i _ = refl
 
 pub elsewhere_apart : (m : ℕ) (s : Spot) → is_elsewhere m s ≡ true → s ≢ Inbox m
 elsewhere_apart m s is e = false≢true (sym (ap not (eq_self m)) ∙ ap (is_elsewhere m) (sym e) ∙ is)
@@ -85,12 +49,10 @@ pub data IsLeft (m : ℕ) (pt : Point) (q : Pid) : Type 0 where
   Moves : (moving : is_moving (pt.view.known m q) ≡ true) → IsLeft m pt q
 
 has_none : (k : Known) → is_away k ≡ true → has_process k ≡ true → ⊥
-has_none Unknown away has = false≢true has
 has_none Here away has = false≢true away
 has_none (Frozen to) away has = false≢true away
 has_none (Incoming from) away has = false≢true away
-has_none (Forward at moves) away has = false≢true has
-has_none Ended away has = false≢true has
+has_none _ away has = false≢true has
 
 -- a process that is here is known nowhere else
 away_elsewhere : (pt : Point) (m n : ℕ) (p : Pid) → InPhases pt.view → pt.view.known m p ≡ Here → n ≢ m → is_away (pt.view.known n p) ≡ true
@@ -243,7 +205,7 @@ turns_row b m pt l k y w c h =
     let behind : (j : MsgId) → 1 ≤ times j c.ids → h.placed.bag j ≡ l.bag j = kept_behind b m pt l k y w c h.placed h.route h.bag fresh in
     record {
       state = h.state;
-      says = line.Label h.label ∷ [];
+      says = Line.Label h.label ∷ [];
       route = h.route;
       turn = turn_is b m pt l k y w c (Some (record { state = h.state; parts = machine.says h.label ∷ routed h.route })) h.turn;
       outcome = outcome_is b m pt l k y w c (Some (rule.says h.label ∷ rule_routed h.route)) h.outcome;

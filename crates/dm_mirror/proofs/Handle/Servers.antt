@@ -1,65 +1,27 @@
 -- Messages that a server takes, and what it sends.
-use Rattle.std.proofs.Common.{◌≡◌, ℕ, ◌+◌, ◌==◌, ◌||◌, Bool, true, false, List, [], ◌∷◌, ◌++◌, length, refl, ap, ◌∙◌, sym, subst, is_some, nat_lt, arith}
-use Rattle.std.specs.Prelude.{if◌then◌else◌, option_map}
-use Rattle.std.specs.declared.option.Option.{Option}
-use Rattle.std.specs.declared.option.Option.TheVariants.{None, Some}
-use Rattle.std.proofs.lemmas.Bool.{false≢true}
-use Rattle.std.proofs.lemmas.Bool.Decides.{nat_tests}
-use Rattle.dm_link.specs.declared.Pid.{Pid}
-use Rattle.dm_link.specs.Names.{pid_eq}
-use Rattle.dm_link.specs.Plain.{PlainLink}
-use Rattle.dm_message.specs.declared.MsgId.{MsgId}
-use Rattle.dm_message.specs.declared.Message.{Message}
-use Rattle.dm_message.specs.Ids.{id_eq}
-use Rattle.dm_message.specs.Plain as said
-use Rattle.dm_message.specs.Plain.{PlainMessage, PlainWhat, plain_message, plain_what, with_what}
-use Rattle.dm_onekernel.specs.declared.boot.Boot.{Boot}
-use Rattle.dm_onekernel.specs.declared.label.Label.TheVariants as label
-use Rattle.dm_onekernel.specs.Boot.{switchboard, manager}
+use Rattle.dm_mirror.proofs.Names.{◌≡◌, ℕ, ◌+◌, ◌==◌, ◌||◌, Bool, true, false, List, [], ◌∷◌, ◌++◌, length, refl, ap, ◌∙◌, sym, subst, nat_lt, arith, if◌then◌else◌, option_map, Option, None, Some, false≢true, nat_tests, Pid, pid_eq}
+use Rattle.dm_mirror.proofs.Names.{PlainLink, MsgId, Message, id_eq, Label, PlainMessage, PlainWhat, plain_message, Boot, switchboard, manager, Life, Manager, OneKernel, bind, plain_board, plain_request, Pending, control_link, Managing}
+use Rattle.dm_mirror.proofs.Names.{at_home, plain_manager, plain_pending, plain_created, plain_no_room, plain_pending_numbered, plain_user, counts, unentered, ServerSends, board_takes, manager_takes, Part, Point, blocks_of, bag_none}
+use Rattle.dm_mirror.proofs.Names.{is_server, IsPending, WhatFits, begun, home_of, StepNeeds, Placed, MirrorsKernel, board_took, manager_took, of_map, parts, plainly, user_what, created_what, no_room_what, Servers, handles, board_handles}
+use Rattle.dm_mirror.proofs.Names.{manager_handles, KernelState, turned, servers_at, server_fixed, zero_num, pending_is}
 use Rattle.dm_onekernel.specs.Kernel as kernels
-use Rattle.dm_onekernel.specs.Kernel.{Life, Manager, OneKernel, Switchboard}
 use Rattle.dm_onekernel.specs.Manager as one
-use Rattle.dm_onekernel.specs.Options.{bind}
 use Rattle.dm_onekernel.specs.Service as service
 use Rattle.dm_onekernel.specs.Step as kernel
 use Rattle.dm_onekernel.specs.Switchboard as boards
-use Rattle.dm_switchboard.specs.Board.{plain_board}
 use Rattle.dm_switchboard.specs.Taking as board
-use Rattle.dm_switchboard.proofs.Plain.{plain_request}
-use Rattle.dm_procman.specs.declared.pending.Pending.{Pending}
-use Rattle.dm_procman.specs.Making.{control_link}
-use Rattle.dm_procman.specs.Managing.{Managing, at_home, plain_manager, plain_pending}
 use Rattle.dm_procman.specs.Taking as manage
-use Rattle.dm_procman.proofs.Plain.{plain_created, plain_no_room, plain_pending_numbered, plain_user}
-use Rattle.dm_laws.proofs.Entered.{counts, unentered}
-use Rattle.dm_laws.proofs.Servers.{ServerSends, board_takes, manager_takes}
-use Rattle.dm_rule.specs.Parts.{Part}
-use Rattle.dm_rule.specs.Point.{Point}
 use Rattle.dm_rule.specs.Rule as rule
-use Rattle.dm_rule.specs.Rule.{blocks_of}
-use Rattle.dm_rule.proofs.Bags.{bag_none}
-use Rattle.dm_rulelaws.specs.Fits.{is_server, IsPending, WhatFits}
-use Rattle.dm_rulelaws.specs.Found.{is_fixed}
-use Rattle.dm_rulelaws.proofs.Goes.Front.{begun, home_of}
-use Rattle.dm_places.specs.Laws.{StepNeeds}
-use Rattle.dm_places.specs.Placed.{Placed, MirrorsKernel}
 use Rattle.dm_places.specs.PlacedStep as placed
-use Rattle.dm_places.specs.PlacedStep.{board_took, manager_took}
-use Rattle.dm_places.proofs.Keeps.{of_map, parts}
-use Rattle.dm_places.proofs.Serves.{plainly}
-use Rattle.dm_places.proofs.Whats.{user_what, created_what, no_room_what}
-use Rattle.dm_kernel.specs.declared.kernel.Servers.{Servers}
 use Rattle.dm_kernel.specs.declared.part.Part as parts_
 use Rattle.dm_kernel.specs.Handle as machine
-use Rattle.dm_kernel.specs.Handle.{handles, board_handles, manager_handles}
 use Rattle.dm_kernel.specs.State as state
-use Rattle.dm_kernel.specs.State.{KernelState, Turned, turned}
-use Rattle.dm_mirror.specs.Stands.{servers_at}
 use Rattle.dm_mirror.proofs.Handle.Plain.{IsPlain, answers_plain, board_plain, routes_plainly, user_plain}
 use Rattle.dm_mirror.proofs.Handle.Receivers.{to_board, to_manager, rule_to_board, rule_to_manager}
 use Rattle.dm_mirror.proofs.Handle.Rows.{turns_row}
 use Rattle.dm_mirror.proofs.Handle.Taking.{Taking, sane_of, some_of}
 use Rattle.dm_mirror.proofs.Turning.{routed, Row}
+pub use Rattle.dm_places.proofs.Frames.{kept_processes as placed_processes}
 
 -- a message that is sent, if any
 routes_same : (o : Option Message) → machine.routes o ≡ routed o
@@ -78,10 +40,6 @@ pub sent_machines : (u : OneKernel) (o : Option PlainMessage) → (kernels.with_
 sent_machines u None = refl
 sent_machines u (Some a) = refl
 
-pub placed_processes : (l : Placed) (o : Option Message) (q : Pid) → (placed.with_sent l o).processes q ≡ l.processes q
-placed_processes l None q = refl
-placed_processes l (Some a) q = refl
-
 pub placed_bag : (l n : Placed) (o : Option Message) (j : MsgId) → l.bag j ≡ n.bag j → (placed.with_sent l o).bag j ≡ (placed.with_sent n o).bag j
 placed_bag l n None j e = e
 placed_bag l n (Some a) j e = ap (λ (z : Option Message). if id_eq a.id j then Some a else z) e
@@ -98,10 +56,10 @@ pub record Takes (b : Boot) (m : ℕ) (pt : Point) (l : Placed) (k : KernelState
   pub servers : Servers
   pub home : m ≡ 0
   pub server : is_server y.to.pid ≡ true
-  pub step : kernel.step pt.kernel (label.Took y.id) ≡ Some (kernels.with_sent u (bind sent plain_message))
-  pub placed_is : placed.placed_step m pt.kernel.format pt.kernel.images l (label.Took y.id) ≡ Some (placed.with_sent on sent)
-  pub turn : handles b (record k { inbox = c.rest }) y ≡ turned (record k { inbox = c.rest; servers = Some servers }) (state.says (label.Took y.id) ∷ machine.routes sent)
-  pub outcome : rule.handles b pt m y.id (plainly y w) ≡ Some (rule.says (label.Took y.id) ∷ rule.routes (bind sent plain_message))
+  pub step : kernel.step pt.kernel (Label.Took y.id) ≡ Some (kernels.with_sent u (bind sent plain_message))
+  pub placed_is : placed.placed_step m pt.kernel.format pt.kernel.images l (Label.Took y.id) ≡ Some (placed.with_sent on sent)
+  pub turn : handles b (record k { inbox = c.rest }) y ≡ turned (record k { inbox = c.rest; servers = Some servers }) (state.says (Label.Took y.id) ∷ machine.routes sent)
+  pub outcome : rule.handles b pt m y.id (plainly y w) ≡ Some (rule.says (Label.Took y.id) ∷ rule.routes (bind sent plain_message))
   pub machines : u.machines ≡ pt.kernel.machines
   pub made : (n : ℕ) → u.made n ≡ pt.kernel.made n
   pub lives : (q : Pid) → u.processes q ≡ pt.kernel.processes q
@@ -115,7 +73,7 @@ took_row : (b : Boot) (m : ℕ) (pt : Point) (l : Placed) (k : KernelState) (y :
 took_row b m pt l k y w c h =
     let s = pt.kernel in
     let p = y.to.pid in
-    let e = label.Took y.id in
+    let e = Label.Took y.id in
     let said = bind h.sent plain_message in
     let next = kernels.with_sent h.u said in
     let on = placed.with_sent h.on h.sent in
@@ -160,32 +118,21 @@ took_row b m pt l k y w c h =
       left = λ q is. (placed_processes h.on h.sent q ∙ h.processes q, sent_processes h.u said q ∙ h.lives q, refl);
     })
 
--- machine 0's servers
-fixed_server : (p : Pid) → is_server p ≡ true → is_fixed p ≡ true
-fixed_server p e = any (p.num == 0) (is_server p) e
-  where
-    any : (c d : Bool) → d ≡ true → (c || d) ≡ true
-    any true d e = refl
-    any false d e = e
-
-zero_test : (m : ℕ) → m ≡ 0 → (m == 0) ≡ true
-zero_test m e = grind (arith, nat_tests)
-
 servers_zero : (l : Placed) (m : ℕ) → m ≡ 0 → servers_at l m ≡ Some (record { board = l.board; manager = l.manager })
-servers_zero l m e = ap (λ (d : Bool). if d then Some (record { board = l.board; manager = l.manager }) else None) (zero_test m e)
+servers_zero l m e = ap (λ (d : Bool). if d then Some (record { board = l.board; manager = l.manager }) else None) (zero_num m e)
 
 -- the switchboard
 board_home : (p : Pid) (m : ℕ) → pid_eq p switchboard ≡ true → p.home ≡ m → m ≡ 0
 board_home p m e home = let z : p.home ≡ 0 = grind (arith, nat_tests) in sym home ∙ z
 
-user_row : (b : Boot) (m : ℕ) (pt : Point) (l : Placed) (k : KernelState) (y : Message) (code channel : ℕ) (bytes : List ℕ) (ls : List PlainLink) → Taking b m pt l k y (said.User code channel bytes ls) → (y.to.pid.num == 0) ≡ false → pid_eq y.to.pid switchboard ≡ true → Row b m pt l k
+user_row : (b : Boot) (m : ℕ) (pt : Point) (l : Placed) (k : KernelState) (y : Message) (code channel : ℕ) (bytes : List ℕ) (ls : List PlainLink) → Taking b m pt l k y (PlainWhat.User code channel bytes ls) → (y.to.pid.num == 0) ≡ false → pid_eq y.to.pid switchboard ≡ true → Row b m pt l k
 user_row b m pt l k y code channel bytes ls c num is =
     let s = pt.kernel in
-    let w = said.User code channel bytes ls in
+    let w = PlainWhat.User code channel bytes ls in
     let x = plainly y w in
     let k0 = record k { inbox = c.rest } in
     let server : is_server y.to.pid ≡ true = ap (λ (d : Bool). d || pid_eq y.to.pid manager) is in
-    let at = board_home y.to.pid m is (home_of b m pt y.id x (fixed_server y.to.pid server) c.front) in
+    let at = board_home y.to.pid m is (home_of b m pt y.id x (server_fixed y.to.pid server) c.front) in
     let u = user_what y.what code channel bytes ls c.says in
     let t = board.takes_request l.board u.body.items u.links.items in
     let v : Servers = record { board = l.board; manager = l.manager } in
@@ -222,7 +169,7 @@ user_row b m pt l k y code channel bytes ls c num is =
 
 pub board_row : (b : Boot) (m : ℕ) (pt : Point) (l : Placed) (k : KernelState) (y : Message) (w : PlainWhat) (ps : List Part) → Taking b m pt l k y w → (y.to.pid.num == 0) ≡ false → pid_eq y.to.pid switchboard ≡ true
     → rule.board_took y.id (boards.takes pt.kernel.switchboard (plainly y w) w) ≡ Some ps → Row b m pt l k
-board_row b m pt l k y (said.User code channel bytes ls) ps c num is goes = user_row b m pt l k y code channel bytes ls c num is
+board_row b m pt l k y (PlainWhat.User code channel bytes ls) ps c num is goes = user_row b m pt l k y code channel bytes ls c num is
 board_row b m pt l k y w ps c num is goes = absurd (let f : None ≡ Some ps = goes in cc)
 
 -- the manager
@@ -236,7 +183,7 @@ manager_by b m pt l k y w t c num off is taken takes plain =
     let x = plainly y w in
     let k0 = record k { inbox = c.rest } in
     let server : is_server y.to.pid ≡ true = ap (λ (d : Bool). d || pid_eq y.to.pid manager) off ∙ is in
-    let at = manager_home y.to.pid m is (home_of b m pt y.id x (fixed_server y.to.pid server) c.front) in
+    let at = manager_home y.to.pid m is (home_of b m pt y.id x (server_fixed y.to.pid server) c.front) in
     let v : Servers = record { board = l.board; manager = l.manager } in
     let kk : one.Took = record { manager = plain_manager t.manager; message = bind t.message plain_message } in
     took_row b m pt l k y w c (record {
@@ -268,17 +215,12 @@ manager_by b m pt l k y w t c num off is taken takes plain =
           ap (counts s) sends.0 ∙ (let z : nat_lt s.manager.sent s.manager.sent ≡ false = grind (arith, nat_tests) in z);
     })
 
--- the request that an answer belongs to is pending
-pending_there : (o : Option kernels.Pending) → is_some o ≡ true → (r : kernels.Pending) × (o ≡ Some r)
-pending_there None e = cc
-pending_there (Some r) e = (r, refl)
-
 numbered : (s : OneKernel) (l : Placed) (n : ℕ) → MirrorsKernel s l → one.pending_numbered n s.manager.pending ≡ option_map plain_pending (manage.pending_numbered n l.manager.pending)
 numbered s l n h = ap (λ (g : Manager). one.pending_numbered n g.pending) (sym h.manager) ∙ plain_pending_numbered n l.manager.pending
 
 asked : (s : OneKernel) (l : Placed) (i : MsgId) → MirrorsKernel s l → IsPending s i → (r : Pending) × (manage.pending_numbered i.n l.manager.pending ≡ Some r)
 asked s l i h p =
-    let (r, there) = pending_there (one.pending_numbered i.n s.manager.pending) p.pending in
+    let (r, there) = pending_is (one.pending_numbered i.n s.manager.pending) p.pending in
     let (z, found, same) = of_map plain_pending (manage.pending_numbered i.n l.manager.pending) r (sym there ∙ numbered s l i.n h) in
     (z, found)
 
@@ -290,30 +232,30 @@ no_room_of g n r = manage.answers (manage.settled g n) r.answer 1 []
 
 pub manager_row : (b : Boot) (m : ℕ) (pt : Point) (l : Placed) (k : KernelState) (y : Message) (w : PlainWhat) (ps : List Part) → Taking b m pt l k y w → (y.to.pid.num == 0) ≡ false → pid_eq y.to.pid switchboard ≡ false → pid_eq y.to.pid manager ≡ true → WhatFits pt.kernel y.id (plainly y w) w
     → rule.manager_took y.id (one.takes pt.kernel.manager pt.kernel.machines (length pt.kernel.images) (plainly y w) w) ≡ Some ps → Row b m pt l k
-manager_row b m pt l k y (said.User code channel bytes ls) ps c num off is fits goes =
+manager_row b m pt l k y (PlainWhat.User code channel bytes ls) ps c num off is fits goes =
     let h = c.mirrors.plain in
     let u = user_what y.what code channel bytes ls c.says in
     let t = manage.takes_user l.manager code u.body.items u.links.items in
-    manager_by b m pt l k y (said.User code channel bytes ls) t c num off is (ap (manage.takes l.manager y.id.n) u.is)
+    manager_by b m pt l k y (PlainWhat.User code channel bytes ls) t c num off is (ap (manage.takes l.manager y.id.n) u.is)
     ((λ i. Some (one.takes_user (sym h.manager i) (sym h.machines i) (sym h.images i) code (sym u.bytes_are i) (sym u.links_are i))) ∙ sym (plain_user l.manager code u.body.items u.links.items))
     (user_plain l.manager code u.body.items u.links.items)
-manager_row b m pt l k y (said.Created child) ps c num off is fits goes =
+manager_row b m pt l k y (PlainWhat.Created child) ps c num off is fits goes =
     let s = pt.kernel in
     let h = c.mirrors.plain in
     let (r, found) = asked s l y.id h fits.2 in
     let t = created_of l.manager y.id.n child r in
     let taken : manage.takes_created l.manager y.id.n child (manage.pending_numbered y.id.n l.manager.pending) ≡ Some t = ap (manage.takes_created l.manager y.id.n child) found in
-    manager_by b m pt l k y (said.Created child) t c num off is (ap (manage.takes l.manager y.id.n) (created_what y.what child c.says) ∙ taken)
+    manager_by b m pt l k y (PlainWhat.Created child) t c num off is (ap (manage.takes l.manager y.id.n) (created_what y.what child c.says) ∙ taken)
     (ap (one.takes_created s.manager y.id.n child) (numbered s l y.id.n h) ∙ ap (λ (g : Manager). one.takes_created g y.id.n child (option_map plain_pending (manage.pending_numbered y.id.n l.manager.pending))) (sym h.manager)
     ∙ sym (plain_created l.manager y.id.n child (manage.pending_numbered y.id.n l.manager.pending) t taken))
     (answers_plain (record (manage.settled l.manager y.id.n) { children = l.manager.children ++ at_home child ∷ [] }) r.answer 0 (control_link (length l.manager.children + 1) ∷ []))
-manager_row b m pt l k y said.NoRoom ps c num off is fits goes =
+manager_row b m pt l k y PlainWhat.NoRoom ps c num off is fits goes =
     let s = pt.kernel in
     let h = c.mirrors.plain in
     let (r, found) = asked s l y.id h fits.2 in
     let t = no_room_of l.manager y.id.n r in
     let taken : manage.takes_no_room l.manager y.id.n (manage.pending_numbered y.id.n l.manager.pending) ≡ Some t = ap (manage.takes_no_room l.manager y.id.n) found in
-    manager_by b m pt l k y said.NoRoom t c num off is (ap (manage.takes l.manager y.id.n) (no_room_what y.what c.says) ∙ taken)
+    manager_by b m pt l k y PlainWhat.NoRoom t c num off is (ap (manage.takes l.manager y.id.n) (no_room_what y.what c.says) ∙ taken)
     (ap (one.takes_no_room s.manager y.id.n) (numbered s l y.id.n h) ∙ ap (λ (g : Manager). one.takes_no_room g y.id.n (option_map plain_pending (manage.pending_numbered y.id.n l.manager.pending))) (sym h.manager)
     ∙ sym (plain_no_room l.manager y.id.n (manage.pending_numbered y.id.n l.manager.pending) t taken))
     (answers_plain (manage.settled l.manager y.id.n) r.answer 1 [])

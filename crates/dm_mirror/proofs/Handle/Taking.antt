@@ -1,52 +1,15 @@
 -- A turn that handles the message at the inbox's front: what holds of it, and how a row of it comes to the end.
-use Rattle.std.proofs.Common.{◌≡◌, ◌≢◌, ℕ, ◌+◌, ◌≤◌, ◌<◌, Bool, true, false, List, ◌∷◌, refl, ap, ◌∙◌, sym, subst, inl, inr, is_some, arith}
-use Rattle.std.specs.Prelude.{if◌then◌else◌}
-use Rattle.std.specs.declared.option.Option.{Option}
-use Rattle.std.specs.declared.option.Option.TheVariants.{None, Some}
-use Rattle.std.proofs.lemmas.Bool.{cases_Bool, false≢true}
-use Rattle.dm_link.specs.declared.Pid.{Pid}
-use Rattle.dm_message.specs.declared.MsgId.{MsgId}
-use Rattle.dm_message.specs.declared.Message.{Message}
-use Rattle.dm_message.specs.Ids.{id_eq}
-use Rattle.dm_message.specs.Plain.{PlainMessage, PlainWhat, plain_message, plain_what, with_what}
-use Rattle.dm_onekernel.specs.declared.boot.Boot.{Boot}
-use Rattle.dm_onekernel.specs.Boot.{IsValid}
-use Rattle.dm_onekernel.specs.declared.label.Label.{Label}
-use Rattle.dm_onekernel.specs.Kernel.{OneKernel}
-use Rattle.dm_onekernel.specs.Options.{bind}
+use Rattle.dm_mirror.proofs.Names.{◌≡◌, ◌≢◌, ℕ, ◌+◌, ◌≤◌, ◌<◌, Bool, true, false, List, ◌∷◌, refl, ap, ◌∙◌, sym, subst, inl, inr, is_some, arith, if◌then◌else◌, Option, None, Some, cases_Bool, false≢true, Pid, MsgId, Message, id_eq}
+use Rattle.dm_mirror.proofs.Names.{PlainMessage, PlainWhat, plain_message, plain_what, with_what, Boot, IsValid, Label, OneKernel, bind, Step, entry, reception, after_step, id_eq-is, id_eq-same, Point, outcome, Spot, Queue, Held, Inbox}
+use Rattle.dm_mirror.proofs.Names.{times, standing, StandsAsBag, StandsNowhere, StandsOutside, StandsRight, is_kernels, stands_right, kernels_fresh, not_kernels, Sane, StandsAsBag-elsewhere, StandsAsBag-one, front, OwnTold, IsQueued, Run}
+use Rattle.dm_mirror.proofs.Names.{Front, Placed, Mirrors, MirrorsKernel, parts, there_of, plainly, plainly_is, handles, KernelState, Turned, turn, turns, MadeStands, AllOwnStand, AreMessages, KernelStands}
 use Rattle.dm_onekernel.specs.Step as kernel
-use Rattle.dm_schedule.specs.declared.Step.TheVariants as step
-use Rattle.dm_laws.specs.Laws.{entry, reception}
-use Rattle.dm_laws.proofs.Runs.{after_step}
-use Rattle.dm_laws.proofs.Equal.{id_eq-is, id_eq-same}
 use Rattle.dm_rule.specs.Parts as part_of_rule
-use Rattle.dm_rule.specs.Point.{Point}
 use Rattle.dm_rule.specs.Rule as rule
-use Rattle.dm_rule.specs.Rule.{outcome}
-use Rattle.dm_rule.specs.Spots.{Spot, Queue, Held, Inbox, Untaken, times, standing, StandsAsBag, StandsNowhere, StandsOutside, StandsRight}
-use Rattle.dm_rule.specs.View.{is_kernels}
-use Rattle.dm_rule.proofs.Groups.{stands_right}
-use Rattle.dm_rule.proofs.Letters.{kernels_fresh, not_kernels}
 use Rattle.dm_rule.proofs.States.{not_true}
-use Rattle.dm_rule.proofs.Telling.{Sane}
-use Rattle.dm_rule.proofs.Standing.{StandsAsBag-elsewhere, StandsAsBag-one}
-use Rattle.dm_rulelaws.proofs.Goes.Always.{front}
-use Rattle.dm_rulelaws.proofs.Own.Told.{OwnTold}
-use Rattle.dm_rulelaws.proofs.Queued.{IsQueued}
-use Rattle.dm_rulelaws.proofs.Runs.{Run}
-use Rattle.dm_rulelaws.proofs.Goes.Front.{Front}
-use Rattle.dm_places.specs.Placed.{Placed, Mirrors, MirrorsKernel}
 use Rattle.dm_places.specs.PlacedStep.{with_sent, without_message}
-use Rattle.dm_places.proofs.Keeps.{parts, there_of}
-use Rattle.dm_places.proofs.Serves.{plainly, plainly_is}
-use Rattle.dm_kernel.specs.Handle.{handles}
-use Rattle.dm_kernel.specs.State.{KernelState, Turned}
-use Rattle.dm_kernel.specs.Turn.{turn, turns}
-use Rattle.dm_mirror.specs.Made.{MadeStands}
-use Rattle.dm_mirror.specs.Own.{AllOwnStand}
-use Rattle.dm_mirror.specs.Stands.{AreMessages, KernelStands}
 use Rattle.dm_mirror.proofs.Handle.Frames.{times_self, front_of}
-use Rattle.dm_mirror.proofs.Turning.{IsSent}
+pub use Rattle.dm_rulelaws.proofs.Goes.Always.{queue_apart}
 
 -- machine m handles message y, which says w without places
 pub record Taking (b : Boot) (m : ℕ) (pt : Point) (l : Placed) (k : KernelState) (y : Message) (w : PlainWhat) : Type 0 where
@@ -68,20 +31,9 @@ pub record Taking (b : Boot) (m : ℕ) (pt : Point) (l : Placed) (k : KernelStat
   pub others : AreMessages l.bag ids rest
   pub front : Front b m pt y.id (plainly y w)
 
-abbrev is_queue : Spot → Bool
-is_queue (Inbox m) = false
-is_queue (Queue m p) = true
-is_queue (Held m p) = false
-is_queue (Untaken a b) = false
-
-pub queue_apart : (m n : ℕ) (p : Pid) → Queue n p ≢ Inbox m
-queue_apart m n p e = false≢true (sym (ap is_queue e))
-
 abbrev is_held : Spot → Bool
-is_held (Inbox m) = false
-is_held (Queue m p) = false
 is_held (Held m p) = true
-is_held (Untaken a b) = false
+is_held _ = false
 
 pub held_apart : (m n : ℕ) (p : Pid) → Held n p ≢ Inbox m
 held_apart m n p e = false≢true (sym (ap is_held e))
@@ -160,7 +112,7 @@ waits b pt m p i run least =
 pub turn_is : (b : Boot) (m : ℕ) (pt : Point) (l : Placed) (k : KernelState) (y : Message) (w : PlainWhat) (c : Taking b m pt l k y w) (o : Option Turned) → handles b (record k { inbox = c.rest }) y ≡ o → turn b k ≡ o
 turn_is b m pt l k y w c o e = ap (turns b k) c.inbox ∙ e
 
-pub outcome_is : (b : Boot) (m : ℕ) (pt : Point) (l : Placed) (k : KernelState) (y : Message) (w : PlainWhat) (c : Taking b m pt l k y w) (o : Option (List part_of_rule.Part)) → rule.handles b pt m y.id (plainly y w) ≡ o → outcome b pt (step.Turn m) ≡ o
+pub outcome_is : (b : Boot) (m : ℕ) (pt : Point) (l : Placed) (k : KernelState) (y : Message) (w : PlainWhat) (c : Taking b m pt l k y w) (o : Option (List part_of_rule.Part)) → rule.handles b pt m y.id (plainly y w) ≡ o → outcome b pt (Step.Turn m) ≡ o
 outcome_is b m pt l k y w c o e = ap (rule.turns b pt m) c.box ∙ ap (rule.comes_to b pt m y.id) c.front.there ∙ e
 
 -- it stands in the inbox, and nowhere else
@@ -213,7 +165,3 @@ bag_kept l i (Some a) j off others = ap (λ (c : Bool). if c then Some a else (i
 
 pub sent_there : (l : Placed) (a : Message) → (with_sent l (Some a)).bag a.id ≡ Some a
 sent_there l a = ap (λ (c : Bool). if c then Some a else l.bag a.id) (id_eq-same a.id)
-
-pub sent_is : (l : Placed) (o : Option Message) → ((a : Message) → o ≡ Some a → is_some (plain_message a) ≡ true) → IsSent (with_sent l o) o
-sent_is l None plain = tt
-sent_is l (Some a) plain = (sent_there l a, plain a refl)

@@ -1,35 +1,12 @@
 -- What each way in which a label changes view, kernel and kernel with places leaves; and a label as a step with places.
-use Rattle.std.proofs.Common.{◌≡◌, ◌≢◌, ℕ, ◌≤◌, ◌==◌, ◌&&◌, Bool, false, List, ◌∷◌, refl, ap, ◌∙◌, sym, subst, inl, inr, arith}
-use Rattle.std.specs.declared.option.Option.{Option}
-use Rattle.std.specs.declared.option.Option.TheVariants.{None, Some}
-use Rattle.std.proofs.lemmas.Bool.{cases_Bool}
-use Rattle.std.proofs.lemmas.Bool.Decides.{nat_tests}
-use Rattle.dm_link.specs.declared.Pid.{Pid}
-use Rattle.dm_link.specs.Names.{pid_eq}
-use Rattle.dm_message.specs.declared.Message.{Message}
-use Rattle.dm_message.specs.declared.MsgId.{MsgId}
-use Rattle.dm_message.specs.Ids.{id_eq}
-use Rattle.dm_message.specs.Plain.{PlainMessage, plain_message}
-use Rattle.dm_process.specs.declared.process.Process.{Process}
-use Rattle.dm_onekernel.specs.declared.label.Label.{Label}
-use Rattle.dm_onekernel.specs.Options.{bind}
+use Rattle.dm_mirror.proofs.Names.{◌≡◌, ◌≢◌, ℕ, ◌≤◌, ◌==◌, ◌&&◌, Bool, false, List, ◌∷◌, refl, ap, ◌∙◌, sym, subst, inl, inr, arith, Option, None, Some, cases_Bool, nat_tests, Pid, pid_eq, Message, MsgId, id_eq, PlainMessage, plain_message}
+use Rattle.dm_mirror.proofs.Names.{Process, Label, bind, Life, OneKernel, id_eq-is, pid_eq-same, Line, Known, Point, moved, after, at_machine, at_record, without, without_front, moved_back, Spot, Queue, Held, Inbox, Untaken, untaken}
+use Rattle.dm_mirror.proofs.Names.{ids_at, standing, StandsNowhere, StandsOutside, StandsRight, View, serving, handled, is_kernels, Placed, Mirrors, MirrorsKernel, placed_step, StepNeeds, mirrors_view, moves_label, placed_follows}
 use Rattle.dm_onekernel.specs.Kernel as kernels
-use Rattle.dm_onekernel.specs.Kernel.{Life, OneKernel}
 use Rattle.dm_onekernel.specs.Service as service
 use Rattle.dm_onekernel.specs.Step as kernel
-use Rattle.dm_laws.proofs.Equal.{id_eq-is, pid_eq-same}
-use Rattle.dm_line.specs.declared.line.Line.{Line}
-use Rattle.dm_line.specs.declared.line.Line.TheVariants as line
-use Rattle.dm_rule.specs.Point.{Point, moved, after}
-use Rattle.dm_line.specs.Sets.{at_machine, at_record, without, without_front, moved_back}
-use Rattle.dm_rule.specs.Spots.{Spot, Queue, Held, Inbox, Untaken, untaken, ids_at, standing, StandsNowhere, StandsOutside, StandsRight}
-use Rattle.dm_rule.specs.View as view
-use Rattle.dm_rule.specs.View.{View, Pair, serving, ended, handled, is_kernels}
-use Rattle.dm_places.specs.Placed.{Placed, Mirrors, MirrorsKernel}
-use Rattle.dm_places.specs.PlacedStep.{placed_step, with_message, with_process, with_sent, without_message}
-use Rattle.dm_places.specs.Laws.{StepNeeds}
-use Rattle.dm_places.proofs.Lines.{mirrors_view, moves_label}
-use Rattle.dm_places.proofs.Steps.{placed_follows}
+use Rattle.dm_rule.specs.View.{ended}
+use Rattle.dm_places.specs.PlacedStep.{with_message, with_process, with_sent, without_message}
 use Rattle.dm_mirror.proofs.Kernel.Sets.{ViewLeaves, KernelLeaves, PlacedLeaves, off_if, on_if, eq_apart, eq_self}
 
 -- lists in which nothing changes but at these spots
@@ -77,7 +54,7 @@ view_ended m t p v at = record {
   pair = λ a c. refl;
   lists = lists_same t v (ended v p) (λ n q off. refl) (λ n q. refl) (λ n off. refl) (λ a c. refl);
   ring = λ n apart. machine_off v.ring v.acting m n (without p (v.ring v.acting)) at apart;
-  known = λ n q off. record_off v.known v.acting m n p q view.Ended at off;
+  known = λ n q off. record_off v.known v.acting m n p q Known.Ended at off;
   held = λ n q. refl;
   count = λ n. refl;
   told = refl;
@@ -93,20 +70,6 @@ view_queue m t p v ids at covers = record {
   groups = refl;
   pair = λ a c. refl;
   lists = lists_same t v (with_queue_ids v p ids) (λ n q off. record_off v.queue v.acting m n p q ids at (covers n q off)) (λ n q. refl) (λ n off. refl) (λ a c. refl);
-  ring = λ n apart. refl;
-  known = λ n q off. refl;
-  held = λ n q. refl;
-  count = λ n. refl;
-  told = refl;
-}
-
--- the message at the front of the inbox goes, if it is this one
-pub view_handled : (m : ℕ) (t : Spot → Bool) (p : Pid) (v : View) (id : MsgId) → v.acting ≡ m → ((n : ℕ) → t (Inbox n) ≡ false → n ≢ m) → ViewLeaves m t p v (handled v id)
-view_handled m t p v id at covers = record {
-  acting = refl;
-  groups = refl;
-  pair = λ a c. refl;
-  lists = lists_same t v (handled v id) (λ n q off. refl) (λ n q. refl) (λ n off. machine_off v.inbox v.acting m n (without_front id (v.inbox v.acting)) at (covers n off)) (λ a c. refl);
   ring = λ n apart. refl;
   known = λ n q off. refl;
   held = λ n q. refl;
@@ -208,13 +171,13 @@ nowhere_alone v id o own e h t i s off least = elim (cases_Bool (id_eq id i)) [
 
 -- a label as a step with places, and what follows it
 pub label_mirrors : (pt : Point) (l placed : Placed) (m : ℕ) (e : Label) (t : OneKernel) → Mirrors pt.kernel pt.view pt.addresses l → pt.view.acting ≡ m → StepNeeds pt.kernel pt.view e → kernel.step pt.kernel e ≡ Some t
-    → placed_step m pt.kernel.format pt.kernel.images l e ≡ Some placed → Mirrors (moved pt (line.Label e) t).kernel (moved pt (line.Label e) t).view (moved pt (line.Label e) t).addresses placed
+    → placed_step m pt.kernel.format pt.kernel.images l e ≡ Some placed → Mirrors (moved pt (Line.Label e) t).kernel (moved pt (Line.Label e) t).view (moved pt (Line.Label e) t).addresses placed
 label_mirrors pt l placed m e t h at needs step is =
     let (n, first, mirrors) = placed_follows pt.kernel t pt.view pt.addresses l m e h at needs step in
     let f : Some n ≡ Some placed = sym first ∙ is in
     let same : n ≡ placed = cc in
-    let next = moved pt (line.Label e) t in
+    let next = moved pt (Line.Label e) t in
     mirrors_view t pt.view next.view next.addresses placed (moves_label pt.view e) (subst (Mirrors t pt.view next.addresses) same mirrors)
 
-pub after_label : (pt : Point) (e : Label) (t : OneKernel) (ls : List Line) (next : Point) → kernel.step pt.kernel e ≡ Some t → after (moved pt (line.Label e) t) ls ≡ Some next → after pt (line.Label e ∷ ls) ≡ Some next
-after_label pt e t ls next step rest = ap (λ (o : Option OneKernel). bind (bind o (λ (s : OneKernel). Some (moved pt (line.Label e) s))) (λ (n : Point). after n ls)) step ∙ rest
+pub after_label : (pt : Point) (e : Label) (t : OneKernel) (ls : List Line) (next : Point) → kernel.step pt.kernel e ≡ Some t → after (moved pt (Line.Label e) t) ls ≡ Some next → after pt (Line.Label e ∷ ls) ≡ Some next
+after_label pt e t ls next step rest = ap (λ (o : Option OneKernel). bind (bind o (λ (s : OneKernel). Some (moved pt (Line.Label e) s))) (λ (n : Point). after n ls)) step ∙ rest

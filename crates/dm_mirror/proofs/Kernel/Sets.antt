@@ -1,36 +1,18 @@
 -- What labels about one process leave of view, kernel and kernel with places, and when a machine's kernel stands for the point
 -- behind them.
-use Rattle.std.proofs.Common.{◌≡◌, ◌≢◌, ℕ, ◌+◌, ◌≤◌, ◌==◌, ◌&&◌, not, Bool, true, false, List, [], ◌∷◌, map, refl, ap, ◌∙◌, sym, subst, inl, inr, arith, is_some}
-use Rattle.std.specs.Prelude.{if◌then◌else◌, slice_get}
-use Rattle.std.specs.declared.option.Option.{Option}
-use Rattle.std.specs.declared.option.Option.TheVariants.{None, Some}
-use Rattle.std.proofs.lemmas.Bool.{cases_Bool, false≢true}
-use Rattle.std.proofs.lemmas.Bool.Decides.{nat_tests}
-use Rattle.dm_link.specs.declared.Pid.{Pid}
-use Rattle.dm_link.specs.Names.{pid_eq}
-use Rattle.dm_message.specs.declared.Message.{Message}
-use Rattle.dm_message.specs.declared.MsgId.{MsgId}
-use Rattle.dm_message.specs.Plain.{plain_message}
-use Rattle.dm_room.specs.Room.{Taken, with_released}
-use Rattle.dm_records.specs.declared.record.Record.TheVariants as record_
-use Rattle.dm_onekernel.specs.declared.boot.Boot.{Boot}
-use Rattle.dm_onekernel.specs.Kernel.{Life, OneKernel}
+use Rattle.dm_mirror.proofs.Names.{◌≡◌, ◌≢◌, ℕ, ◌≤◌, ◌==◌, ◌&&◌, not, Bool, true, false, List, [], ◌∷◌, map, refl, ap, ◌∙◌, sym, subst, inl, inr, arith, is_some, if◌then◌else◌, slice_get, Option, None, Some, cases_Bool, false≢true}
+use Rattle.dm_mirror.proofs.Names.{nat_tests, Pid, pid_eq, Message, MsgId, plain_message, Taken, with_released, Record, Boot, Life, OneKernel, KernelState, room_of, pid_eq-is, Point, Room, taken_at, taken_by, takes_room, blocks_of, Spot}
+use Rattle.dm_mirror.proofs.Names.{Queue, Held, Inbox, times, ids_at, standing, View, Known, Unknown, Here, Frozen, Incoming, Forward, Ended, is_away, is_server, Placed, MadeStands, AreMessages, KnownStands, KernelStands, RoomStands}
+use Rattle.dm_mirror.proofs.Names.{servers_at}
 use Rattle.dm_onekernel.specs.Step as kernel
 use Rattle.dm_kernel.specs.State as machine
-use Rattle.dm_kernel.specs.State.{KernelState}
-use Rattle.dm_kernel.specs.Begun.{room_of}
-use Rattle.dm_laws.proofs.Equal.{pid_eq-is, id_eq-same}
-use Rattle.dm_rule.specs.Point.{Point}
-use Rattle.dm_rule.specs.Rule.{Room, taken_at, taken_by, takes_room, blocks_of}
-use Rattle.dm_rule.specs.Spots.{Spot, Queue, Held, Inbox, Untaken, times, ids_at, standing}
-use Rattle.dm_rule.specs.View.{View, Known, Unknown, Here, Frozen, Incoming, Forward, Ended}
-use Rattle.dm_rule.specs.Phases.{is_away}
-use Rattle.dm_rulelaws.specs.Fits.{is_server}
-use Rattle.dm_places.specs.Placed.{Placed}
-use Rattle.dm_mirror.specs.Made.{MadeStands}
-use Rattle.dm_mirror.specs.Stands.{AreMessages, KnownStands, KernelStands, RoomStands, servers_at}
 use Rattle.dm_mirror.proofs.Turning.{Elsewhere, is_elsewhere, has_process}
 use Rattle.dm_mirror.proofs.Rooms.{taken_same, taken_changed}
+pub use Rattle.dm_rulelaws.proofs.Goes.Turns.{times_self}
+pub use Rattle.dm_rule.proofs.Lines.{eq_self}
+pub use Rattle.dm_rule.proofs.Trails.Spares.{not_is}
+pub use Rattle.dm_rulelaws.proofs.Goes.Turns.{times_more}
+pub use Rattle.dm_rule.proofs.Phases.Pieces.{and_false as right_off}
 
 -- small tests
 pub off_if : {A : Type 0} (c : Bool) (x y : A) → c ≡ false → (if c then x else y) ≡ y
@@ -42,28 +24,16 @@ on_if c x y e = ap (λ (b : Bool). if b then x else y) e
 pub left_off : (a b : Bool) → a ≡ false → (a && b) ≡ false
 left_off a b e = ap (λ (c : Bool). c && b) e
 
-pub right_off : (a b : Bool) → b ≡ false → (a && b) ≡ false
-right_off true b e = e
-right_off false b e = refl
-
 pub eq_apart : (m n : ℕ) → n ≢ m → (m == n) ≡ false
 eq_apart m n h = elim (cases_Bool (m == n)) [
   | inl same ↦ absurd (h (let e : n ≡ m = grind (arith, nat_tests) in e))
   | inr off ↦ off
 ]
 
-pub eq_self : (m : ℕ) → (m == m) ≡ true
-eq_self m = grind (arith, nat_tests)
-
-pub home_apart : (p q : Pid) → p.home ≢ q.home → pid_eq p q ≡ false
-home_apart p q h = left_off (p.home == q.home) (p.num == q.num) (eq_apart p.home q.home (λ e. h (sym e)))
-
 -- the queue of process p on machine m
 abbrev pub is_queue_of : ℕ → Pid → Spot → Bool
 is_queue_of m p (Queue n q) = (m == n) && pid_eq p q
-is_queue_of m p (Held n q) = false
-is_queue_of m p (Inbox n) = false
-is_queue_of m p (Untaken a c) = false
+is_queue_of m p _ = false
 
 -- labels about process p on machine m change at most the spots at which t is true, what machine m knows of p, and its ring
 pub record ViewLeaves (m : ℕ) (t : Spot → Bool) (p : Pid) (v w : View) : Type 0 where
@@ -151,11 +121,8 @@ IsAway v m p = (n : ℕ) → n ≢ m → is_away (v.known n p) ≡ true
 
 away_process : (k : Known) → is_away k ≡ true → has_process k ≡ true → ⊥
 away_process Unknown a e = false≢true e
-away_process Here a e = false≢true a
-away_process (Frozen to) a e = false≢true a
-away_process (Incoming from) a e = false≢true a
 away_process (Forward at moves) a e = false≢true e
-away_process Ended a e = false≢true a
+away_process _ a e = false≢true a
 
 pub elsewhere_of : (m : ℕ) (t : Spot → Bool) (p : Pid) (pt next : Point) (l placed : Placed) → IsAway pt.view m p → pt.view.acting ≡ m → ((s : Spot) → is_elsewhere m s ≡ true → t s ≡ false) → Leaves m t p pt l next placed
     → Elsewhere m pt l next placed
@@ -186,26 +153,13 @@ elsewhere_of m t p pt next l placed away at off h = record {
       | inr off ↦ off
     ]
 
-pub not_is : (c : Bool) → not c ≡ true → c ≡ false
-not_is true e = cc
-not_is false e = refl
-
 pub queue_not_elsewhere : (m : ℕ) (p : Pid) (s : Spot) → is_elsewhere m s ≡ true → is_queue_of m p s ≡ false
 queue_not_elsewhere m p (Queue n q) e =
     let f : (n == m) ≡ false = not_is (n == m) e in left_off (m == n) (pid_eq p q) (let g : (m == n) ≡ false = grind (arith, nat_tests) in g)
-queue_not_elsewhere m p (Held n q) e = refl
-queue_not_elsewhere m p (Inbox n) e = refl
-queue_not_elsewhere m p (Untaken a c) e = refl
+queue_not_elsewhere m p _ e = refl
 
 pub queue_of_others : (m : ℕ) (p q : Pid) → pid_eq p q ≡ false → is_queue_of m p (Queue m q) ≡ false
 queue_of_others m p q off = right_off (m == m) (pid_eq p q) off
-
--- the messages of a list that the bag keeps
-pub times_self : (i : MsgId) (is : List MsgId) → 1 ≤ times i (i ∷ is)
-times_self i is = let e : times i (i ∷ is) ≡ 1 + times i is = ap (λ (c : Bool). (if c then 1 else 0) + times i is) (id_eq-same i) in omega (arith, e)
-
-pub times_more : (i j : MsgId) (is : List MsgId) → times i is ≤ times i (j ∷ is)
-times_more i j is = omega arith
 
 map_same : (f g : MsgId → Option Message) (ids : List MsgId) → ((i : MsgId) → 1 ≤ times i ids → g i ≡ f i) → map g ids ≡ map f ids
 map_same f g [] h = refl
@@ -221,23 +175,23 @@ messages_on f g ids ms same h = map_same f g ids same ∙ h
 pub known_at : (pt next : Point) (l placed : Placed) (q : Pid) (ids held_ : List MsgId) (w : Known) (r : Option machine.Known) → placed.processes q ≡ l.processes q → next.kernel.processes q ≡ pt.kernel.processes q
     → ((i : MsgId) → 1 ≤ times i ids → placed.bag i ≡ l.bag i) → ((i : MsgId) → 1 ≤ times i held_ → placed.bag i ≡ l.bag i) → KnownStands pt l q ids held_ w r → KnownStands next placed q ids held_ w r
 known_at pt next l placed q ids held_ Unknown None p e b c h = tt
-known_at pt next l placed q ids held_ Here (Some (record_.Here x)) p e b c h = ((h.0.0, p ∙ h.0.1), messages_on l.bag placed.bag ids x.queue b h.1)
-known_at pt next l placed q ids held_ (Frozen to) (Some (record_.Frozen d)) p e b c h = record {
+known_at pt next l placed q ids held_ Here (Some (Record.Here x)) p e b c h = ((h.0.0, p ∙ h.0.1), messages_on l.bag placed.bag ids x.queue b h.1)
+known_at pt next l placed q ids held_ (Frozen to) (Some (Record.Frozen d)) p e b c h = record {
   to = h.to;
   asker = h.asker;
   here = ((h.here.0.0, p ∙ h.here.0.1), messages_on l.bag placed.bag ids d.process.queue b h.here.1);
   held = messages_on l.bag placed.bag held_ d.held c h.held;
   whole = h.whole;
 }
-known_at pt next l placed q ids held_ (Incoming from) (Some (record_.Incoming a)) p e b c h = record {
+known_at pt next l placed q ids held_ (Incoming from) (Some (Record.Incoming a)) p e b c h = record {
   process = h.process;
   there = p ∙ h.there;
   whole = h.whole;
   pieces = h.pieces;
   held = messages_on l.bag placed.bag held_ a.held c h.held;
 }
-known_at pt next l placed q ids held_ (Forward at moves) (Some (record_.Forward to count)) p e b c h = h
-known_at pt next l placed q ids held_ Ended (Some (record_.Ended y)) p e b c h = ap kernel.ended e ∙ h
+known_at pt next l placed q ids held_ (Forward at moves) (Some (Record.Forward to count)) p e b c h = h
+known_at pt next l placed q ids held_ Ended (Some (Record.Ended y)) p e b c h = ap kernel.ended e ∙ h
 known_at pt next l placed q ids held_ w r p e b c h = absurd h
 
 -- what a machine keeps where process p changes

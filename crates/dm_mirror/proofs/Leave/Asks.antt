@@ -1,45 +1,12 @@
 -- A process is told to move: to where it is, or it is frozen, and the other machine is asked.
-use Rattle.std.proofs.Common.{◌≡◌, ◌≢◌, ℕ, ◌+◌, ◌≤◌, ◌==◌, ◌&&◌, ◌||◌, Bool, true, false, not, List, [], ◌∷◌, map, refl, ap, ◌∙◌, sym, subst, inl, inr, arith}
-use Rattle.std.specs.Prelude.{if◌then◌else◌}
-use Rattle.std.specs.declared.option.Option.TheVariants.{None, Some}
-use Rattle.std.proofs.lemmas.Bool.{cases_Bool}
-use Rattle.std.proofs.lemmas.Bool.Decides.{eqb_tells}
-use Rattle.dm_link.specs.declared.Pid.{Pid}
-use Rattle.dm_link.specs.Names.{pid_eq}
-use Rattle.dm_linkupdate.specs.Notice.{kernel_at}
-use Rattle.dm_message.specs.declared.Message.{Message}
-use Rattle.dm_message.specs.declared.MsgId.{MsgId}
-use Rattle.dm_message.specs.declared.What.{What}
-use Rattle.dm_message.specs.declared.What.TheVariants as what
-use Rattle.dm_message.specs.declared.kind.MessageKind.TheVariants as kind
-use Rattle.dm_process.specs.declared.process.Process.{Process}
-use Rattle.dm_records.specs.declared.record.Record.TheVariants as record_
-use Rattle.dm_migrate.specs.Departure.{CanMove, ask_of, frozen}
-use Rattle.dm_room.specs.Room.{Taken}
-use Rattle.dm_onekernel.specs.declared.boot.Boot.{Boot}
-use Rattle.dm_onekernel.specs.Boot.{manager, switchboard}
+use Rattle.dm_mirror.proofs.Names.{◌≡◌, ◌≢◌, ℕ, ◌+◌, ◌≤◌, ◌==◌, ◌&&◌, Bool, true, false, not, List, [], ◌∷◌, map, refl, ap, ◌∙◌, sym, subst, inl, inr, arith, if◌then◌else◌, None, Some, cases_Bool, eqb_tells, Pid, pid_eq, kernel_at, Message}
+use Rattle.dm_mirror.proofs.Names.{MsgId, What, MessageKind, Record, Line, Stage, Process, CanMove, ask_of, frozen, Taken, Boot, manager, switchboard, FreezesReceiverWhole, KnownIsWhole, freezes, with_frozen, KernelState, own, turned}
+use Rattle.dm_mirror.proofs.Names.{id_eq-same, pid_eq-is, pid_eq-same, to_kernel, Point, moved, Room, blocks_of, taken_by, takes_room, at_machine, at_record, without, without_front, times, Here, Frozen, Known, Of, front_told, own_id}
+use Rattle.dm_mirror.proofs.Names.{target_of, without_first, is_server, has_nothing_held, is_fixed, Placed, mirrors_view, told_of, KnownStands, LeavesStand, RoomStands, AllRecords, eq_not, or-right}
+use Rattle.dm_kernel.specs.declared.part.Part.{Part}
 use Rattle.dm_onekernel.specs.Step as kernel
-use Rattle.dm_kernel.specs.Carried.{FreezesReceiverWhole, KnownIsWhole}
-use Rattle.dm_kernel.specs.Departing.{freezes, with_frozen}
-use Rattle.dm_kernel.specs.State.{KernelState, own, turned, with_sent}
-use Rattle.dm_kernel.specs.declared.part.Part.TheVariants as part
-use Rattle.dm_laws.proofs.Equal.{id_eq-same, pid_eq-is, pid_eq-same}
-use Rattle.dm_line.specs.declared.line.Line.TheVariants as line
-use Rattle.dm_line.specs.declared.line.Stage.TheVariants as stage
-use Rattle.dm_rule.specs.Migrating.{to_kernel}
+use Rattle.dm_kernel.specs.State.{with_sent}
 use Rattle.dm_rule.specs.Parts as rule
-use Rattle.dm_rule.specs.Point.{Point, moved}
-use Rattle.dm_rule.specs.Rule.{Room, blocks_of, taken_by, takes_room}
-use Rattle.dm_line.specs.Sets.{at_machine, at_record, without, without_front}
-use Rattle.dm_rule.specs.Spots.{times}
-use Rattle.dm_rule.specs.View.{Here, Frozen, Known, Of, front_told, own_id, target_of, without_first}
-use Rattle.dm_rulelaws.specs.Fits.{is_server}
-use Rattle.dm_rulelaws.specs.Found.{has_nothing_held, is_fixed}
-use Rattle.dm_places.specs.Placed.{Placed}
-use Rattle.dm_places.proofs.Lines.{mirrors_view}
-use Rattle.dm_mirror.specs.Own.{told_of}
-use Rattle.dm_mirror.specs.Stands.{KnownStands, LeavesStand, RoomStands}
-use Rattle.dm_mirror.specs.Tokens.{AllRecords}
 use Rattle.dm_mirror.proofs.Handle.Frames.{eq_self, machine_self, machine_off, record_self, record_off, record_others}
 use Rattle.dm_mirror.proofs.Rooms.{taken_same}
 use Rattle.dm_mirror.proofs.Leave.Frames.{here_is, known_stays, own_stays, stands_one, tokens_one}
@@ -60,23 +27,19 @@ loose_if : (c : Bool) → (not c && true) ≡ true → c ≡ false
 loose_if true e = cc
 loose_if false e = refl
 
-migrates_loose : (b : Boot) (m : ℕ) (pt : Point) (l : Placed) (records : AllRecords) (k : KernelState) (y : Message) (machine : ℕ) → Hearing b m pt l records k (record y { what = what.Migrate machine }) → is_fixed y.to.pid ≡ false
-migrates_loose b m pt l records k y machine h = loose_if (is_fixed y.to.pid) (h.sorts.own y.id (told_of (record y { what = what.Migrate machine })) h.told h.mine)
-
-second_off : (a c : Bool) → (a || c) ≡ false → c ≡ false
-second_off true c e = cc
-second_off false c e = e
+migrates_loose : (b : Boot) (m : ℕ) (pt : Point) (l : Placed) (records : AllRecords) (k : KernelState) (y : Message) (machine : ℕ) → Hearing b m pt l records k (record y { what = What.Migrate machine }) → is_fixed y.to.pid ≡ false
+migrates_loose b m pt l records k y machine h = loose_if (is_fixed y.to.pid) (h.sorts.own y.id (told_of (record y { what = What.Migrate machine })) h.told h.mine)
 
 -- to where it is
-here_already : (b : Boot) (m : ℕ) (pt : Point) (l : Placed) (records : AllRecords) (k : KernelState) (y : Message) (machine : ℕ) → Hearing b m pt l records k (record y { what = what.Migrate machine }) → pt.view.known m y.to.pid ≡ Here → m ≡ machine → TurnsAt b m pt l records k
+here_already : (b : Boot) (m : ℕ) (pt : Point) (l : Placed) (records : AllRecords) (k : KernelState) (y : Message) (machine : ℕ) → Hearing b m pt l records k (record y { what = What.Migrate machine }) → pt.view.known m y.to.pid ≡ Here → m ≡ machine → TurnsAt b m pt l records k
 here_already b m pt l records k y machine h at_m is =
-    let z : Message = record y { what = what.Migrate machine } in
+    let z : Message = record y { what = What.Migrate machine } in
     let p = y.to.pid in
     let s : KernelState = record k { inbox = h.rest } in
     let loose = migrates_loose b m pt l records k y machine h in
-    let server : is_server p ≡ false = second_off (p.num == 0) (is_server p) loose in
+    let server : is_server p ≡ false = or-right (p.num == 0) (is_server p) loose in
     let x = here_is pt l p (pt.view.queue m p) (pt.view.held m p) (k.records p) (subst (λ (n : Known). KnownStands pt l p (pt.view.queue m p) (pt.view.held m p) n (k.records p)) at_m (h.stands.known p server)) in
-    let next : Point = moved (begun pt m) (line.Here y.id) pt.kernel in
+    let next : Point = moved (begun pt m) (Line.Here y.id) pt.kernel in
     let box : next.view.inbox m ≡ h.ids = machine_self pt.view.inbox m (without_front y.id (pt.view.inbox m)) ∙ front_off y.id h.ids (pt.view.inbox m) h.box in
     let gone : FrontGone m h.ids pt.view next.view = record {
       inbox = λ j least. inl (subst (λ (ids : List MsgId). 1 ≤ times j ids) box least);
@@ -90,14 +53,14 @@ here_already b m pt l records k y machine h at_m is =
     let same : (m == machine) ≡ true = ap (λ (n : ℕ). m == n) (sym is) ∙ eq_self m in
     record {
       state = s;
-      says = line.Here y.id ∷ [];
+      says = Line.Here y.id ∷ [];
       routes = [];
       late = Nothing;
-      turn = turn_hears b m pt l records k z h (turned s (part.Says (line.Here y.id) ∷ []))
-          (to_process b s z (Some (record_.Here x.process)) loose x.is ∙ ap (λ (c : Bool). if c then turned s (part.Says (line.Here y.id) ∷ []) else freezes s p x.process machine) to_here);
-      outcome = outcome_hears b m pt l records k z h (Some (rule.Says (line.Here y.id) ∷ []))
+      turn = turn_hears b m pt l records k z h (turned s (Part.Says (Line.Here y.id) ∷ []))
+          (to_process b s z (Some (Record.Here x.process)) loose x.is ∙ ap (λ (c : Bool). if c then turned s (Part.Says (Line.Here y.id) ∷ []) else freezes s p x.process machine) to_here);
+      outcome = outcome_hears b m pt l records k z h (Some (rule.Says (Line.Here y.id) ∷ []))
           (process_hears b pt m y.id (told_of z) Here loose at_m
-          ∙ ap (λ (c : Bool). Some (if c then rule.Says (line.Here y.id) ∷ [] else rule.Says (line.Migration stage.Frozen p) ∷ rule.Says (line.Migration stage.Asked p) ∷ to_kernel kind.Ask machine ∷ [])) same);
+          ∙ ap (λ (c : Bool). Some (if c then rule.Says (Line.Here y.id) ∷ [] else rule.Says (Line.Migration Stage.Frozen p) ∷ rule.Says (Line.Migration Stage.Asked p) ∷ to_kernel MessageKind.Ask machine ∷ [])) same);
       next = next;
       after = refl;
       placed = l;
@@ -161,22 +124,16 @@ taken_at_record pt next m p q n lives known same =
     let room : takes_room (next.view.known m q) ≡ takes_room (pt.view.known m q) = ap takes_room known ∙ room_at pt.view.known m p q n same in
     λ i. record { slots = room i; blocks = if room i == 0 then 0 else blocks_of (kernel.alive (lives i q)) }
 
-off_eq : (m n : ℕ) → m ≢ n → (m == n) ≡ false
-off_eq m n apart = elim (eqb_tells m n) [
-  | inl e ↦ absurd (apart e.1)
-  | inr e ↦ e.0
-]
-
 -- to another machine
-asks_other : (b : Boot) (m : ℕ) (pt : Point) (l : Placed) (records : AllRecords) (k : KernelState) (y : Message) (machine : ℕ) → Hearing b m pt l records k (record y { what = what.Migrate machine }) → pt.view.known m y.to.pid ≡ Here → m ≢ machine
-    → ((x : Process) → k.records y.to.pid ≡ Some (record_.Here x) → CanMove x) → TurnsAt b m pt l records k
+asks_other : (b : Boot) (m : ℕ) (pt : Point) (l : Placed) (records : AllRecords) (k : KernelState) (y : Message) (machine : ℕ) → Hearing b m pt l records k (record y { what = What.Migrate machine }) → pt.view.known m y.to.pid ≡ Here → m ≢ machine
+    → ((x : Process) → k.records y.to.pid ≡ Some (Record.Here x) → CanMove x) → TurnsAt b m pt l records k
 asks_other b m pt l records k y machine h at_m apart whole =
-    let z : Message = record y { what = what.Migrate machine } in
+    let z : Message = record y { what = What.Migrate machine } in
     let v = pt.view in
     let p = y.to.pid in
     let s : KernelState = record k { inbox = h.rest } in
     let loose = migrates_loose b m pt l records k y machine h in
-    let server : is_server p ≡ false = second_off (p.num == 0) (is_server p) loose in
+    let server : is_server p ≡ false = or-right (p.num == 0) (is_server p) loose in
     let here = here_is pt l p (v.queue m p) (v.held m p) (k.records p) (subst (λ (n : Known). KnownStands pt l p (v.queue m p) (v.held m p) n (k.records p)) at_m (h.stands.known p server)) in
     let x = here.process in
     let placed_x : Process = record x { queue = here.stands.0.0 } in
@@ -185,7 +142,7 @@ asks_other b m pt l records k y machine h at_m apart whole =
     let ask : Message = own s (kernel_at machine) (ask_of x None) in
     let to : ℕ = target_of (front_told v (v.inbox m)) in
     let to_is : to ≡ machine = ap (λ (ids : List MsgId). target_of (front_told v ids)) h.box ∙ ap target_of h.told in
-    let next : Point = moved (moved (begun pt m) (line.Migration stage.Frozen p) pt.kernel) (line.Migration stage.Asked p) pt.kernel in
+    let next : Point = moved (moved (begun pt m) (Line.Migration Stage.Frozen p) pt.kernel) (Line.Migration Stage.Asked p) pt.kernel in
     let after_records : AllRecords = at_machine records m state.records in
     let box : next.view.inbox m ≡ h.ids = machine_self v.inbox m (without_first (v.inbox m)) ∙ ap without_first h.box in
     let gone : FrontGone m h.ids v next.view = record {
@@ -197,7 +154,7 @@ asks_other b m pt l records k y machine h at_m apart whole =
     } in
     let none_held : v.held m p ≡ [] = h.run.based.lists.held m p (ap has_nothing_held at_m) in
     let frozen_known : next.view.known m p ≡ Frozen machine = record_self v.known m p (Frozen to) (pid_eq-same p) ∙ ap Frozen to_is in
-    let frozen_record : state.records p ≡ Some (record_.Frozen (frozen x machine None)) = ap (λ (c : Bool). if c then Some (record_.Frozen (frozen x machine None)) else k.records p) (pid_eq-same p) in
+    let frozen_record : state.records p ≡ Some (Record.Frozen (frozen x machine None)) = ap (λ (c : Bool). if c then Some (Record.Frozen (frozen x machine None)) else k.records p) (pid_eq-same p) in
     let leaves : LeavesStand l p (v.queue m p) (v.held m p) machine (frozen x machine None) = record {
       to = refl;
       asker = refl;
@@ -207,21 +164,21 @@ asks_other b m pt l records k y machine h at_m apart whole =
     } in
     let mine : KnownStands next l p (v.queue m p) (v.held m p) (next.view.known m p) (state.records p) =
     subst (KnownStands next l p (v.queue m p) (v.held m p) (next.view.known m p)) (sym frozen_record)
-    (subst (λ (n : Known). KnownStands next l p (v.queue m p) (v.held m p) n (Some (record_.Frozen (frozen x machine None)))) (sym frozen_known) leaves) in
+    (subst (λ (n : Known). KnownStands next l p (v.queue m p) (v.held m p) n (Some (Record.Frozen (frozen x machine None)))) (sym frozen_known) leaves) in
     let taken = taken_same pt next m refl (λ n. refl) (λ q. taken_at_record pt next m p q (Frozen to) refl refl (sym (ap takes_room at_m))) in
-    let off_here : (machine == k.here) ≡ false = ap (λ (n : ℕ). machine == n) h.stands.here ∙ off_eq machine m (λ e. apart (sym e)) in
-    let off_rule : (m == machine) ≡ false = off_eq m machine apart in
+    let off_here : (machine == k.here) ≡ false = ap (λ (n : ℕ). machine == n) h.stands.here ∙ eq_not machine m (λ e. apart (sym e)) in
+    let off_rule : (m == machine) ≡ false = eq_not m machine apart in
     let id_is : ask.id ≡ own_id next.view = own_is b m pt l records k z h in
     record {
       state = state;
-      says = line.Migration stage.Frozen p ∷ line.Migration stage.Asked p ∷ [];
+      says = Line.Migration Stage.Frozen p ∷ Line.Migration Stage.Asked p ∷ [];
       routes = Own ask ∷ [];
       late = Nothing;
       turn = turn_hears b m pt l records k z h (freezes s p x machine)
-          (to_process b s z (Some (record_.Here x)) loose here.is ∙ ap (λ (c : Bool). if c then turned s (part.Says (line.Here y.id) ∷ []) else freezes s p x machine) off_here);
-      outcome = outcome_hears b m pt l records k z h (Some (rule.Says (line.Migration stage.Frozen p) ∷ rule.Says (line.Migration stage.Asked p) ∷ to_kernel kind.Ask machine ∷ []))
+          (to_process b s z (Some (Record.Here x)) loose here.is ∙ ap (λ (c : Bool). if c then turned s (Part.Says (Line.Here y.id) ∷ []) else freezes s p x machine) off_here);
+      outcome = outcome_hears b m pt l records k z h (Some (rule.Says (Line.Migration Stage.Frozen p) ∷ rule.Says (Line.Migration Stage.Asked p) ∷ to_kernel MessageKind.Ask machine ∷ []))
           (process_hears b pt m y.id (told_of z) Here loose at_m
-          ∙ ap (λ (c : Bool). Some (if c then rule.Says (line.Here y.id) ∷ [] else rule.Says (line.Migration stage.Frozen p) ∷ rule.Says (line.Migration stage.Asked p) ∷ to_kernel kind.Ask machine ∷ [])) off_rule);
+          ∙ ap (λ (c : Bool). Some (if c then rule.Says (Line.Here y.id) ∷ [] else rule.Says (Line.Migration Stage.Frozen p) ∷ rule.Says (Line.Migration Stage.Asked p) ∷ to_kernel MessageKind.Ask machine ∷ [])) off_rule);
       next = next;
       after = refl;
       placed = l;
@@ -229,7 +186,7 @@ asks_other b m pt l records k y machine h at_m apart whole =
       kernel = stands_one b pt next l l m k state p
           (record {
             here = refl;
-            records = λ q off. ap (λ (c : Bool). if c then Some (record_.Frozen (frozen x machine None)) else k.records q) off;
+            records = λ q off. ap (λ (c : Bool). if c then Some (Record.Frozen (frozen x machine None)) else k.records q) off;
             queue = λ q off. refl;
             held = λ q off. refl;
             known = λ q off. record_others v.known m p q (Frozen to) off;
@@ -295,23 +252,23 @@ asks_other b m pt l records k y machine h at_m apart whole =
             told = refl;
             asked = λ q off. refl;
             processes = λ q off. refl;
-            records = λ n q off. records_as records m n k.records state.records q h.records_here (ap (λ (c : Bool). if c then Some (record_.Frozen (frozen x machine None)) else k.records q) off);
+            records = λ n q off. records_as records m n k.records state.records q h.records_here (ap (λ (c : Bool). if c then Some (Record.Frozen (frozen x machine None)) else k.records q) off);
             came = λ i t spot told between least. (let g = stood m y.id h.ids v next.view i spot h.box gone least in ((g.spot, g.stands), refl));
             none = λ i t spot told between about least. (let g = stood m y.id h.ids v next.view i spot h.box gone least in none_rests b pt m p i t g.spot h.run at_m told between about g.stands);
           }) h.tokens;
     }
 
 -- the process can be carried whole, where it is sent off
-whole_here : (b : Boot) (m : ℕ) (k : KernelState) (y : Message) (machine : ℕ) (x : Process) → is_fixed y.to.pid ≡ false → k.here ≡ m → m ≢ machine → FreezesReceiverWhole k (record y { what = what.Migrate machine }) → k.records y.to.pid ≡ Some (record_.Here x) → CanMove x
+whole_here : (b : Boot) (m : ℕ) (k : KernelState) (y : Message) (machine : ℕ) (x : Process) → is_fixed y.to.pid ≡ false → k.here ≡ m → m ≢ machine → FreezesReceiverWhole k (record y { what = What.Migrate machine }) → k.records y.to.pid ≡ Some (Record.Here x) → CanMove x
 whole_here b m k y machine x loose at_m apart whole is =
     let p = y.to.pid in
     let (num, board, manage) = three_off (p.num == 0) (pid_eq p switchboard) (pid_eq p manager) loose in
-    subst (KnownIsWhole k.here (what.Migrate machine)) is (whole num board manage) (λ e. apart (sym (e ∙ at_m)))
+    subst (KnownIsWhole k.here (What.Migrate machine)) is (whole num board manage) (λ e. apart (sym (e ∙ at_m)))
 
-pub hears_migrate : (b : Boot) (m : ℕ) (pt : Point) (l : Placed) (records : AllRecords) (k : KernelState) (y : Message) (machine : ℕ) → Hearing b m pt l records k y → y.what ≡ what.Migrate machine → pt.view.known m y.to.pid ≡ Here → FreezesReceiverWhole k y → TurnsAt b m pt l records k
+pub hears_migrate : (b : Boot) (m : ℕ) (pt : Point) (l : Placed) (records : AllRecords) (k : KernelState) (y : Message) (machine : ℕ) → Hearing b m pt l records k y → y.what ≡ What.Migrate machine → pt.view.known m y.to.pid ≡ Here → FreezesReceiverWhole k y → TurnsAt b m pt l records k
 hears_migrate b m pt l records k y machine h is at_m whole =
-    let same : y ≡ record y { what = what.Migrate machine } = ap (λ (w : What). record y { what = w }) is in
-    let g : Hearing b m pt l records k (record y { what = what.Migrate machine }) = subst (Hearing b m pt l records k) same h in
+    let same : y ≡ record y { what = What.Migrate machine } = ap (λ (w : What). record y { what = w }) is in
+    let g : Hearing b m pt l records k (record y { what = What.Migrate machine }) = subst (Hearing b m pt l records k) same h in
     elim (eqb_tells m machine) [
       | inl e ↦ here_already b m pt l records k y machine g at_m e.1
       | inr e ↦

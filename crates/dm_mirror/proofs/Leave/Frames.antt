@@ -1,83 +1,60 @@
 -- What is known of processes where at most one of them changes, and what the messages of migrations under way still carry.
-use Rattle.std.proofs.Common.{◌≡◌, ℕ, ◌≤◌, true, false, List, refl, ap, ◌∙◌, sym, subst, inl, inr}
-use Rattle.std.specs.Prelude.{slice_get}
-use Rattle.std.specs.declared.option.Option.{Option}
-use Rattle.std.specs.declared.option.Option.TheVariants.{None, Some}
-use Rattle.std.proofs.lemmas.Bool.{cases_Bool}
-use Rattle.dm_link.specs.declared.Pid.{Pid}
-use Rattle.dm_link.specs.Names.{pid_eq}
-use Rattle.dm_message.specs.declared.MsgId.{MsgId}
-use Rattle.dm_process.specs.declared.process.Process.{Process}
-use Rattle.dm_records.specs.declared.record.Record.TheVariants as record_
-use Rattle.dm_records.specs.Records.{incoming_of}
-use Rattle.dm_migrate.specs.Departure.{Departure}
-use Rattle.dm_onekernel.specs.declared.boot.Boot.{Boot}
+use Rattle.dm_mirror.proofs.Names.{◌≡◌, ℕ, ◌≤◌, true, false, List, refl, ap, ◌∙◌, sym, subst, inl, inr, slice_get, Option, None, Some, cases_Bool, Pid, pid_eq, MsgId, Process, Record, incoming_of, Departure, Boot, room_of, KernelState}
+use Rattle.dm_mirror.proofs.Names.{pid_eq-is, is_between, Point, taken_at, Spot, times, standing, Known, Unknown, Here, Frozen, Incoming, Forward, Ended, Of, Told, View, is_server, Placed, AllOwnStand, AreMessages, HereStands, KnownStands}
+use Rattle.dm_mirror.proofs.Names.{KernelStands, LeavesStand, RoomStands, servers_at, AllRecords, Carries, TokensStand, destination_of}
 use Rattle.dm_onekernel.specs.Step as kernel
-use Rattle.dm_kernel.specs.Begun.{room_of}
 use Rattle.dm_kernel.specs.State as machine
-use Rattle.dm_kernel.specs.State.{KernelState}
-use Rattle.dm_laws.proofs.Equal.{pid_eq-is}
-use Rattle.dm_rule.specs.Phases.{is_between}
-use Rattle.dm_rule.specs.Point.{Point}
-use Rattle.dm_rule.specs.Rule.{taken_at}
-use Rattle.dm_rule.specs.Spots.{Spot, times, standing}
-use Rattle.dm_rule.specs.View.{Known, Unknown, Here, Frozen, Incoming, Forward, Ended, Of, Told, View}
-use Rattle.dm_rulelaws.specs.Fits.{is_server}
-use Rattle.dm_places.specs.Placed.{Placed}
-use Rattle.dm_mirror.specs.Own.{AllOwnStand}
-use Rattle.dm_mirror.specs.Stands.{AreMessages, HereStands, KnownStands, KernelStands, LeavesStand, RoomStands, servers_at}
-use Rattle.dm_mirror.specs.Tokens.{AllRecords, Carries, TokensStand, destination_of}
 use Rattle.dm_mirror.proofs.Handle.Frames.{map_same}
 
 -- what is known of a process that stays as it is
 pub known_stays : (pt next : Point) (l placed : Placed) (p : Pid) (queue held : List MsgId) (k : Known) (r : Option machine.Known) → placed.processes p ≡ l.processes p → next.kernel.processes p ≡ pt.kernel.processes p
     → ((j : MsgId) → 1 ≤ times j queue → placed.bag j ≡ l.bag j) → ((j : MsgId) → 1 ≤ times j held → placed.bag j ≡ l.bag j) → KnownStands pt l p queue held k r → KnownStands next placed p queue held k r
 known_stays pt next l placed p queue held Unknown None same life waits kept h = tt
-known_stays pt next l placed p queue held Here (Some (record_.Here x)) same life waits kept h = ((h.0.0, same ∙ h.0.1), map_same l.bag placed.bag queue waits ∙ h.1)
-known_stays pt next l placed p queue held (Frozen to) (Some (record_.Frozen d)) same life waits kept h = record {
+known_stays pt next l placed p queue held Here (Some (Record.Here x)) same life waits kept h = ((h.0.0, same ∙ h.0.1), map_same l.bag placed.bag queue waits ∙ h.1)
+known_stays pt next l placed p queue held (Frozen to) (Some (Record.Frozen d)) same life waits kept h = record {
   to = h.to;
   asker = h.asker;
   here = ((h.here.0.0, same ∙ h.here.0.1), map_same l.bag placed.bag queue waits ∙ h.here.1);
   held = map_same l.bag placed.bag held kept ∙ h.held;
   whole = h.whole;
 }
-known_stays pt next l placed p queue held (Incoming from) (Some (record_.Incoming a)) same life waits kept h = record {
+known_stays pt next l placed p queue held (Incoming from) (Some (Record.Incoming a)) same life waits kept h = record {
   process = h.process;
   there = same ∙ h.there;
   whole = h.whole;
   pieces = h.pieces;
   held = map_same l.bag placed.bag held kept ∙ h.held;
 }
-known_stays pt next l placed p queue held (Forward at moves) (Some (record_.Forward to count)) same life waits kept h = h
-known_stays pt next l placed p queue held Ended (Some (record_.Ended y)) same life waits kept h = ap kernel.ended life ∙ h
+known_stays pt next l placed p queue held (Forward at moves) (Some (Record.Forward to count)) same life waits kept h = h
+known_stays pt next l placed p queue held Ended (Some (Record.Ended y)) same life waits kept h = ap kernel.ended life ∙ h
 known_stays pt next l placed p queue held k r same life waits kept h = absurd h
 
 -- a process that is here, and one that leaves
 pub record IsHere (l : Placed) (p : Pid) (queue : List MsgId) (r : Option machine.Known) : Type 0 where
   pub process : Process
-  pub is : r ≡ Some (record_.Here process)
+  pub is : r ≡ Some (Record.Here process)
   pub stands : HereStands l p queue process
 
 pub here_is : (pt : Point) (l : Placed) (p : Pid) (queue held : List MsgId) (r : Option machine.Known) → KnownStands pt l p queue held Here r → IsHere l p queue r
-here_is pt l p queue held (Some (record_.Here x)) h = record { process = x; is = refl; stands = h }
+here_is pt l p queue held (Some (Record.Here x)) h = record { process = x; is = refl; stands = h }
 here_is pt l p queue held None h = absurd h
-here_is pt l p queue held (Some (record_.Frozen d)) h = absurd h
-here_is pt l p queue held (Some (record_.Incoming a)) h = absurd h
-here_is pt l p queue held (Some (record_.Forward to count)) h = absurd h
-here_is pt l p queue held (Some (record_.Ended y)) h = absurd h
+here_is pt l p queue held (Some (Record.Frozen d)) h = absurd h
+here_is pt l p queue held (Some (Record.Incoming a)) h = absurd h
+here_is pt l p queue held (Some (Record.Forward to count)) h = absurd h
+here_is pt l p queue held (Some (Record.Ended y)) h = absurd h
 
 pub record IsLeaving (l : Placed) (p : Pid) (queue held : List MsgId) (to : ℕ) (r : Option machine.Known) : Type 0 where
   pub departure : Departure
-  pub is : r ≡ Some (record_.Frozen departure)
+  pub is : r ≡ Some (Record.Frozen departure)
   pub stands : LeavesStand l p queue held to departure
 
 pub leaving_is : (pt : Point) (l : Placed) (p : Pid) (queue held : List MsgId) (to : ℕ) (r : Option machine.Known) → KnownStands pt l p queue held (Frozen to) r → IsLeaving l p queue held to r
-leaving_is pt l p queue held to (Some (record_.Frozen d)) h = record { departure = d; is = refl; stands = h }
+leaving_is pt l p queue held to (Some (Record.Frozen d)) h = record { departure = d; is = refl; stands = h }
 leaving_is pt l p queue held to None h = absurd h
-leaving_is pt l p queue held to (Some (record_.Here x)) h = absurd h
-leaving_is pt l p queue held to (Some (record_.Incoming a)) h = absurd h
-leaving_is pt l p queue held to (Some (record_.Forward at count)) h = absurd h
-leaving_is pt l p queue held to (Some (record_.Ended y)) h = absurd h
+leaving_is pt l p queue held to (Some (Record.Here x)) h = absurd h
+leaving_is pt l p queue held to (Some (Record.Incoming a)) h = absurd h
+leaving_is pt l p queue held to (Some (Record.Forward at count)) h = absurd h
+leaving_is pt l p queue held to (Some (Record.Ended y)) h = absurd h
 
 -- another kernel of machine m for another point, where only process p may have changed
 pub record SetsOne (pt next : Point) (l placed : Placed) (m : ℕ) (k s : KernelState) (p : Pid) : Type 0 where

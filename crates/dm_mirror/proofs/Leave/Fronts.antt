@@ -1,41 +1,11 @@
 -- A machine hears a kernel's own message at its inbox's front: what holds then, and what stands where once the message is handled.
-use Rattle.std.proofs.Common.{◌≡◌, ◌≢◌, ◌⊎◌, ℕ, ◌+◌, ◌≤◌, ◌==◌, ◌&&◌, Bool, true, false, not, List, ◌∷◌, ap, ◌∙◌, sym, subst, inl, inr, arith}
-use Rattle.std.specs.Prelude.{if◌then◌else◌}
-use Rattle.std.specs.declared.option.Option.{Option}
-use Rattle.std.specs.declared.option.Option.TheVariants.{None, Some}
-use Rattle.std.proofs.lemmas.Bool.{false≢true}
-use Rattle.std.proofs.lemmas.Bool.Decides.{eqb_tells, nat_tests}
-use Rattle.dm_link.specs.declared.Pid.{Pid}
-use Rattle.dm_link.specs.Names.{pid_of}
-use Rattle.dm_message.specs.declared.Message.{Message}
-use Rattle.dm_message.specs.declared.MsgId.{MsgId}
-use Rattle.dm_message.specs.declared.kind.MessageKind.{MessageKind}
-use Rattle.dm_message.specs.Kinds.{kind_of}
-use Rattle.dm_message.specs.Plain.{plain_message}
-use Rattle.dm_onekernel.specs.Options.{bind}
-use Rattle.dm_onekernel.specs.declared.boot.Boot.{Boot}
-use Rattle.dm_schedule.specs.declared.Step.TheVariants as step
-use Rattle.dm_kernel.specs.Handle.{handles}
-use Rattle.dm_kernel.specs.State.{KernelState, Turned}
-use Rattle.dm_kernel.specs.Turn.{turn, turns}
-use Rattle.dm_laws.proofs.Equal.{id_eq-same}
+use Rattle.dm_mirror.proofs.Names.{◌≡◌, ◌≢◌, ◌⊎◌, ℕ, ◌+◌, ◌≤◌, ◌==◌, ◌&&◌, Bool, true, false, not, List, ◌∷◌, ap, ◌∙◌, sym, subst, inl, inr, arith, if◌then◌else◌, Option, None, Some, false≢true, eqb_tells, Pid, pid_of, Message, MsgId}
+use Rattle.dm_mirror.proofs.Names.{kind_of, plain_message, bind, Boot, Step, handles, KernelState, Turned, turn, turns, id_eq-same, is_apart, is_between, is_of_source, is_restart, knows, Moves, Phase, Rests, receiver_in, sender_in}
+use Rattle.dm_mirror.proofs.Names.{told_between, token_in, Point, comes_to, hears, outcome, Spot, Queue, Held, Inbox, Untaken, standing, times, Here, Frozen, Of, Told, View, is_kernels, letters, rests_here, token_at, token_is}
+use Rattle.dm_mirror.proofs.Names.{StandsAsBag-one, StandsAsBag-elsewhere, spot_cases, OwnTold, Run, Placed, Mirrors, AllOwnStand, about_of, told_of, AreMessages, KernelStands, AllRecords, TokensStand, eq_self, source_knows, inbox_is}
+use Rattle.dm_mirror.proofs.Names.{of_same, more_front, holds_is}
 use Rattle.dm_rule.specs.Parts as rule
-use Rattle.dm_rule.specs.Phases.{is_apart, is_between, is_of_source, is_restart, is_away, leaves, comes, knows, Moves, Phase, Rests, receiver_in, sender_in, told_between, token_in}
-use Rattle.dm_rule.specs.Point.{Point}
 use Rattle.dm_rule.specs.Rule as ruled
-use Rattle.dm_rule.specs.Rule.{comes_to, hears, outcome}
-use Rattle.dm_rule.specs.Spots.{Spot, Queue, Held, Inbox, Untaken, standing, times}
-use Rattle.dm_rule.specs.View.{Known, Unknown, Here, Frozen, Incoming, Forward, Ended, Of, Told, View, is_kernels}
-use Rattle.dm_rule.proofs.Letters.{letters}
-use Rattle.dm_rule.proofs.Phases.Rests.{rests_here}
-use Rattle.dm_rule.proofs.Phases.Stand.{token_at, token_is}
-use Rattle.dm_rule.proofs.Standing.{StandsAsBag-one, StandsAsBag-elsewhere, spot_cases}
-use Rattle.dm_rulelaws.proofs.Own.Told.{OwnTold}
-use Rattle.dm_rulelaws.proofs.Runs.{Run}
-use Rattle.dm_places.specs.Placed.{Placed, Mirrors}
-use Rattle.dm_mirror.specs.Own.{AllOwnStand, about_of, told_of}
-use Rattle.dm_mirror.specs.Stands.{AreMessages, KernelStands}
-use Rattle.dm_mirror.specs.Tokens.{AllRecords, TokensStand}
 use Rattle.dm_mirror.proofs.Handle.Frames.{front_of, times_self}
 
 -- machine m hears message y, which is no message of the kernel without machines
@@ -103,7 +73,7 @@ heard b m pt l records k i is run sorts mirrors stands own tokens here sent box 
 pub turn_hears : (b : Boot) (m : ℕ) (pt : Point) (l : Placed) (records : AllRecords) (k : KernelState) (y : Message) (h : Hearing b m pt l records k y) (o : Option Turned) → handles b (record k { inbox = h.rest }) y ≡ o → turn b k ≡ o
 turn_hears b m pt l records k y h o e = ap (turns b k) h.inbox ∙ e
 
-pub outcome_hears : (b : Boot) (m : ℕ) (pt : Point) (l : Placed) (records : AllRecords) (k : KernelState) (y : Message) (h : Hearing b m pt l records k y) (o : Option (List rule.Part)) → hears b pt m y.id (Some (told_of y)) ≡ o → outcome b pt (step.Turn m) ≡ o
+pub outcome_hears : (b : Boot) (m : ℕ) (pt : Point) (l : Placed) (records : AllRecords) (k : KernelState) (y : Message) (h : Hearing b m pt l records k y) (o : Option (List rule.Part)) → hears b pt m y.id (Some (told_of y)) ≡ o → outcome b pt (Step.Turn m) ≡ o
 outcome_hears b m pt l records k y h o e = ap (ruled.turns b pt m) h.box ∙ ap (comes_to b pt m y.id) h.none ∙ ap (hears b pt m y.id) h.told ∙ e
 
 -- it stands at the front, and nowhere else
@@ -136,9 +106,6 @@ pub record Stood (m : ℕ) (is : List MsgId) (v : View) (j : MsgId) : Type 0 whe
   pub spot : Spot
   pub stands : 1 ≤ standing v j spot
   pub behind : spot ≡ Inbox m → 1 ≤ times j is
-
-more_front : (j i : MsgId) (is : List MsgId) → 1 ≤ times j is → 1 ≤ times j (i ∷ is)
-more_front j i is least = omega (arith, least)
 
 pub stood : (m : ℕ) (i : MsgId) (is : List MsgId) (v w : View) (j : MsgId) (z : Spot) → v.inbox m ≡ i ∷ is → FrontGone m is v w → 1 ≤ standing w j z → Stood m is v j
 stood m i is v w j (Queue n p) box g least = record { spot = Queue n p; stands = g.queue n p j least; behind = λ (e : Queue n p ≡ Inbox m). cc }
@@ -181,32 +148,9 @@ pub record Leaving (m : ℕ) (pt : Point) (y : Message) (p : Pid) : Type 0 where
   pub apart : to ≢ m
   pub receiver : y.to.pid ≡ pid_of m 0
 
-known_leaves : (k : MessageKind) (d : ℕ) (n : Known) → is_restart k ≡ false → leaves k d n ≡ true → n ≡ Frozen d
-known_leaves k d (Frozen to) r e = ap Frozen (let f : (not (is_restart k) && (d == to)) ≡ (d == to) = ap (λ (c : Bool). not c && (d == to)) r in let g : (d == to) ≡ true = sym f ∙ e in let is : to ≡ d = grind (arith, nat_tests) in is)
-known_leaves k d (Forward to moves) r e = absurd (false≢true (sym (ap (λ (c : Bool). c && (d == to)) r) ∙ e))
-known_leaves k d Unknown r e = absurd (false≢true e)
-known_leaves k d Here r e = absurd (false≢true e)
-known_leaves k d (Incoming from) r e = absurd (false≢true e)
-known_leaves k d Ended r e = absurd (false≢true e)
-
-same_machine : (n : ℕ) → (n == n) ≡ true
-same_machine n = grind (arith, nat_tests)
-
-source_leaves : (k : MessageKind) (s d : ℕ) (id : Option MsgId) (n : Known) → knows (Moves k s d id) s n ≡ true → leaves k d n ≡ true
-source_leaves k s d id n e = sym (ap (λ (c : Bool). if c then leaves k d n else if d == s then comes k s n else is_away n) (same_machine s)) ∙ e
-
 off_source : (c : Bool) (s d : ℕ) → (c && not (s == d)) ≡ true → d ≢ s
-off_source true s d e is = false≢true (sym (ap not (ap (λ (x : ℕ). s == x) is ∙ same_machine s)) ∙ e)
+off_source true s d e is = false≢true (sym (ap not (ap (λ (x : ℕ). s == x) is ∙ eq_self s)) ∙ e)
 off_source false s d e is = false≢true e
-
-inbox_of : (m from to : ℕ) → (Inbox m ≡ Inbox to) ⊎ (Inbox m ≡ Untaken from to) → m ≡ to
-inbox_of m from to e = elim e [
-  | inl x ↦ cc
-  | inr x ↦ cc
-]
-
-of_same : (p q : Pid) → Of p ≡ Of q → p ≡ q
-of_same p q e = cc
 
 told_same : (a c : Told) → Some a ≡ Some c → a ≡ c
 told_same a c e = cc
@@ -225,7 +169,7 @@ leaving b m pt l records k y p h between source restart about =
     let told : told_between q j s d ≡ told_of y = told_same (told_between q j s d) (told_of y) (sym token.told ∙ h.told) in
     let kind : j ≡ kind_of y.what = ap (λ (t : Told). t.kind) told in
     let of_source : is_of_source j ≡ false = ap is_of_source kind ∙ source in
-    let to_m : m ≡ receiver_in j s d = inbox_of m (sender_in j s d) (receiver_in j s d) (token.ways (Inbox m) (stands_first b m pt l records k y h)) in
+    let to_m : m ≡ receiver_in j s d = inbox_is m (sender_in j s d) (receiver_in j s d) (token.ways (Inbox m) (stands_first b m pt l records k y h)) in
     let source_is : receiver_in j s d ≡ s = ap (λ (c : Bool). if c then d else s) of_source in
     let here : m ≡ s = to_m ∙ source_is in
     let phase : phases.of p ≡ Moves j s d (Some y.id) = ap phases.of (sym is) ∙ moves in
@@ -233,7 +177,7 @@ leaving b m pt l records k y p h between source restart about =
     let off : d ≢ s = off_source (is_between j) s d (sym (ap is_apart phase) ∙ each.apart) in
     record {
       to = d;
-      known = ap (λ (x : ℕ). v.known x p) here ∙ known_leaves j d (v.known s p) (ap is_restart kind ∙ restart) (source_leaves j s d (Some y.id) (v.known s p) (sym (ap (λ (x : Phase). knows x s (v.known s p)) phase) ∙ each.known s));
+      known = ap (λ (x : ℕ). v.known x p) here ∙ holds_is j d (v.known s p) (ap is_restart kind ∙ restart) (source_knows j s d (Some y.id) (v.known s p) (sym (ap (λ (x : Phase). knows x s (v.known s p)) phase) ∙ each.known s));
       alone = λ i t z told_i between_i about_i least. id_same i y.id (sym (each.alone i t z told_i between_i about_i least) ∙ ap token_in phase);
       from = token.from ∙ ap (λ (c : Bool). pid_of (if c then s else d) 0) of_source;
       apart = λ e. off (e ∙ here);

@@ -1,53 +1,16 @@
 -- A process has gone: the messages for it go on, and the other machine may restart it.
-use Rattle.std.proofs.Common.{◌≡◌, ◌≢◌, ℕ, ◌+◌, ◌/◌, ◌≤◌, ◌==◌, Bool, true, false, not, List, [], ◌∷◌, ◌++◌, length, map, is_some, refl, ap, ◌∙◌, sym, subst, inl, arith}
-use Rattle.std.specs.Prelude.{if◌then◌else◌, option_map}
-use Rattle.std.specs.declared.option.Option.{Option}
-use Rattle.std.specs.declared.option.Option.TheVariants.{None, Some}
-use Rattle.std.proofs.lemmas.Bool.{false≢true}
-use Rattle.dm_link.specs.declared.Pid.{Pid}
-use Rattle.dm_link.specs.Names.{pid_eq}
-use Rattle.dm_linkupdate.specs.Notice.{kernel_at}
-use Rattle.dm_message.specs.declared.Message.{Message}
-use Rattle.dm_message.specs.declared.MsgId.{MsgId}
-use Rattle.dm_message.specs.declared.What.{What}
-use Rattle.dm_message.specs.declared.What.TheVariants as what
-use Rattle.dm_message.specs.declared.kind.MessageKind.TheVariants as kind
-use Rattle.dm_process.specs.declared.process.Process.{Process}
-use Rattle.dm_room.specs.Room.{Taken, with_released}
-use Rattle.dm_records.specs.declared.record.Record.TheVariants as record_
-use Rattle.dm_records.specs.Records.{frozen_of, incoming_of}
-use Rattle.dm_migrate.specs.declared.arriving.Wanted.TheVariants as wanted
-use Rattle.dm_migrate.specs.Departure.{all_sent_on}
-use Rattle.dm_onekernel.specs.declared.boot.Boot.{Boot}
-use Rattle.dm_onekernel.specs.Kernel.{Alive, Ended, Life}
-use Rattle.dm_onekernel.specs.Options.{bind}
-use Rattle.dm_onekernel.specs.Plain.{plain_process}
-use Rattle.dm_onekernel.specs.PlainProcess.{PlainProcess}
+use Rattle.dm_mirror.proofs.Names.{◌≡◌, ◌≢◌, ℕ, ◌+◌, ◌/◌, ◌≤◌, ◌==◌, Bool, true, false, not, List, [], ◌∷◌, ◌++◌, length, map, is_some, refl, ap, ◌∙◌, sym, subst, inl, arith, if◌then◌else◌, option_map, Option, None, Some, false≢true, Pid}
+use Rattle.dm_mirror.proofs.Names.{pid_eq, kernel_at, Message, MsgId, What, MessageKind, Record, Wanted, Line, Stage, Process, Taken, with_released, frozen_of, incoming_of, all_sent_on, Boot, Alive, Life, bind, plain_process, PlainProcess}
+use Rattle.dm_mirror.proofs.Names.{without_leaving, KernelState, own, turned, pid_eq-same, sends_on, to_kernel, Point, moved, Room, blocks_of, taken_at, taken_by, takes_room, at_machine, Spot, Held, Inbox, Queue, standing, times, Forward}
+use Rattle.dm_mirror.proofs.Names.{Frozen, Known, gone_to, own_id, without_first, MirrorsPoint, sent_all, Placed, sent_on_mirrors, mirrors_view, MadeStands, told_of, AreMessages, KnownStands, RoomStands, AllRecords, Wants}
+use Rattle.dm_onekernel.specs.Kernel.{Ended}
 use Rattle.dm_onekernel.specs.Step as kernel
 use Rattle.dm_kernel.specs.declared.part.Part.{Part}
-use Rattle.dm_kernel.specs.declared.part.Part.TheVariants as part
-use Rattle.dm_kernel.specs.Departing.{leaves, without_leaving}
+use Rattle.dm_kernel.specs.Departing.{leaves}
 use Rattle.dm_kernel.specs.State as machine
-use Rattle.dm_kernel.specs.State.{KernelState, own, turned, with_sent}
-use Rattle.dm_laws.proofs.Equal.{pid_eq-same}
-use Rattle.dm_line.specs.declared.line.Line.TheVariants as line
-use Rattle.dm_line.specs.declared.line.Stage.TheVariants as stage
+use Rattle.dm_kernel.specs.State.{with_sent}
 use Rattle.dm_rule.specs.Migrating as migrating
-use Rattle.dm_rule.specs.Migrating.{sends_on, to_kernel}
 use Rattle.dm_rule.specs.Parts as rule
-use Rattle.dm_rule.specs.Point.{Point, moved}
-use Rattle.dm_rule.specs.Rule.{Room, blocks_of, taken_at, taken_by, takes_room}
-use Rattle.dm_line.specs.Sets.{at_machine}
-use Rattle.dm_rule.specs.Spots.{Spot, Held, Inbox, Queue, Untaken, standing, times}
-use Rattle.dm_rule.specs.View.{Forward, Frozen, Known, gone_to, own_id, without_first}
-use Rattle.dm_places.specs.Following.{MirrorsPoint, sent_all}
-use Rattle.dm_places.specs.Placed.{Placed}
-use Rattle.dm_places.proofs.Followed.{sent_on_mirrors}
-use Rattle.dm_places.proofs.Lines.{mirrors_view}
-use Rattle.dm_mirror.specs.Made.{MadeStands}
-use Rattle.dm_mirror.specs.Own.{told_of}
-use Rattle.dm_mirror.specs.Stands.{AreMessages, KnownStands, RoomStands}
-use Rattle.dm_mirror.specs.Tokens.{AllRecords, Wants}
 use Rattle.dm_mirror.proofs.Handle.Frames.{eq_self, machine_self, machine_off, map_same, pid_apart, record_self, record_off, record_others, times_more}
 use Rattle.dm_mirror.proofs.Rooms.{taken_changed}
 use Rattle.dm_mirror.proofs.Leave.Frames.{stands_one, tokens_one}
@@ -58,7 +21,7 @@ use Rattle.dm_mirror.proofs.Leave.Owns as owns
 use Rattle.dm_mirror.proofs.Leave.Pieces.{carried, departing, kernel_number, leaves_alive, leaves_no_server}
 use Rattle.dm_mirror.proofs.Leave.Stays.{less_at, messages_append}
 use Rattle.dm_mirror.proofs.Turning as turning
-use Rattle.dm_mirror.proofs.Turning.{Leaves, On, Route, TurnsAt, begun, is_elsewhere, late_point, part_of, rule_part_of}
+use Rattle.dm_mirror.proofs.Turning.{Leaves, On, TurnsAt, begun, is_elsewhere, part_of, rule_part_of}
 
 -- what a process that leaves took is free again
 gone_taken : (m : ℕ) (end : Point) (p : Pid) (to moves : ℕ) → end.view.known m p ≡ Forward to moves → taken_by end m p ≡ record { slots = 0; blocks = 0 }
@@ -90,8 +53,7 @@ elsewhere_held m p z is e = false≢true (sym (ap not (eq_self m)) ∙ ap (is_el
 abbrev pid_in : Spot → Pid → Pid
 pid_in (Queue m p) q = p
 pid_in (Held m p) q = p
-pid_in (Inbox m) q = q
-pid_in (Untaken a c) q = q
+pid_in _ q = q
 
 other_queue : (m : ℕ) (p q : Pid) → pid_eq p q ≡ false → Queue m q ≢ Queue m p
 other_queue m p q off e = false≢true (sym off ∙ ap (pid_eq p) (ap (λ (z : Spot). pid_in z p) e) ∙ pid_eq-same p)
@@ -113,13 +75,11 @@ inbox_held m p e = cc
 
 begun_standing : (pt : Point) (m : ℕ) (i : MsgId) (z : Spot) → standing (begun pt m).view i z ≡ standing pt.view i z
 begun_standing pt m i (Queue n p) = refl
-begun_standing pt m i (Held n p) = refl
-begun_standing pt m i (Inbox n) = refl
-begun_standing pt m i (Untaken a c) = refl
+begun_standing pt m i _ = refl
 
-goes : (b : Boot) (m : ℕ) (pt : Point) (l : Placed) (records : AllRecords) (k : KernelState) (y : Message) (p : Pid) → Hearing b m pt l records k (record y { what = what.AllTaken p }) → MadeStands pt.kernel → TurnsAt b m pt l records k
+goes : (b : Boot) (m : ℕ) (pt : Point) (l : Placed) (records : AllRecords) (k : KernelState) (y : Message) (p : Pid) → Hearing b m pt l records k (record y { what = What.AllTaken p }) → MadeStands pt.kernel → TurnsAt b m pt l records k
 goes b m pt l records k y p h made =
-    let z : Message = record y { what = what.AllTaken p } in
+    let z : Message = record y { what = What.AllTaken p } in
     let v = pt.view in
     let s : KernelState = record k { inbox = h.rest } in
     let g = leaving b m pt l records k z p h refl refl refl refl in
@@ -141,9 +101,9 @@ goes b m pt l records k y p h made =
     let on : List Message = all_sent_on d.departure in
     let n : ℕ = length on in
     let state : KernelState = with_sent (without_leaving s p d.departure) in
-    let restart : Message = own s (kernel_at to) (what.Restart p) in
-    let next : Point = moved (begun pt m) (line.SentOn p n) pt.kernel in
-    let end : Point = moved next (line.Migration stage.Left p) next.kernel in
+    let restart : Message = own s (kernel_at to) (What.Restart p) in
+    let next : Point = moved (begun pt m) (Line.SentOn p n) pt.kernel in
+    let end : Point = moved next (Line.Migration Stage.Left p) next.kernel in
     let placed : Placed = sent_all l to moves ids in
     let after_records : AllRecords = at_machine records m state.records in
     let forward : Known = gone_to (v.known m p) (v.moves p + 1) in
@@ -157,10 +117,10 @@ goes b m pt l records k y p h made =
       pair = λ a e. refl;
     } in
     let forward_known : end.view.known m p ≡ Forward to (v.moves p + 1) = record_self v.known m p forward (pid_eq-same p) ∙ forward_is in
-    let forward_record : state.records p ≡ Some (record_.Forward to moves) = ap (λ (e : Bool). if e then Some (record_.Forward to moves) else k.records p) (pid_eq-same p) in
+    let forward_record : state.records p ≡ Some (Record.Forward to moves) = ap (λ (e : Bool). if e then Some (Record.Forward to moves) else k.records p) (pid_eq-same p) in
     let mine : KnownStands end placed p (end.view.queue m p) (end.view.held m p) (end.view.known m p) (state.records p) =
     subst (KnownStands end placed p (end.view.queue m p) (end.view.held m p) (end.view.known m p)) (sym forward_record)
-    (subst (λ (r : Known). KnownStands end placed p (end.view.queue m p) (end.view.held m p) r (Some (record_.Forward to moves))) (sym forward_known) (refl, ap (λ (r : ℕ). r + 1) moves_is)) in
+    (subst (λ (r : Known). KnownStands end placed p (end.view.queue m p) (end.view.held m p) r (Some (Record.Forward to moves))) (sym forward_known) (refl, ap (λ (r : ℕ). r + 1) moves_is)) in
     let stays : (q : Spot) (j : MsgId) → q ≢ Queue m p → q ≢ Held m p → 1 ≤ standing v j q → placed.bag j ≡ l.bag j = λ q j queue held least. bag_off b pt m p l to moves q j h.run queue held least in
     let behind : (j : MsgId) → 1 ≤ times j h.ids → placed.bag j ≡ l.bag j =
     λ j least. (let more = times_more j y.id h.ids in stays (Inbox m) j (inbox_queue m p) (inbox_held m p) (subst (λ (is : List MsgId). 1 ≤ times j is) (sym h.box) (omega (arith, least, more)))) in
@@ -178,23 +138,23 @@ goes b m pt l records k y p h made =
     let start_mirrors : MirrorsPoint (begun pt m) l = mirrors_view pt.kernel v (begun pt m).view pt.addresses l refl h.mirrors in
     let next_mirrors : MirrorsPoint next placed = subst (λ (r : ℕ). MirrorsPoint next (sent_all l to (r + 1) ids)) (sym moves_is) (sent_on_mirrors (begun pt m) l p n to start_mirrors known_is) in
     let id_is : restart.id ≡ own_id end.view = own_is b m pt l records k z h in
-    let sends : List Part = part.Says (line.Migration stage.Left p) ∷ part.Routes restart ∷ [] in
-    let last : List rule.Part = rule.Says (line.Migration stage.Left p) ∷ to_kernel kind.Restart to ∷ [] in
+    let sends : List Part = Part.Says (Line.Migration Stage.Left p) ∷ Part.Routes restart ∷ [] in
+    let last : List rule.Part = rule.Says (Line.Migration Stage.Left p) ∷ to_kernel MessageKind.Restart to ∷ [] in
     let owned : turning.owns (map On on) ≡ 0 = on_owns on in
     record {
       state = state;
-      says = line.SentOn p n ∷ [];
+      says = Line.SentOn p n ∷ [];
       routes = map On on;
       late = Leaves p restart;
-      turn = turn_hears b m pt l records k z h (turned state (part.Says (line.SentOn p n) ∷ map part_of (map On on) ++ sends))
-          (owns.to_kernel b s z num ∙ ap (λ (r : Option machine.Known). bind (frozen_of r) (leaves s p)) d.is ∙ ap (λ (ps : List Part). turned state (part.Says (line.SentOn p n) ∷ ps ++ sends)) (sym (on_parts on)));
-      outcome = outcome_hears b m pt l records k z h (Some (rule.Says (line.SentOn p n) ∷ map rule_part_of (map On on) ++ last))
+      turn = turn_hears b m pt l records k z h (turned state (Part.Says (Line.SentOn p n) ∷ map part_of (map On on) ++ sends))
+          (owns.to_kernel b s z num ∙ ap (λ (r : Option machine.Known). bind (frozen_of r) (leaves s p)) d.is ∙ ap (λ (ps : List Part). turned state (Part.Says (Line.SentOn p n) ∷ ps ++ sends)) (sym (on_parts on)));
+      outcome = outcome_hears b m pt l records k z h (Some (rule.Says (Line.SentOn p n) ∷ map rule_part_of (map On on) ++ last))
           (to_kernel_hears b pt m y.id (told_of z) num
-          ∙ leaves_alive b m pt l p (record x { queue = d.stands.here.0.0 }) y.id kind.AllTaken (Some (rule.Says (line.SentOn p n) ∷ map rule_part_of (map On on) ++ last)) there (h.mirrors.plain.processes p)
+          ∙ leaves_alive b m pt l p (record x { queue = d.stands.here.0.0 }) y.id MessageKind.AllTaken (Some (rule.Says (Line.SentOn p n) ∷ map rule_part_of (map On on) ++ last)) there (h.mirrors.plain.processes p)
           (ap (migrating.leaves y.id p ids) known_is
-          ∙ ap (λ (r : ℕ). Some (rule.Says (line.SentOn p (length ids)) ∷ sends_on to ids ++ rule.Says (line.Migration stage.Left p) ∷ to_kernel kind.Restart r ∷ [])) from_is
-          ∙ ap (λ (r : ℕ). Some (rule.Says (line.SentOn p r) ∷ sends_on to ids ++ last)) (sym (on_length l.bag to moves ids ms lists))
-          ∙ ap (λ (ps : List rule.Part). Some (rule.Says (line.SentOn p n) ∷ ps ++ last)) (sym (on_rule_parts l.bag to moves ids ms (λ i a e. (h.mirrors.places.message i a e).id) lists))));
+          ∙ ap (λ (r : ℕ). Some (rule.Says (Line.SentOn p (length ids)) ∷ sends_on to ids ++ rule.Says (Line.Migration Stage.Left p) ∷ to_kernel MessageKind.Restart r ∷ [])) from_is
+          ∙ ap (λ (r : ℕ). Some (rule.Says (Line.SentOn p r) ∷ sends_on to ids ++ last)) (sym (on_length l.bag to moves ids ms lists))
+          ∙ ap (λ (ps : List rule.Part). Some (rule.Says (Line.SentOn p n) ∷ ps ++ last)) (sym (on_rule_parts l.bag to moves ids ms (λ i a e. (h.mirrors.places.message i a e).id) lists))));
       next = next;
       after = refl;
       placed = placed;
@@ -202,7 +162,7 @@ goes b m pt l records k y p h made =
       kernel = stands_one b pt end l placed m k state p
           (record {
             here = refl;
-            records = λ q off. ap (λ (e : Bool). if e then Some (record_.Forward to moves) else k.records q) off;
+            records = λ q off. ap (λ (e : Bool). if e then Some (Record.Forward to moves) else k.records q) off;
             queue = λ q off. record_others v.queue m p q [] off;
             held = λ q off. record_others v.held m p q [] off;
             known = others_known;
@@ -259,8 +219,8 @@ goes b m pt l records k y p h made =
         there = c.there;
         carries = (
           refl,
-          subst (λ (r : Option machine.Known). Wants (incoming_of r) wanted.Nothing) (sym (ap (λ (f : Pid → Option machine.Known). f p) (machine_off records m to state.records apart)))
-              (subst (λ (r : ℕ). Wants (incoming_of (records r p)) wanted.Nothing) from_is c.carries.1),
+          subst (λ (r : Option machine.Known). Wants (incoming_of r) Wanted.Nothing) (sym (ap (λ (f : Pid → Option machine.Known). f p) (machine_off records m to state.records apart)))
+              (subst (λ (r : ℕ). Wants (incoming_of (records r p)) Wanted.Nothing) from_is c.carries.1),
         );
       });
       own = own_on v end.view l to moves ids refl h.own;
@@ -269,7 +229,7 @@ goes b m pt l records k y p h made =
             told = refl;
             asked = λ q off. refl;
             processes = λ q off. refl;
-            records = λ r q off. records_as records m r k.records state.records q h.records_here (ap (λ (e : Bool). if e then Some (record_.Forward to moves) else k.records q) off);
+            records = λ r q off. records_as records m r k.records state.records q h.records_here (ap (λ (e : Bool). if e then Some (Record.Forward to moves) else k.records q) off);
             came = λ i t spot told between least. (
                 let e = stood m y.id h.ids v end.view i spot h.box gone least in
                 ((e.spot, e.stands), stays e.spot i (not_queued b pt m p e.spot i t h.run told between e.stands) (not_held b pt m p e.spot i t h.run told between e.stands) e.stands));
@@ -280,5 +240,5 @@ goes b m pt l records k y p h made =
           }) h.tokens;
     }
 
-pub hears_all_taken : (b : Boot) (m : ℕ) (pt : Point) (l : Placed) (records : AllRecords) (k : KernelState) (y : Message) (p : Pid) → Hearing b m pt l records k y → MadeStands pt.kernel → y.what ≡ what.AllTaken p → TurnsAt b m pt l records k
+pub hears_all_taken : (b : Boot) (m : ℕ) (pt : Point) (l : Placed) (records : AllRecords) (k : KernelState) (y : Message) (p : Pid) → Hearing b m pt l records k y → MadeStands pt.kernel → y.what ≡ What.AllTaken p → TurnsAt b m pt l records k
 hears_all_taken b m pt l records k y p h made is = goes b m pt l records k y p (subst (Hearing b m pt l records k) (ap (λ (w : What). record y { what = w }) is) h) made

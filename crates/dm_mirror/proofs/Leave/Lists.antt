@@ -1,40 +1,10 @@
 -- The messages that follow a process: the queue, then what was held.
-use Rattle.std.proofs.Common.{◌≡◌, ◌≢◌, ℕ, ◌+◌, ◌≤◌, ◌||◌, Bool, true, false, List, [], ◌∷◌, ◌++◌, length, map, is_some, refl, ap, ◌∙◌, sym, subst, inl, inr, arith}
-use Rattle.std.specs.Prelude.{if◌then◌else◌, option_map}
-use Rattle.std.specs.declared.option.Option.{Option}
-use Rattle.std.specs.declared.option.Option.TheVariants.{None, Some}
-use Rattle.std.proofs.lemmas.Bool.{cases_Bool, false≢true}
-use Rattle.dm_link.specs.declared.Pid.{Pid}
-use Rattle.dm_message.specs.declared.Message.{Message}
-use Rattle.dm_message.specs.declared.MsgId.{MsgId}
-use Rattle.dm_message.specs.declared.What.{What}
-use Rattle.dm_message.specs.declared.What.TheVariants as what
-use Rattle.dm_message.specs.Ids.{id_eq}
-use Rattle.dm_message.specs.Kinds.{IsKindOfPlain, kind_of}
-use Rattle.dm_message.specs.Plain.{PlainMessage, PlainWhat, plain_message, plain_what, with_what}
-use Rattle.dm_migrate.specs.Departure.{sent_on}
-use Rattle.dm_onekernel.specs.declared.boot.Boot.{Boot}
-use Rattle.dm_onekernel.specs.Options.{bind}
+use Rattle.dm_mirror.proofs.Names.{◌≡◌, ◌≢◌, ℕ, ◌+◌, ◌≤◌, ◌||◌, Bool, true, false, List, [], ◌∷◌, ◌++◌, length, map, refl, ap, ◌∙◌, sym, subst, inl, inr, arith, if◌then◌else◌, option_map, Option, None, Some, cases_Bool, false≢true, Pid}
+use Rattle.dm_mirror.proofs.Names.{Message, MsgId, What, id_eq, IsKindOfPlain, kind_of, PlainMessage, PlainWhat, plain_message, plain_what, with_what, sent_on, Boot, bind, id_eq-swap, sends_on, is_between, Point, Spot, Held, Queue}
+use Rattle.dm_mirror.proofs.Names.{standing, times, Told, View, letters, held_plain, queued_plain, StandsAsBag-elsewhere, Run, Placed, Mirrors, is_among, sent_all, among_times, parts, AllOwnStand, told_of, AreMessages, AllRecords}
+use Rattle.dm_mirror.proofs.Names.{told_there, more_front}
 use Rattle.dm_kernel.specs.declared.part.Part.{Part}
-use Rattle.dm_kernel.specs.declared.part.Part.TheVariants as part
-use Rattle.dm_laws.proofs.Equal.{id_eq-swap}
-use Rattle.dm_rule.specs.Migrating.{sends_on}
 use Rattle.dm_rule.specs.Parts as rule
-use Rattle.dm_rule.specs.Phases.{is_between}
-use Rattle.dm_rule.specs.Point.{Point}
-use Rattle.dm_rule.specs.Spots.{Spot, Held, Queue, standing, times}
-use Rattle.dm_rule.specs.View.{Told, View}
-use Rattle.dm_rule.proofs.Letters.{letters}
-use Rattle.dm_rule.proofs.Phases.Stand.{held_plain, queued_plain}
-use Rattle.dm_rule.proofs.Standing.{StandsAsBag-elsewhere}
-use Rattle.dm_rulelaws.proofs.Runs.{Run}
-use Rattle.dm_places.specs.Placed.{Placed, Mirrors}
-use Rattle.dm_places.specs.Following.{is_among, sent_all}
-use Rattle.dm_places.proofs.Followed.{among_times}
-use Rattle.dm_places.proofs.Keeps.{parts}
-use Rattle.dm_mirror.specs.Own.{AllOwnStand, told_of}
-use Rattle.dm_mirror.specs.Stands.{AreMessages}
-use Rattle.dm_mirror.specs.Tokens.{AllRecords}
 use Rattle.dm_mirror.proofs.Handle.Frames.{times_self}
 use Rattle.dm_mirror.proofs.Leave.Stays.{in_one}
 use Rattle.dm_mirror.proofs.Turning.{AllMayPut, MayPut, On, owns, part_of, rule_part_of}
@@ -105,9 +75,9 @@ own_on v w l at moves ids e h i x there none = elim (cases_Bool (is_among i ids)
 ]
 
 -- as parts of the machine and of the rule
-pub on_parts : (ms : List Message) → map part_of (map On ms) ≡ map part.Routes ms
+pub on_parts : (ms : List Message) → map part_of (map On ms) ≡ map Part.Routes ms
 on_parts [] = refl
-on_parts (m ∷ ms) = ap (λ (ps : List Part). part.Routes m ∷ ps) (on_parts ms)
+on_parts (m ∷ ms) = ap (λ (ps : List Part). Part.Routes m ∷ ps) (on_parts ms)
 
 pub on_owns : (ms : List Message) → owns (map On ms) ≡ 0
 on_owns [] = refl
@@ -130,9 +100,6 @@ on_rule_parts bag at moves (i ∷ is) (m ∷ ms) named e =
     let rest = on_rule_parts bag at moves is ms named more in
     λ c. rule.Again (name c) at ∷ rest c
 
-times_more_of : (j n : MsgId) (ns : List MsgId) → 1 ≤ times j ns → 1 ≤ times j (n ∷ ns)
-times_more_of j n ns least = omega (arith, least)
-
 pub all_may : (pt : Point) (placed : Placed) (records : AllRecords) (at moves : ℕ) (bag : MsgId → Option Message) (is : List MsgId) (ms : List Message)
     → ((i : MsgId) (x : Message) → 1 ≤ times i is → bag i ≡ Some x → MayPut pt placed records (On (sent_on at moves x))) → AreMessages bag is ms → AllMayPut pt placed records (map On (map (sent_on at moves) ms))
 all_may pt placed records at moves bag [] [] may e = tt
@@ -141,7 +108,7 @@ all_may pt placed records at moves bag (i ∷ is) [] may e = cc
 all_may pt placed records at moves bag (i ∷ is) (m ∷ ms) may e =
     let first : bag i ≡ Some m = cc in
     let more : map bag is ≡ map Some ms = cc in
-    (may i m (times_self i is) first, all_may pt placed records at moves bag is ms (λ j x least there. may j x (times_more_of j i is least) there) more)
+    (may i m (times_self i is) first, all_may pt placed records at moves bag is ms (λ j x least there. may j x (more_front j i is least) there) more)
 
 -- what was told of one of them
 pub record IsTold (v : View) (i : MsgId) (x : Message) : Type 0 where
@@ -150,42 +117,25 @@ pub record IsTold (v : View) (i : MsgId) (x : Message) : Type 0 where
   pub kind : told.kind ≡ kind_of x.what
   pub receiver : told.receiver ≡ x.to.pid
 
-some_told : (o : Option Told) → is_some o ≡ true → (t : Told) × (o ≡ Some t)
-some_told None e = absurd (false≢true e)
-some_told (Some t) e = (t, refl)
-
 kinds_of : (w : What) → IsKindOfPlain w (plain_what w)
-kinds_of (what.User code channel body links) = refl
-kinds_of what.Stop = refl
-kinds_of what.Resume = refl
-kinds_of what.Kill = refl
-kinds_of (what.Read base len) = refl
-kinds_of (what.Write base bytes) = refl
-kinds_of (what.Block bytes) = refl
-kinds_of what.Written = refl
-kinds_of what.Gone = refl
-kinds_of (what.Create image links) = refl
-kinds_of (what.Created pid) = refl
-kinds_of what.NoRoom = refl
-kinds_of (what.Move machine) = refl
-kinds_of (what.Moved outcome) = refl
-kinds_of (what.Migrate machine) = tt
-kinds_of (what.Update about) = tt
-kinds_of (what.Ask pid blocks moves size asker) = tt
-kinds_of (what.Refuse pid slots blocks) = tt
-kinds_of (what.PullState pid chunk) = tt
-kinds_of (what.State pid chunk last bytes) = tt
-kinds_of (what.PullBlock pid block) = tt
-kinds_of (what.Memory pid block bytes) = tt
-kinds_of (what.AllTaken pid) = tt
-kinds_of (what.Restart pid) = tt
-kinds_of (what.CallOff pid) = tt
-kinds_of (what.Bury pid) = tt
+kinds_of (What.Migrate machine) = tt
+kinds_of (What.Update about) = tt
+kinds_of (What.Ask pid blocks moves size asker) = tt
+kinds_of (What.Refuse pid slots blocks) = tt
+kinds_of (What.PullState pid chunk) = tt
+kinds_of (What.State pid chunk last bytes) = tt
+kinds_of (What.PullBlock pid block) = tt
+kinds_of (What.Memory pid block bytes) = tt
+kinds_of (What.AllTaken pid) = tt
+kinds_of (What.Restart pid) = tt
+kinds_of (What.CallOff pid) = tt
+kinds_of (What.Bury pid) = tt
+kinds_of _ = refl
 
 told_by : (b : Boot) (pt : Point) (l : Placed) (i : MsgId) (x : Message) (z : Spot) (o : Option PlainMessage) → Run b pt → Mirrors pt.kernel pt.view pt.addresses l → AllOwnStand pt.view l → 1 ≤ standing pt.view i z → l.bag i ≡ Some x → plain_message x ≡ o → IsTold pt.view i x
 told_by b pt l i x z None run mirrors own least there plain = record { told = told_of x; is = (own i x there plain).told; kind = refl; receiver = refl }
 told_by b pt l i x z (Some w) run mirrors own least there plain =
-    let (t, told) = some_told (pt.view.told i) (run.found.told i z least) in
+    let (t, told) = told_there (pt.view.told i) (run.found.told i z least) in
     let bag : pt.kernel.bag i ≡ Some w = sym (mirrors.plain.bag i) ∙ ap (λ (y : Option Message). bind y plain_message) there ∙ plain in
     let tells = run.based.phased.sane.tells in
     let p = parts x w plain in

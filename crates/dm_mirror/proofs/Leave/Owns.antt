@@ -1,44 +1,9 @@
 -- The next message of a machine's kernel, where it goes to another kernel and is about a process that leaves.
-use Rattle.std.proofs.Common.{◌≡◌, ℕ, ◌≤◌, ◌==◌, ◌||◌, Bool, true, false, List, [], ◌∷◌, refl, ap, ◌∙◌, sym, subst, inl, inr, arith}
-use Rattle.std.specs.Prelude.{if◌then◌else◌}
-use Rattle.std.specs.declared.option.Option.{Option}
-use Rattle.std.specs.declared.option.Option.TheVariants.{None, Some}
-use Rattle.std.proofs.lemmas.Bool.{false≢true}
-use Rattle.std.proofs.lemmas.Bool.Decides.{eqb_tells}
-use Rattle.dm_link.specs.declared.Addr.{Addr}
-use Rattle.dm_link.specs.declared.Pid.{Pid}
-use Rattle.dm_link.specs.Names.{pid_of, pid_eq, place_of}
-use Rattle.dm_linkupdate.specs.Notice.{kernel_at}
-use Rattle.dm_message.specs.declared.Message.{Message}
-use Rattle.dm_message.specs.declared.MsgId.{MsgId}
-use Rattle.dm_message.specs.Ids.{id_of}
-use Rattle.dm_message.specs.declared.What.{What}
-use Rattle.dm_message.specs.declared.What.TheVariants as what
-use Rattle.dm_message.specs.declared.kind.MessageKind.TheVariants as kind
-use Rattle.dm_migrate.specs.Arrival.{Arrival}
-use Rattle.dm_message.specs.Kinds.{kind_of}
-use Rattle.dm_message.specs.Plain.{PlainMessage, plain_message}
-use Rattle.dm_process.specs.declared.process.Process.{Process}
-use Rattle.dm_records.specs.Records.{incoming_of}
-use Rattle.dm_onekernel.specs.declared.boot.Boot.{Boot}
-use Rattle.dm_onekernel.specs.Boot.{switchboard, manager}
-use Rattle.dm_onekernel.specs.Options.{bind}
-use Rattle.dm_kernel.specs.Handle.{board_handles, handles, kernel_handles, manager_handles, process_handles}
+use Rattle.dm_mirror.proofs.Names.{◌≡◌, ℕ, ◌≤◌, ◌==◌, ◌||◌, Bool, true, false, List, [], ◌∷◌, refl, ap, ◌∙◌, sym, subst, inl, inr, arith, if◌then◌else◌, Option, None, Some, false≢true, eqb_tells, Addr, Pid, pid_of, pid_eq, place_of}
+use Rattle.dm_mirror.proofs.Names.{kernel_at, Message, MsgId, id_of, What, MessageKind, Arrival, kind_of, PlainMessage, plain_message, Process, incoming_of, Boot, switchboard, manager, bind, board_handles, handles, kernel_handles}
+use Rattle.dm_mirror.proofs.Names.{manager_handles, process_handles, KernelState, id_eq-same, Gets, Receiver, Sender, gets, given, own_gives, unmoved, process_told, server_told, Point, hears, kernel_hears, at_machine, Known, Of, Told}
+use Rattle.dm_mirror.proofs.Names.{own_id, is_kernels, not_kernels, is_fixed, Run, Placed, Mirrors, enclosed, AllOwnStand, about_of, told_of, AllRecords, Carries, destination_of, about_same}
 use Rattle.dm_kernel.specs.State as machine
-use Rattle.dm_kernel.specs.State.{KernelState, Turned}
-use Rattle.dm_laws.proofs.Equal.{id_eq-same}
-use Rattle.dm_rule.specs.Addresses.{Gets, Receiver, Sender, gets, given, own_gives, unmoved}
-use Rattle.dm_rule.specs.Migrating.{process_told, server_told}
-use Rattle.dm_rule.specs.Point.{Point}
-use Rattle.dm_rule.specs.Rule.{hears, kernel_hears}
-use Rattle.dm_line.specs.Sets.{at_machine}
-use Rattle.dm_rule.specs.View.{Known, Of, Told, own_id, is_kernels}
-use Rattle.dm_rule.proofs.Letters.{not_kernels}
-use Rattle.dm_rulelaws.specs.Found.{is_fixed}
-use Rattle.dm_rulelaws.proofs.Runs.{Run}
-use Rattle.dm_places.specs.Placed.{Placed, Mirrors, enclosed}
-use Rattle.dm_mirror.specs.Own.{AllOwnStand, about_of, told_of}
-use Rattle.dm_mirror.specs.Tokens.{AllRecords, Carries, destination_of}
 use Rattle.dm_mirror.proofs.Handle.Frames.{machine_self, machine_off}
 use Rattle.dm_mirror.proofs.Leave.Fronts.{Hearing}
 use Rattle.dm_mirror.proofs.Turning.{IsCarried, MayOwn}
@@ -82,40 +47,20 @@ pub record Between (pt : Point) (placed : Placed) (records : AllRecords) (m c : 
   pub there : placed.processes p ≡ Some process
   pub carries : Carries p process (pt.view.asked p) (incoming_of (records (destination_of x.id (told_of x)) p)) x.what
 
-of_is : (p q : Pid) → Of p ≡ Of q → p ≡ q
-of_is p q e = cc
-
 carried_of : (pt : Point) (placed : Placed) (records : AllRecords) (m c : ℕ) (p : Pid) (x : Message) → Between pt placed records m c p x → IsCarried placed (pt.view.asked p) records p x
 carried_of pt placed records m c p x h = record { process = h.process; there = h.there; sender = h.sender ∙ ap kernel_at (sym h.from); carries = h.carries }
 
 -- no message of a protocol asks to move
-no_request : (p : Pid) (x : Process) (n : ℕ) (a : Option Arrival) (w : What) → kind_of w ≡ kind.Migrate → Carries p x n a w → ⊥
-no_request p x n a (what.Ask pid blocks moves size asker) e h = cc
-no_request p x n a (what.Refuse pid slots blocks) e h = cc
-no_request p x n a (what.PullState pid chunk) e h = cc
-no_request p x n a (what.State pid chunk last bytes) e h = cc
-no_request p x n a (what.PullBlock pid block) e h = cc
-no_request p x n a (what.Memory pid block bytes) e h = cc
-no_request p x n a (what.AllTaken pid) e h = cc
-no_request p x n a (what.Restart pid) e h = cc
-no_request p x n a (what.Migrate machine) e h = h
-no_request p x n a (what.Update about) e h = h
-no_request p x n a (what.CallOff pid) e h = h
-no_request p x n a (what.Bury pid) e h = h
-no_request p x n a (what.User code channel body links) e h = h
-no_request p x n a what.Stop e h = h
-no_request p x n a what.Resume e h = h
-no_request p x n a what.Kill e h = h
-no_request p x n a (what.Read base len) e h = h
-no_request p x n a (what.Write base bytes) e h = h
-no_request p x n a (what.Block bytes) e h = h
-no_request p x n a what.Written e h = h
-no_request p x n a what.Gone e h = h
-no_request p x n a (what.Create image links) e h = h
-no_request p x n a (what.Created pid) e h = h
-no_request p x n a what.NoRoom e h = h
-no_request p x n a (what.Move machine) e h = h
-no_request p x n a (what.Moved outcome) e h = h
+no_request : (p : Pid) (x : Process) (n : ℕ) (a : Option Arrival) (w : What) → kind_of w ≡ MessageKind.Migrate → Carries p x n a w → ⊥
+no_request p x n a (What.Ask pid blocks moves size asker) e h = cc
+no_request p x n a (What.Refuse pid slots blocks) e h = cc
+no_request p x n a (What.PullState pid chunk) e h = cc
+no_request p x n a (What.State pid chunk last bytes) e h = cc
+no_request p x n a (What.PullBlock pid block) e h = cc
+no_request p x n a (What.Memory pid block bytes) e h = cc
+no_request p x n a (What.AllTaken pid) e h = cc
+no_request p x n a (What.Restart pid) e h = cc
+no_request p x n a _ e h = h
 
 pub may_between : (pt : Point) (placed : Placed) (records : AllRecords) (m c : ℕ) (p : Pid) (x : Message) → Between pt placed records m c p x → MayOwn pt placed records x
 may_between pt placed records m c p x h =
@@ -134,7 +79,7 @@ may_between pt placed records m c p x h =
           ∙ ap unmoved h.acting ∙ ap place_of (sym h.sender);
       about = h.topic ∙ sym h.about;
       asker = λ e. absurd (no_request p h.process (pt.view.asked p) (incoming_of (records (destination_of x.id (told_of x)) p)) x.what e h.carries);
-      carried = λ between r of_r. subst (λ (z : Pid). IsCarried placed (pt.view.asked z) records z x) (of_is p r (sym h.about ∙ of_r)) (carried_of pt placed records m c p x h);
+      carried = λ between r of_r. subst (λ (z : Pid). IsCarried placed (pt.view.asked z) records z x) (about_same p r (sym h.about ∙ of_r)) (carried_of pt placed records m c p x h);
     }
 
 -- the receiver is a process, or the kernel

@@ -1,54 +1,15 @@
 -- A piece of a process that leaves goes to the machine that asks for it.
-use Rattle.std.proofs.Common.{◌≡◌, ℕ, ◌+◌, ◌/◌, ◌≤◌, ◌==◌, Bool, true, false, List, [], ◌∷◌, length, map, refl, ap, ◌∙◌, sym, subst, inl, inr, arith}
-use Rattle.std.specs.Prelude.{if◌then◌else◌, option_map}
-use Rattle.std.specs.declared.option.Option.{Option}
-use Rattle.std.specs.declared.option.Option.TheVariants.{None, Some}
-use Rattle.std.proofs.lemmas.Bool.{cases_Bool}
-use Rattle.dm_link.specs.declared.Addr.{Addr}
-use Rattle.dm_link.specs.declared.Pid.{Pid}
-use Rattle.dm_link.specs.Names.{pid_of}
-use Rattle.dm_linkupdate.specs.Notice.{kernel_at}
-use Rattle.dm_message.specs.declared.Message.{Message}
-use Rattle.dm_message.specs.declared.MsgId.{MsgId}
-use Rattle.dm_message.specs.declared.What.{What}
-use Rattle.dm_message.specs.declared.What.TheVariants as what
-use Rattle.dm_message.specs.declared.kind.MessageKind.{MessageKind}
-use Rattle.dm_message.specs.declared.kind.MessageKind.TheVariants as kind
-use Rattle.dm_message.specs.Kinds.{kind_of}
-use Rattle.dm_message.specs.Plain.{plain_what, with_what}
-use Rattle.dm_process.specs.declared.process.Process.{Process}
-use Rattle.dm_records.specs.Records.{frozen_of, incoming_of}
-use Rattle.dm_migrate.specs.Departure.{Departure}
-use Rattle.dm_migrate.specs.Pieces.{block_of, chunk_of, state_of}
-use Rattle.dm_onekernel.specs.declared.boot.Boot.{Boot}
-use Rattle.dm_onekernel.specs.Kernel.{OneKernel}
-use Rattle.dm_onekernel.specs.Options.{bind}
-use Rattle.dm_onekernel.specs.Plain.{plain_process}
-use Rattle.dm_onekernel.specs.PlainProcess.{PlainProcess}
+use Rattle.dm_mirror.proofs.Names.{◌≡◌, ℕ, ◌+◌, ◌/◌, ◌≤◌, ◌==◌, Bool, true, false, List, [], ◌∷◌, length, map, refl, ap, ◌∙◌, sym, subst, inl, inr, arith, if◌then◌else◌, option_map, Option, None, Some, cases_Bool, Addr, Pid, pid_of}
+use Rattle.dm_mirror.proofs.Names.{kernel_at, Message, MsgId, What, Line, MessageKind, kind_of, plain_what, with_what, Process, frozen_of, incoming_of, Departure, block_of, chunk_of, state_of, Boot, OneKernel, bind, plain_process}
+use Rattle.dm_mirror.proofs.Names.{PlainProcess, gives_piece, kernel_handles, KernelState, own, Addresses, Receiver, Sender, gets, own_gives, unmoved, kernel_told, to_kernel, is_between, is_of_source, Point, fits, free_room, kernel_hears}
+use Rattle.dm_mirror.proofs.Names.{at_machine, without_front, Inbox, standing, times, Frozen, Here, Known, Of, Told, Unknown, View, after_proto, handled, own_id, is_server, Run, Placed, enclosed, mirrors_view, about_of, told_of}
+use Rattle.dm_mirror.proofs.Names.{KnownStands, AllRecords, Carries, destination_of}
 use Rattle.dm_onekernel.specs.Step as kernel
-use Rattle.dm_kernel.specs.Departing.{gives_piece}
-use Rattle.dm_kernel.specs.Handle.{kernel_handles}
 use Rattle.dm_kernel.specs.State as machine
-use Rattle.dm_kernel.specs.State.{KernelState, own, with_sent}
-use Rattle.dm_line.specs.declared.line.Line.TheVariants as line
-use Rattle.dm_rule.specs.Addresses.{Addresses, Receiver, Sender, gets, own_gives, unmoved}
+use Rattle.dm_kernel.specs.State.{with_sent}
 use Rattle.dm_rule.specs.Migrating as migrating
-use Rattle.dm_rule.specs.Migrating.{kernel_told, to_kernel}
 use Rattle.dm_rule.specs.Parts as rule
-use Rattle.dm_rule.specs.Phases.{is_between, is_of_source}
-use Rattle.dm_rule.specs.Point.{Point}
-use Rattle.dm_rule.specs.Rule.{fits, free_room, kernel_hears}
-use Rattle.dm_line.specs.Sets.{at_machine, without_front}
-use Rattle.dm_rule.specs.Spots.{Inbox, standing, times}
 use Rattle.dm_rule.specs.View as view
-use Rattle.dm_rule.specs.View.{Frozen, Here, Known, Of, Told, Unknown, View, after_proto, handled, own_id}
-use Rattle.dm_rulelaws.specs.Fits.{is_server}
-use Rattle.dm_rulelaws.proofs.Runs.{Run}
-use Rattle.dm_places.specs.Placed.{Placed, enclosed}
-use Rattle.dm_places.proofs.Lines.{mirrors_view}
-use Rattle.dm_mirror.specs.Own.{about_of, told_of}
-use Rattle.dm_mirror.specs.Stands.{KnownStands}
-use Rattle.dm_mirror.specs.Tokens.{AllRecords, Carries, destination_of}
 use Rattle.dm_mirror.proofs.Handle.Frames.{machine_self, machine_off}
 use Rattle.dm_mirror.proofs.Rooms.{taken_same}
 use Rattle.dm_mirror.proofs.Leave.Frames.{IsLeaving, known_stays, leaving_is, own_stays, tokens_one}
@@ -137,12 +98,12 @@ gives b m pt l records k y p w h g piece c turn hears proto x there carries =
     let same_there : after_records y.id.from.home p ≡ records y.id.from.home p = records_as records m y.id.from.home k.records state.records p h.records_here refl in
     record {
       state = state;
-      says = line.Proto y.id ∷ [];
+      says = Line.Proto y.id ∷ [];
       routes = Own message ∷ [];
       late = Nothing;
       turn = turn_hears b m pt l records k y h (gives_piece s y w) (owns.to_kernel b s y num ∙ turn);
-      outcome = outcome_hears b m pt l records k y h (Some (rule.Says (line.Proto y.id) ∷ rule.Owns (kind_of w) y.sender.pid y.sender.at ∷ []))
-          (to_kernel_hears b pt m y.id (told_of y) num ∙ hears ∙ ap (λ (a : Addr). Some (rule.Says (line.Proto y.id) ∷ rule.Owns (kind_of w) a.pid a.at ∷ [])) (sym c.sender));
+      outcome = outcome_hears b m pt l records k y h (Some (rule.Says (Line.Proto y.id) ∷ rule.Owns (kind_of w) y.sender.pid y.sender.at ∷ []))
+          (to_kernel_hears b pt m y.id (told_of y) num ∙ hears ∙ ap (λ (a : Addr). Some (rule.Says (Line.Proto y.id) ∷ rule.Owns (kind_of w) a.pid a.at ∷ [])) (sym c.sender));
       next = next;
       after = ap (λ (o : Option Told). Some (record { kernel = pt.kernel; view = after_proto (handled (begun pt m).view y.id) o; addresses = pt.addresses })) h.told
           ∙ ap (λ (u : View). Some (record { kernel = pt.kernel; view = u; addresses = pt.addresses })) proto;
@@ -224,9 +185,9 @@ pub leaves_alive : (b : Boot) (m : ℕ) (pt : Point) (l : Placed) (p : Pid) (x :
 leaves_alive b m pt l p x i k o there plain told =
     ap (λ (z : Option PlainProcess). bind z (λ (u : PlainProcess). kernel_told pt m i p (fits (free_room b pt m) (length u.memory / 256)) u k)) (plain ∙ ap (option_map plain_process) there) ∙ told
 
-gives_chunk : (b : Boot) (m : ℕ) (pt : Point) (l : Placed) (records : AllRecords) (k : KernelState) (y : Message) (p : Pid) (chunk : ℕ) → Hearing b m pt l records k (record y { what = what.PullState p chunk }) → TurnsAt b m pt l records k
+gives_chunk : (b : Boot) (m : ℕ) (pt : Point) (l : Placed) (records : AllRecords) (k : KernelState) (y : Message) (p : Pid) (chunk : ℕ) → Hearing b m pt l records k (record y { what = What.PullState p chunk }) → TurnsAt b m pt l records k
 gives_chunk b m pt l records k y p chunk h =
-    let z : Message = record y { what = what.PullState p chunk } in
+    let z : Message = record y { what = What.PullState p chunk } in
     let s : KernelState = record k { inbox = h.rest } in
     let g = leaving b m pt l records k z p h refl refl refl refl in
     let d = departing b m pt l records k z p h g in
@@ -238,12 +199,12 @@ gives_chunk b m pt l records k y p chunk h =
     gives b m pt l records k z p (chunk_of x.pid (state_of x) chunk) h g
     (record { about = ap Of name; plain = refl; encloses = refl; gives = λ o v a i q. refl; of_source = refl }) c
     (ap (λ (r : Option machine.Known). bind (frozen_of r) (λ (e : Departure). gives_piece s z (chunk_of e.process.pid (state_of e.process) chunk))) d.is)
-    (leaves_alive b m pt l p c.process y.id kind.PullState (Some (migrating.gives_piece y.id kind.State)) c.there (h.mirrors.plain.processes p) refl)
+    (leaves_alive b m pt l p c.process y.id MessageKind.PullState (Some (migrating.gives_piece y.id MessageKind.State)) c.there (h.mirrors.plain.processes p) refl)
     refl c.process c.there (ap (λ (u : Process). chunk_of u.pid (state_of u) chunk) same, told.1, told.2)
 
-gives_block : (b : Boot) (m : ℕ) (pt : Point) (l : Placed) (records : AllRecords) (k : KernelState) (y : Message) (p : Pid) (block : ℕ) → Hearing b m pt l records k (record y { what = what.PullBlock p block }) → TurnsAt b m pt l records k
+gives_block : (b : Boot) (m : ℕ) (pt : Point) (l : Placed) (records : AllRecords) (k : KernelState) (y : Message) (p : Pid) (block : ℕ) → Hearing b m pt l records k (record y { what = What.PullBlock p block }) → TurnsAt b m pt l records k
 gives_block b m pt l records k y p block h =
-    let z : Message = record y { what = what.PullBlock p block } in
+    let z : Message = record y { what = What.PullBlock p block } in
     let s : KernelState = record k { inbox = h.rest } in
     let g = leaving b m pt l records k z p h refl refl refl refl in
     let d = departing b m pt l records k z p h g in
@@ -255,11 +216,11 @@ gives_block b m pt l records k y p block h =
     gives b m pt l records k z p (block_of x.pid x.memory block) h g
     (record { about = ap Of name; plain = refl; encloses = refl; gives = λ o v a i q. refl; of_source = refl }) c
     (ap (λ (r : Option machine.Known). bind (frozen_of r) (λ (e : Departure). gives_piece s z (block_of e.process.pid e.process.memory block))) d.is)
-    (leaves_alive b m pt l p c.process y.id kind.PullBlock (Some (migrating.gives_piece y.id kind.Memory)) c.there (h.mirrors.plain.processes p) refl)
+    (leaves_alive b m pt l p c.process y.id MessageKind.PullBlock (Some (migrating.gives_piece y.id MessageKind.Memory)) c.there (h.mirrors.plain.processes p) refl)
     refl c.process c.there (ap (λ (u : Process). block_of u.pid u.memory block) same, told.1, told.2)
 
-pub hears_pull_state : (b : Boot) (m : ℕ) (pt : Point) (l : Placed) (records : AllRecords) (k : KernelState) (y : Message) (p : Pid) (chunk : ℕ) → Hearing b m pt l records k y → y.what ≡ what.PullState p chunk → TurnsAt b m pt l records k
+pub hears_pull_state : (b : Boot) (m : ℕ) (pt : Point) (l : Placed) (records : AllRecords) (k : KernelState) (y : Message) (p : Pid) (chunk : ℕ) → Hearing b m pt l records k y → y.what ≡ What.PullState p chunk → TurnsAt b m pt l records k
 hears_pull_state b m pt l records k y p chunk h is = gives_chunk b m pt l records k y p chunk (subst (Hearing b m pt l records k) (ap (λ (w : What). record y { what = w }) is) h)
 
-pub hears_pull_block : (b : Boot) (m : ℕ) (pt : Point) (l : Placed) (records : AllRecords) (k : KernelState) (y : Message) (p : Pid) (block : ℕ) → Hearing b m pt l records k y → y.what ≡ what.PullBlock p block → TurnsAt b m pt l records k
+pub hears_pull_block : (b : Boot) (m : ℕ) (pt : Point) (l : Placed) (records : AllRecords) (k : KernelState) (y : Message) (p : Pid) (block : ℕ) → Hearing b m pt l records k y → y.what ≡ What.PullBlock p block → TurnsAt b m pt l records k
 hears_pull_block b m pt l records k y p block h is = gives_block b m pt l records k y p block (subst (Hearing b m pt l records k) (ap (λ (w : What). record y { what = w }) is) h)

@@ -1,38 +1,8 @@
 -- A process that was to leave stays: it is served again, and what was held comes before the inbox.
-use Rattle.std.proofs.Common.{◌≡◌, ◌≢◌, ◌⊎◌, ℕ, ◌+◌, ◌≤◌, ◌==◌, ◌&&◌, Bool, true, false, List, [], ◌∷◌, ◌++◌, map, nat_le, refl, ap, ◌∙◌, sym, subst, inl, inr, arith}
-use Rattle.std.specs.Prelude.{if◌then◌else◌}
-use Rattle.std.specs.declared.option.Option.{Option}
-use Rattle.std.specs.declared.option.Option.TheVariants.{Some}
-use Rattle.std.proofs.lemmas.Bool.{cases_Bool}
-use Rattle.std.proofs.lemmas.Bool.Decides.{nat_tests}
-use Rattle.dm_link.specs.declared.Pid.{Pid}
-use Rattle.dm_link.specs.Names.{pid_eq}
-use Rattle.dm_message.specs.declared.Message.{Message}
-use Rattle.dm_message.specs.declared.MsgId.{MsgId}
-use Rattle.dm_message.specs.declared.What.{What}
-use Rattle.dm_message.specs.declared.What.TheVariants as what
-use Rattle.dm_message.specs.declared.kind.MessageKind.TheVariants as kind
-use Rattle.dm_records.specs.declared.record.Record.TheVariants as record_
-use Rattle.dm_records.specs.Records.{frozen_of, with_record}
-use Rattle.dm_onekernel.specs.declared.boot.Boot.{Boot}
-use Rattle.dm_onekernel.specs.Options.{bind}
-use Rattle.dm_kernel.specs.Departing.{stays}
+use Rattle.dm_mirror.proofs.Names.{◌≡◌, ◌≢◌, ◌⊎◌, ℕ, ◌+◌, ◌≤◌, ◌==◌, ◌&&◌, Bool, true, false, List, [], ◌∷◌, ◌++◌, map, nat_le, refl, ap, ◌∙◌, sym, subst, inl, inr, arith, if◌then◌else◌, Option, Some, cases_Bool, nat_tests, Pid, pid_eq}
+use Rattle.dm_mirror.proofs.Names.{Message, MsgId, What, MessageKind, Record, Line, Part, frozen_of, with_record, Boot, bind, stays, KernelState, pid_eq-same, Point, moved, takes_room, at_machine, at_record, standing, times, Here, Known}
+use Rattle.dm_mirror.proofs.Names.{without_first, times-append, Placed, mirrors_view, told_of, AreMessages, KnownStands, AllRecords}
 use Rattle.dm_kernel.specs.State as machine
-use Rattle.dm_kernel.specs.State.{KernelState}
-use Rattle.dm_laws.proofs.Equal.{pid_eq-same}
-use Rattle.dm_line.specs.declared.line.Line.TheVariants as line
-use Rattle.dm_rule.specs.Parts as rule
-use Rattle.dm_rule.specs.Point.{Point, moved}
-use Rattle.dm_rule.specs.Rule.{takes_room}
-use Rattle.dm_line.specs.Sets.{at_machine, at_record}
-use Rattle.dm_rule.specs.Spots.{standing, times}
-use Rattle.dm_rule.specs.View.{Here, Known, without_first}
-use Rattle.dm_rule.proofs.Standing.{times-append}
-use Rattle.dm_places.specs.Placed.{Placed}
-use Rattle.dm_places.proofs.Lines.{mirrors_view}
-use Rattle.dm_mirror.specs.Own.{told_of}
-use Rattle.dm_mirror.specs.Stands.{AreMessages, KnownStands}
-use Rattle.dm_mirror.specs.Tokens.{AllRecords}
 use Rattle.dm_mirror.proofs.Handle.Frames.{machine_self, machine_off, record_self, record_off, record_others}
 use Rattle.dm_mirror.proofs.Rooms.{taken_same}
 use Rattle.dm_mirror.proofs.Leave.Frames.{own_stays, stands_one, tokens_one}
@@ -68,9 +38,9 @@ in_one j is js least = elim (cases_Bool (nat_le 1 (times j js))) [
   | inr none ↦ inr (let e = times-append j is js in grind (arith, nat_tests))
 ]
 
-refuses : (b : Boot) (m : ℕ) (pt : Point) (l : Placed) (records : AllRecords) (k : KernelState) (y : Message) (p : Pid) (slots blocks : ℕ) → Hearing b m pt l records k (record y { what = what.Refuse p slots blocks }) → TurnsAt b m pt l records k
+refuses : (b : Boot) (m : ℕ) (pt : Point) (l : Placed) (records : AllRecords) (k : KernelState) (y : Message) (p : Pid) (slots blocks : ℕ) → Hearing b m pt l records k (record y { what = What.Refuse p slots blocks }) → TurnsAt b m pt l records k
 refuses b m pt l records k y p slots blocks h =
-    let z : Message = record y { what = what.Refuse p slots blocks } in
+    let z : Message = record y { what = What.Refuse p slots blocks } in
     let v = pt.view in
     let s : KernelState = record k { inbox = h.rest } in
     let g = leaving b m pt l records k z p h refl refl refl refl in
@@ -79,8 +49,8 @@ refuses b m pt l records k y p slots blocks h =
     let there = d.stands.here.0.1 in
     let num = kernel_number m y.to.pid g.receiver in
     let server = leaves_no_server b pt m g.to p h.run g.known in
-    let state : KernelState = record s { records = with_record s.records p (record_.Here x); ring = s.ring ++ p ∷ []; inbox = d.departure.held ++ s.inbox } in
-    let next : Point = moved (begun pt m) (line.Stays p) pt.kernel in
+    let state : KernelState = record s { records = with_record s.records p (Record.Here x); ring = s.ring ++ p ∷ []; inbox = d.departure.held ++ s.inbox } in
+    let next : Point = moved (begun pt m) (Line.Stays p) pt.kernel in
     let after_records : AllRecords = at_machine records m state.records in
     let first : List MsgId = at_machine v.inbox m (without_first (v.inbox m)) m in
     let first_is : first ≡ h.ids = machine_self v.inbox m (without_first (v.inbox m)) ∙ ap without_first h.box in
@@ -97,19 +67,19 @@ refuses b m pt l records k y p slots blocks h =
       pair = λ a c. refl;
     } in
     let here_known : next.view.known m p ≡ Here = record_self v.known m p Here (pid_eq-same p) in
-    let here_record : state.records p ≡ Some (record_.Here x) = ap (λ (c : Bool). if c then Some (record_.Here x) else k.records p) (pid_eq-same p) in
+    let here_record : state.records p ≡ Some (Record.Here x) = ap (λ (c : Bool). if c then Some (Record.Here x) else k.records p) (pid_eq-same p) in
     let mine : KnownStands next l p (v.queue m p) (next.view.held m p) (next.view.known m p) (state.records p) =
     subst (KnownStands next l p (v.queue m p) (next.view.held m p) (next.view.known m p)) (sym here_record)
-    (subst (λ (n : Known). KnownStands next l p (v.queue m p) (next.view.held m p) n (Some (record_.Here x))) (sym here_known) d.stands.here) in
+    (subst (λ (n : Known). KnownStands next l p (v.queue m p) (next.view.held m p) n (Some (Record.Here x))) (sym here_known) d.stands.here) in
     let taken = taken_same pt next m refl (λ n. refl) (λ q. taken_at_record pt next m p q Here refl refl (sym (ap takes_room g.known))) in
     record {
       state = state;
-      says = line.Stays p ∷ [];
+      says = Line.Stays p ∷ [];
       routes = [];
       late = Nothing;
       turn = turn_hears b m pt l records k z h (stays s p d.departure) (to_kernel b s z num ∙ ap (λ (r : Option machine.Known). bind (frozen_of r) (stays s p)) d.is);
-      outcome = outcome_hears b m pt l records k z h (Some (rule.Says (line.Stays p) ∷ []))
-          (to_kernel_hears b pt m y.id (told_of z) num ∙ leaves_alive b m pt l p (record x { queue = d.stands.here.0.0 }) y.id kind.Refuse (Some (rule.Says (line.Stays p) ∷ [])) there (h.mirrors.plain.processes p) refl);
+      outcome = outcome_hears b m pt l records k z h (Some (Part.Says (Line.Stays p) ∷ []))
+          (to_kernel_hears b pt m y.id (told_of z) num ∙ leaves_alive b m pt l p (record x { queue = d.stands.here.0.0 }) y.id MessageKind.Refuse (Some (Part.Says (Line.Stays p) ∷ [])) there (h.mirrors.plain.processes p) refl);
       next = next;
       after = refl;
       placed = l;
@@ -117,7 +87,7 @@ refuses b m pt l records k y p slots blocks h =
       kernel = stands_one b pt next l l m k state p
           (record {
             here = refl;
-            records = λ q off. ap (λ (c : Bool). if c then Some (record_.Here x) else k.records q) off;
+            records = λ q off. ap (λ (c : Bool). if c then Some (Record.Here x) else k.records q) off;
             queue = λ q off. refl;
             held = λ q off. record_others v.held m p q [] off;
             known = λ q off. record_others v.known m p q Here off;
@@ -164,7 +134,7 @@ refuses b m pt l records k y p slots blocks h =
             told = refl;
             asked = λ q off. refl;
             processes = λ q off. refl;
-            records = λ n q off. records_as records m n k.records state.records q h.records_here (ap (λ (c : Bool). if c then Some (record_.Here x) else k.records q) off);
+            records = λ n q off. records_as records m n k.records state.records q h.records_here (ap (λ (c : Bool). if c then Some (Record.Here x) else k.records q) off);
             came = λ i t spot told between least. (let e = stood m y.id h.ids v next.view i spot h.box gone least in ((e.spot, e.stands), refl));
             none = λ i t spot told between about least. (
                 let e = stood m y.id h.ids v next.view i spot h.box gone least in
@@ -173,5 +143,5 @@ refuses b m pt l records k y p slots blocks h =
           }) h.tokens;
     }
 
-pub hears_refuse : (b : Boot) (m : ℕ) (pt : Point) (l : Placed) (records : AllRecords) (k : KernelState) (y : Message) (p : Pid) (slots blocks : ℕ) → Hearing b m pt l records k y → y.what ≡ what.Refuse p slots blocks → TurnsAt b m pt l records k
+pub hears_refuse : (b : Boot) (m : ℕ) (pt : Point) (l : Placed) (records : AllRecords) (k : KernelState) (y : Message) (p : Pid) (slots blocks : ℕ) → Hearing b m pt l records k y → y.what ≡ What.Refuse p slots blocks → TurnsAt b m pt l records k
 hears_refuse b m pt l records k y p slots blocks h is = refuses b m pt l records k y p slots blocks (subst (Hearing b m pt l records k) (ap (λ (w : What). record y { what = w }) is) h)

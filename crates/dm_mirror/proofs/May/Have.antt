@@ -1,36 +1,10 @@
 -- A process that is here may act: it bears its name, can be carried, can count one more message, and has its room.
-use Rattle.std.proofs.Common.{◌≡◌, inl, inr, ℕ, zero, suc, ◌+◌, ◌/◌, ◌<◌, ◌≤◌, ◌==◌, Bool, true, false, List, length, refl, ap, ◌∙◌, sym, subst, is_some, arith}
-use Rattle.std.specs.Prelude.{if◌then◌else◌, option_map}
-use Rattle.std.specs.declared.option.Option.{Option}
-use Rattle.std.specs.declared.option.Option.TheVariants.{None, Some}
-use Rattle.std.proofs.lemmas.Bool.{cases_Bool}
-use Rattle.std.proofs.lemmas.Bool.Decides.{nat_tests}
-use Rattle.dm_link.specs.declared.Pid.{Pid}
-use Rattle.dm_link.specs.Names.{pid_of}
-use Rattle.dm_message.specs.declared.Message.{Message}
-use Rattle.dm_message.specs.declared.MsgId.{MsgId}
-use Rattle.dm_process.specs.declared.process.Process.{Process}
-use Rattle.dm_room.specs.Room.{HasTaken}
-use Rattle.dm_records.specs.declared.record.Record.TheVariants as record_
-use Rattle.dm_onekernel.specs.declared.boot.Boot.{Boot}
-use Rattle.dm_onekernel.specs.Boot.{first_number}
-use Rattle.dm_onekernel.specs.Kernel.{Life, Alive}
-use Rattle.dm_onekernel.specs.Plain.{plain_process}
+use Rattle.dm_mirror.proofs.Names.{◌≡◌, inl, inr, ℕ, zero, suc, ◌+◌, ◌/◌, ◌<◌, ◌≤◌, ◌==◌, Bool, true, false, List, length, refl, ap, ◌∙◌, sym, subst, is_some, arith, if◌then◌else◌, option_map, Option, None, Some, cases_Bool, nat_tests, Pid}
+use Rattle.dm_mirror.proofs.Names.{pid_of, Message, MsgId, Process, HasTaken, Record, Boot, first_number, Life, Alive, plain_process, alive-is, Point, blocks_of, taken_at, taken_by, taken_of_home, takes_room, Known, is_server, Placed}
+use Rattle.dm_mirror.proofs.Names.{Mirrors, IsLawfulState, of_known, KernelState, MadeStands, KernelStands, KnownStands}
 use Rattle.dm_onekernel.specs.Step as kernel
-use Rattle.dm_laws.proofs.Steps.{alive-is}
-use Rattle.dm_rule.specs.Point.{Point}
-use Rattle.dm_rule.specs.Rule.{blocks_of, taken_at, taken_by, taken_of_home, takes_room}
-use Rattle.dm_rule.specs.View.{Known}
-use Rattle.dm_rule.specs.View as view
-use Rattle.dm_rulelaws.specs.Fits.{is_server}
-use Rattle.dm_places.specs.Placed.{Placed, Mirrors}
-use Rattle.dm_kernel.specs.Lawful.{IsLawfulState}
 use Rattle.dm_kernel.specs.May.{MayAct}
 use Rattle.dm_kernel.specs.State as machine
-use Rattle.dm_kernel.proofs.LawfulRows.{of_known}
-use Rattle.dm_kernel.specs.State.{KernelState}
-use Rattle.dm_mirror.specs.Made.{MadeStands}
-use Rattle.dm_mirror.specs.Stands.{KernelStands, KnownStands}
 use Rattle.dm_mirror.proofs.Counts.FewRouted.{CountsFew}
 
 -- what one of the processes that were made takes, all of them do
@@ -88,24 +62,24 @@ taken_within pt m p made there =
 
 -- what a machine has of a process that is here
 pub record HereSo (pt : Point) (l : Placed) (m : ℕ) (p : Pid) (x : Process) : Type 0 where
-  pub known : pt.view.known m p ≡ view.Here
+  pub known : pt.view.known m p ≡ Known.Here
   pub queue : List Message
   pub there : l.processes p ≡ Some (record x { queue = queue })
   pub life : pt.kernel.processes p ≡ Some (Alive (plain_process x))
 
-here_of : (pt : Point) (l : Placed) (p : Pid) (ids held_ : List MsgId) (k : Known) (x : Process) → KnownStands pt l p ids held_ k (Some (record_.Here x)) → (k ≡ view.Here) × ((q : List Message) × (l.processes p ≡ Some (record x { queue = q })))
-here_of pt l p ids held_ view.Here x h = (refl, h.0)
-here_of pt l p ids held_ view.Unknown x h = absurd h
-here_of pt l p ids held_ (view.Frozen to) x h = absurd h
-here_of pt l p ids held_ (view.Incoming from) x h = absurd h
-here_of pt l p ids held_ (view.Forward at moves) x h = absurd h
-here_of pt l p ids held_ view.Ended x h = absurd h
+here_of : (pt : Point) (l : Placed) (p : Pid) (ids held_ : List MsgId) (k : Known) (x : Process) → KnownStands pt l p ids held_ k (Some (Record.Here x)) → (k ≡ Known.Here) × ((q : List Message) × (l.processes p ≡ Some (record x { queue = q })))
+here_of pt l p ids held_ Known.Here x h = (refl, h.0)
+here_of pt l p ids held_ Known.Unknown x h = absurd h
+here_of pt l p ids held_ (Known.Frozen to) x h = absurd h
+here_of pt l p ids held_ (Known.Incoming from) x h = absurd h
+here_of pt l p ids held_ (Known.Forward at moves) x h = absurd h
+here_of pt l p ids held_ Known.Ended x h = absurd h
 
 -- what a process of the kernel with places is without them
 pub life_is : (pt : Point) (l : Placed) (p : Pid) (x : Process) → Mirrors pt.kernel pt.view pt.addresses l → l.processes p ≡ Some x → pt.kernel.processes p ≡ Some (Alive (plain_process x))
 life_is pt l p x mirrors there = alive-is (pt.kernel.processes p) (plain_process x) (mirrors.plain.processes p ∙ ap (option_map plain_process) there)
 
-pub here_so : (b : Boot) (pt : Point) (l : Placed) (m : ℕ) (k : KernelState) (p : Pid) (x : Process) → Mirrors pt.kernel pt.view pt.addresses l → KernelStands b pt l m k → is_server p ≡ false → k.records p ≡ Some (record_.Here x) → HereSo pt l m p x
+pub here_so : (b : Boot) (pt : Point) (l : Placed) (m : ℕ) (k : KernelState) (p : Pid) (x : Process) → Mirrors pt.kernel pt.view pt.addresses l → KernelStands b pt l m k → is_server p ≡ false → k.records p ≡ Some (Record.Here x) → HereSo pt l m p x
 here_so b pt l m k p x mirrors h server is =
     let (known, (q, there)) = here_of pt l p (pt.view.queue m p) (pt.view.held m p) (pt.view.known m p) x (subst (KnownStands pt l p (pt.view.queue m p) (pt.view.held m p) (pt.view.known m p)) is (h.known p server)) in
     record { known = known; queue = q; there = there; life = life_is pt l p (record x { queue = q }) mirrors there }
@@ -125,13 +99,13 @@ has_taken b pt l m k p x made h takes life =
     (omega (arith, takes, all, room), omega (arith, blocks, all_, room_))
 
 pub may_act : (b : Boot) (pt : Point) (l : Placed) (m : ℕ) (k : KernelState) → MadeStands pt.kernel → CountsFew pt → Mirrors pt.kernel pt.view pt.addresses l → KernelStands b pt l m k → IsLawfulState k
-    → (p : Pid) (x : Process) → k.records p ≡ Some (record_.Here x) → MayAct k p x
+    → (p : Pid) (x : Process) → k.records p ≡ Some (Record.Here x) → MayAct k p x
 may_act b pt l m k made counts mirrors h lawful p x is =
-    let server = not_server_by b pt l m k p (record_.Here x) (is_server p) refl h is in
+    let server = not_server_by b pt l m k p (Record.Here x) (is_server p) refl h is in
     let so = here_so b pt l m k p x mirrors h server is in
     record {
       pid = (mirrors.places.process p (record x { queue = so.queue }) so.there).pid;
-      lawful = of_known k p (Some (record_.Here x)) lawful is;
+      lawful = of_known k p (Some (Record.Here x)) lawful is;
       sent = counts.sent p (plain_process x) so.life;
       room = has_taken b pt l m k p x made h (ap takes_room so.known) so.life;
     }

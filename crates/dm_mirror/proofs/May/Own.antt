@@ -1,39 +1,9 @@
 -- A kernel's own message at the front of a machine's inbox is one that the machine can handle: for a process or a server.
-use Rattle.std.proofs.Common.{◌≡◌, ◌≢◌, ℕ, ◌+◌, ◌<◌, ◌≤◌, ◌==◌, ◌&&◌, ◌||◌, Bool, true, false, List, ◌∷◌, length, refl, ap, ◌∙◌, sym, subst, arith}
-use Rattle.std.proofs.lemmas.List.{length-map}
-use Rattle.std.specs.declared.option.Option.{Option}
-use Rattle.std.specs.declared.option.Option.TheVariants.{None, Some}
-use Rattle.std.proofs.lemmas.Bool.{false≢true}
-use Rattle.dm_link.specs.declared.Pid.{Pid}
-use Rattle.dm_message.specs.declared.Message.{Message}
-use Rattle.dm_message.specs.declared.MsgId.{MsgId}
-use Rattle.dm_message.specs.declared.What.{What}
-use Rattle.dm_message.specs.declared.What.TheVariants as what
-use Rattle.dm_message.specs.declared.kind.MessageKind.TheVariants as kind
-use Rattle.dm_message.specs.Kinds.{kind_of}
-use Rattle.dm_message.specs.Plain.{plain_message}
-use Rattle.dm_process.specs.declared.process.Process.{Process}
-use Rattle.dm_procman.specs.Managing.{plain_child, plain_pending}
-use Rattle.dm_switchboard.specs.Board.{plain_named}
-use Rattle.dm_records.specs.declared.record.Record.TheVariants as record_
-use Rattle.dm_onekernel.specs.declared.boot.Boot.{Boot}
-use Rattle.dm_onekernel.specs.Boot.{switchboard, manager}
-use Rattle.dm_onekernel.specs.Kernel.{Manager, Switchboard}
-use Rattle.dm_rule.specs.Point.{Point}
-use Rattle.dm_rule.specs.Spots.{Inbox, standing}
-use Rattle.dm_rule.specs.View.{Unknown}
-use Rattle.dm_rulelaws.specs.Fits.{is_server}
-use Rattle.dm_rulelaws.specs.Found.{is_fixed}
-use Rattle.dm_rulelaws.proofs.Goes.Always.{stands_first}
-use Rattle.dm_rulelaws.proofs.Own.Told.{OwnTold, own_sort, own_server}
-use Rattle.dm_rulelaws.proofs.Runs.{Run}
-use Rattle.dm_places.specs.Placed.{Placed, Mirrors}
-use Rattle.dm_kernel.specs.declared.kernel.Servers.{Servers}
-use Rattle.dm_kernel.specs.May.{FitsBoard, FitsBoardWhat, FitsEnded, FitsHere, FitsKnown, FitsManager, FitsManagerWhat}
+use Rattle.dm_mirror.proofs.Names.{◌≡◌, ◌≢◌, ℕ, ◌+◌, ◌<◌, ◌≤◌, ◌==◌, ◌&&◌, ◌||◌, Bool, true, false, List, ◌∷◌, length, refl, ap, ◌∙◌, sym, subst, arith, length-map, Option, None, Some, false≢true, Pid, Message, MsgId, What, MessageKind}
+use Rattle.dm_mirror.proofs.Names.{Record, kind_of, plain_message, Process, plain_child, plain_pending, plain_named, Boot, switchboard, manager, Manager, Switchboard, Point, Inbox, standing, Unknown, is_server, is_fixed, stands_first}
+use Rattle.dm_mirror.proofs.Names.{OwnTold, own_sort, own_server, Run, Placed, Mirrors, Servers, FitsBoard, FitsBoardWhat, FitsEnded, FitsHere, FitsKnown, FitsManager, FitsManagerWhat, KernelState, AllOwnStand, about_of, told_of}
+use Rattle.dm_mirror.proofs.Names.{KernelStands, KnownStands, servers_at}
 use Rattle.dm_kernel.specs.State as machine
-use Rattle.dm_kernel.specs.State.{KernelState}
-use Rattle.dm_mirror.specs.Own.{AllOwnStand, about_of, told_of}
-use Rattle.dm_mirror.specs.Stands.{KernelStands, KnownStands, servers_at}
 use Rattle.dm_mirror.proofs.Counts.FewRouted.{CountsFew}
 use Rattle.dm_mirror.proofs.May.Front.{fixed_server, servers_here}
 use Rattle.dm_mirror.proofs.May.Have.{here_so}
@@ -67,92 +37,67 @@ no_kernel : (c : Bool) → c ≡ false → (c && true) ≡ true → ⊥
 no_kernel c e f = false≢true (sym (ap (λ (d : Bool). d && true) e) ∙ f)
 
 own_here : (k : KernelState) (x : Message) (y : Process) (q : Pid) (w : What) → own_sort (kind_of w) q (about_of w) ≡ true → (q.num == 0) ≡ false → y.moves < 4294967295 → k.sent < 4294967295 → FitsHere k x y w
-own_here k x y q (what.Migrate m) e num few sent = (few, sent)
-own_here k x y q (what.Update about) e num few sent = tt
-own_here k x y q (what.Ask pid blocks moves size asker) e num few sent = absurd (no_kernel (q.num == 0) num e)
-own_here k x y q (what.Refuse pid slots blocks) e num few sent = absurd (no_kernel (q.num == 0) num e)
-own_here k x y q (what.PullState pid chunk) e num few sent = absurd (no_kernel (q.num == 0) num e)
-own_here k x y q (what.State pid chunk last bytes) e num few sent = absurd (no_kernel (q.num == 0) num e)
-own_here k x y q (what.PullBlock pid block) e num few sent = absurd (no_kernel (q.num == 0) num e)
-own_here k x y q (what.Memory pid block bytes) e num few sent = absurd (no_kernel (q.num == 0) num e)
-own_here k x y q (what.AllTaken pid) e num few sent = absurd (no_kernel (q.num == 0) num e)
-own_here k x y q (what.Restart pid) e num few sent = absurd (no_kernel (q.num == 0) num e)
-own_here k x y q (what.CallOff pid) e num few sent = absurd (false≢true e)
-own_here k x y q (what.Bury pid) e num few sent = absurd (false≢true e)
-own_here k x y q (what.User code channel body links) e num few sent = absurd (false≢true e)
-own_here k x y q what.Stop e num few sent = absurd (false≢true e)
-own_here k x y q what.Resume e num few sent = absurd (false≢true e)
-own_here k x y q what.Kill e num few sent = absurd (false≢true e)
-own_here k x y q (what.Read base len) e num few sent = absurd (false≢true e)
-own_here k x y q (what.Write base bytes) e num few sent = absurd (false≢true e)
-own_here k x y q (what.Block bytes) e num few sent = absurd (false≢true e)
-own_here k x y q what.Written e num few sent = absurd (false≢true e)
-own_here k x y q what.Gone e num few sent = absurd (false≢true e)
-own_here k x y q (what.Create image links) e num few sent = absurd (false≢true e)
-own_here k x y q (what.Created pid) e num few sent = absurd (false≢true e)
-own_here k x y q what.NoRoom e num few sent = absurd (false≢true e)
-own_here k x y q (what.Move machine_) e num few sent = absurd (false≢true e)
-own_here k x y q (what.Moved outcome) e num few sent = absurd (false≢true e)
+own_here k x y q (What.Migrate m) e num few sent = (few, sent)
+own_here k x y q (What.Update about) e num few sent = tt
+own_here k x y q (What.Ask pid blocks moves size asker) e num few sent = absurd (no_kernel (q.num == 0) num e)
+own_here k x y q (What.Refuse pid slots blocks) e num few sent = absurd (no_kernel (q.num == 0) num e)
+own_here k x y q (What.PullState pid chunk) e num few sent = absurd (no_kernel (q.num == 0) num e)
+own_here k x y q (What.State pid chunk last bytes) e num few sent = absurd (no_kernel (q.num == 0) num e)
+own_here k x y q (What.PullBlock pid block) e num few sent = absurd (no_kernel (q.num == 0) num e)
+own_here k x y q (What.Memory pid block bytes) e num few sent = absurd (no_kernel (q.num == 0) num e)
+own_here k x y q (What.AllTaken pid) e num few sent = absurd (no_kernel (q.num == 0) num e)
+own_here k x y q (What.Restart pid) e num few sent = absurd (no_kernel (q.num == 0) num e)
+own_here k x y q _ e num few sent = absurd (false≢true e)
 
 -- or has ended
 own_ended : (q : Pid) (w : What) → own_sort (kind_of w) q (about_of w) ≡ true → (q.num == 0) ≡ false → FitsEnded w
-own_ended q (what.Migrate m) e num = tt
-own_ended q (what.Update about) e num = tt
-own_ended q (what.Ask pid blocks moves size asker) e num = absurd (no_kernel (q.num == 0) num e)
-own_ended q (what.Refuse pid slots blocks) e num = absurd (no_kernel (q.num == 0) num e)
-own_ended q (what.PullState pid chunk) e num = absurd (no_kernel (q.num == 0) num e)
-own_ended q (what.State pid chunk last bytes) e num = absurd (no_kernel (q.num == 0) num e)
-own_ended q (what.PullBlock pid block) e num = absurd (no_kernel (q.num == 0) num e)
-own_ended q (what.Memory pid block bytes) e num = absurd (no_kernel (q.num == 0) num e)
-own_ended q (what.AllTaken pid) e num = absurd (no_kernel (q.num == 0) num e)
-own_ended q (what.Restart pid) e num = absurd (no_kernel (q.num == 0) num e)
-own_ended q (what.CallOff pid) e num = absurd (false≢true e)
-own_ended q (what.Bury pid) e num = absurd (false≢true e)
-own_ended q (what.User code channel body links) e num = tt
-own_ended q what.Stop e num = tt
-own_ended q what.Resume e num = tt
-own_ended q what.Kill e num = tt
-own_ended q (what.Read base len) e num = tt
-own_ended q (what.Write base bytes) e num = tt
-own_ended q (what.Block bytes) e num = tt
-own_ended q what.Written e num = tt
-own_ended q what.Gone e num = tt
-own_ended q (what.Create image links) e num = absurd (false≢true e)
-own_ended q (what.Created pid) e num = absurd (false≢true e)
-own_ended q what.NoRoom e num = absurd (false≢true e)
-own_ended q (what.Move machine_) e num = absurd (false≢true e)
-own_ended q (what.Moved outcome) e num = absurd (false≢true e)
+own_ended q (What.Ask pid blocks moves size asker) e num = absurd (no_kernel (q.num == 0) num e)
+own_ended q (What.Refuse pid slots blocks) e num = absurd (no_kernel (q.num == 0) num e)
+own_ended q (What.PullState pid chunk) e num = absurd (no_kernel (q.num == 0) num e)
+own_ended q (What.State pid chunk last bytes) e num = absurd (no_kernel (q.num == 0) num e)
+own_ended q (What.PullBlock pid block) e num = absurd (no_kernel (q.num == 0) num e)
+own_ended q (What.Memory pid block bytes) e num = absurd (no_kernel (q.num == 0) num e)
+own_ended q (What.AllTaken pid) e num = absurd (no_kernel (q.num == 0) num e)
+own_ended q (What.Restart pid) e num = absurd (no_kernel (q.num == 0) num e)
+own_ended q (What.CallOff pid) e num = absurd (false≢true e)
+own_ended q (What.Bury pid) e num = absurd (false≢true e)
+own_ended q (What.Create image links) e num = absurd (false≢true e)
+own_ended q (What.Created pid) e num = absurd (false≢true e)
+own_ended q What.NoRoom e num = absurd (false≢true e)
+own_ended q (What.Move machine_) e num = absurd (false≢true e)
+own_ended q (What.Moved outcome) e num = absurd (false≢true e)
+own_ended q _ e num = tt
 
 own_row : (b : Boot) (pt : Point) (l : Placed) (m : ℕ) (k : KernelState) (i : MsgId) (x : Message) (o : Option machine.Known) → Mirrors pt.kernel pt.view pt.addresses l → KernelStands b pt l m k → CountsFew pt → k.sent < 4294967295 → OwnFront pt l m i x
     → (x.to.pid.num == 0) ≡ false → is_server x.to.pid ≡ false → k.records x.to.pid ≡ o → FitsKnown k x o
 own_row b pt l m k i x None mirrors h counts sent f num server is =
     let p = x.to.pid in
     f.known (ap (λ (c : Bool). c || is_server p) num ∙ server) (known_some pt l p (pt.view.queue m p) (pt.view.held m p) (pt.view.known m p) (subst (KnownStands pt l p (pt.view.queue m p) (pt.view.held m p) (pt.view.known m p)) is (h.known p server)))
-own_row b pt l m k i x (Some (record_.Here y)) mirrors h counts sent f num server is =
+own_row b pt l m k i x (Some (Record.Here y)) mirrors h counts sent f num server is =
     let p = x.to.pid in
     let so = here_so b pt l m k p y mirrors h server is in
     let moves = (mirrors.places.process p (record y { queue = so.queue }) so.there).moves in
     let few = counts.moves p in
     own_here k x y p x.what f.sort num (omega (arith, moves, few)) sent
-own_row b pt l m k i x (Some (record_.Frozen leaving)) mirrors h counts sent f num server is = tt
-own_row b pt l m k i x (Some (record_.Incoming arriving)) mirrors h counts sent f num server is = tt
-own_row b pt l m k i x (Some (record_.Forward place moves)) mirrors h counts sent f num server is = sent
-own_row b pt l m k i x (Some (record_.Ended y)) mirrors h counts sent f num server is = own_ended x.to.pid x.what f.sort num
+own_row b pt l m k i x (Some (Record.Frozen leaving)) mirrors h counts sent f num server is = tt
+own_row b pt l m k i x (Some (Record.Incoming arriving)) mirrors h counts sent f num server is = tt
+own_row b pt l m k i x (Some (Record.Forward place moves)) mirrors h counts sent f num server is = sent
+own_row b pt l m k i x (Some (Record.Ended y)) mirrors h counts sent f num server is = own_ended x.to.pid x.what f.sort num
 
 pub own_process : (b : Boot) (pt : Point) (l : Placed) (m : ℕ) (k : KernelState) (i : MsgId) (x : Message) → Mirrors pt.kernel pt.view pt.addresses l → KernelStands b pt l m k → CountsFew pt → k.sent < 4294967295 → OwnFront pt l m i x
     → (x.to.pid.num == 0) ≡ false → is_server x.to.pid ≡ false → FitsKnown k x (k.records x.to.pid)
 own_process b pt l m k i x mirrors h counts sent f num server = own_row b pt l m k i x (k.records x.to.pid) mirrors h counts sent f num server refl
 
 -- at a server: the places that it keeps can be counted
-board_update : (v : Servers) (w : What) → kind_of w ≡ kind.Update → length v.board.names < 2147483648 → FitsBoardWhat v w
-board_update v (what.Update about) e few = few
+board_update : (v : Servers) (w : What) → kind_of w ≡ MessageKind.Update → length v.board.names < 2147483648 → FitsBoardWhat v w
+board_update v (What.Update about) e few = few
 board_update v w e few = absurd (cc)
 
-manager_update : (v : Servers) (n : ℕ) (w : What) → kind_of w ≡ kind.Update → length v.manager.children + length v.manager.pending < 2147483648 → FitsManagerWhat v n w
-manager_update v n (what.Update about) e few = few
+manager_update : (v : Servers) (n : ℕ) (w : What) → kind_of w ≡ MessageKind.Update → length v.manager.children + length v.manager.pending < 2147483648 → FitsManagerWhat v n w
+manager_update v n (What.Update about) e few = few
 manager_update v n w e few = absurd (cc)
 
-is_update : (x : Message) → own_sort (kind_of x.what) x.to.pid (about_of x.what) ≡ true → (x.to.pid.num == 0) ≡ false → is_server x.to.pid ≡ true → kind_of x.what ≡ kind.Update
+is_update : (x : Message) → own_sort (kind_of x.what) x.to.pid (about_of x.what) ≡ true → (x.to.pid.num == 0) ≡ false → is_server x.to.pid ≡ true → kind_of x.what ≡ MessageKind.Update
 is_update x e num server = own_server (kind_of x.what) x.to.pid (about_of x.what) e num server
 
 pub own_board : (pt : Point) (l : Placed) (m : ℕ) (k : KernelState) (i : MsgId) (x : Message) → CountsFew pt → Mirrors pt.kernel pt.view pt.addresses l → k.servers ≡ servers_at l m → OwnFront pt l m i x → x.to.pid ≡ switchboard → FitsBoard x k.servers

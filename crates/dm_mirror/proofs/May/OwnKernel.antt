@@ -1,46 +1,12 @@
 -- A kernel's own message at the front of another kernel's inbox is one that this kernel can handle: a process is leaving or
 -- coming, and the message carries what is asked for.
-use Rattle.std.proofs.Common.{◌≡◌, ◌⊎◌, inl, inr, ℕ, ◌*◌, ◌/◌, ◌≤◌, ◌==◌, ◌&&◌, not, Bool, true, false, List, length, refl, ap, ◌∙◌, sym, subst, arith}
-use Rattle.std.specs.Prelude.{if◌then◌else◌}
-use Rattle.std.proofs.lemmas.List.{length-map}
-use Rattle.std.specs.declared.option.Option.{Option}
-use Rattle.std.specs.declared.option.Option.TheVariants.{None, Some}
-use Rattle.std.proofs.lemmas.Bool.{false≢true}
-use Rattle.std.proofs.lemmas.Bool.Decides.{nat_tests}
-use Rattle.std.proofs.lemmas.List.Elements.{All-nil}
-use Rattle.dm_link.specs.declared.Pid.{Pid}
-use Rattle.dm_message.specs.declared.Message.{Message}
-use Rattle.dm_message.specs.declared.MsgId.{MsgId}
-use Rattle.dm_message.specs.declared.What.{What}
-use Rattle.dm_message.specs.declared.kind.MessageKind.{MessageKind}
-use Rattle.dm_message.specs.declared.kind.MessageKind.TheVariants as kind
-use Rattle.dm_message.specs.Kinds.{kind_of}
-use Rattle.dm_message.specs.Lawful.{IsLawfulMessage}
-use Rattle.dm_process.specs.declared.process.Process.{Process}
-use Rattle.dm_process.specs.Lawful.{IsLawfulProcess}
-use Rattle.dm_records.specs.declared.record.Record.TheVariants as record_
-use Rattle.dm_records.specs.Records.{frozen_of, incoming_of}
-use Rattle.dm_migrate.specs.declared.arriving.Wanted.{Wanted}
-use Rattle.dm_migrate.specs.Answer.{IsAskOfProcess}
-use Rattle.dm_migrate.specs.Arrival.{Arrival}
-use Rattle.dm_migrate.specs.Departure.{CanMove, Departure, ask_of}
-use Rattle.dm_migrate.specs.Pieces.{HasBlock, HasChunk, state_of}
+use Rattle.dm_mirror.proofs.Names.{◌≡◌, ℕ, ◌*◌, ◌/◌, ◌≤◌, ◌==◌, ◌&&◌, not, Bool, true, false, List, length, refl, ap, ◌∙◌, sym, subst, arith, if◌then◌else◌, length-map, Option, None, Some, false≢true, All-nil, Pid, Message, MsgId, What}
+use Rattle.dm_mirror.proofs.Names.{MessageKind, Record, kind_of, IsLawfulMessage, Process, IsLawfulProcess, frozen_of, incoming_of, Wanted, IsAskOfProcess, Arrival, CanMove, Departure, ask_of, HasBlock, HasChunk, state_of, Boot, Phase}
+use Rattle.dm_mirror.proofs.Names.{Moves, comes, is_apart, is_away, is_between, is_early, is_of_source, is_restart, knows, leaves, receiver_in, sender_in, told_between, Point, Inbox, standing, View, Known, Unknown, Here, Frozen, Incoming}
+use Rattle.dm_mirror.proofs.Names.{Forward, Ended, Of, Told, token_at, token_is, is_server, Run, Placed, IsSuch, KernelState, about_of, AreMessages, ComesStand, KernelStands, KnownStands, LeavesStand, Carries, TokensStand, Wants}
+use Rattle.dm_mirror.proofs.Names.{destination_of, eq_self, apart_is, inbox_is, about_same}
 use Rattle.dm_migrate.specs.Way.{moved}
-use Rattle.dm_onekernel.specs.declared.boot.Boot.{Boot}
-use Rattle.dm_rule.specs.Phases.{Phase, Moves, comes, is_apart, is_away, is_between, is_early, is_of_source, is_restart, knows, leaves, receiver_in, sender_in, told_between}
-use Rattle.dm_rule.specs.Point.{Point}
-use Rattle.dm_rule.specs.Spots.{Inbox, Untaken, standing}
-use Rattle.dm_rule.specs.View.{View, Known, Unknown, Here, Frozen, Incoming, Forward, Ended, Of, Told}
-use Rattle.dm_rule.proofs.Phases.Stand.{token_at, token_is}
-use Rattle.dm_rulelaws.specs.Fits.{is_server}
-use Rattle.dm_rulelaws.proofs.Runs.{Run}
-use Rattle.dm_places.specs.Placed.{Placed}
-use Rattle.dm_kernel.specs.May.{IsSuch}
 use Rattle.dm_kernel.specs.State as machine
-use Rattle.dm_kernel.specs.State.{KernelState}
-use Rattle.dm_mirror.specs.Own.{about_of}
-use Rattle.dm_mirror.specs.Stands.{AreMessages, ComesStand, KernelStands, KnownStands, LeavesStand}
-use Rattle.dm_mirror.specs.Tokens.{Carries, TokensStand, Wants, destination_of}
 use Rattle.dm_mirror.proofs.May.Own.{OwnFront}
 use Rattle.dm_mirror.proofs.Turning.{is_moving}
 
@@ -52,32 +18,16 @@ pub record IsMoved (pt : Point) (m : ℕ) (p : Pid) (k : MessageKind) : Type 0 w
   pub destination : comes k s (pt.view.known d p) ≡ true
   pub here : m ≡ receiver_in k s d
 
-same_eq : (n : ℕ) → (n == n) ≡ true
-same_eq n = grind (arith, nat_tests)
-
 source_knows : (k : MessageKind) (s d : ℕ) (n : Known) → (if s == s then leaves k d n else if d == s then comes k s n else is_away n) ≡ true → leaves k d n ≡ true
-source_knows k s d n e = sym (ap (λ (c : Bool). if c then leaves k d n else if d == s then comes k s n else is_away n) (same_eq s)) ∙ e
-
-apart_is : (b : Bool) (s d : ℕ) → (b && not (s == d)) ≡ true → (s == d) ≡ false
-apart_is true s d e = grind (arith, nat_tests)
-apart_is false s d e = absurd (false≢true e)
+source_knows k s d n e = sym (ap (λ (c : Bool). if c then leaves k d n else if d == s then comes k s n else is_away n) (eq_self s)) ∙ e
 
 destination_knows : (k : MessageKind) (s d : ℕ) (n : Known) → (s == d) ≡ false → (if s == d then leaves k d n else if d == d then comes k s n else is_away n) ≡ true → comes k s n ≡ true
 destination_knows k s d n off e =
-    sym (ap (λ (c : Bool). if c then leaves k d n else if d == d then comes k s n else is_away n) off ∙ ap (λ (c : Bool). if c then comes k s n else is_away n) (same_eq d)) ∙ e
-
-inbox_is : (m from to : ℕ) → (Inbox m ≡ Inbox to) ⊎ (Inbox m ≡ Untaken from to) → m ≡ to
-inbox_is m from to e = elim e [
-  | inl x ↦ cc
-  | inr x ↦ cc
-]
+    sym (ap (λ (c : Bool). if c then leaves k d n else if d == d then comes k s n else is_away n) off ∙ ap (λ (c : Bool). if c then comes k s n else is_away n) (eq_self d)) ∙ e
 
 abbrev pub kind_in : Option Told → MessageKind
-kind_in None = kind.Bury
+kind_in None = MessageKind.Bury
 kind_in (Some t) = t.kind
-
-about_same : (p q : Pid) → Of p ≡ Of q → p ≡ q
-about_same p q e = cc
 
 pub is_moved : (b : Boot) (pt : Point) (m : ℕ) (i : MsgId) (t : Told) (p : Pid) → Run b pt → pt.view.told i ≡ Some t → is_between t.kind ≡ true → t.about ≡ Of p → 1 ≤ standing pt.view i (Inbox m) → IsMoved pt m p t.kind
 is_moved b pt m i t p run told between about first =
@@ -105,18 +55,13 @@ is_moved b pt m i t p run told between about first =
 pub frozen_at : (k : MessageKind) (d : ℕ) (n : Known) → leaves k d n ≡ true → is_restart k ≡ false → (to : ℕ) × (n ≡ Frozen to)
 frozen_at k d (Frozen to) e r = (to, refl)
 frozen_at k d (Forward m moves) e r = absurd (false≢true (sym (ap (λ (c : Bool). c && (d == m)) r) ∙ e))
-frozen_at k d Unknown e r = absurd (false≢true e)
-frozen_at k d Here e r = absurd (false≢true e)
-frozen_at k d (Incoming from) e r = absurd (false≢true e)
-frozen_at k d Ended e r = absurd (false≢true e)
+frozen_at k d _ e r = absurd (false≢true e)
 
 incoming_at : (k : MessageKind) (s : ℕ) (n : Known) → comes k s n ≡ true → is_early k ≡ false → (from : ℕ) × (n ≡ Incoming from)
 incoming_at k s (Incoming from) e r = (from, refl)
 incoming_at k s Unknown e r = absurd (false≢true (sym r ∙ e))
 incoming_at k s (Forward m moves) e r = absurd (false≢true (sym r ∙ e))
-incoming_at k s Here e r = absurd (false≢true e)
-incoming_at k s (Frozen to) e r = absurd (false≢true e)
-incoming_at k s Ended e r = absurd (false≢true e)
+incoming_at k s _ e r = absurd (false≢true e)
 
 -- a server never moves
 still_server : (c : Bool) → is_moving (if c then Here else Unknown) ≡ false
@@ -132,16 +77,16 @@ pub record Leaves (pt : Point) (l : Placed) (n : ℕ) (k : KernelState) (p : Pid
   pub to : ℕ
   pub known : pt.view.known n p ≡ Frozen to
   pub departure : Departure
-  pub is : k.records p ≡ Some (record_.Frozen departure)
+  pub is : k.records p ≡ Some (Record.Frozen departure)
   pub stands : LeavesStand l p (pt.view.queue n p) (pt.view.held n p) to departure
 
 leaving : (pt : Point) (l : Placed) (n : ℕ) (k : KernelState) (p : Pid) (to : ℕ) (o : Option machine.Known) → pt.view.known n p ≡ Frozen to → k.records p ≡ o → KnownStands pt l p (pt.view.queue n p) (pt.view.held n p) (Frozen to) o → Leaves pt l n k p
-leaving pt l n k p to (Some (record_.Frozen d)) known is h = record { to = to; known = known; departure = d; is = is; stands = h }
+leaving pt l n k p to (Some (Record.Frozen d)) known is h = record { to = to; known = known; departure = d; is = is; stands = h }
 leaving pt l n k p to None known is h = absurd h
-leaving pt l n k p to (Some (record_.Here y)) known is h = absurd h
-leaving pt l n k p to (Some (record_.Incoming a)) known is h = absurd h
-leaving pt l n k p to (Some (record_.Forward at_ moves)) known is h = absurd h
-leaving pt l n k p to (Some (record_.Ended y)) known is h = absurd h
+leaving pt l n k p to (Some (Record.Here y)) known is h = absurd h
+leaving pt l n k p to (Some (Record.Incoming a)) known is h = absurd h
+leaving pt l n k p to (Some (Record.Forward at_ moves)) known is h = absurd h
+leaving pt l n k p to (Some (Record.Ended y)) known is h = absurd h
 
 pub leaves_at : (b : Boot) (pt : Point) (l : Placed) (n : ℕ) (k : KernelState) (p : Pid) (to : ℕ) → Run b pt → KernelStands b pt l n k → pt.view.known n p ≡ Frozen to → Leaves pt l n k p
 leaves_at b pt l n k p to run h known =
@@ -150,16 +95,16 @@ leaves_at b pt l n k p to run h known =
 
 pub record Comes (pt : Point) (l : Placed) (n : ℕ) (k : KernelState) (p : Pid) : Type 0 where
   pub arrival : Arrival
-  pub is : k.records p ≡ Some (record_.Incoming arrival)
+  pub is : k.records p ≡ Some (Record.Incoming arrival)
   pub stands : ComesStand l p (pt.view.held n p) arrival
 
 coming_to : (pt : Point) (l : Placed) (n : ℕ) (k : KernelState) (p : Pid) (from : ℕ) (o : Option machine.Known) → k.records p ≡ o → KnownStands pt l p (pt.view.queue n p) (pt.view.held n p) (Incoming from) o → Comes pt l n k p
-coming_to pt l n k p from (Some (record_.Incoming a)) is h = record { arrival = a; is = is; stands = h }
+coming_to pt l n k p from (Some (Record.Incoming a)) is h = record { arrival = a; is = is; stands = h }
 coming_to pt l n k p from None is h = absurd h
-coming_to pt l n k p from (Some (record_.Here y)) is h = absurd h
-coming_to pt l n k p from (Some (record_.Frozen d)) is h = absurd h
-coming_to pt l n k p from (Some (record_.Forward at_ moves)) is h = absurd h
-coming_to pt l n k p from (Some (record_.Ended y)) is h = absurd h
+coming_to pt l n k p from (Some (Record.Here y)) is h = absurd h
+coming_to pt l n k p from (Some (Record.Frozen d)) is h = absurd h
+coming_to pt l n k p from (Some (Record.Forward at_ moves)) is h = absurd h
+coming_to pt l n k p from (Some (Record.Ended y)) is h = absurd h
 
 pub comes_at : (b : Boot) (pt : Point) (l : Placed) (n : ℕ) (k : KernelState) (p : Pid) (from : ℕ) → Run b pt → KernelStands b pt l n k → pt.view.known n p ≡ Incoming from → Comes pt l n k p
 comes_at b pt l n k p from run h known =
@@ -194,10 +139,10 @@ token_of b pt l ks m i x w p e run tokens f between about =
 pub same_process : (o : Option Process) (x y : Process) → o ≡ Some x → o ≡ Some y → x ≡ y
 same_process o x y e f = let g : Some x ≡ Some y = sym e ∙ f in cc
 
-pub frozen_is : (k : KernelState) (p : Pid) (d : Departure) (P : Departure → Type 0) → k.records p ≡ Some (record_.Frozen d) → P d → IsSuch P (frozen_of (k.records p))
+pub frozen_is : (k : KernelState) (p : Pid) (d : Departure) (P : Departure → Type 0) → k.records p ≡ Some (Record.Frozen d) → P d → IsSuch P (frozen_of (k.records p))
 frozen_is k p d P is h = subst (IsSuch P) (sym (ap frozen_of is)) h
 
-pub incoming_is : (k : KernelState) (p : Pid) (a : Arrival) (P : Arrival → Type 0) → k.records p ≡ Some (record_.Incoming a) → P a → IsSuch P (incoming_of (k.records p))
+pub incoming_is : (k : KernelState) (p : Pid) (a : Arrival) (P : Arrival → Type 0) → k.records p ≡ Some (Record.Incoming a) → P a → IsSuch P (incoming_of (k.records p))
 incoming_is k p a P is h = subst (IsSuch P) (sym (ap incoming_of is)) h
 
 -- where the process is held back

@@ -1,40 +1,8 @@
 -- A kernel's own message at the front of another kernel's inbox, a row a kind.
-use Rattle.std.proofs.Common.{◌≡◌, ℕ, ◌<◌, ◌==◌, ◌&&◌, ◌||◌, not, Bool, true, [], refl, ap, ◌∙◌, sym, subst, arith}
-use Rattle.std.specs.Prelude.{IsSome}
-use Rattle.std.specs.declared.option.Option.{Option}
-use Rattle.std.specs.declared.option.Option.TheVariants.{None}
-use Rattle.std.proofs.lemmas.Bool.{false≢true}
-use Rattle.dm_link.specs.declared.Pid.{Pid}
-use Rattle.dm_message.specs.declared.Message.{Message}
-use Rattle.dm_message.specs.declared.MsgId.{MsgId}
-use Rattle.dm_message.specs.declared.What.{What}
-use Rattle.dm_message.specs.declared.What.TheVariants as what
-use Rattle.dm_message.specs.declared.kind.MessageKind.TheVariants as kind
-use Rattle.dm_message.specs.Kinds.{kind_of}
-use Rattle.dm_process.specs.declared.process.Process.{Process}
-use Rattle.dm_records.specs.Records.{frozen_of, incoming_of}
-use Rattle.dm_migrate.specs.declared.arriving.Wanted.TheVariants.{Chunk, Block, Nothing}
-use Rattle.dm_migrate.specs.Answer.{IsAskOfProcess}
-use Rattle.dm_migrate.specs.Arrival.{Arrival, IsNextPiece, restarted}
-use Rattle.dm_migrate.specs.Departure.{CanMove, Departure, ask_of}
-use Rattle.dm_migrate.specs.Pieces.{HasBlock, HasChunk, block_of, chunk_of, state_of}
-use Rattle.dm_migrate.specs.Way.{coming, moved}
-use Rattle.dm_migrate.proofs.Way.{by_pieces}
-use Rattle.dm_onekernel.specs.declared.boot.Boot.{Boot}
-use Rattle.dm_rule.specs.Phases.{is_restart}
-use Rattle.dm_rule.specs.Point.{Point}
-use Rattle.dm_rule.specs.Rule.{takes_room}
-use Rattle.dm_rule.specs.View.{Frozen, Unknown}
-use Rattle.dm_rulelaws.specs.Fits.{is_server}
-use Rattle.dm_rulelaws.proofs.Own.Told.{own_sort}
-use Rattle.dm_rulelaws.proofs.Runs.{Run}
-use Rattle.dm_places.specs.Placed.{Placed, Mirrors}
-use Rattle.dm_kernel.specs.May.{FitsKernel, MayLeave, MayRestart}
-use Rattle.dm_kernel.specs.State.{KernelState}
-use Rattle.dm_mirror.specs.Made.{MadeStands}
-use Rattle.dm_mirror.specs.Own.{about_of}
-use Rattle.dm_mirror.specs.Stands.{KernelStands}
-use Rattle.dm_mirror.specs.Tokens.{TokensStand}
+use Rattle.dm_mirror.proofs.Names.{◌≡◌, ℕ, ◌<◌, ◌==◌, ◌&&◌, ◌||◌, not, Bool, true, [], refl, ap, ◌∙◌, sym, subst, arith, IsSome, Option, None, false≢true, Pid, Message, MsgId, What, MessageKind, kind_of, Process, frozen_of, incoming_of}
+use Rattle.dm_mirror.proofs.Names.{Chunk, Block, Nothing, IsAskOfProcess, Arrival, IsNextPiece, restarted, CanMove, Departure, ask_of, HasBlock, HasChunk, block_of, chunk_of, state_of, coming, by_pieces, Boot, is_restart, Point, takes_room}
+use Rattle.dm_mirror.proofs.Names.{Frozen, Unknown, is_server, own_sort, Run, Placed, Mirrors, FitsKernel, MayLeave, MayRestart, KernelState, MadeStands, about_of, KernelStands, TokensStand}
+use Rattle.dm_migrate.specs.Way.{moved}
 use Rattle.dm_mirror.proofs.Counts.FewRouted.{CountsFew}
 use Rattle.dm_mirror.proofs.May.Have.{has_taken, life_is}
 use Rattle.dm_mirror.proofs.May.Own.{OwnFront}
@@ -94,7 +62,7 @@ not_unknown to e = cc
 ask_by : (w : What) (y z : Process) → w ≡ ask_of y None → y ≡ z → IsAskOfProcess (ask_of z None) → IsAskOfProcess w
 ask_by w y z asked same h = subst IsAskOfProcess (sym (asked ∙ ap (λ (v : Process). ask_of v None) same)) h
 
-asks_to_come : (b : Boot) (pt : Point) (l : Placed) (ks : ℕ → KernelState) (m : ℕ) (i : MsgId) (x : Message) (w : What) (p : Pid) → Around b pt l ks m i x → (t : IsToken pt l ks m i x w p) → kind_of w ≡ kind.Ask → w ≡ ask_of t.process None → IsAskOfProcess w
+asks_to_come : (b : Boot) (pt : Point) (l : Placed) (ks : ℕ → KernelState) (m : ℕ) (i : MsgId) (x : Message) (w : What) (p : Pid) → Around b pt l ks m i x → (t : IsToken pt l ks m i x w p) → kind_of w ≡ MessageKind.Ask → w ≡ ask_of t.process None → IsAskOfProcess w
 asks_to_come b pt l ks m i x w p h t is asked =
     let s = t.moved.s in
     let (to, known) = frozen_at (kind_of w) t.moved.d (pt.view.known s p) t.moved.source (ap is_restart is) in
@@ -107,65 +75,50 @@ sort_of : (b : Boot) (pt : Point) (l : Placed) (ks : ℕ → KernelState) (m : �
 sort_of b pt l ks m i x w e h = ap (λ (v : What). own_sort (kind_of v) x.to.pid (about_of v)) (sym e) ∙ h.front.sort
 
 kernel_row : (b : Boot) (pt : Point) (l : Placed) (ks : ℕ → KernelState) (m : ℕ) (i : MsgId) (x : Message) (w : What) → x.what ≡ w → Around b pt l ks m i x → (x.to.pid.num == 0) ≡ true → (ks m).sent < 4294967295 → FitsKernel b (ks m) w
-kernel_row b pt l ks m i x (what.Ask pid blocks moves size asker) e h num sent =
-    let t = token_of b pt l ks m i x (what.Ask pid blocks moves size asker) pid e h.run h.tokens h.front refl refl in
-    (asks_to_come b pt l ks m i x (what.Ask pid blocks moves size asker) pid h t refl t.carries, sent)
-kernel_row b pt l ks m i x (what.Refuse pid slots blocks) e h num sent =
-    let t = token_of b pt l ks m i x (what.Refuse pid slots blocks) pid e h.run h.tokens h.front refl refl in
-    let d = source_leaves b pt l m (ks m) pid kind.Refuse h.run (h.nodes m h.within) t.moved refl refl in
+kernel_row b pt l ks m i x (What.Ask pid blocks moves size asker) e h num sent =
+    let t = token_of b pt l ks m i x (What.Ask pid blocks moves size asker) pid e h.run h.tokens h.front refl refl in
+    (asks_to_come b pt l ks m i x (What.Ask pid blocks moves size asker) pid h t refl t.carries, sent)
+kernel_row b pt l ks m i x (What.Refuse pid slots blocks) e h num sent =
+    let t = token_of b pt l ks m i x (What.Refuse pid slots blocks) pid e h.run h.tokens h.front refl refl in
+    let d = source_leaves b pt l m (ks m) pid MessageKind.Refuse h.run (h.nodes m h.within) t.moved refl refl in
     subst (λ (o : Option Departure). IsSome o) (sym (ap frozen_of d.is)) refl
-kernel_row b pt l ks m i x (what.PullState pid chunk) e h num sent =
-    let t = token_of b pt l ks m i x (what.PullState pid chunk) pid e h.run h.tokens h.front refl refl in
-    let d = source_leaves b pt l m (ks m) pid kind.PullState h.run (h.nodes m h.within) t.moved refl refl in
+kernel_row b pt l ks m i x (What.PullState pid chunk) e h num sent =
+    let t = token_of b pt l ks m i x (What.PullState pid chunk) pid e h.run h.tokens h.front refl refl in
+    let d = source_leaves b pt l m (ks m) pid MessageKind.PullState h.run (h.nodes m h.within) t.moved refl refl in
     let same = same_process (l.processes pid) t.process (record d.departure.process { queue = d.stands.here.0.0 }) t.there d.stands.here.0.1 in
     (frozen_is (ks m) pid d.departure (λ (v : Departure). HasChunk (state_of v.process) chunk) d.is (chunk_there t.process d.stands.here.0.0 d.departure.process chunk same t.carries.1.1), sent)
-kernel_row b pt l ks m i x (what.State pid chunk last bytes) e h num sent =
-    let w = what.State pid chunk last bytes in
+kernel_row b pt l ks m i x (What.State pid chunk last bytes) e h num sent =
+    let w = What.State pid chunk last bytes in
     let t = token_of b pt l ks m i x w pid e h.run h.tokens h.front refl refl in
-    let c = destination_comes b pt l m (ks m) pid kind.State h.run (h.nodes m h.within) t.moved refl refl in
+    let c = destination_comes b pt l m (ks m) pid MessageKind.State h.run (h.nodes m h.within) t.moved refl refl in
     let wanted = wants_is c.arrival (incoming_of ((ks x.to.pid.home).records pid)) (Chunk chunk) (ap (λ (n : ℕ). incoming_of ((ks n).records pid)) (home_is b pt l ks m i x h num) ∙ ap incoming_of c.is) t.carries.2 in
     let same = same_process (l.processes pid) t.process c.stands.process t.there c.stands.there in
     (incoming_is (ks m) pid c.arrival (λ (a : Arrival). IsNextPiece a w) c.is (next_chunk c.stands.process t.process c.arrival w chunk c.stands.whole same c.stands.pieces wanted t.carries.0 t.carries.1.1), sent)
-kernel_row b pt l ks m i x (what.PullBlock pid block) e h num sent =
-    let t = token_of b pt l ks m i x (what.PullBlock pid block) pid e h.run h.tokens h.front refl refl in
-    let d = source_leaves b pt l m (ks m) pid kind.PullBlock h.run (h.nodes m h.within) t.moved refl refl in
+kernel_row b pt l ks m i x (What.PullBlock pid block) e h num sent =
+    let t = token_of b pt l ks m i x (What.PullBlock pid block) pid e h.run h.tokens h.front refl refl in
+    let d = source_leaves b pt l m (ks m) pid MessageKind.PullBlock h.run (h.nodes m h.within) t.moved refl refl in
     let same = same_process (l.processes pid) t.process (record d.departure.process { queue = d.stands.here.0.0 }) t.there d.stands.here.0.1 in
     (frozen_is (ks m) pid d.departure (λ (v : Departure). HasBlock v.process.memory block) d.is (block_there t.process d.stands.here.0.0 d.departure.process block same t.carries.1.1), sent)
-kernel_row b pt l ks m i x (what.Memory pid block bytes) e h num sent =
-    let w = what.Memory pid block bytes in
+kernel_row b pt l ks m i x (What.Memory pid block bytes) e h num sent =
+    let w = What.Memory pid block bytes in
     let t = token_of b pt l ks m i x w pid e h.run h.tokens h.front refl refl in
-    let c = destination_comes b pt l m (ks m) pid kind.Memory h.run (h.nodes m h.within) t.moved refl refl in
+    let c = destination_comes b pt l m (ks m) pid MessageKind.Memory h.run (h.nodes m h.within) t.moved refl refl in
     let wanted = wants_is c.arrival (incoming_of ((ks x.to.pid.home).records pid)) (Block block) (ap (λ (n : ℕ). incoming_of ((ks n).records pid)) (home_is b pt l ks m i x h num) ∙ ap incoming_of c.is) t.carries.2 in
     let same = same_process (l.processes pid) t.process c.stands.process t.there c.stands.there in
     (incoming_is (ks m) pid c.arrival (λ (a : Arrival). IsNextPiece a w) c.is (next_block c.stands.process t.process c.arrival w block c.stands.whole same c.stands.pieces wanted t.carries.0 t.carries.1.1), sent)
-kernel_row b pt l ks m i x (what.AllTaken pid) e h num sent =
-    let t = token_of b pt l ks m i x (what.AllTaken pid) pid e h.run h.tokens h.front refl refl in
-    let d = source_leaves b pt l m (ks m) pid kind.AllTaken h.run (h.nodes m h.within) t.moved refl refl in
+kernel_row b pt l ks m i x (What.AllTaken pid) e h num sent =
+    let t = token_of b pt l ks m i x (What.AllTaken pid) pid e h.run h.tokens h.front refl refl in
+    let d = source_leaves b pt l m (ks m) pid MessageKind.AllTaken h.run (h.nodes m h.within) t.moved refl refl in
     (frozen_is (ks m) pid d.departure (MayLeave (ks m).room) d.is (leaves_here b pt l ks m i x pid h d), sent)
-kernel_row b pt l ks m i x (what.Restart pid) e h num sent =
-    let w = what.Restart pid in
+kernel_row b pt l ks m i x (What.Restart pid) e h num sent =
+    let w = What.Restart pid in
     let t = token_of b pt l ks m i x w pid e h.run h.tokens h.front refl refl in
-    let c = destination_comes b pt l m (ks m) pid kind.Restart h.run (h.nodes m h.within) t.moved refl refl in
+    let c = destination_comes b pt l m (ks m) pid MessageKind.Restart h.run (h.nodes m h.within) t.moved refl refl in
     let wanted = wants_is c.arrival (incoming_of ((ks x.to.pid.home).records pid)) Nothing (ap (λ (n : ℕ). incoming_of ((ks n).records pid)) (home_is b pt l ks m i x h num) ∙ ap incoming_of c.is) t.carries.1 in
     incoming_is (ks m) pid c.arrival MayRestart c.is (all_come c.stands.process c.arrival c.stands.whole c.stands.pieces wanted)
-kernel_row b pt l ks m i x (what.Migrate machine_) e h num sent = absurd (false≢true (sym (ap (λ (c : Bool). not (c || is_server x.to.pid) && true) num) ∙ sort_of b pt l ks m i x (what.Migrate machine_) e h))
-kernel_row b pt l ks m i x (what.Update about) e h num sent = absurd (false≢true (sym (ap (λ (c : Bool). not c && true) num) ∙ sort_of b pt l ks m i x (what.Update about) e h))
-kernel_row b pt l ks m i x (what.CallOff pid) e h num sent = absurd (false≢true (sort_of b pt l ks m i x (what.CallOff pid) e h))
-kernel_row b pt l ks m i x (what.Bury pid) e h num sent = absurd (false≢true (sort_of b pt l ks m i x (what.Bury pid) e h))
-kernel_row b pt l ks m i x (what.User code channel body links) e h num sent = absurd (false≢true (sort_of b pt l ks m i x (what.User code channel body links) e h))
-kernel_row b pt l ks m i x what.Stop e h num sent = absurd (false≢true (sort_of b pt l ks m i x what.Stop e h))
-kernel_row b pt l ks m i x what.Resume e h num sent = absurd (false≢true (sort_of b pt l ks m i x what.Resume e h))
-kernel_row b pt l ks m i x what.Kill e h num sent = absurd (false≢true (sort_of b pt l ks m i x what.Kill e h))
-kernel_row b pt l ks m i x (what.Read base len) e h num sent = absurd (false≢true (sort_of b pt l ks m i x (what.Read base len) e h))
-kernel_row b pt l ks m i x (what.Write base bytes) e h num sent = absurd (false≢true (sort_of b pt l ks m i x (what.Write base bytes) e h))
-kernel_row b pt l ks m i x (what.Block bytes) e h num sent = absurd (false≢true (sort_of b pt l ks m i x (what.Block bytes) e h))
-kernel_row b pt l ks m i x what.Written e h num sent = absurd (false≢true (sort_of b pt l ks m i x what.Written e h))
-kernel_row b pt l ks m i x what.Gone e h num sent = absurd (false≢true (sort_of b pt l ks m i x what.Gone e h))
-kernel_row b pt l ks m i x (what.Create image links) e h num sent = absurd (false≢true (sort_of b pt l ks m i x (what.Create image links) e h))
-kernel_row b pt l ks m i x (what.Created pid) e h num sent = absurd (false≢true (sort_of b pt l ks m i x (what.Created pid) e h))
-kernel_row b pt l ks m i x what.NoRoom e h num sent = absurd (false≢true (sort_of b pt l ks m i x what.NoRoom e h))
-kernel_row b pt l ks m i x (what.Move machine_) e h num sent = absurd (false≢true (sort_of b pt l ks m i x (what.Move machine_) e h))
-kernel_row b pt l ks m i x (what.Moved outcome) e h num sent = absurd (false≢true (sort_of b pt l ks m i x (what.Moved outcome) e h))
+kernel_row b pt l ks m i x (What.Migrate machine_) e h num sent = absurd (false≢true (sym (ap (λ (c : Bool). not (c || is_server x.to.pid) && true) num) ∙ sort_of b pt l ks m i x (What.Migrate machine_) e h))
+kernel_row b pt l ks m i x (What.Update about) e h num sent = absurd (false≢true (sym (ap (λ (c : Bool). not c && true) num) ∙ sort_of b pt l ks m i x (What.Update about) e h))
+kernel_row b pt l ks m i x any_ e h num sent = absurd (false≢true (sort_of b pt l ks m i x any_ e h))
 
 pub own_kernel : (b : Boot) (pt : Point) (l : Placed) (ks : ℕ → KernelState) (m : ℕ) (i : MsgId) (x : Message) → Around b pt l ks m i x → (x.to.pid.num == 0) ≡ true → (ks m).sent < 4294967295 → FitsKernel b (ks m) x.what
 own_kernel b pt l ks m i x h num sent = kernel_row b pt l ks m i x x.what refl h num sent

@@ -1,41 +1,10 @@
 -- A message for a process, where the process is here or has ended here: a piece lies in its memory, an answer is the one that it
 -- waits for.
-use Rattle.std.proofs.Common.{◌≡◌, ℕ, ◌+◌, ◌<◌, ◌≤◌, ◌==◌, ◌||◌, Bool, true, false, List, length, refl, ap, ◌∙◌, sym, subst, arith}
-use Rattle.std.specs.declared.option.Option.{Option}
-use Rattle.std.specs.declared.option.Option.TheVariants.{None, Some}
-use Rattle.std.proofs.lemmas.Bool.{false≢true}
-use Rattle.std.proofs.lemmas.Bool.Decides.{nat_tests}
-use Rattle.dm_link.specs.declared.Pid.{Pid}
-use Rattle.dm_link.specs.Names.{pid_eq}
-use Rattle.dm_message.specs.declared.Message.{Message}
-use Rattle.dm_message.specs.declared.MsgId.{MsgId}
-use Rattle.dm_message.specs.Plain as plain
-use Rattle.dm_message.specs.Plain.{PlainMessage, PlainWhat, plain_what}
-use Rattle.dm_process.specs.declared.process.Direction.{Direction}
-use Rattle.dm_process.specs.declared.process.Direction.TheVariants as direction
-use Rattle.dm_process.specs.declared.process.Process.{Process}
-use Rattle.dm_process.specs.declared.process.Status.{Status}
-use Rattle.dm_process.specs.declared.process.Status.TheVariants as status
-use Rattle.dm_records.specs.declared.record.Record.TheVariants as record_
-use Rattle.dm_datamove.specs.Landing.{IsAnswerOf, IsAwaited}
-use Rattle.dm_datamove.specs.Serving.{IsWithin}
-use Rattle.dm_onekernel.specs.declared.boot.Boot.{Boot}
-use Rattle.dm_onekernel.specs.Boot.{manager}
-use Rattle.dm_onekernel.specs.Kernel.{Life, Alive}
-use Rattle.dm_onekernel.specs.Pieces.{piece_of}
-use Rattle.dm_onekernel.specs.Plain.{plain_process, plain_status}
-use Rattle.dm_laws.proofs.Equal.{pid_eq-same}
-use Rattle.dm_rule.specs.Point.{Point}
-use Rattle.dm_rule.specs.View.{Known}
-use Rattle.dm_rule.specs.View as view
-use Rattle.dm_rulelaws.specs.Fits.{WhatFits, awaits, has_bytes, is_server, piece_fits, status_awaits}
-use Rattle.dm_rulelaws.proofs.Fits.Rises.{both}
-use Rattle.dm_places.specs.Placed.{Placed, Mirrors}
-use Rattle.dm_places.proofs.Whats.{block_what, gone_what, kill_what, read_what, resume_what, stop_what, user_what, write_what, written_what}
-use Rattle.dm_kernel.specs.May.{FitsEnded, FitsHere, FitsKnown}
+use Rattle.dm_mirror.proofs.Names.{◌≡◌, ℕ, ◌+◌, ◌<◌, ◌≤◌, ◌==◌, ◌||◌, Bool, true, false, List, length, refl, ap, ◌∙◌, sym, subst, arith, Option, None, Some, false≢true, nat_tests, Pid, pid_eq, Message, MsgId, Record, PlainMessage}
+use Rattle.dm_mirror.proofs.Names.{PlainWhat, plain_what, Direction, Process, Status, IsAnswerOf, IsAwaited, IsWithin, Boot, manager, Life, Alive, piece_of, plain_process, plain_status, pid_eq-same, Point, Known, WhatFits, awaits}
+use Rattle.dm_mirror.proofs.Names.{has_bytes, is_server, piece_fits, status_awaits, both, Placed, Mirrors, block_what, gone_what, kill_what, read_what, resume_what, stop_what, user_what, write_what, written_what, FitsEnded, FitsHere}
+use Rattle.dm_mirror.proofs.Names.{FitsKnown, KernelState, KernelStands, KnownStands}
 use Rattle.dm_kernel.specs.State as machine
-use Rattle.dm_kernel.specs.State.{KernelState}
-use Rattle.dm_mirror.specs.Stands.{KernelStands, KnownStands}
 use Rattle.dm_mirror.proofs.May.Front.{FrontSo}
 use Rattle.dm_mirror.proofs.May.Have.{here_so}
 
@@ -45,27 +14,27 @@ within_memory n x o is e = let f : has_bytes n (Some (Alive (plain_process x))) 
 
 -- the answer that the process waits for
 awaited_by : (st : Status) (n : ℕ) (x : Message) (w : PlainWhat) → x.id.n ≡ n → plain_what x.what ≡ Some w → status_awaits (plain_status st) n w ≡ true → ((dir : Direction) (left : ℕ) → piece_fits dir left w ≡ true → IsAnswerOf dir left x.what) → IsAwaited st x
-awaited_by status.Ready n x w id e f answer = absurd (false≢true f)
-awaited_by (status.Waiting mask base size) n x w id e f answer = absurd (false≢true f)
-awaited_by (status.Moving dir owner base own left pending) n x w id e f answer =
+awaited_by Status.Ready n x w id e f answer = absurd (false≢true f)
+awaited_by (Status.Waiting mask base size) n x w id e f answer = absurd (false≢true f)
+awaited_by (Status.Moving dir owner base own left pending) n x w id e f answer =
     let k = both (n == pending) (piece_fits dir left w) f in
     let number = k.0 in
     (id ∙ (let g : n ≡ pending = grind (arith, nat_tests) in g), answer dir left k.1)
 
-block_answer : (x : Message) (bytes : List ℕ) → plain_what x.what ≡ Some (plain.Block bytes) → (dir : Direction) (left : ℕ) → piece_fits dir left (plain.Block bytes) ≡ true → IsAnswerOf dir left x.what
-block_answer x bytes e direction.FromArea left f =
+block_answer : (x : Message) (bytes : List ℕ) → plain_what x.what ≡ Some (PlainWhat.Block bytes) → (dir : Direction) (left : ℕ) → piece_fits dir left (PlainWhat.Block bytes) ≡ true → IsAnswerOf dir left x.what
+block_answer x bytes e Direction.FromArea left f =
     let q = block_what x.what bytes e in
     let long : length bytes ≡ piece_of left = grind (arith, nat_tests) in
-    subst (IsAnswerOf direction.FromArea left) (sym q.is) (ap length q.bytes_are ∙ long)
-block_answer x bytes e direction.IntoArea left f = absurd (false≢true f)
+    subst (IsAnswerOf Direction.FromArea left) (sym q.is) (ap length q.bytes_are ∙ long)
+block_answer x bytes e Direction.IntoArea left f = absurd (false≢true f)
 
-written_answer : (x : Message) → plain_what x.what ≡ Some plain.Written → (dir : Direction) (left : ℕ) → piece_fits dir left plain.Written ≡ true → IsAnswerOf dir left x.what
-written_answer x e direction.FromArea left f = absurd (false≢true f)
-written_answer x e direction.IntoArea left f = subst (IsAnswerOf direction.IntoArea left) (sym (written_what x.what e)) tt
+written_answer : (x : Message) → plain_what x.what ≡ Some PlainWhat.Written → (dir : Direction) (left : ℕ) → piece_fits dir left PlainWhat.Written ≡ true → IsAnswerOf dir left x.what
+written_answer x e Direction.FromArea left f = absurd (false≢true f)
+written_answer x e Direction.IntoArea left f = subst (IsAnswerOf Direction.IntoArea left) (sym (written_what x.what e)) tt
 
-gone_answer : (x : Message) → plain_what x.what ≡ Some plain.Gone → (dir : Direction) (left : ℕ) → piece_fits dir left plain.Gone ≡ true → IsAnswerOf dir left x.what
-gone_answer x e direction.FromArea left f = subst (IsAnswerOf direction.FromArea left) (sym (gone_what x.what e)) tt
-gone_answer x e direction.IntoArea left f = subst (IsAnswerOf direction.IntoArea left) (sym (gone_what x.what e)) tt
+gone_answer : (x : Message) → plain_what x.what ≡ Some PlainWhat.Gone → (dir : Direction) (left : ℕ) → piece_fits dir left PlainWhat.Gone ≡ true → IsAnswerOf dir left x.what
+gone_answer x e Direction.FromArea left f = subst (IsAnswerOf Direction.FromArea left) (sym (gone_what x.what e)) tt
+gone_answer x e Direction.IntoArea left f = subst (IsAnswerOf Direction.IntoArea left) (sym (gone_what x.what e)) tt
 
 awaits_alive : (pt : Point) (y : Process) (i : MsgId) (p : Pid) (w : PlainWhat) → p ≡ i.from → pt.kernel.processes p ≡ Some (Alive (plain_process y)) → awaits (pt.kernel.processes i.from) i.n w ≡ true → status_awaits (plain_status y.status) i.n w ≡ true
 awaits_alive pt y i p w to life e = sym (ap (λ (o : Option Life). awaits o i.n w) (sym (ap pt.kernel.processes to) ∙ life)) ∙ e
@@ -73,71 +42,65 @@ awaits_alive pt y i p w to life e = sym (ap (λ (o : Option Life). awaits o i.n 
 -- it is here, a row a kind
 here_row : (k : KernelState) (pt : Point) (y : Process) (i : MsgId) (x : Message) (p : PlainMessage) (w : PlainWhat) → plain_what x.what ≡ Some w → WhatFits pt.kernel i p w → pt.kernel.processes p.to ≡ Some (Alive (plain_process y)) → x.id ≡ i
     → (p.to.num == 0) ≡ false → pid_eq p.to manager ≡ false → FitsHere k x y x.what
-here_row k pt y i x p (plain.User code channel body links) e fits life id num other = subst (FitsHere k x y) (sym (user_what x.what code channel body links e).is) tt
-here_row k pt y i x p plain.Stop e fits life id num other = subst (FitsHere k x y) (sym (stop_what x.what e)) tt
-here_row k pt y i x p plain.Resume e fits life id num other = subst (FitsHere k x y) (sym (resume_what x.what e)) tt
-here_row k pt y i x p plain.Kill e fits life id num other = subst (FitsHere k x y) (sym (kill_what x.what e)) tt
-here_row k pt y i x p (plain.Read base len) e fits life id num other =
+here_row k pt y i x p (PlainWhat.User code channel body links) e fits life id num other = subst (FitsHere k x y) (sym (user_what x.what code channel body links e).is) tt
+here_row k pt y i x p PlainWhat.Stop e fits life id num other = subst (FitsHere k x y) (sym (stop_what x.what e)) tt
+here_row k pt y i x p PlainWhat.Resume e fits life id num other = subst (FitsHere k x y) (sym (resume_what x.what e)) tt
+here_row k pt y i x p PlainWhat.Kill e fits life id num other = subst (FitsHere k x y) (sym (kill_what x.what e)) tt
+here_row k pt y i x p (PlainWhat.Read base len) e fits life id num other =
     let is = read_what x.what base len e in
     subst (FitsHere k x y) (sym is) (subst (IsWithin (length y.memory)) (sym is) (within_memory (base + len) y (pt.kernel.processes p.to) life fits.0))
-here_row k pt y i x p (plain.Write base bytes) e fits life id num other =
+here_row k pt y i x p (PlainWhat.Write base bytes) e fits life id num other =
     let q = write_what x.what base bytes e in
     let long : length q.body.items ≡ length bytes = ap length q.bytes_are in
     let le = within_memory (base + length bytes) y (pt.kernel.processes p.to) life fits.0 in
     subst (FitsHere k x y) (sym q.is) (subst (IsWithin (length y.memory)) (sym q.is) (let h : base + length q.body.items ≤ length y.memory = omega (arith, long, le) in h))
-here_row k pt y i x p (plain.Block bytes) e fits life id num other =
+here_row k pt y i x p (PlainWhat.Block bytes) e fits life id num other =
     subst (FitsHere k x y) (sym (block_what x.what bytes e).is)
-    (awaited_by y.status i.n x (plain.Block bytes) (ap (λ (j : MsgId). j.n) id) e (awaits_alive pt y i p.to (plain.Block bytes) fits.0 life fits.1) (block_answer x bytes e))
-here_row k pt y i x p plain.Written e fits life id num other =
+    (awaited_by y.status i.n x (PlainWhat.Block bytes) (ap (λ (j : MsgId). j.n) id) e (awaits_alive pt y i p.to (PlainWhat.Block bytes) fits.0 life fits.1) (block_answer x bytes e))
+here_row k pt y i x p PlainWhat.Written e fits life id num other =
     subst (FitsHere k x y) (sym (written_what x.what e))
-    (awaited_by y.status i.n x plain.Written (ap (λ (j : MsgId). j.n) id) e (awaits_alive pt y i p.to plain.Written fits.0 life fits.1) (written_answer x e))
-here_row k pt y i x p plain.Gone e fits life id num other =
+    (awaited_by y.status i.n x PlainWhat.Written (ap (λ (j : MsgId). j.n) id) e (awaits_alive pt y i p.to PlainWhat.Written fits.0 life fits.1) (written_answer x e))
+here_row k pt y i x p PlainWhat.Gone e fits life id num other =
     subst (FitsHere k x y) (sym (gone_what x.what e))
-    (awaited_by y.status i.n x plain.Gone (ap (λ (j : MsgId). j.n) id) e (awaits_alive pt y i p.to plain.Gone fits.0 life fits.1) (gone_answer x e))
-here_row k pt y i x p (plain.Create image links) e fits life id num other = absurd (let z : p.to.num ≡ 0 = fits.0 in let t : (p.to.num == 0) ≡ true = grind (arith, nat_tests) in false≢true (sym num ∙ t))
-here_row k pt y i x p (plain.Created child) e fits life id num other = absurd (false≢true (sym other ∙ (ap (λ (q : Pid). pid_eq q manager) fits.0 ∙ pid_eq-same manager)))
-here_row k pt y i x p plain.NoRoom e fits life id num other = absurd (false≢true (sym other ∙ (ap (λ (q : Pid). pid_eq q manager) fits.0 ∙ pid_eq-same manager)))
-here_row k pt y i x p (plain.Move machine_) e fits life id num other = absurd fits
-here_row k pt y i x p (plain.Moved outcome) e fits life id num other = absurd fits
+    (awaited_by y.status i.n x PlainWhat.Gone (ap (λ (j : MsgId). j.n) id) e (awaits_alive pt y i p.to PlainWhat.Gone fits.0 life fits.1) (gone_answer x e))
+here_row k pt y i x p (PlainWhat.Create image links) e fits life id num other = absurd (let z : p.to.num ≡ 0 = fits.0 in let t : (p.to.num == 0) ≡ true = grind (arith, nat_tests) in false≢true (sym num ∙ t))
+here_row k pt y i x p (PlainWhat.Move machine_) e fits life id num other = absurd fits
+here_row k pt y i x p (PlainWhat.Moved outcome) e fits life id num other = absurd fits
+here_row k pt y i x p _ e fits life id num other = absurd (false≢true (sym other ∙ (ap (λ (q : Pid). pid_eq q manager) fits.0 ∙ pid_eq-same manager)))
 
 -- it has ended
 ended_row : (pt : Point) (i : MsgId) (x : Message) (p : PlainMessage) (w : PlainWhat) → plain_what x.what ≡ Some w → WhatFits pt.kernel i p w → (p.to.num == 0) ≡ false → pid_eq p.to manager ≡ false → FitsEnded x.what
-ended_row pt i x p (plain.User code channel body links) e fits num other = subst FitsEnded (sym (user_what x.what code channel body links e).is) tt
-ended_row pt i x p plain.Stop e fits num other = subst FitsEnded (sym (stop_what x.what e)) tt
-ended_row pt i x p plain.Resume e fits num other = subst FitsEnded (sym (resume_what x.what e)) tt
-ended_row pt i x p plain.Kill e fits num other = subst FitsEnded (sym (kill_what x.what e)) tt
-ended_row pt i x p (plain.Read base len) e fits num other = subst FitsEnded (sym (read_what x.what base len e)) tt
-ended_row pt i x p (plain.Write base bytes) e fits num other = subst FitsEnded (sym (write_what x.what base bytes e).is) tt
-ended_row pt i x p (plain.Block bytes) e fits num other = subst FitsEnded (sym (block_what x.what bytes e).is) tt
-ended_row pt i x p plain.Written e fits num other = subst FitsEnded (sym (written_what x.what e)) tt
-ended_row pt i x p plain.Gone e fits num other = subst FitsEnded (sym (gone_what x.what e)) tt
-ended_row pt i x p (plain.Create image links) e fits num other = absurd (let z : p.to.num ≡ 0 = fits.0 in let t : (p.to.num == 0) ≡ true = grind (arith, nat_tests) in false≢true (sym num ∙ t))
-ended_row pt i x p (plain.Created child) e fits num other = absurd (false≢true (sym other ∙ (ap (λ (q : Pid). pid_eq q manager) fits.0 ∙ pid_eq-same manager)))
-ended_row pt i x p plain.NoRoom e fits num other = absurd (false≢true (sym other ∙ (ap (λ (q : Pid). pid_eq q manager) fits.0 ∙ pid_eq-same manager)))
-ended_row pt i x p (plain.Move machine_) e fits num other = absurd fits
-ended_row pt i x p (plain.Moved outcome) e fits num other = absurd fits
+ended_row pt i x p (PlainWhat.User code channel body links) e fits num other = subst FitsEnded (sym (user_what x.what code channel body links e).is) tt
+ended_row pt i x p PlainWhat.Stop e fits num other = subst FitsEnded (sym (stop_what x.what e)) tt
+ended_row pt i x p PlainWhat.Resume e fits num other = subst FitsEnded (sym (resume_what x.what e)) tt
+ended_row pt i x p PlainWhat.Kill e fits num other = subst FitsEnded (sym (kill_what x.what e)) tt
+ended_row pt i x p (PlainWhat.Read base len) e fits num other = subst FitsEnded (sym (read_what x.what base len e)) tt
+ended_row pt i x p (PlainWhat.Write base bytes) e fits num other = subst FitsEnded (sym (write_what x.what base bytes e).is) tt
+ended_row pt i x p (PlainWhat.Block bytes) e fits num other = subst FitsEnded (sym (block_what x.what bytes e).is) tt
+ended_row pt i x p PlainWhat.Written e fits num other = subst FitsEnded (sym (written_what x.what e)) tt
+ended_row pt i x p PlainWhat.Gone e fits num other = subst FitsEnded (sym (gone_what x.what e)) tt
+ended_row pt i x p (PlainWhat.Create image links) e fits num other = absurd (let z : p.to.num ≡ 0 = fits.0 in let t : (p.to.num == 0) ≡ true = grind (arith, nat_tests) in false≢true (sym num ∙ t))
+ended_row pt i x p (PlainWhat.Move machine_) e fits num other = absurd fits
+ended_row pt i x p (PlainWhat.Moved outcome) e fits num other = absurd fits
+ended_row pt i x p _ e fits num other = absurd (false≢true (sym other ∙ (ap (λ (q : Pid). pid_eq q manager) fits.0 ∙ pid_eq-same manager)))
 
 -- where nothing is known of a process there is no record of it, and only there
-pub known_some : (pt : Point) (l : Placed) (p : Pid) (ids held_ : List MsgId) (k : Known) → KnownStands pt l p ids held_ k None → k ≡ view.Unknown
-known_some pt l p ids held_ view.Unknown h = refl
-known_some pt l p ids held_ view.Here h = absurd h
-known_some pt l p ids held_ (view.Frozen to) h = absurd h
-known_some pt l p ids held_ (view.Incoming from) h = absurd h
-known_some pt l p ids held_ (view.Forward at moves) h = absurd h
-known_some pt l p ids held_ view.Ended h = absurd h
+pub known_some : (pt : Point) (l : Placed) (p : Pid) (ids held_ : List MsgId) (k : Known) → KnownStands pt l p ids held_ k None → k ≡ Known.Unknown
+known_some pt l p ids held_ Known.Unknown h = refl
+known_some pt l p ids held_ _ h = absurd h
 
 -- what the machine knows of it
 process_row : (b : Boot) (pt : Point) (l : Placed) (m : ℕ) (k : KernelState) (i : MsgId) (x : Message) (p : PlainMessage) (o : Option machine.Known) → Mirrors pt.kernel pt.view pt.addresses l → KernelStands b pt l m k → k.sent < 4294967295 → FrontSo pt m i x p
     → (p.to.num == 0) ≡ false → pid_eq p.to manager ≡ false → is_server p.to ≡ false → k.records p.to ≡ o → FitsKnown k x o
 process_row b pt l m k i x p None mirrors h sent f num other server is =
     f.known (ap (λ (c : Bool). c || is_server p.to) num ∙ server) (known_some pt l p.to (pt.view.queue m p.to) (pt.view.held m p.to) (pt.view.known m p.to) (subst (KnownStands pt l p.to (pt.view.queue m p.to) (pt.view.held m p.to) (pt.view.known m p.to)) is (h.known p.to server)))
-process_row b pt l m k i x p (Some (record_.Here y)) mirrors h sent f num other server is =
+process_row b pt l m k i x p (Some (Record.Here y)) mirrors h sent f num other server is =
     let so = here_so b pt l m k p.to y mirrors h server is in
     here_row k pt y i x p p.what f.what_is f.fits so.life f.id num other
-process_row b pt l m k i x p (Some (record_.Frozen leaving)) mirrors h sent f num other server is = tt
-process_row b pt l m k i x p (Some (record_.Incoming arriving)) mirrors h sent f num other server is = tt
-process_row b pt l m k i x p (Some (record_.Forward place moves)) mirrors h sent f num other server is = sent
-process_row b pt l m k i x p (Some (record_.Ended y)) mirrors h sent f num other server is = ended_row pt i x p p.what f.what_is f.fits num other
+process_row b pt l m k i x p (Some (Record.Frozen leaving)) mirrors h sent f num other server is = tt
+process_row b pt l m k i x p (Some (Record.Incoming arriving)) mirrors h sent f num other server is = tt
+process_row b pt l m k i x p (Some (Record.Forward place moves)) mirrors h sent f num other server is = sent
+process_row b pt l m k i x p (Some (Record.Ended y)) mirrors h sent f num other server is = ended_row pt i x p p.what f.what_is f.fits num other
 
 pub for_process : (b : Boot) (pt : Point) (l : Placed) (m : ℕ) (k : KernelState) (i : MsgId) (x : Message) (p : PlainMessage) → Mirrors pt.kernel pt.view pt.addresses l → KernelStands b pt l m k → k.sent < 4294967295 → FrontSo pt m i x p
     → (p.to.num == 0) ≡ false → pid_eq p.to manager ≡ false → is_server p.to ≡ false → FitsKnown k x (k.records p.to)

@@ -1,32 +1,7 @@
 -- A machine's kernel that stands for a point may take a turn.
-use Rattle.std.proofs.Common.{◌≡◌, ℕ, ◌<◌, ◌==◌, ◌||◌, Bool, true, false, List, [], ◌∷◌, map, refl, ap, ◌∙◌, sym, subst, arith}
-use Rattle.std.specs.List.{All}
-use Rattle.std.specs.declared.option.Option.{Option}
-use Rattle.std.specs.declared.option.Option.TheVariants.{None, Some}
-use Rattle.std.proofs.lemmas.Bool.Decides.{nat_tests}
-use Rattle.std.proofs.lemmas.List.Elements.{All-head}
-use Rattle.dm_link.specs.declared.Pid.{Pid}
-use Rattle.dm_link.specs.Names.{pid_eq}
-use Rattle.dm_message.specs.declared.Message.{Message}
-use Rattle.dm_message.specs.declared.MsgId.{MsgId}
-use Rattle.dm_message.specs.Lawful.{IsLawfulMessage}
-use Rattle.dm_message.specs.Plain.{PlainMessage, plain_message}
-use Rattle.dm_onekernel.specs.declared.boot.Boot.{Boot}
-use Rattle.dm_onekernel.specs.Boot.{manager, switchboard}
-use Rattle.dm_laws.proofs.Equal.{pid_eq-is}
-use Rattle.dm_rule.specs.Point.{Point}
-use Rattle.dm_rulelaws.specs.Fits.{is_server}
-use Rattle.dm_rulelaws.proofs.Own.Told.{OwnTold}
-use Rattle.dm_rulelaws.proofs.Runs.{Run}
-use Rattle.dm_rulelaws.proofs.Goes.Front.{for_whom}
-use Rattle.dm_places.specs.Placed.{Placed, Mirrors}
-use Rattle.dm_kernel.specs.Lawful.{IsLawfulState}
-use Rattle.dm_kernel.specs.May.{FitsKnown, FrontMay, MayHandle, MayTurn}
-use Rattle.dm_kernel.specs.State.{KernelState}
-use Rattle.dm_mirror.specs.Made.{MadeStands}
-use Rattle.dm_mirror.specs.Stands.{KernelStands}
-use Rattle.dm_mirror.specs.Own.{AllOwnStand}
-use Rattle.dm_mirror.specs.Tokens.{TokensStand}
+use Rattle.dm_mirror.proofs.Names.{◌≡◌, ℕ, ◌<◌, ◌==◌, ◌||◌, Bool, true, false, List, [], ◌∷◌, map, refl, ap, ◌∙◌, sym, subst, arith, All, Option, None, Some, nat_tests, All-head, Pid, pid_eq, Message, MsgId, IsLawfulMessage, PlainMessage}
+use Rattle.dm_mirror.proofs.Names.{plain_message, Boot, manager, switchboard, pid_eq-is, Point, is_server, OwnTold, Run, for_whom, Placed, Mirrors, IsLawfulState, FitsKnown, FrontMay, MayHandle, MayTurn, KernelState, MadeStands}
+use Rattle.dm_mirror.proofs.Names.{KernelStands, AllOwnStand, TokensStand}
 use Rattle.dm_mirror.proofs.Counts.FewRouted.{CountsFew}
 use Rattle.dm_mirror.proofs.May.Front.{FrontSo, for_board, for_manager, front_so, kernel_create, kernel_row}
 use Rattle.dm_mirror.proofs.May.Have.{may_act}

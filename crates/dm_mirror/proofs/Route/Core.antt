@@ -1,30 +1,9 @@
 -- The world stands for a point but for what the kernel with places mirrors and the kernels' own messages carry; and so it does
 -- with more messages and other addresses.
-use Rattle.std.proofs.Common.{◌≡◌, ◌≢◌, ℕ, zero, suc, ◌+◌, ◌<◌, ◌≤◌, ◌==◌, List, [], ◌∷◌, length, map, refl, ap, ◌∙◌, sym, subst}
-use Rattle.std.specs.Prelude.{if◌then◌else◌, drop, slice_get}
-use Rattle.std.specs.declared.option.Option.{Option}
-use Rattle.std.specs.declared.option.Option.TheVariants.{None, Some}
-use Rattle.dm_link.specs.declared.Pid.{Pid}
-use Rattle.dm_link.specs.Names.{pid_of}
-use Rattle.dm_message.specs.declared.Message.{Message}
-use Rattle.dm_message.specs.declared.MsgId.{MsgId}
-use Rattle.dm_records.specs.declared.record.Record.TheVariants as record_
-use Rattle.dm_process.specs.declared.process.Process.{Process}
-use Rattle.dm_migrate.specs.Departure.{Departure}
-use Rattle.dm_migrate.specs.Arrival.{Arrival}
-use Rattle.dm_onekernel.specs.declared.boot.Boot.{Boot}
-use Rattle.dm_onekernel.specs.Boot.{first_number}
+use Rattle.dm_mirror.proofs.Names.{◌≡◌, ◌≢◌, ℕ, zero, suc, ◌+◌, ◌<◌, ◌≤◌, ◌==◌, List, [], ◌∷◌, length, map, refl, ap, ◌∙◌, sym, subst, if◌then◌else◌, drop, slice_get, Option, None, Some, Pid, pid_of, Message, MsgId, Record, Process}
+use Rattle.dm_mirror.proofs.Names.{Departure, Arrival, Boot, first_number, KernelState, room_of, NodeState, Addresses, Point, and, taken_at, taken_by, taken_of_home, Known, Unknown, Here, Frozen, Incoming, Forward, Ended, Placed}
+use Rattle.dm_mirror.proofs.Names.{WorldState, AreMessages, ComesStand, HereStands, History, KernelStands, KnownStands, LeavesStand, NodeStands, PairStands, RoomStands, StandsWith, servers_at}
 use Rattle.dm_kernel.specs.State as machine
-use Rattle.dm_kernel.specs.State.{KernelState}
-use Rattle.dm_kernel.specs.Begun.{room_of}
-use Rattle.dm_node.specs.State.{NodeState}
-use Rattle.dm_rule.specs.Addresses.{Addresses}
-use Rattle.dm_rule.specs.Point.{Point}
-use Rattle.dm_rule.specs.Rule.{and, taken_at, taken_by, taken_of_home}
-use Rattle.dm_rule.specs.View.{Known, Unknown, Here, Frozen, Incoming, Forward, Ended}
-use Rattle.dm_places.specs.Placed.{Placed}
-use Rattle.dm_world.specs.World.{WorldState}
-use Rattle.dm_mirror.specs.Stands.{AreMessages, ComesStand, HereStands, History, KernelStands, KnownStands, LeavesStand, NodeStands, PairStands, RoomStands, StandsWith, servers_at}
 
 pub record CoreStands (b : Boot) (w : WorldState) (pt : Point) (l : Placed) (h : History) : Type 0 where
   pub groups : w.groups ≡ pt.view.groups
@@ -77,11 +56,11 @@ module _ (b : Boot) (pt : Point) (l u : Placed) (a : Addresses) (e : MoreBag l u
 
   known_more : (p : Pid) (queue held : List MsgId) (k : Known) (r : Option machine.Known) → KnownStands pt l p queue held k r → KnownStands next u p queue held k r
   known_more p queue held Unknown None h = h
-  known_more p queue held Here (Some (record_.Here x)) h = here_more p queue x h
-  known_more p queue held (Frozen to) (Some (record_.Frozen d)) h = leaves_more p queue held to d h
-  known_more p queue held (Incoming from) (Some (record_.Incoming x)) h = comes_more p held x h
-  known_more p queue held (Forward to moves) (Some (record_.Forward at n)) h = h
-  known_more p queue held Ended (Some (record_.Ended y)) h = h
+  known_more p queue held Here (Some (Record.Here x)) h = here_more p queue x h
+  known_more p queue held (Frozen to) (Some (Record.Frozen d)) h = leaves_more p queue held to d h
+  known_more p queue held (Incoming from) (Some (Record.Incoming x)) h = comes_more p held x h
+  known_more p queue held (Forward to moves) (Some (Record.Forward at n)) h = h
+  known_more p queue held Ended (Some (Record.Ended y)) h = h
   known_more p queue held k r h = h
 
   servers_more : (m : ℕ) → servers_at u m ≡ servers_at l m

@@ -1,17 +1,6 @@
 -- What a message that is routed comes to: the machine and the rule do the same, or both stop where the pair is full.
-use Rattle.std.specs.Prelude.{◌≡◌, ℕ, ◌≤◌, Bool, false, length, ◌⊎◌}
-use Rattle.std.specs.declared.option.Option.TheVariants.{Some}
-use Rattle.dm_onekernel.specs.declared.boot.Boot.{Boot}
-use Rattle.dm_line.specs.Sets.{at_machine}
+use Rattle.dm_mirror.proofs.Names.{◌≡◌, ℕ, ◌≤◌, Bool, false, length, ◌⊎◌, Some, Boot, at_machine, Point, is_full, routes, Acted, Goes, Worn, spoken, Placed, WorldState, History, StandsWith}
 use Rattle.dm_rule.specs.Parts as rule
-use Rattle.dm_rule.specs.Point.{Point}
-use Rattle.dm_rule.specs.Worn.{is_full}
-use Rattle.dm_node.specs.Acts.{routes}
-use Rattle.dm_node.specs.Out.{Acted, Goes, Worn}
-use Rattle.dm_node.specs.Wired.{spoken}
-use Rattle.dm_places.specs.Placed.{Placed}
-use Rattle.dm_world.specs.World.{WorldState}
-use Rattle.dm_mirror.specs.Stands.{History, StandsWith}
 use Rattle.dm_mirror.proofs.Turning.{Route, message_of, rule_part_of}
 use Rattle.dm_mirror.proofs.Putting.{lines_put, put_end}
 use Rattle.dm_mirror.proofs.Route.Puts.{after_route}

@@ -1,23 +1,8 @@
 -- The line of a process that leaves, said before the messages that go on are routed: their lines are the same, and lead to the
 -- same.
-use Rattle.std.proofs.Common.{◌≡◌, ℕ, Bool, true, false, refl, sym}
-use Rattle.std.specs.Prelude.{length}
-use Rattle.std.specs.declared.option.Option.TheVariants.{Some}
-use Rattle.dm_link.specs.declared.Pid.{Pid}
-use Rattle.dm_message.specs.declared.Message.{Message}
-use Rattle.dm_message.specs.declared.MsgId.{MsgId}
-use Rattle.dm_message.specs.declared.kind.MessageKind.{MessageKind}
-use Rattle.dm_message.specs.declared.kind.MessageKind.TheVariants as kind
-use Rattle.dm_message.specs.Kinds.{kind_of}
-use Rattle.dm_onekernel.specs.Kernel.{OneKernel}
-use Rattle.dm_line.specs.declared.line.Line.TheVariants as line
-use Rattle.dm_line.specs.declared.line.Load.TheVariants as load
-use Rattle.dm_line.specs.declared.line.Stage.TheVariants as stage
-use Rattle.dm_rule.specs.Addresses.{Addresses, first_gives, given, own_gives}
+use Rattle.dm_mirror.proofs.Names.{◌≡◌, ℕ, Bool, true, false, refl, sym, length, Some, Pid, Message, MsgId, MessageKind, Line, Load, Stage, kind_of, OneKernel, Addresses, first_gives, given, own_gives, Point, moved, at_id, About, Of, View}
+use Rattle.dm_mirror.proofs.Names.{after_put, first_told}
 use Rattle.dm_rule.specs.Parts as rule
-use Rattle.dm_rule.specs.Point.{Point, moved}
-use Rattle.dm_line.specs.Sets.{at_id}
-use Rattle.dm_rule.specs.View.{About, Of, View, after_put, first_told}
 use Rattle.dm_mirror.proofs.Turning.{Route, First, On, Own, Late, Nothing, Leaves, LateTopic, late_point, rule_part_of}
 use Rattle.dm_mirror.proofs.Putting.{lines_put, put_end, put_point}
 
@@ -38,32 +23,18 @@ late_pair q (Leaves p y) = refl
 
 -- what is given to a kernel's own message is by the machine that acts
 pub own_gives_same : (s : OneKernel) (v u : View) (a : Addresses) (id : MsgId) (q : Pid) (k : MessageKind) → u.acting ≡ v.acting → own_gives s u a id q k ≡ own_gives s v a id q k
-own_gives_same s v u a id q kind.Migrate e = λ i. own_gives s (record v { acting = e i }) a id q kind.Migrate
-own_gives_same s v u a id q kind.Update e = refl
-own_gives_same s v u a id q kind.Ask e = λ i. own_gives s (record v { acting = e i }) a id q kind.Ask
-own_gives_same s v u a id q kind.Refuse e = λ i. own_gives s (record v { acting = e i }) a id q kind.Ask
-own_gives_same s v u a id q kind.PullState e = λ i. own_gives s (record v { acting = e i }) a id q kind.Ask
-own_gives_same s v u a id q kind.State e = λ i. own_gives s (record v { acting = e i }) a id q kind.Ask
-own_gives_same s v u a id q kind.PullBlock e = λ i. own_gives s (record v { acting = e i }) a id q kind.Ask
-own_gives_same s v u a id q kind.Memory e = λ i. own_gives s (record v { acting = e i }) a id q kind.Ask
-own_gives_same s v u a id q kind.AllTaken e = λ i. own_gives s (record v { acting = e i }) a id q kind.Ask
-own_gives_same s v u a id q kind.Restart e = λ i. own_gives s (record v { acting = e i }) a id q kind.Ask
-own_gives_same s v u a id q kind.CallOff e = λ i. own_gives s (record v { acting = e i }) a id q kind.Ask
-own_gives_same s v u a id q kind.Bury e = λ i. own_gives s (record v { acting = e i }) a id q kind.Ask
-own_gives_same s v u a id q kind.User e = refl
-own_gives_same s v u a id q kind.Stop e = refl
-own_gives_same s v u a id q kind.Resume e = refl
-own_gives_same s v u a id q kind.Kill e = refl
-own_gives_same s v u a id q kind.Read e = refl
-own_gives_same s v u a id q kind.Write e = refl
-own_gives_same s v u a id q kind.Block e = refl
-own_gives_same s v u a id q kind.Written e = refl
-own_gives_same s v u a id q kind.Gone e = refl
-own_gives_same s v u a id q kind.Create e = refl
-own_gives_same s v u a id q kind.Created e = refl
-own_gives_same s v u a id q kind.NoRoom e = refl
-own_gives_same s v u a id q kind.Move e = refl
-own_gives_same s v u a id q kind.Moved e = refl
+own_gives_same s v u a id q MessageKind.Migrate e = λ i. own_gives s (record v { acting = e i }) a id q MessageKind.Migrate
+own_gives_same s v u a id q MessageKind.Ask e = λ i. own_gives s (record v { acting = e i }) a id q MessageKind.Ask
+own_gives_same s v u a id q MessageKind.Refuse e = λ i. own_gives s (record v { acting = e i }) a id q MessageKind.Ask
+own_gives_same s v u a id q MessageKind.PullState e = λ i. own_gives s (record v { acting = e i }) a id q MessageKind.Ask
+own_gives_same s v u a id q MessageKind.State e = λ i. own_gives s (record v { acting = e i }) a id q MessageKind.Ask
+own_gives_same s v u a id q MessageKind.PullBlock e = λ i. own_gives s (record v { acting = e i }) a id q MessageKind.Ask
+own_gives_same s v u a id q MessageKind.Memory e = λ i. own_gives s (record v { acting = e i }) a id q MessageKind.Ask
+own_gives_same s v u a id q MessageKind.AllTaken e = λ i. own_gives s (record v { acting = e i }) a id q MessageKind.Ask
+own_gives_same s v u a id q MessageKind.Restart e = λ i. own_gives s (record v { acting = e i }) a id q MessageKind.Ask
+own_gives_same s v u a id q MessageKind.CallOff e = λ i. own_gives s (record v { acting = e i }) a id q MessageKind.Ask
+own_gives_same s v u a id q MessageKind.Bury e = λ i. own_gives s (record v { acting = e i }) a id q MessageKind.Ask
+own_gives_same s v u a id q _ e = refl
 
 -- a put, where the message is told to be about this
 abbrev put_about : Point → ℕ → ℕ → Message → About → Addresses → Point
@@ -73,17 +44,17 @@ put_about q m c x a places = record {
   addresses = places;
 }
 
-left_gives : (q : Point) (p : Pid) (x : Message) → own_gives q.kernel (moved q (line.Migration stage.Left p) q.kernel).view q.addresses x.id x.to.pid (kind_of x.what) ≡ own_gives q.kernel q.view q.addresses x.id x.to.pid (kind_of x.what)
-left_gives q p x = own_gives_same q.kernel q.view (moved q (line.Migration stage.Left p) q.kernel).view q.addresses x.id x.to.pid (kind_of x.what) refl
+left_gives : (q : Point) (p : Pid) (x : Message) → own_gives q.kernel (moved q (Line.Migration Stage.Left p) q.kernel).view q.addresses x.id x.to.pid (kind_of x.what) ≡ own_gives q.kernel q.view q.addresses x.id x.to.pid (kind_of x.what)
+left_gives q p x = own_gives_same q.kernel q.view (moved q (Line.Migration Stage.Left p) q.kernel).view q.addresses x.id x.to.pid (kind_of x.what) refl
 
-left_put : (q : Point) (p : Pid) (m c : ℕ) (x : Message) → q.view.topic ≡ Of p → put_point (moved q (line.Migration stage.Left p) q.kernel) m c x ≡ moved (put_point q m c x) (line.Migration stage.Left p) q.kernel
-left_put q p m c x e = λ i. moved (put_about q m c x (sym e i) (given q.addresses (first_gives (q.view.told x.id) (left_gives q p x i)))) (line.Migration stage.Left p) q.kernel
+left_put : (q : Point) (p : Pid) (m c : ℕ) (x : Message) → q.view.topic ≡ Of p → put_point (moved q (Line.Migration Stage.Left p) q.kernel) m c x ≡ moved (put_point q m c x) (Line.Migration Stage.Left p) q.kernel
+left_put q p m c x e = λ i. moved (put_about q m c x (sym e i) (given q.addresses (first_gives (q.view.told x.id) (left_gives q p x i)))) (Line.Migration Stage.Left p) q.kernel
 
 pub late_end : (q : Point) (late : Late) (m c : ℕ) (x : Message) (home out : Bool) → LateTopic q late → put_end (late_point q late) m c x home out ≡ late_point (put_end q m c x home out) late
 late_end q Nothing m c x home out e = refl
 late_end q (Leaves p y) m c x true out e = left_put q p m c x e
 late_end q (Leaves p y) m c x false false e = left_put q p m c x e
-late_end q (Leaves p y) m c x false true e = λ i. moved (left_put q p m c x e i) (line.Packet m c (length (q.view.pair m c).wire) (load.Data (length (q.view.pair m c).ids))) q.kernel
+late_end q (Leaves p y) m c x false true e = λ i. moved (left_put q p m c x e i) (Line.Packet m c (length (q.view.pair m c).wire) (Load.Data (length (q.view.pair m c).ids))) q.kernel
 
 pub late_topic : (q : Point) (late : Late) (m c : ℕ) (x : Message) (home out : Bool) → LateTopic q late → LateTopic (put_end q m c x home out) late
 late_topic q Nothing m c x home out e = tt

@@ -1,37 +1,9 @@
 -- Messages that are routed one after the other: the machine and the rule go on to the end, or stop at the first full pair.
-use Rattle.std.proofs.Common.{◌≡◌, ℕ, ◌+◌, ◌<◌, ◌≤◌, ◌==◌, Bool, true, false, List, [], ◌∷◌, ◌++◌, length, map, refl, ap, ◌∙◌, sym, subst, inl, inr, ◌⊎◌, arith}
-use Rattle.std.specs.Prelude.{⊤, nat_le, if◌then◌else◌}
-use Rattle.std.specs.declared.option.Option.TheVariants.{Some}
-use Rattle.std.proofs.lemmas.Bool.{eq-eqb}
-use Rattle.dm_link.specs.declared.Pid.{Pid}
-use Rattle.dm_message.specs.declared.Message.{Message}
-use Rattle.dm_message.specs.declared.MsgId.{MsgId}
-use Rattle.dm_message.specs.Lawful.{IsLawfulMessage}
-use Rattle.dm_onekernel.specs.declared.boot.Boot.{Boot}
-use Rattle.dm_onekernel.specs.Kernel.{OneKernel}
+use Rattle.dm_mirror.proofs.Names.{◌≡◌, ℕ, ◌+◌, ◌<◌, ◌≤◌, ◌==◌, Bool, true, false, List, [], ◌∷◌, ◌++◌, length, map, refl, ap, ◌∙◌, sym, subst, inl, inr, ◌⊎◌, arith, ⊤, nat_le, if◌then◌else◌, Some, eq-eqb, Pid, Message, MsgId}
+use Rattle.dm_mirror.proofs.Names.{IsLawfulMessage, Boot, OneKernel, Line, Stage, Out, Spelled, goes_out, spelled, Point, after, moved, Spot, Inbox, Untaken, standing, Pair, worn_in, put_spot, PairsFit, Sane, Sayable, part_sane, machine_of}
+use Rattle.dm_mirror.proofs.Names.{NodeState, acts, routes, Acted, Acts, Goes, Worn, behind, then_, Spoken, spoken, Placed, WorldState, History, StandsWith, AllRecords}
 use Rattle.dm_kernel.specs.declared.part.Part.{Part}
-use Rattle.dm_line.specs.declared.line.Line.{Line}
-use Rattle.dm_line.specs.declared.line.Line.TheVariants as line
-use Rattle.dm_line.specs.declared.line.Stage.TheVariants as stage
 use Rattle.dm_rule.specs.Parts as rule
-use Rattle.dm_rule.specs.Parts.{Spelled, goes_out, spelled}
-use Rattle.dm_rule.specs.Point.{Point, after, moved}
-use Rattle.dm_rule.specs.Spots.{Spot, Inbox, Untaken, standing}
-use Rattle.dm_rule.specs.View.{Pair}
-use Rattle.dm_rule.specs.Worn.{worn_in}
-use Rattle.dm_rule.proofs.Phases.Put.{put_spot}
-use Rattle.dm_rule.proofs.States.{PairsFit}
-use Rattle.dm_rule.proofs.Telling.{Sane, Sayable, part_sane}
-use Rattle.dm_rulelaws.specs.Found.{machine_of}
-use Rattle.dm_node.specs.State.{NodeState}
-use Rattle.dm_node.specs.declared.out.Out.TheVariants as out
-use Rattle.dm_node.specs.Acts.{acts, routes}
-use Rattle.dm_node.specs.Out.{Acted, Acts, Goes, Worn, behind, then_}
-use Rattle.dm_node.specs.Wired.{Spoken, spoken}
-use Rattle.dm_places.specs.Placed.{Placed}
-use Rattle.dm_world.specs.World.{WorldState}
-use Rattle.dm_mirror.specs.Stands.{History, StandsWith}
-use Rattle.dm_mirror.specs.Tokens.{AllRecords}
 use Rattle.dm_mirror.proofs.Turning.{Route, First, On, Own, AllMayPut, Late, Nothing, Leaves, LateMay, LateTopic, MayPut, late_owns, late_parts, late_point, late_rule_parts, message_of, owns, part_of, rule_part_of}
 use Rattle.dm_mirror.proofs.Turning as turning
 use Rattle.dm_mirror.proofs.Stays.{at_again, at_here, at_same}
@@ -320,7 +292,7 @@ still_go b w q l h m records (r ∷ rs) v g =
 -- a process leaves, and its machine's message for that
 module _ (b : Boot) (w : WorldState) (q : Point) (l : Placed) (h : History) (m : ℕ) (records : AllRecords) (p : Pid) (y : Message) (v : Spelled) (g : Going b w q l h m records [] (Leaves p y) v) where
   abbrev said : Line
-  said = line.Migration stage.Left p
+  said = Line.Migration Stage.Left p
 
   abbrev left : Point
   left = moved q said q.kernel
@@ -361,8 +333,8 @@ module _ (b : Boot) (w : WorldState) (q : Point) (l : Placed) (h : History) (m :
 
   last_on : RoutesOn b w left m (Own y ∷ []) Nothing leave.rest → RoutesOn b w q m [] (Leaves p y) v
   last_on k = record {
-    acted = record { state = k.acted.state; outs = out.Says said ∷ k.acted.outs };
-    goes = ap (behind (out.Says said ∷ [])) k.goes;
+    acted = record { state = k.acted.state; outs = Out.Says said ∷ k.acted.outs };
+    goes = ap (behind (Out.Says said ∷ [])) k.goes;
     spoken = ap (λ (ls : List Line). said ∷ ls) k.spoken ∙ whole_is;
     placed = k.placed;
     history = k.history;
@@ -375,7 +347,7 @@ module _ (b : Boot) (w : WorldState) (q : Point) (l : Placed) (h : History) (m :
   last_worn k = record {
     from = k.from;
     to = k.to;
-    worn = ap (behind (out.Says said ∷ [])) k.worn;
+    worn = ap (behind (Out.Says said ∷ [])) k.worn;
     first = ap (worn_in b.numbers q.view) (sym whole_is) ∙ k.first;
   }
 

@@ -1,25 +1,6 @@
 -- What may be put still may behind the put of another message.
-use Rattle.std.proofs.Common.{◌≡◌, ℕ, ◌+◌, ◌≤◌, Bool, true, false, refl, ap, ◌∙◌, sym, subst, inl, inr, arith}
-use Rattle.std.specs.Prelude.{if◌then◌else◌, List, [], ◌∷◌}
-use Rattle.std.specs.declared.option.Option.{Option}
-use Rattle.std.specs.declared.option.Option.TheVariants.{None, Some}
-use Rattle.std.proofs.lemmas.Bool.{cases_Bool, false≢true}
-use Rattle.dm_link.specs.declared.Pid.{Pid}
-use Rattle.dm_link.specs.Names.{pid_of}
-use Rattle.dm_message.specs.declared.Message.{Message}
-use Rattle.dm_message.specs.declared.MsgId.{MsgId}
-use Rattle.dm_message.specs.Ids.{id_eq, id_of}
-use Rattle.dm_message.specs.Kinds.{kind_of}
-use Rattle.dm_laws.proofs.Equal.{id_eq-is}
-use Rattle.dm_rule.specs.Addresses.{Gets, Receiver, Sender, first_gives, given, own_gives}
-use Rattle.dm_rule.specs.Point.{Point}
-use Rattle.dm_line.specs.Sets.{at_machine}
-use Rattle.dm_rule.specs.View.{Told, is_kernels, is_own, own_id}
-use Rattle.dm_rule.proofs.Letters.{not_kernels}
-use Rattle.dm_rule.proofs.States.{put_told_off}
-use Rattle.dm_rule.proofs.Telling.{Sane}
-use Rattle.dm_places.specs.Placed.{Placed, Mirrors}
-use Rattle.dm_mirror.specs.Tokens.{AllRecords}
+use Rattle.dm_mirror.proofs.Names.{◌≡◌, ℕ, ◌+◌, ◌≤◌, Bool, true, false, refl, ap, ◌∙◌, sym, subst, inl, inr, arith, if◌then◌else◌, List, [], ◌∷◌, Option, None, Some, cases_Bool, false≢true, Pid, pid_of, Message, MsgId, id_eq, id_of}
+use Rattle.dm_mirror.proofs.Names.{kind_of, id_eq-is, Gets, Receiver, Sender, first_gives, given, own_gives, Point, at_machine, Told, is_kernels, is_own, own_id, not_kernels, put_told_off, Sane, Placed, Mirrors, AllRecords, not_first}
 use Rattle.dm_mirror.proofs.Turning.{Route, First, On, Own, MayOwn, MayPut, AllMayPut, Late, Nothing, Leaves, LateMay, late_owns, message_of, owns}
 use Rattle.dm_mirror.proofs.Turning as turning
 use Rattle.dm_mirror.proofs.Putting.{IsPlain, plain_of, put_end, put_point}
@@ -42,11 +23,6 @@ same_end q m c x true out = record { kernel = refl; addresses = refl; acting = r
 same_end q m c x false false = record { kernel = refl; addresses = refl; acting = refl; count = refl; told = refl; topic = refl; asked = refl; groups = refl }
 same_end q m c x false true = record { kernel = refl; addresses = refl; acting = refl; count = refl; told = refl; topic = refl; asked = refl; groups = refl }
 
--- a message of the bag, or one that goes on, isn't counted as a kernel's own
-told_not_own : (i : MsgId) (o : Option Told) (t : Told) → o ≡ Some t → is_own i o ≡ false
-told_not_own i None t e = cc
-told_not_own i (Some s) t e = refl
-
 kernels_not_own : (i : MsgId) (o : Option Told) → is_kernels i ≡ false → is_own i o ≡ false
 kernels_not_own i None e = e
 kernels_not_own i (Some t) e = refl
@@ -57,7 +33,7 @@ first_not_own pt l records x sane mirrors may =
     kernels_not_own x.id (pt.view.told x.id) (not_kernels sane.r sane.e pt.kernel x.id p.m p.there sane.sound)
 
 pub on_not_own : (pt : Point) (l : Placed) (records : AllRecords) (x : Message) → MayPut pt l records (On x) → is_own x.id (pt.view.told x.id) ≡ false
-on_not_own pt l records x may = told_not_own x.id (pt.view.told x.id) may.1.0 may.1.1
+on_not_own pt l records x may = not_first x.id (pt.view.told x.id) may.1.0 may.1.1
 
 -- the next message of a kernel's own still is
 record Keeps (pt end : Point) (i : MsgId) : Type 0 where

@@ -1,32 +1,10 @@
 -- The parts of a group that route messages, one after the other: what stands somewhere stays there, and what is counted.
-use Rattle.std.proofs.Common.{◌≡◌, ℕ, ◌+◌, ◌≤◌, ◌==◌, Bool, true, false, List, [], ◌∷◌, ◌++◌, length, map, refl, ap, ◌∙◌, sym, subst, arith}
-use Rattle.std.specs.Prelude.{if◌then◌else◌}
-use Rattle.std.specs.declared.option.Option.{Option}
-use Rattle.std.specs.declared.option.Option.TheVariants.{None, Some}
-use Rattle.dm_link.specs.declared.Pid.{Pid}
-use Rattle.dm_message.specs.declared.MsgId.{MsgId}
-use Rattle.dm_message.specs.declared.kind.MessageKind.{MessageKind}
-use Rattle.dm_message.specs.Kinds.{kind_of, plain_kind}
-use Rattle.dm_message.specs.Plain.{PlainMessage}
-use Rattle.dm_onekernel.specs.Options.{bind}
-use Rattle.dm_laws.proofs.Steps.{bind-is}
-use Rattle.dm_line.specs.declared.line.Line.{Line}
-use Rattle.dm_line.specs.declared.line.Line.TheVariants as line
-use Rattle.dm_line.specs.declared.line.Load.TheVariants as load
-use Rattle.dm_line.specs.declared.line.Stage.TheVariants as stage
-use Rattle.dm_rule.specs.Addresses.{Receiver}
+use Rattle.dm_mirror.proofs.Names.{◌≡◌, ℕ, ◌+◌, ◌≤◌, ◌==◌, Bool, true, false, List, [], ◌∷◌, ◌++◌, length, map, refl, ap, ◌∙◌, sym, subst, arith, if◌then◌else◌, Option, None, Some, Pid, MsgId, MessageKind, kind_of, plain_kind, PlainMessage}
+use Rattle.dm_mirror.proofs.Names.{bind, bind-is, Line, Load, Stage, Receiver, Spelled, goes_out, puts, spelled, Point, after, moved, at_machine, Spot, Queue, standing, Told, View, is_own, own_id, fits_packet, fits_put, PairsFit, Sane}
+use Rattle.dm_mirror.proofs.Names.{Placed, Mirrors, AllRecords}
 use Rattle.dm_rule.specs.Parts as rule
-use Rattle.dm_rule.specs.Parts.{Spelled, behind, goes_out, puts, spelled}
-use Rattle.dm_rule.specs.Point.{Point, after, moved}
-use Rattle.dm_line.specs.Sets.{at_machine}
-use Rattle.dm_rule.specs.Spots.{Spot, Queue, Held, Inbox, Untaken, standing}
-use Rattle.dm_rule.specs.View.{Told, View, is_own, own_id}
-use Rattle.dm_rule.proofs.Moves.Sent.{fits_packet, fits_put}
-use Rattle.dm_rule.proofs.States.{PairsFit}
-use Rattle.dm_rule.proofs.Telling.{Sane}
-use Rattle.dm_places.specs.Placed.{Placed, Mirrors}
-use Rattle.dm_mirror.specs.Tokens.{AllRecords}
-use Rattle.dm_mirror.proofs.Turning.{Route, First, On, Own, Late, Nothing, Leaves, MayPut, late_point, late_rule_parts, message_of, rule_part_of}
+use Rattle.dm_rule.specs.Parts.{behind}
+use Rattle.dm_mirror.proofs.Turning.{Route, First, On, Own, Late, Nothing, Leaves, MayPut, late_rule_parts, message_of, rule_part_of}
 use Rattle.dm_mirror.proofs.Turning as turning
 use Rattle.dm_mirror.proofs.Puts.{put_standing}
 use Rattle.dm_mirror.proofs.Putting.{put_end}
@@ -63,23 +41,23 @@ grows_same q fits = record { fits = fits; spots = λ i z h. h; kernel = refl }
 grows_then : (q mid end : Point) → Grows q mid → Grows mid end → Grows q end
 grows_then q mid end a c = record { fits = c.fits; spots = λ i z h. c.spots i z (a.spots i z h); kernel = c.kernel ∙ a.kernel }
 
-grows_packet : (q : Point) (a c k n : ℕ) → PairsFit q.view → Grows q (moved q (line.Packet a c k (load.Data n)) q.kernel)
-grows_packet q a c k n fits = record { fits = fits_packet q.view a c k (load.Data n) fits; spots = λ i z h. subst (λ (j : ℕ). 1 ≤ j) (sym (put_standing q.view a c (load.Data n) i z)) h; kernel = refl }
+grows_packet : (q : Point) (a c k n : ℕ) → PairsFit q.view → Grows q (moved q (Line.Packet a c k (Load.Data n)) q.kernel)
+grows_packet q a c k n fits = record { fits = fits_packet q.view a c k (Load.Data n) fits; spots = λ i z h. subst (λ (j : ℕ). 1 ≤ j) (sym (put_standing q.view a c (Load.Data n) i z)) h; kernel = refl }
 
-grows_put : (q : Point) (a c : ℕ) (id : MsgId) (k : MessageKind) (t : Pid) → PairsFit q.view → Grows q (moved q (line.Put a c id k t) q.kernel)
+grows_put : (q : Point) (a c : ℕ) (id : MsgId) (k : MessageKind) (t : Pid) → PairsFit q.view → Grows q (moved q (Line.Put a c id k t) q.kernel)
 grows_put q a c id k t fits = record { fits = fits_put q.view a c id k t fits; spots = λ i z h. put_grows q.view a c id i k t fits z h; kernel = refl }
 
-grows_more : (mid end : Point) (a c k n : ℕ) (s t : Bool) → after mid (if s then [] else if t then line.Packet a c k (load.Data n) ∷ [] else []) ≡ Some end → PairsFit mid.view → Grows mid end
+grows_more : (mid end : Point) (a c k n : ℕ) (s t : Bool) → after mid (if s then [] else if t then Line.Packet a c k (Load.Data n) ∷ [] else []) ≡ Some end → PairsFit mid.view → Grows mid end
 grows_more mid end a c k n true t e fits = let f : mid ≡ end = cc in subst (Grows mid) f (grows_same mid fits)
 grows_more mid end a c k n false false e fits = let f : mid ≡ end = cc in subst (Grows mid) f (grows_same mid fits)
 grows_more mid end a c k n false true e fits =
-    let f : moved mid (line.Packet a c k (load.Data n)) mid.kernel ≡ end = cc in
+    let f : moved mid (Line.Packet a c k (Load.Data n)) mid.kernel ≡ end = cc in
     subst (Grows mid) f (grows_packet mid a c k n fits)
 
 grows_puts : (q end : Point) (c : ℕ) (id : MsgId) (k : MessageKind) (t : Pid) (ls : List Line) → Some (puts q.view c id k t) ≡ Some ls → after q ls ≡ Some end → PairsFit q.view → Grows q end
 grows_puts q end c id k t ls is leads fits =
     let a : ℕ = q.view.acting in
-    let mid : Point = moved q (line.Put a c id k t) q.kernel in
+    let mid : Point = moved q (Line.Put a c id k t) q.kernel in
     let f : puts q.view c id k t ≡ ls = cc in
     let g = grows_put q a c id k t fits in
     grows_then q mid end g (grows_more mid end a c (length (q.view.pair a c).wire) (length (q.view.pair a c).ids) (a == c) (goes_out (q.view.pair a c)) (ap (after q) f ∙ leads) g.fits)
@@ -95,15 +73,13 @@ route_grows q end (On x) ls is leads fits =
 route_grows q end (Own x) ls is leads fits = grows_puts q end x.to.at (own_id q.view) (kind_of x.what) x.to.pid ls is leads fits
 
 -- a process leaves
-left_spots : (q : Point) (p : Pid) (i : MsgId) (z : Spot) → standing (moved q (line.Migration stage.Left p) q.kernel).view i z ≡ standing q.view i z
+left_spots : (q : Point) (p : Pid) (i : MsgId) (z : Spot) → standing (moved q (Line.Migration Stage.Left p) q.kernel).view i z ≡ standing q.view i z
 left_spots q p i (Queue m r) = refl
-left_spots q p i (Held m r) = refl
-left_spots q p i (Inbox m) = refl
-left_spots q p i (Untaken a c) = refl
+left_spots q p i _ = refl
 
-left_grows : (q end : Point) (p : Pid) (ls : List Line) → rule.lines_of q (rule.Says (line.Migration stage.Left p)) ≡ Some ls → after q ls ≡ Some end → PairsFit q.view → Grows q end
+left_grows : (q end : Point) (p : Pid) (ls : List Line) → rule.lines_of q (rule.Says (Line.Migration Stage.Left p)) ≡ Some ls → after q ls ≡ Some end → PairsFit q.view → Grows q end
 left_grows q end p ls is leads fits =
-    let l : Line = line.Migration stage.Left p in
+    let l : Line = Line.Migration Stage.Left p in
     let f : l ∷ [] ≡ ls = cc in
     let same : Some (moved q l q.kernel) ≡ Some end = ap (after q) f ∙ leads in
     let g : moved q l q.kernel ≡ end = cc in
@@ -118,7 +94,7 @@ nothing_grows q v e fits =
 late_grows : (late : Late) (q : Point) (v : Spelled) → spelled q (late_rule_parts late) ≡ Some v → PairsFit q.view → Grows q v.point
 late_grows Nothing q v e fits = nothing_grows q v e fits
 late_grows (Leaves p x) q v e fits =
-    let n = next_of q (rule.Says (line.Migration stage.Left p)) (rule_part_of (Own x) ∷ []) v e in
+    let n = next_of q (rule.Says (Line.Migration Stage.Left p)) (rule_part_of (Own x) ∷ []) v e in
     let g = left_grows q n.next p n.lines n.is n.leads fits in
     let k = next_of n.next (rule_part_of (Own x)) [] n.rest n.on in
     let j = route_grows n.next k.next (Own x) k.lines k.is k.leads g.fits in

@@ -1,42 +1,15 @@
 -- Behind the put of a message that is routed: what the kernel with places mirrors, and what the kernels' own messages carry.
-use Rattle.std.proofs.Common.{◌≡◌, ℕ, ◌≤◌, Bool, true, false, [], refl, ap, ◌∙◌, sym, subst, inl, inr, arith}
-use Rattle.std.specs.Prelude.{if◌then◌else◌}
-use Rattle.std.specs.declared.option.Option.{Option}
-use Rattle.std.specs.declared.option.Option.TheVariants.{None, Some}
-use Rattle.std.proofs.lemmas.Bool.{cases_Bool, false≢true}
-use Rattle.dm_link.specs.declared.Pid.{Pid}
-use Rattle.dm_message.specs.declared.Message.{Message}
-use Rattle.dm_message.specs.declared.MsgId.{MsgId}
-use Rattle.dm_message.specs.declared.kind.MessageKind.{MessageKind}
-use Rattle.dm_message.specs.Ids.{id_eq}
-use Rattle.dm_message.specs.Kinds.{kind_of, plain_kind}
-use Rattle.dm_message.specs.Plain.{plain_message}
-use Rattle.dm_records.specs.Records.{incoming_of}
-use Rattle.dm_onekernel.specs.declared.boot.Boot.{Boot}
-use Rattle.dm_onekernel.specs.Options.{bind}
+use Rattle.dm_mirror.proofs.Names.{◌≡◌, ℕ, ◌≤◌, Bool, true, false, [], refl, ap, ◌∙◌, sym, subst, inl, inr, arith, if◌then◌else◌, Option, None, Some, cases_Bool, false≢true, Pid, Message, MsgId, MessageKind, id_eq, kind_of, plain_kind}
+use Rattle.dm_mirror.proofs.Names.{plain_message, incoming_of, Boot, bind, id_eq-is, id_eq-same, first_gives, own_gives, is_between, Point, Spot, standing, Of, Told, View, after_put, first_told, is_kernels, own_id, put_at, put_spots}
+use Rattle.dm_mirror.proofs.Names.{PairsFit, put_told_off, Sane, plain_not, Placed, Mirrors, KeepsPlaces, lines_keep, routed_keeps, told_keeps, own_put_mirrors, WorldState, AllOwnStand, OwnStands, told_of, History, StandsWith, AllRecords}
+use Rattle.dm_mirror.proofs.Names.{Carries, TokenStands, TokensStand, destination_of, first_none}
 use Rattle.dm_kernel.specs.State as machine
-use Rattle.dm_laws.proofs.Equal.{id_eq-is, id_eq-same}
-use Rattle.dm_rule.specs.Addresses.{first_gives, own_gives}
-use Rattle.dm_rule.specs.Phases.{is_between}
-use Rattle.dm_rule.specs.Point.{Point}
-use Rattle.dm_rule.specs.Spots.{Spot, standing}
-use Rattle.dm_rule.specs.View.{Of, Told, View, after_put, first_told, is_kernels, own_id}
-use Rattle.dm_rule.proofs.Phases.Lines.{put_at, put_spots}
-use Rattle.dm_rule.proofs.States.{PairsFit, put_told_off}
-use Rattle.dm_rule.proofs.Telling.{Sane, plain_not}
-use Rattle.dm_places.specs.Placed.{Placed, Mirrors}
 use Rattle.dm_places.specs.PlacedStep.{with_message}
-use Rattle.dm_places.specs.Laws.{KeepsPlaces}
-use Rattle.dm_places.proofs.Lines.{lines_keep, routed_keeps, told_keeps}
-use Rattle.dm_places.proofs.OwnPuts.{own_put_mirrors}
-use Rattle.dm_world.specs.World.{WorldState}
-use Rattle.dm_mirror.specs.Own.{AllOwnStand, OwnStands, told_of}
-use Rattle.dm_mirror.specs.Stands.{History, StandsWith}
-use Rattle.dm_mirror.specs.Tokens.{AllRecords, Carries, TokenStands, TokensStand, destination_of}
 use Rattle.dm_mirror.proofs.Turning.{Route, First, On, Own, MayOwn, MayPut, IsCarried, message_of}
 use Rattle.dm_mirror.proofs.Turning as turning
 use Rattle.dm_mirror.proofs.Route.Core.{CoreStands, MoreBag, same_bag}
 use Rattle.dm_mirror.proofs.Putting.{IsPlain, line_put, plain_of, put_point}
+pub use Rattle.dm_rulelaws.proofs.Based.Queues.{told_kept as told_stays}
 
 -- the kernel with places behind it
 abbrev pub after_route : Placed → Route → Placed
@@ -84,24 +57,6 @@ route_mirrors pt l records m (First x) may h = lines_keep pt (put_point pt m x.t
 route_mirrors pt l records m (On x) may h = lines_keep pt (put_point pt m x.to.at x) l (line_put m x.to.at x) (route_keeps pt l records m (On x) refl may h) h refl
 route_mirrors pt l records m (Own x) may h =
     own_put_mirrors pt l m x.to.at (kind_of x.what) x.to.pid x h may.plain may.encloses (sym (h.plain.bag x.id) ∙ ap (λ (o : Option Message). bind o plain_message) may.bag) may.untold may.receiver may.sender
-
--- what was told before stays told
-first_stays : (o : Option Told) (u t : Told) → o ≡ Some t → Some (first_told o u) ≡ Some t
-first_stays None u t e = cc
-first_stays (Some s) u t e = e
-
-pub told_stays : (v : View) (a b : ℕ) (i : MsgId) (k : MessageKind) (q : Pid) (j : MsgId) (t : Told) → v.told j ≡ Some t → (after_put v a b i k q).told j ≡ Some t
-told_stays v a b i k q j t e = elim (cases_Bool (id_eq i j)) [
-  | inl same ↦
-      let is : i ≡ j = id_eq-is i j same in
-      let u : Told = record { kind = k; receiver = q; about = v.topic } in
-      ap (after_put v a b i k q).told (sym is) ∙ put_at v a b i k q ∙ first_stays (v.told i) u t (ap v.told is ∙ e)
-  | inr apart ↦ put_told_off v a b i j k q apart ∙ e
-]
-
-first_none : (o : Option Told) (u : Told) → o ≡ None → Some (first_told o u) ≡ Some u
-first_none None u e = refl
-first_none (Some t) u e = cc
 
 -- what is told of the next own message is what it is
 pub own_told : (pt : Point) (l : Placed) (records : AllRecords) (m : ℕ) (x : Message) → MayOwn pt l records x → (after_put pt.view m x.to.at x.id (kind_of x.what) x.to.pid).told x.id ≡ Some (told_of x)

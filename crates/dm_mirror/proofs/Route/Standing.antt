@@ -1,22 +1,6 @@
 -- What stands somewhere stands there behind messages that are put.
-use Rattle.std.proofs.Common.{◌≡◌, ℕ, zero, suc, ◌+◌, ◌≤◌, ◌==◌, ◌&&◌, Bool, true, false, List, [], ◌∷◌, ◌++◌, length, refl, ap, sym, subst, arith}
-use Rattle.std.specs.Prelude.{if◌then◌else◌, drop}
-use Rattle.std.proofs.lemmas.Bool.{eqb-true}
-use Rattle.std.proofs.lemmas.List.{drop-append-le}
-use Rattle.dm_link.specs.declared.Pid.{Pid}
-use Rattle.dm_message.specs.declared.Message.{Message}
-use Rattle.dm_message.specs.declared.MsgId.{MsgId}
-use Rattle.dm_message.specs.declared.kind.MessageKind.{MessageKind}
-use Rattle.dm_message.specs.Kinds.{kind_of}
-use Rattle.dm_line.specs.declared.line.Load.TheVariants as load
-use Rattle.dm_rule.specs.Point.{Point}
-use Rattle.dm_rule.specs.Spots.{Spot, Queue, Held, Inbox, Untaken, standing, times, untaken}
-use Rattle.dm_rule.specs.View.{Pair, View, after_packet, after_put, routed_on}
-use Rattle.dm_rule.proofs.Moves.Sent.{fits_packet, fits_put}
-use Rattle.dm_rule.proofs.Pairs.Stand.{two_of}
-use Rattle.dm_rule.proofs.Phases.Put.{put_spot, put_there}
-use Rattle.dm_rule.proofs.Standing.{times-append}
-use Rattle.dm_rule.proofs.States.{PairsFit}
+use Rattle.dm_mirror.proofs.Names.{◌≡◌, ℕ, zero, suc, ◌+◌, ◌≤◌, ◌==◌, ◌&&◌, Bool, true, false, List, [], ◌∷◌, ◌++◌, length, refl, ap, sym, subst, arith, if◌then◌else◌, drop, eqb-true, drop-append-le, Pid, Message, MsgId, MessageKind}
+use Rattle.dm_mirror.proofs.Names.{kind_of, Load, Point, Spot, Inbox, Untaken, standing, times, untaken, Pair, View, after_packet, after_put, routed_on, fits_packet, fits_put, two_of, put_spot, put_there, times-append, PairsFit, home_full}
 use Rattle.dm_mirror.proofs.Puts.{put_standing}
 use Rattle.dm_mirror.proofs.Putting.{put_end}
 
@@ -50,29 +34,19 @@ pair_if f a b c d i j true e few full h =
     pair_grows a b (f a b) i j (a == b) refl few full (omega (arith, same, h))
 pair_if f a b c d i j false e few full h = h
 
-home_taken : (v : View) (a b : ℕ) → PairsFit v → (a == b) ≡ true → (v.pair a b).taken ≡ length (v.pair a b).ids
-home_taken v a b fits is = let e : a ≡ b = eqb-true a b is in subst (λ (n : ℕ). (v.pair a n).taken ≡ length (v.pair a n).ids) e (fits.home a)
-
 pub put_grows : (v : View) (a b : ℕ) (i j : MsgId) (k : MessageKind) (q : Pid) → PairsFit v → (z : Spot) → 1 ≤ standing v j z → 1 ≤ standing (after_put v a b i k q) j z
-put_grows v a b i j k q fits (Queue m p) h = h
-put_grows v a b i j k q fits (Held m p) h = h
 put_grows v a b i j k q fits (Inbox n) h = box_grows v.inbox b n i j (a == b) (b == n) refl h
-put_grows v a b i j k q fits (Untaken c d) h = pair_if v.pair a b c d i j ((a == c) && (b == d)) refl (fits.within a b) (home_taken v a b fits) h
+put_grows v a b i j k q fits (Untaken c d) h = pair_if v.pair a b c d i j ((a == c) && (b == d)) refl (fits.within a b) (home_full v a b fits) h
+put_grows v a b i j k q fits _ h = h
 
 -- behind the lines of a message that is put, with its packet
 pub end_fits : (q : Point) (m c : ℕ) (x : Message) (home out : Bool) → PairsFit q.view → PairsFit (put_end q m c x home out).view
 end_fits q m c x true out h = fits_put q.view m c x.id (kind_of x.what) x.to.pid h
 end_fits q m c x false false h = fits_put q.view m c x.id (kind_of x.what) x.to.pid h
-end_fits q m c x false true h = fits_packet (after_put q.view m c x.id (kind_of x.what) x.to.pid) m c (length (q.view.pair m c).wire) (load.Data (length (q.view.pair m c).ids)) (fits_put q.view m c x.id (kind_of x.what) x.to.pid h)
+end_fits q m c x false true h = fits_packet (after_put q.view m c x.id (kind_of x.what) x.to.pid) m c (length (q.view.pair m c).wire) (Load.Data (length (q.view.pair m c).ids)) (fits_put q.view m c x.id (kind_of x.what) x.to.pid h)
 
-packet_grows : (v : View) (m c n : ℕ) (j : MsgId) (z : Spot) → 1 ≤ standing v j z → 1 ≤ standing (after_packet v m c (load.Data n)) j z
-packet_grows v m c n j z h = subst (λ (k : ℕ). 1 ≤ k) (sym (put_standing v m c (load.Data n) j z)) h
-
-pub end_grows : (q : Point) (m c : ℕ) (x : Message) (home out : Bool) (j : MsgId) (z : Spot) → PairsFit q.view → 1 ≤ standing q.view j z → 1 ≤ standing (put_end q m c x home out).view j z
-end_grows q m c x true out j z fits h = put_grows q.view m c x.id j (kind_of x.what) x.to.pid fits z h
-end_grows q m c x false false j z fits h = put_grows q.view m c x.id j (kind_of x.what) x.to.pid fits z h
-end_grows q m c x false true j z fits h =
-    packet_grows (after_put q.view m c x.id (kind_of x.what) x.to.pid) m c (length (q.view.pair m c).ids) j z (put_grows q.view m c x.id j (kind_of x.what) x.to.pid fits z h)
+packet_grows : (v : View) (m c n : ℕ) (j : MsgId) (z : Spot) → 1 ≤ standing v j z → 1 ≤ standing (after_packet v m c (Load.Data n)) j z
+packet_grows v m c n j z h = subst (λ (k : ℕ). 1 ≤ k) (sym (put_standing v m c (Load.Data n) j z)) h
 
 pub end_there : (q : Point) (m c : ℕ) (x : Message) (home out : Bool) → PairsFit q.view → 1 ≤ standing (put_end q m c x home out).view x.id (put_spot m c)
 end_there q m c x true out fits = put_there q.view m c x.id (kind_of x.what) x.to.pid fits

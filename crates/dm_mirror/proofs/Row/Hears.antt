@@ -1,46 +1,20 @@
 -- What a machine does with a kernel's own message says no label first, and so a row that says only labels, queued messages or
 -- that the machine idles is about a message of the bag, or about none: each of its lines has what it needs.
-use Rattle.std.proofs.Common.{◌≡◌, ℕ, ◌/◌, ◌==◌, ◌&&◌, Bool, true, false, not, List, [], ◌∷◌, ◌++◌, map, length, refl, subst}
-use Rattle.std.specs.Prelude.{⊤, if◌then◌else◌}
-use Rattle.std.specs.declared.option.Option.{Option}
-use Rattle.std.specs.declared.option.Option.TheVariants.{None, Some}
-use Rattle.std.proofs.lemmas.Bool.{false≢true}
-use Rattle.dm_link.specs.declared.Pid.{Pid}
-use Rattle.dm_link.specs.Names.{pid_eq}
-use Rattle.dm_message.specs.declared.Message.{Message}
-use Rattle.dm_message.specs.declared.MsgId.{MsgId}
-use Rattle.dm_message.specs.Plain.{PlainMessage}
-use Rattle.dm_message.specs.declared.kind.MessageKind.{MessageKind}
-use Rattle.dm_message.specs.declared.kind.MessageKind.TheVariants as kind
-use Rattle.dm_onekernel.specs.declared.boot.Boot.{Boot}
-use Rattle.dm_onekernel.specs.Boot.{switchboard, manager}
-use Rattle.dm_onekernel.specs.Options.{bind}
-use Rattle.dm_onekernel.specs.PlainProcess.{PlainProcess}
+use Rattle.dm_mirror.proofs.Names.{◌≡◌, ℕ, ◌/◌, ◌==◌, ◌&&◌, Bool, true, false, not, List, [], ◌∷◌, ◌++◌, map, length, refl, subst, ⊤, if◌then◌else◌, Option, None, Some, false≢true, Pid, pid_eq, Message, MsgId, PlainMessage, MessageKind}
+use Rattle.dm_mirror.proofs.Names.{Step, Boot, switchboard, manager, bind, PlainProcess, Line, Part, Says, Point, Known, Unknown, Here, Frozen, Ended, About, Of, Told, target_of, letter_of, Phased, told_some, Begins, Walks, WalksOf}
+use Rattle.dm_mirror.proofs.Names.{resting, round_walks, handles_walks}
 use Rattle.dm_onekernel.specs.Step as kernel
-use Rattle.dm_schedule.specs.declared.Step.TheVariants as step
-use Rattle.dm_line.specs.declared.line.Line.{Line}
 use Rattle.dm_rule.specs.Migrating as migrating
-use Rattle.dm_rule.specs.Parts as rule_part
-use Rattle.dm_rule.specs.Parts.{Part, Says, Routes, Again, Owns, Transmits}
-use Rattle.dm_rule.specs.Point.{Point}
 use Rattle.dm_rule.specs.Rule as rule
-use Rattle.dm_rule.specs.View.{Known, Unknown, Here, Frozen, Incoming, Forward, Ended, About, NothingElse, Target, Of, Place, Told, target_of}
-use Rattle.dm_rule.proofs.Letters.{letter_of}
-use Rattle.dm_rule.proofs.Phases.Always.{Phased}
-use Rattle.dm_rule.proofs.Phases.Leaves.{told_some}
 use Rattle.dm_rulelaws.specs.KnownStands.{KnownStands}
-use Rattle.dm_rulelaws.proofs.Based.Groups.{Begins, begins}
-use Rattle.dm_rulelaws.proofs.Based.Needs.{Walks, WalksOf}
-use Rattle.dm_rulelaws.proofs.Based.Rows.{turned, resting, round_walks, handles_walks}
+use Rattle.dm_rulelaws.proofs.Based.Groups.{begins}
+use Rattle.dm_rulelaws.proofs.Based.Rows.{turned}
 use Rattle.dm_mirror.proofs.Turning.{is_still, are_still, rule_routed}
 
 -- the first part says another line than those of a still row
 abbrev pub is_loud : Part → Bool
 is_loud (Says l) = not (is_still l)
-is_loud (Routes i) = false
-is_loud (Again i to) = false
-is_loud (Owns k q to) = false
-is_loud (Transmits a b l) = false
+is_loud _ = false
 
 abbrev pub Loud : List Part → Type 0
 Loud [] = ⊥
@@ -63,52 +37,44 @@ loud_bind None f h = tt
 loud_bind (Some x) f h = h x
 
 leaves_loud : (id : MsgId) (p : Pid) (ids : List MsgId) (k : Known) → LoudOf (migrating.leaves id p ids k)
-leaves_loud id p ids Unknown = tt
-leaves_loud id p ids Here = tt
 leaves_loud id p ids (Frozen to) = refl
-leaves_loud id p ids (Incoming from) = tt
-leaves_loud id p ids (Forward at moves) = tt
-leaves_loud id p ids Ended = tt
+leaves_loud id p ids _ = tt
 
 kernel_told_loud : (pt : Point) (m : ℕ) (id : MsgId) (p : Pid) (fits : Bool × ℕ × ℕ) (x : PlainProcess) (k : MessageKind) → LoudOf (migrating.kernel_told pt m id p fits x k)
-kernel_told_loud pt m id p fits x kind.Ask = some_if fits.0 _ _ refl refl
-kernel_told_loud pt m id p fits x kind.Refuse = refl
-kernel_told_loud pt m id p fits x kind.PullState = refl
-kernel_told_loud pt m id p fits x kind.State = some_if (pt.view.asked p == migrating.chunks_of x) _ _ refl refl
-kernel_told_loud pt m id p fits x kind.PullBlock = refl
-kernel_told_loud pt m id p fits x kind.Memory = some_if (pt.view.asked p == migrating.pieces_of x) _ _ refl refl
-kernel_told_loud pt m id p fits x kind.AllTaken = leaves_loud id p (pt.view.queue m p ++ pt.view.held m p) (pt.view.known m p)
-kernel_told_loud pt m id p fits x kind.Restart = refl
+kernel_told_loud pt m id p fits x MessageKind.Ask = some_if fits.0 _ _ refl refl
+kernel_told_loud pt m id p fits x MessageKind.Refuse = refl
+kernel_told_loud pt m id p fits x MessageKind.PullState = refl
+kernel_told_loud pt m id p fits x MessageKind.State = some_if (pt.view.asked p == migrating.chunks_of x) _ _ refl refl
+kernel_told_loud pt m id p fits x MessageKind.PullBlock = refl
+kernel_told_loud pt m id p fits x MessageKind.Memory = some_if (pt.view.asked p == migrating.pieces_of x) _ _ refl refl
+kernel_told_loud pt m id p fits x MessageKind.AllTaken = leaves_loud id p (pt.view.queue m p ++ pt.view.held m p) (pt.view.known m p)
+kernel_told_loud pt m id p fits x MessageKind.Restart = refl
 kernel_told_loud pt m id p fits x k = tt
 
 kernel_hears_loud : (b : Boot) (pt : Point) (m : ℕ) (id : MsgId) (k : MessageKind) (a : About) → LoudOf (rule.kernel_hears b pt m id k a)
-kernel_hears_loud b pt m id k NothingElse = tt
-kernel_hears_loud b pt m id k (Target to) = tt
 kernel_hears_loud b pt m id k (Of p) =
     loud_bind (kernel.alive (pt.kernel.processes p)) (λ (x : PlainProcess). migrating.kernel_told pt m id p (rule.fits (rule.free_room b pt m) (length x.memory / 256)) x k)
     (λ x. kernel_told_loud pt m id p (rule.fits (rule.free_room b pt m) (length x.memory / 256)) x k)
-kernel_hears_loud b pt m id k (Place p at moves) = tt
+kernel_hears_loud b pt m id k _ = tt
 
 here_told_loud : (pt : Point) (m : ℕ) (id : MsgId) (t : Told) (k : MessageKind) → LoudOf (migrating.here_told pt m id t k)
-here_told_loud pt m id t kind.Migrate = some_if (m == target_of (Some t)) _ _ refl refl
-here_told_loud pt m id t kind.Update = refl
+here_told_loud pt m id t MessageKind.Migrate = some_if (m == target_of (Some t)) _ _ refl refl
+here_told_loud pt m id t MessageKind.Update = refl
 here_told_loud pt m id t k = tt
 
 ended_told_loud : (id : MsgId) (k : MessageKind) → LoudOf (migrating.ended_told id k)
-ended_told_loud id kind.Migrate = refl
-ended_told_loud id kind.Update = refl
+ended_told_loud id MessageKind.Migrate = refl
+ended_told_loud id MessageKind.Update = refl
 ended_told_loud id k = tt
 
 process_told_loud : (pt : Point) (m : ℕ) (id : MsgId) (t : Told) (k : Known) → LoudOf (migrating.process_told pt m id t k)
 process_told_loud pt m id t Unknown = tt
 process_told_loud pt m id t Here = here_told_loud pt m id t t.kind
-process_told_loud pt m id t (Frozen to) = refl
-process_told_loud pt m id t (Incoming from) = refl
-process_told_loud pt m id t (Forward at moves) = refl
 process_told_loud pt m id t Ended = ended_told_loud id t.kind
+process_told_loud pt m id t _ = refl
 
 server_told_loud : (pt : Point) (id : MsgId) (t : Told) (k : MessageKind) → LoudOf (migrating.server_told pt id t k)
-server_told_loud pt id t kind.Update = refl
+server_told_loud pt id t MessageKind.Update = refl
 server_told_loud pt id t k = tt
 
 pub hears_loud : (b : Boot) (pt : Point) (m : ℕ) (id : MsgId) (o : Option Told) → LoudOf (rule.hears b pt m id o)
@@ -123,7 +89,7 @@ hears_loud b pt m id (Some t) =
 
 -- a row that says only still lines, and may route a message
 abbrev pub still_parts : List Line → Option Message → List Part
-still_parts says route = map rule_part.Says says ++ rule_routed route
+still_parts says route = map Part.Says says ++ rule_routed route
 
 still_first : (c d : Bool) → (c && d) ≡ true → not c ≡ true → ⊥
 still_first true d e f = false≢true f
@@ -149,5 +115,5 @@ turn_walk b pt m [] says route h still e =
     (round_walks (turned pt m) b pt m (rule.first_runnable pt.kernel (pt.view.queue m) (pt.view.ring m)) (λ p is. resting (turned pt m).view p h.phases (h.rooted.served m p is)))
 turn_walk b pt m (i ∷ is) says route h still e = comes_walk b pt m i (pt.kernel.bag i) says route h refl still e
 
-pub row_walks : (b : Boot) (pt : Point) (m : ℕ) (says : List Line) (route : Option Message) → Phased pt → KnownStands pt.kernel pt.view → are_still says ≡ true → rule.outcome b pt (step.Turn m) ≡ Some (still_parts says route) → Walks (turned pt m) (still_parts says route)
+pub row_walks : (b : Boot) (pt : Point) (m : ℕ) (says : List Line) (route : Option Message) → Phased pt → KnownStands pt.kernel pt.view → are_still says ≡ true → rule.outcome b pt (Step.Turn m) ≡ Some (still_parts says route) → Walks (turned pt m) (still_parts says route)
 row_walks b pt m says route phased known still e = turn_walk b pt m (pt.view.inbox m) says route (begins pt m phased known) still e

@@ -1,32 +1,9 @@
 -- Behind the lines of a still row as many pieces were asked for as before, and a kernel's own message that stands somewhere stood there before.
-use Rattle.std.proofs.Common.{◌≡◌, ℕ, ◌≤◌, ◌==◌, ◌&&◌, Bool, true, false, List, [], ◌∷◌, ◌++◌, map, refl, ap, ◌∙◌, sym, subst, inl, inr, arith}
-use Rattle.std.specs.Prelude.{if◌then◌else◌}
-use Rattle.std.specs.declared.option.Option.{Option}
-use Rattle.std.specs.declared.option.Option.TheVariants.{None, Some}
-use Rattle.std.proofs.lemmas.Bool.{cases_Bool, false≢true}
-use Rattle.dm_link.specs.declared.Pid.{Pid}
-use Rattle.dm_link.specs.Names.{pid_eq}
-use Rattle.dm_message.specs.declared.MsgId.{MsgId}
-use Rattle.dm_message.specs.Ids.{id_eq}
-use Rattle.dm_message.specs.declared.kind.MessageKind.{MessageKind}
-use Rattle.dm_message.specs.declared.kind.MessageKind.TheVariants as kind
-use Rattle.dm_onekernel.specs.declared.label.Label.{Label}
-use Rattle.dm_onekernel.specs.declared.label.Label.TheVariants as label
-use Rattle.dm_onekernel.specs.Kernel.{OneKernel}
-use Rattle.dm_onekernel.specs.Options.{bind}
-use Rattle.dm_laws.proofs.Equal.{id_eq-is, pid_eq-is}
-use Rattle.dm_laws.proofs.Steps.{bind-is}
-use Rattle.dm_line.specs.declared.line.Line.{Line}
-use Rattle.dm_line.specs.declared.line.Line.TheVariants as line
-use Rattle.dm_rule.specs.Parts.{Part, Says}
-use Rattle.dm_rule.specs.Point.{Point, after, after_line, kernel_after, label_of, moved}
-use Rattle.dm_line.specs.Sets.{at_machine, at_record, without_front, without_id}
-use Rattle.dm_rule.specs.Spots.{Spot, Queue, Held, Inbox, Untaken, times, standing}
+use Rattle.dm_mirror.proofs.Names.{◌≡◌, ℕ, ◌≤◌, ◌==◌, ◌&&◌, Bool, true, false, List, [], ◌∷◌, ◌++◌, map, refl, ap, ◌∙◌, sym, subst, inl, inr, arith, if◌then◌else◌, Option, None, Some, cases_Bool, false≢true, Pid, pid_eq, MsgId, id_eq}
+use Rattle.dm_mirror.proofs.Names.{MessageKind, Label, OneKernel, bind, id_eq-is, pid_eq-is, bind-is, Line, Part, Says, Point, after, after_line, kernel_after, label_of, moved, at_machine, at_record, without_front, without_id, Spot, Queue}
+use Rattle.dm_mirror.proofs.Names.{Held, Inbox, Untaken, times, standing, View, Told, after_label, view_after, handled, queued_for, dropped_for, receiver_of, is_kernels, eq_is, queued_spots, Needs, Walks}
 use Rattle.dm_rule.specs.View as view
-use Rattle.dm_rule.specs.View.{View, Told, after_label, view_after, handled, queued_for, dropped_for, receiver_of, is_kernels}
-use Rattle.dm_rule.proofs.Lines.{parts, eq_is}
-use Rattle.dm_rule.proofs.Phases.Lines.{queued_spots}
-use Rattle.dm_rulelaws.proofs.Based.Needs.{Needs, Walks}
+use Rattle.dm_rule.proofs.Lines.{parts}
 use Rattle.dm_mirror.proofs.Turning.{is_still, are_still}
 
 -- a list without a message has no message more often
@@ -61,17 +38,12 @@ record_fewer f m p x j h n q = elim (cases_Bool ((m == n) && pid_eq p q)) [
 abbrev Fewer : View → View → Type 0
 Fewer v w = (j : MsgId) (z : Spot) → standing w j z ≤ standing v j z
 
-fewer_same : (v w : View) → ((j : MsgId) (z : Spot) → standing w j z ≡ standing v j z) → Fewer v w
-fewer_same v w h j z = let e = h j z in omega (arith, e)
-
 fewer_on : (u v w : View) → Fewer u v → Fewer v w → Fewer u w
 fewer_on u v w g h j z = let a = g j z in let b = h j z in omega (arith, a, b)
 
 handled_fewer : (v : View) (i : MsgId) → Fewer v (handled v i)
-handled_fewer v i j (Queue m p) = omega arith
-handled_fewer v i j (Held m p) = omega arith
 handled_fewer v i j (Inbox m) = machine_fewer v.inbox v.acting (without_front i (v.inbox v.acting)) j (front_fewer i j (v.inbox v.acting)) m
-handled_fewer v i j (Untaken a b) = omega arith
+handled_fewer v i j _ = omega arith
 
 dropped_fewer : (v : View) (i : MsgId) (o : Option Pid) → Fewer v (dropped_for v i o)
 dropped_fewer v i None j z = omega arith
@@ -82,58 +54,47 @@ dropped_fewer v i (Some p) j (Untaken a b) = omega arith
 
 serving_fewer : (v : View) (p : Pid) → Fewer v (view.serving v p)
 serving_fewer v p j (Queue m q) = omega arith
-serving_fewer v p j (Held m q) = omega arith
-serving_fewer v p j (Inbox m) = omega arith
-serving_fewer v p j (Untaken a b) = omega arith
+serving_fewer v p j _ = omega arith
 
-received_fewer : (v : View) (p : Pid) (i : MsgId) → Fewer v (after_label v (label.Receive p i))
+received_fewer : (v : View) (p : Pid) (i : MsgId) → Fewer v (after_label v (Label.Receive p i))
 received_fewer v p i j (Queue m q) = record_fewer v.queue v.acting p (without_id i (v.queue v.acting p)) j (id_fewer i j (v.queue v.acting p)) m q
-received_fewer v p i j (Held m q) = omega arith
-received_fewer v p i j (Inbox m) = omega arith
-received_fewer v p i j (Untaken a b) = omega arith
+received_fewer v p i j _ = omega arith
 
 ended_fewer : (v : View) (p : Pid) → Fewer v (view.ended v p)
 ended_fewer v p j (Queue m q) = omega arith
-ended_fewer v p j (Held m q) = omega arith
-ended_fewer v p j (Inbox m) = omega arith
-ended_fewer v p j (Untaken a b) = omega arith
+ended_fewer v p j _ = omega arith
 
 same_fewer : (v : View) → Fewer v v
 same_fewer v j z = omega arith
 
 kills_fewer : (v : View) (k : MessageKind) (p : Pid) → Fewer v (view.kills k v (Some p))
-kills_fewer v kind.Kill p = ended_fewer v p
+kills_fewer v MessageKind.Kill p = ended_fewer v p
 kills_fewer v k p = same_fewer v
 
 told_fewer : (v : View) (o : Option Told) → Fewer v (view.served_told v o)
 told_fewer v None = same_fewer v
 told_fewer v (Some t) = kills_fewer v t.kind t.receiver
 
-created_fewer : (v : View) (i : MsgId) (p : Pid) → Fewer (handled v i) (after_label v (label.Created i p))
+created_fewer : (v : View) (i : MsgId) (p : Pid) → Fewer (handled v i) (after_label v (Label.Created i p))
 created_fewer v i p j (Queue m q) = omega arith
-created_fewer v i p j (Held m q) = omega arith
-created_fewer v i p j (Inbox m) = omega arith
-created_fewer v i p j (Untaken a b) = omega arith
+created_fewer v i p j _ = omega arith
 
 label_fewer : (v : View) (e : Label) → Fewer v (after_label v e)
-label_fewer v (label.Ran p k) = serving_fewer v p
-label_fewer v (label.Call p n c) = same_fewer v
-label_fewer v (label.Send p id) = same_fewer v
-label_fewer v (label.Wait p) = same_fewer v
-label_fewer v (label.Out p w) = same_fewer v
-label_fewer v (label.End p y) = ended_fewer v p
-label_fewer v (label.Receive p id) = received_fewer v p id
-label_fewer v (label.Refuse p id c) = serving_fewer v p
-label_fewer v (label.Dropped id) = fewer_on v (handled v id) (after_label v (label.Dropped id)) (handled_fewer v id) (dropped_fewer (handled v id) id (receiver_of (v.told id)))
-label_fewer v (label.Served id) = fewer_on v (handled v id) (after_label v (label.Served id)) (handled_fewer v id) (told_fewer (handled v id) (v.told id))
-label_fewer v (label.Gone id) = handled_fewer v id
-label_fewer v (label.Took id) = handled_fewer v id
-label_fewer v (label.Created id p) = fewer_on v (handled v id) (after_label v (label.Created id p)) (handled_fewer v id) (created_fewer v id p)
-label_fewer v (label.NoSpace id s b) = handled_fewer v id
+label_fewer v (Label.Ran p k) = serving_fewer v p
+label_fewer v (Label.End p y) = ended_fewer v p
+label_fewer v (Label.Receive p id) = received_fewer v p id
+label_fewer v (Label.Refuse p id c) = serving_fewer v p
+label_fewer v (Label.Dropped id) = fewer_on v (handled v id) (after_label v (Label.Dropped id)) (handled_fewer v id) (dropped_fewer (handled v id) id (receiver_of (v.told id)))
+label_fewer v (Label.Served id) = fewer_on v (handled v id) (after_label v (Label.Served id)) (handled_fewer v id) (told_fewer (handled v id) (v.told id))
+label_fewer v (Label.Gone id) = handled_fewer v id
+label_fewer v (Label.Took id) = handled_fewer v id
+label_fewer v (Label.Created id p) = fewer_on v (handled v id) (after_label v (Label.Created id p)) (handled_fewer v id) (created_fewer v id p)
+label_fewer v (Label.NoSpace id s b) = handled_fewer v id
+label_fewer v _ = same_fewer v
 
 -- the pieces that were asked for
 kills_asked : (v : View) (k : MessageKind) (o : Option Pid) → (view.kills k v o).asked ≡ v.asked
-kills_asked v kind.Kill (Some p) = refl
+kills_asked v MessageKind.Kill (Some p) = refl
 kills_asked v k o = refl
 
 told_asked : (v : View) (o : Option Told) → (view.served_told v o).asked ≡ v.asked
@@ -144,25 +105,10 @@ dropped_asked : (v : View) (id : MsgId) (o : Option Pid) → (dropped_for v id o
 dropped_asked v id None = refl
 dropped_asked v id (Some p) = refl
 
-queued_asked : (v : View) (id : MsgId) (o : Option Pid) → (queued_for v id o).asked ≡ v.asked
-queued_asked v id None = refl
-queued_asked v id (Some p) = refl
-
 label_asked : (v : View) (e : Label) → (after_label v e).asked ≡ v.asked
-label_asked v (label.Ran p k) = refl
-label_asked v (label.Call p n c) = refl
-label_asked v (label.Send p id) = refl
-label_asked v (label.Wait p) = refl
-label_asked v (label.Out p w) = refl
-label_asked v (label.End p y) = refl
-label_asked v (label.Receive p id) = refl
-label_asked v (label.Refuse p id c) = refl
-label_asked v (label.Dropped id) = dropped_asked (handled v id) id (receiver_of (v.told id))
-label_asked v (label.Served id) = told_asked (handled v id) (v.told id)
-label_asked v (label.Gone id) = refl
-label_asked v (label.Took id) = refl
-label_asked v (label.Created id p) = refl
-label_asked v (label.NoSpace id s b) = refl
+label_asked v (Label.Dropped id) = dropped_asked (handled v id) id (receiver_of (v.told id))
+label_asked v (Label.Served id) = told_asked (handled v id) (v.told id)
+label_asked v _ = refl
 
 pub record StillKeeps (v w : View) : Type 0 where
   pub asked : w.asked ≡ v.asked
@@ -181,7 +127,7 @@ apart_own id i off on = elim (cases_Bool (id_eq id i)) [
   | inr apart ↦ apart
 ]
 
-queued_keeps : (pt : Point) (id : MsgId) (o : Option Told) → pt.view.told id ≡ o → Needs pt (line.Queued id) → StillKeeps (handled pt.view id) (queued_for (handled pt.view id) id (receiver_of o))
+queued_keeps : (pt : Point) (id : MsgId) (o : Option Told) → pt.view.told id ≡ o → Needs pt (Line.Queued id) → StillKeeps (handled pt.view id) (queued_for (handled pt.view id) id (receiver_of o))
 queued_keeps pt id None e need = fewer_keeps (handled pt.view id) (handled pt.view id) refl (same_fewer (handled pt.view id))
 queued_keeps pt id (Some t) e need = record {
   asked = refl;
@@ -189,11 +135,11 @@ queued_keeps pt id (Some t) e need = record {
 }
 
 line_keeps : (pt : Point) (l : Line) → is_still l ≡ true → Needs pt l → StillKeeps pt.view (view_after pt.view l)
-line_keeps pt (line.Label e) still need = fewer_keeps pt.view (after_label pt.view e) (label_asked pt.view e) (label_fewer pt.view e)
-line_keeps pt (line.Queued id) still need =
+line_keeps pt (Line.Label e) still need = fewer_keeps pt.view (after_label pt.view e) (label_asked pt.view e) (label_fewer pt.view e)
+line_keeps pt (Line.Queued id) still need =
     let v = handled pt.view id in
-    still_on pt.view v (view_after pt.view (line.Queued id)) (fewer_keeps pt.view v refl (handled_fewer pt.view id)) (queued_keeps pt id (pt.view.told id) refl need)
-line_keeps pt (line.Idle m) still need = fewer_keeps pt.view pt.view refl (same_fewer pt.view)
+    still_on pt.view v (view_after pt.view (Line.Queued id)) (fewer_keeps pt.view v refl (handled_fewer pt.view id)) (queued_keeps pt id (pt.view.told id) refl need)
+line_keeps pt (Line.Idle m) still need = fewer_keeps pt.view pt.view refl (same_fewer pt.view)
 line_keeps pt l still need = absurd (false≢true still)
 
 -- all lines of the row

@@ -1,93 +1,58 @@
 -- What the one message of a migration under way carries stays, where a row is no migration's.
-use Rattle.std.proofs.Common.{◌≡◌, ℕ, ◌≤◌, ◌==◌, ◌&&◌, Bool, true, false, not, refl, ap, ◌∙◌, sym, subst}
-use Rattle.std.specs.Prelude.{if◌then◌else◌}
-use Rattle.std.specs.declared.option.Option.{Option}
-use Rattle.std.specs.declared.option.Option.TheVariants.{None, Some}
-use Rattle.std.proofs.lemmas.Bool.{false≢true}
-use Rattle.dm_link.specs.declared.Pid.{Pid}
-use Rattle.dm_link.specs.Names.{pid_of}
-use Rattle.dm_message.specs.declared.Message.{Message}
-use Rattle.dm_message.specs.declared.MsgId.{MsgId}
-use Rattle.dm_message.specs.declared.What.{What}
-use Rattle.dm_message.specs.declared.What.TheVariants as what
-use Rattle.dm_message.specs.declared.kind.MessageKind.{MessageKind}
-use Rattle.dm_message.specs.declared.kind.MessageKind.TheVariants as kind
-use Rattle.dm_message.specs.Kinds.{kind_of}
-use Rattle.dm_message.specs.Plain.{plain_message, plain_what, with_what}
-use Rattle.dm_process.specs.declared.process.Process.{Process}
-use Rattle.dm_records.specs.Records.{incoming_of}
-use Rattle.dm_migrate.specs.Arrival.{Arrival}
+use Rattle.dm_mirror.proofs.Names.{◌≡◌, ℕ, ◌≤◌, ◌==◌, ◌&&◌, Bool, true, false, not, refl, ap, ◌∙◌, sym, subst, if◌then◌else◌, Option, None, Some, false≢true, Pid, pid_of, Message, MsgId, What, MessageKind, kind_of, plain_message}
+use Rattle.dm_mirror.proofs.Names.{plain_what, with_what, Process, incoming_of, Arrival, Phase, Moves, comes, is_apart, is_away, is_between, is_early, is_of_source, is_restart, knows, leaves, receiver_in, sender_in, told_between, Point}
+use Rattle.dm_mirror.proofs.Names.{Spot, standing, View, Known, Unknown, Here, Frozen, Incoming, Forward, Of, Told, is_kernels, InPhases, token_is, token_at, Placed, AllOwnStand, told_of, AllRecords, Carries, TokenStands, TokensStand}
+use Rattle.dm_mirror.proofs.Names.{destination_of, left_true, right_true}
 use Rattle.dm_kernel.specs.State as machine
-use Rattle.dm_rule.specs.Phases.{Phase, Moves, comes, is_apart, is_away, is_between, is_early, is_of_source, is_restart, knows, leaves, receiver_in, sender_in, told_between}
-use Rattle.dm_rule.specs.Point.{Point}
-use Rattle.dm_rule.specs.Spots.{Spot, standing}
-use Rattle.dm_rule.specs.View.{View, Known, Unknown, Here, Frozen, Incoming, Forward, Ended, Of, Told, is_kernels}
-use Rattle.dm_rule.proofs.Phases.Stand.{InPhases, token_is, token_at}
-use Rattle.dm_places.specs.Placed.{Placed}
-use Rattle.dm_mirror.specs.Own.{AllOwnStand, told_of}
-use Rattle.dm_mirror.specs.Tokens.{AllRecords, Carries, TokenStands, TokensStand, destination_of}
 use Rattle.dm_mirror.proofs.Turning.{has_process, is_moving}
 use Rattle.dm_mirror.proofs.Kernel.Sets.{eq_self, not_is, off_if, on_if}
 use Rattle.dm_mirror.proofs.Row.Lines.{StillKeeps}
 
 -- what a message of a migration carries has no plain meaning
 carries_plain : (p : Pid) (x : Process) (n : ℕ) (a : Option Arrival) (w : What) → Carries p x n a w → plain_what w ≡ None
-carries_plain p x n a (what.Ask pid blocks moves size asker) h = refl
-carries_plain p x n a (what.Refuse pid slots blocks) h = refl
-carries_plain p x n a (what.PullState pid chunk) h = refl
-carries_plain p x n a (what.State pid chunk last bytes) h = refl
-carries_plain p x n a (what.PullBlock pid block) h = refl
-carries_plain p x n a (what.Memory pid block bytes) h = refl
-carries_plain p x n a (what.AllTaken pid) h = refl
-carries_plain p x n a (what.Restart pid) h = refl
+carries_plain p x n a (What.Ask pid blocks moves size asker) h = refl
+carries_plain p x n a (What.Refuse pid slots blocks) h = refl
+carries_plain p x n a (What.PullState pid chunk) h = refl
+carries_plain p x n a (What.State pid chunk last bytes) h = refl
+carries_plain p x n a (What.PullBlock pid block) h = refl
+carries_plain p x n a (What.Memory pid block bytes) h = refl
+carries_plain p x n a (What.AllTaken pid) h = refl
+carries_plain p x n a (What.Restart pid) h = refl
 carries_plain p x n a w h = absurd h
 
 -- what it carries depends on what comes only once that was accepted
 carries_on : (p : Pid) (x : Process) (n : ℕ) (a c : Option Arrival) (w : What) → (is_early (kind_of w) ≡ false → a ≡ c) → Carries p x n a w → Carries p x n c w
-carries_on p x n a c (what.Ask pid blocks moves size asker) same h = h
-carries_on p x n a c (what.Refuse pid slots blocks) same h = h
-carries_on p x n a c (what.PullState pid chunk) same h = subst (λ (o : Option Arrival). Carries p x n o (what.PullState pid chunk)) (same refl) h
-carries_on p x n a c (what.State pid chunk last bytes) same h = subst (λ (o : Option Arrival). Carries p x n o (what.State pid chunk last bytes)) (same refl) h
-carries_on p x n a c (what.PullBlock pid block) same h = subst (λ (o : Option Arrival). Carries p x n o (what.PullBlock pid block)) (same refl) h
-carries_on p x n a c (what.Memory pid block bytes) same h = subst (λ (o : Option Arrival). Carries p x n o (what.Memory pid block bytes)) (same refl) h
-carries_on p x n a c (what.AllTaken pid) same h = subst (λ (o : Option Arrival). Carries p x n o (what.AllTaken pid)) (same refl) h
-carries_on p x n a c (what.Restart pid) same h = subst (λ (o : Option Arrival). Carries p x n o (what.Restart pid)) (same refl) h
+carries_on p x n a c (What.Ask pid blocks moves size asker) same h = h
+carries_on p x n a c (What.Refuse pid slots blocks) same h = h
+carries_on p x n a c (What.PullState pid chunk) same h = subst (λ (o : Option Arrival). Carries p x n o (What.PullState pid chunk)) (same refl) h
+carries_on p x n a c (What.State pid chunk last bytes) same h = subst (λ (o : Option Arrival). Carries p x n o (What.State pid chunk last bytes)) (same refl) h
+carries_on p x n a c (What.PullBlock pid block) same h = subst (λ (o : Option Arrival). Carries p x n o (What.PullBlock pid block)) (same refl) h
+carries_on p x n a c (What.Memory pid block bytes) same h = subst (λ (o : Option Arrival). Carries p x n o (What.Memory pid block bytes)) (same refl) h
+carries_on p x n a c (What.AllTaken pid) same h = subst (λ (o : Option Arrival). Carries p x n o (What.AllTaken pid)) (same refl) h
+carries_on p x n a c (What.Restart pid) same h = subst (λ (o : Option Arrival). Carries p x n o (What.Restart pid)) (same refl) h
 carries_on p x n a c w same h = absurd h
 
 -- what the two machines know
 early_leaves : (k : MessageKind) → is_early k ≡ true → is_restart k ≡ false
-early_leaves kind.Restart e = absurd (false≢true e)
+early_leaves MessageKind.Restart e = absurd (false≢true e)
 early_leaves k e = refl
 
-and_first : (c d : Bool) → (c && d) ≡ true → c ≡ true
-and_first true d e = refl
-and_first false d e = absurd (false≢true e)
-
 source_moving : (k : MessageKind) (d : ℕ) (x : Known) → is_early k ≡ true → leaves k d x ≡ true → is_moving x ≡ true
-source_moving k d Unknown early h = absurd (false≢true h)
-source_moving k d Here early h = absurd (false≢true h)
 source_moving k d (Frozen to) early h = refl
-source_moving k d (Incoming from) early h = absurd (false≢true h)
-source_moving k d (Forward at moves) early h = absurd (false≢true (sym (early_leaves k early) ∙ and_first (is_restart k) (d == at) h))
-source_moving k d Ended early h = absurd (false≢true h)
+source_moving k d (Forward at moves) early h = absurd (false≢true (sym (early_leaves k early) ∙ left_true (is_restart k) (d == at) h))
+source_moving k d _ early h = absurd (false≢true h)
 
 destination_moving : (k : MessageKind) (s : ℕ) (x : Known) → is_early k ≡ false → comes k s x ≡ true → is_moving x ≡ true
 destination_moving k s Unknown late h = absurd (false≢true (sym late ∙ h))
-destination_moving k s Here late h = absurd (false≢true h)
-destination_moving k s (Frozen to) late h = absurd (false≢true h)
 destination_moving k s (Incoming from) late h = refl
 destination_moving k s (Forward at moves) late h = absurd (false≢true (sym late ∙ h))
-destination_moving k s Ended late h = absurd (false≢true h)
+destination_moving k s _ late h = absurd (false≢true h)
 
 at_source : (k : MessageKind) (s d : ℕ) (i : MsgId) (x : Known) → knows (Moves k s d (Some i)) s x ≡ true → leaves k d x ≡ true
 at_source k s d i x h = sym (on_if (s == s) (leaves k d x) (if d == s then comes k s x else is_away x) (eq_self s)) ∙ h
 
 at_destination : (k : MessageKind) (s d : ℕ) (i : MsgId) (x : Known) → (s == d) ≡ false → knows (Moves k s d (Some i)) d x ≡ true → comes k s x ≡ true
 at_destination k s d i x apart h = sym (off_if (s == d) (leaves k d x) (if d == d then comes k s x else is_away x) apart ∙ on_if (d == d) (comes k s x) (is_away x) (eq_self d)) ∙ h
-
-and_second : (c d : Bool) → (c && d) ≡ true → d ≡ true
-and_second true d e = e
-and_second false d e = absurd (false≢true e)
 
 -- the machine that it comes to
 destination_if : (c : Bool) (s d : ℕ) → (if c then (if c then d else s) else (if c then s else d)) ≡ d
@@ -127,15 +92,13 @@ moving_of v p i t z h told b about st =
     let is_ : Some t ≡ Some (told_between p k s d) = sym told ∙ token.told in
     let is : t ≡ told_between p k s d = cc in
     let apart : (is_between k && not (s == d)) ≡ true = sym (ap is_apart now) ∙ (h.each p).apart in
-    moving_by v p i t k s d is token.from (not_is (s == d) (and_second (is_between k) (not (s == d)) apart)) (λ m. ap (λ (x : Phase). knows x m (v.known m p)) (sym now) ∙ (h.each p).known m) (is_early k) refl
+    moving_by v p i t k s d is token.from (not_is (s == d) (right_true (is_between k) (not (s == d)) apart)) (λ m. ap (λ (x : Phase). knows x m (v.known m p)) (sym now) ∙ (h.each p).known m) (is_early k) refl
 
 pub has_moving : (k : Known) → is_moving k ≡ true → has_process k ≡ true
-has_moving Unknown h = absurd (false≢true h)
 has_moving Here h = refl
 has_moving (Frozen to) h = refl
 has_moving (Incoming from) h = refl
-has_moving (Forward at moves) h = absurd (false≢true h)
-has_moving Ended h = absurd (false≢true h)
+has_moving _ h = absurd (false≢true h)
 
 -- what a row leaves of what moves
 pub record LeavesMoving (pt : Point) (l : Placed) (records : AllRecords) (next : Point) (placed : Placed) (after : AllRecords) : Type 0 where

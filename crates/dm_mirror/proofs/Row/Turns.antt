@@ -1,24 +1,9 @@
 -- A row that is no migration's is a turn: it leaves what moves, and the kernels' own messages, as they are.
-use Rattle.std.proofs.Common.{◌≡◌, ℕ, ◌==◌, true, List, [], ◌∷◌, ◌++◌, map, refl, ap, ◌∙◌, sym, subst, inl, inr, arith}
-use Rattle.std.specs.declared.option.Option.{Option}
-use Rattle.std.specs.declared.option.Option.TheVariants.{None, Some}
-use Rattle.std.proofs.lemmas.Bool.Decides.{eqb_tells}
-use Rattle.dm_link.specs.declared.Pid.{Pid}
-use Rattle.dm_message.specs.declared.Message.{Message}
-use Rattle.dm_message.specs.declared.MsgId.{MsgId}
-use Rattle.dm_onekernel.specs.declared.boot.Boot.{Boot}
+use Rattle.dm_mirror.proofs.Names.{◌≡◌, ℕ, ◌==◌, true, List, [], ◌∷◌, ◌++◌, map, refl, ap, ◌∙◌, sym, subst, inl, inr, arith, Option, None, Some, eqb_tells, Pid, Message, MsgId, Boot, Point, at_machine, Told, Run, Placed, KernelState}
+use Rattle.dm_mirror.proofs.Names.{AllOwnStand, AllRecords, TokensStand}
 use Rattle.dm_rule.specs.Parts as rule
-use Rattle.dm_rule.specs.Point.{Point}
-use Rattle.dm_line.specs.Sets.{at_machine}
-use Rattle.dm_rule.specs.View.{Told}
-use Rattle.dm_rulelaws.proofs.Runs.{Run}
-use Rattle.dm_places.specs.Placed.{Placed}
 use Rattle.dm_kernel.specs.declared.part.Part.{Part}
-use Rattle.dm_kernel.specs.declared.part.Part.TheVariants as part
 use Rattle.dm_kernel.specs.State as machine
-use Rattle.dm_kernel.specs.State.{KernelState, Turned}
-use Rattle.dm_mirror.specs.Own.{AllOwnStand}
-use Rattle.dm_mirror.specs.Tokens.{AllRecords, TokensStand}
 use Rattle.dm_mirror.proofs.Turning.{AllMayPut, First, IsSent, Nothing, Route, Row, TurnsAt, begun, is_moving, owns, part_of, routed, rule_part_of, rule_routed}
 use Rattle.dm_mirror.proofs.Kernel.Sets.{eq_apart, eq_self, off_if, on_if}
 use Rattle.dm_mirror.proofs.Row.Hears.{row_walks}
@@ -75,7 +60,7 @@ row_turns b m pt l records k run own tokens same r = record {
   says = r.says;
   routes = first_route r.route;
   late = Nothing;
-  turn = r.turn ∙ ap (λ (ps : List Part). Some (record { state = r.state; parts = ps })) (ap (λ (ps : List Part). map part.Says r.says ++ ps) (routes_parts r.route) ∙ sym (nothing_more (map part.Says r.says ++ map part_of (first_route r.route))));
+  turn = r.turn ∙ ap (λ (ps : List Part). Some (record { state = r.state; parts = ps })) (ap (λ (ps : List Part). map Part.Says r.says ++ ps) (routes_parts r.route) ∙ sym (nothing_more (map Part.Says r.says ++ map part_of (first_route r.route))));
   outcome = r.outcome ∙ ap (λ (ps : List rule.Part). Some ps) (ap (λ (ps : List rule.Part). map rule.Says r.says ++ ps) (routes_rule_parts r.route) ∙ sym (nothing_more (map rule.Says r.says ++ map rule_part_of (first_route r.route))));
   next = r.next;
   after = r.after;

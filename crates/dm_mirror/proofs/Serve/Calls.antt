@@ -1,76 +1,30 @@
 -- A ready process is served: it uses up its quantum, or stops at a call or a fault.
-use Rattle.std.proofs.Common.{◌≡◌, ℕ, zero, suc, ◌+◌, Bool, false, List, [], ◌∷◌, length, refl, ap, ◌∙◌, sym, subst, arith}
-use Rattle.std.specs.Prelude.{if◌then◌else◌}
-use Rattle.std.specs.declared.option.Option.{Option}
-use Rattle.std.specs.declared.option.Option.TheVariants.{None, Some}
-use Rattle.dm_link.specs.declared.Pid.{Pid}
-use Rattle.dm_link.specs.Names.{pid_eq}
-use Rattle.dm_message.specs.declared.Message.{Message}
-use Rattle.dm_processor.specs.Instructions.{instruction}
-use Rattle.dm_process.specs.declared.process.Process.{Process}
-use Rattle.dm_process.specs.declared.process.Status.TheVariants as status
-use Rattle.dm_records.specs.declared.record.Record.TheVariants as record_
-use Rattle.dm_onekernel.specs.declared.boot.Boot.{Boot}
-use Rattle.dm_onekernel.specs.declared.label.Label.{Label}
-use Rattle.dm_onekernel.specs.declared.label.Label.TheVariants as label
-use Rattle.dm_onekernel.specs.Options.{bind}
-use Rattle.dm_onekernel.specs.Kernel.{Life, Alive, OneKernel}
-use Rattle.dm_onekernel.specs.Plain.{plain_process, plain_status}
-use Rattle.dm_onekernel.specs.PlainProcess.{PlainProcess, Ready}
+use Rattle.dm_mirror.proofs.Names.{◌≡◌, ℕ, Bool, false, List, [], ◌∷◌, length, refl, ap, ◌∙◌, sym, subst, if◌then◌else◌, Option, None, Some, Pid, pid_eq, Message, Process, Status, Record, Line, Boot, Label, bind, Life, Alive, OneKernel}
+use Rattle.dm_mirror.proofs.Names.{plain_process, plain_status, PlainProcess, Ready, Machine, pid_eq-same, Point, moved, moved_back, View, set_at, Placed, Mirrors, StepNeeds, ran_matches, with_queue, KernelState, turned, with_here}
+use Rattle.dm_mirror.proofs.Names.{AreMessages}
 use Rattle.dm_onekernel.specs.Step as kernel
-use Rattle.dm_onekernel.specs.Step.{Machine}
-use Rattle.dm_laws.proofs.Equal.{pid_eq-same}
-use Rattle.dm_laws.proofs.Steps.{bind-is}
-use Rattle.dm_line.specs.declared.line.Line.TheVariants as line
-use Rattle.dm_rule.specs.Point.{Point, moved}
 use Rattle.dm_rule.specs.Rule as rule
-use Rattle.dm_line.specs.Sets.{moved_back}
 use Rattle.dm_rule.specs.View as view
-use Rattle.dm_rule.specs.View.{View, receiver_of}
-use Rattle.dm_rulelaws.proofs.Fits.Rises.{set_at}
-use Rattle.dm_places.specs.Placed.{Placed, Mirrors}
 use Rattle.dm_places.specs.PlacedStep as placed
-use Rattle.dm_places.specs.Laws.{StepNeeds}
-use Rattle.dm_places.proofs.Matches.{ran_matches}
-use Rattle.dm_places.proofs.Queues.{with_queue}
 use Rattle.dm_kernel.specs.State as machine
-use Rattle.dm_kernel.specs.State.{KernelState, Turned, turned, with_here, without_process}
 use Rattle.dm_kernel.specs.Serve as serve
-use Rattle.dm_mirror.specs.Stands.{AreMessages}
 use Rattle.dm_mirror.proofs.Kernel.Sets.{ViewLeaves, Leaves, leaves_on, is_queue_of, off_if, on_if}
 use Rattle.dm_mirror.proofs.Kernel.Labels.{view_same, view_serving, kernel_sets, placed_sets, machine_on, label_mirrors, after_label}
 use Rattle.dm_mirror.proofs.Serving.{Served, Acts, moved_round, served_goes}
-
--- so many plain instructions, from the front
-steps_front : (c : ℕ) (m n z : Machine) → kernel.plain_step m ≡ Some n → kernel.plain_steps c n ≡ Some z → kernel.plain_steps (suc c) m ≡ Some z
-steps_front zero m n z e f = e ∙ f
-steps_front (suc c) m n z e f =
-    let (mid, before, last) = bind-is (kernel.plain_steps c n) kernel.plain_step z f in
-    ap (λ (o : Option Machine). bind o kernel.plain_step) (steps_front c m n mid e before) ∙ last
-
-ran_goes : (k : ℕ) (m : Machine) (o : Option Machine) → kernel.plain_row (instruction m.regs m.bytes) ≡ o → ((n : Machine) → kernel.plain_steps (rule.ran k n).count n ≡ Some (rule.ran k n).machine)
-    → kernel.plain_steps (rule.goes_on m o (rule.ran k)).count m ≡ Some (rule.goes_on m o (rule.ran k)).machine
-ran_goes k m None e f = refl
-ran_goes k m (Some n) e f =
-    let next : (rule.ran k n).count + 1 ≡ suc (rule.ran k n).count = omega arith in
-    ap (λ c. kernel.plain_steps c m) next ∙ steps_front (rule.ran k n).count m n (rule.ran k n).machine e (f n)
-
-pub ran_steps : (k : ℕ) (m : Machine) → kernel.plain_steps (rule.ran k m).count m ≡ Some (rule.ran k m).machine
-ran_steps zero m = refl
-ran_steps (suc k) m = ran_goes k m (kernel.plain_row (instruction m.regs m.bytes)) refl (ran_steps k)
+pub use Rattle.dm_rulelaws.proofs.Goes.Serves.{ran_steps}
 
 -- behind the plain instructions: the process is y, and at the ring's back
 abbrev pub ran_kernel : Point → Pid → Process → OneKernel
 ran_kernel pt p y = kernel.goes_on pt.kernel p (plain_process y)
 
 abbrev pub ran_point : Point → Pid → ℕ → Process → Point
-ran_point pt p c y = moved pt (line.Label (label.Ran p c)) (ran_kernel pt p y)
+ran_point pt p c y = moved pt (Line.Label (Label.Ran p c)) (ran_kernel pt p y)
 
 abbrev pub ran_placed : Placed → Pid → Process → List Message → Placed
 ran_placed l p y queue = placed.with_process l p (Some (with_queue y queue))
 
 pub record Ran (m : ℕ) (pt : Point) (l : Placed) (p : Pid) (x : Process) (queue : List Message) (c : ℕ) (y : Process) : Type 0 where
-  pub step : kernel.step pt.kernel (label.Ran p c) ≡ Some (ran_kernel pt p y)
+  pub step : kernel.step pt.kernel (Label.Ran p c) ≡ Some (ran_kernel pt p y)
   pub mirrors : Mirrors (ran_kernel pt p y) (ran_point pt p c y).view (ran_point pt p c y).addresses (ran_placed l p y queue)
   pub leaves : Leaves m (is_queue_of m p) p pt l (ran_point pt p c y) (ran_placed l p y queue)
   pub ready : placed.if_ready y y.status ≡ Some y
@@ -84,21 +38,21 @@ running_of : (s : OneKernel) (p : Pid) (x : PlainProcess) → s.processes p ≡ 
 running_of s p x is going ready =
     ap (λ (o : Option Life). bind (kernel.alive o) (λ (v : PlainProcess). kernel.if_ready v v.status)) is ∙ ap (kernel.if_ready x) ready ∙ ap (λ (c : Bool). if c then None else Some x) going
 
-pub ran_of : (b : Boot) (m : ℕ) (pt : Point) (l : Placed) (k : KernelState) (p : Pid) (x : Process) (c : ℕ) (n : Machine) (s : Served b m pt l k p x) → x.status ≡ status.Ready → kernel.plain_steps c (kernel.machine_of (plain_process x)) ≡ Some n → length n.bytes ≡ length x.memory
+pub ran_of : (b : Boot) (m : ℕ) (pt : Point) (l : Placed) (k : KernelState) (p : Pid) (x : Process) (c : ℕ) (n : Machine) (s : Served b m pt l k p x) → x.status ≡ Status.Ready → kernel.plain_steps c (kernel.machine_of (plain_process x)) ≡ Some n → length n.bytes ≡ length x.memory
     → Ran m pt l p x s.at.queue c (serve.with_machine x n)
 ran_of b m pt l k p x c n s ready steps memory =
     let y = serve.with_machine x n in
     let queue = s.at.queue in
     let t = ran_kernel pt p y in
     let plain : plain_status x.status ≡ Ready = ap plain_status ready in
-    let step : kernel.step pt.kernel (label.Ran p c) ≡ Some t =
+    let step : kernel.step pt.kernel (Label.Ran p c) ≡ Some t =
     ap (λ (o : Option PlainProcess). bind o (λ (v : PlainProcess). bind (kernel.plain_steps c (kernel.machine_of v)) (λ (z : Machine). Some (kernel.goes_on pt.kernel p (kernel.with_machine v z))))) (running_of pt.kernel p (plain_process x) s.at.alive s.going plain)
     ∙ ap (λ (o : Option Machine). bind o (λ (z : Machine). Some (kernel.goes_on pt.kernel p (kernel.with_machine (plain_process x) z)))) steps
     in
     let ready_x : placed.if_ready x x.status ≡ Some x = ap (placed.if_ready x) ready ∙ ap (λ (d : Bool). if d then None else Some x) s.going in
     record {
       step = step;
-      mirrors = label_mirrors pt l (ran_placed l p y queue) m (label.Ran p c) t s.mirrors s.acting tt step (ran_matches l p c x queue n s.at.there ready_x steps);
+      mirrors = label_mirrors pt l (ran_placed l p y queue) m (Label.Ran p c) t s.mirrors s.acting tt step (ran_matches l p c x queue n s.at.there ready_x steps);
       leaves = record { view = view_serving m (is_queue_of m p) p pt.view s.acting; kernel = kernel_sets p pt.kernel (Alive (plain_process y)); placed_ = placed_sets (is_queue_of m p) p pt.view l (Some (with_queue y queue)) };
       ready = ap (placed.if_ready y) ready ∙ ap (λ (d : Bool). if d then None else Some y) s.going;
       running = running_of t p (plain_process y) (set_at pt.kernel p (Alive (plain_process y))) s.going plain;
@@ -110,15 +64,15 @@ ran_of b m pt l k p x c n s ready steps memory =
 
 -- the quantum is used up
 pub whole_acts : (b : Boot) (m : ℕ) (pt : Point) (l : Placed) (k : KernelState) (p : Pid) (x y : Process) (c : ℕ) (s : Served b m pt l k p x) → Ran m pt l p x s.at.queue c y
-    → Acts b m pt l k p (turned (with_here (moved_round k p) p y) (machine.says (label.Ran p c) ∷ [])) (Some (rule.says (label.Ran p c) ∷ []))
+    → Acts b m pt l k p (turned (with_here (moved_round k p) p y) (machine.says (Label.Ran p c) ∷ [])) (Some (rule.says (Label.Ran p c) ∷ []))
 whole_acts b m pt l k p x y c s r = record {
   state = with_here (moved_round k p) p y;
-  says = line.Label (label.Ran p c) ∷ [];
+  says = Line.Label (Label.Ran p c) ∷ [];
   route = None;
   turn = refl;
   outcome = refl;
   next = ran_point pt p c y;
-  after = after_label pt (label.Ran p c) (ran_kernel pt p y) [] (ran_point pt p c y) r.step refl;
+  after = after_label pt (Label.Ran p c) (ran_kernel pt p y) [] (ran_point pt p c y) r.step refl;
   placed = ran_placed l p y s.at.queue;
   mirrors = r.mirrors;
   kernel = served_goes b m pt (ran_point pt p c y) l (ran_placed l p y s.at.queue) k p x y s.at.queue s r.leaves refl r.ring (set_at pt.kernel p (Alive (plain_process y))) r.there
@@ -127,33 +81,33 @@ whole_acts b m pt l k p x y c s r = record {
   sent = tt;
   still = refl;
   count = refl;
-  records = λ q off. off_if (pid_eq p q) (Some (record_.Here y)) (k.records q) off;
+  records = λ q off. off_if (pid_eq p q) (Some (Record.Here y)) (k.records q) off;
 }
 
 -- a call after which it goes on, and sends nothing
 pub goes_acts : (b : Boot) (m : ℕ) (pt : Point) (l : Placed) (k : KernelState) (p : Pid) (x y z : Process) (c : ℕ) (e : Label) (s : Served b m pt l k p x) → Ran m pt l p x s.at.queue c y → ((v : View) → view.after_label v e ≡ v) → StepNeeds (ran_kernel pt p y) (ran_point pt p c y).view e
     → kernel.step (ran_kernel pt p y) e ≡ Some (kernel.goes_on (ran_kernel pt p y) p (plain_process z))
     → placed.placed_step m pt.kernel.format pt.kernel.images (ran_placed l p y s.at.queue) e ≡ Some (placed.with_process (ran_placed l p y s.at.queue) p (Some (with_queue z s.at.queue))) → z.queue ≡ x.queue → length z.memory ≡ length x.memory
-    → Acts b m pt l k p (turned (with_here (moved_round k p) p z) (machine.says (label.Ran p c) ∷ machine.says e ∷ [])) (Some (rule.says (label.Ran p c) ∷ rule.says e ∷ []))
+    → Acts b m pt l k p (turned (with_here (moved_round k p) p z) (machine.says (Label.Ran p c) ∷ machine.says e ∷ [])) (Some (rule.says (Label.Ran p c) ∷ rule.says e ∷ []))
 goes_acts b m pt l k p x y z c e s r still needs step with_ queue_is memory =
     let t = is_queue_of m p in
     let queue = s.at.queue in
     let o = ran_point pt p c y in
     let lm = ran_placed l p y queue in
     let u = kernel.goes_on (ran_kernel pt p y) p (plain_process z) in
-    let next = moved o (line.Label e) u in
+    let next = moved o (Line.Label e) u in
     let on = placed.with_process lm p (Some (with_queue z queue)) in
     let same : next.view ≡ o.view = still o.view in
     let second : Leaves m t p o lm next on = record { view = subst (λ (v : View). ViewLeaves m t p o.view v) (sym same) (view_same m t p o.view); kernel = kernel_sets p (ran_kernel pt p y) (Alive (plain_process z)); placed_ = placed_sets t p o.view lm (Some (with_queue z queue)) } in
     let leaves = leaves_on m t p pt o next l lm on r.leaves second in
     record {
       state = with_here (moved_round k p) p z;
-      says = line.Label (label.Ran p c) ∷ line.Label e ∷ [];
+      says = Line.Label (Label.Ran p c) ∷ Line.Label e ∷ [];
       route = None;
       turn = refl;
       outcome = refl;
       next = next;
-      after = after_label pt (label.Ran p c) (ran_kernel pt p y) (line.Label e ∷ []) next r.step (after_label o e u [] next step refl);
+      after = after_label pt (Label.Ran p c) (ran_kernel pt p y) (Line.Label e ∷ []) next r.step (after_label o e u [] next step refl);
       placed = on;
       mirrors = label_mirrors o lm on m e u r.mirrors s.acting needs step with_;
       kernel = served_goes b m pt next l on k p x z queue s leaves (ap (λ (v : View). v.known m p) same) (ap (λ (v : View). v.ring m) same ∙ r.ring) (set_at (ran_kernel pt p y) p (Alive (plain_process z)))
@@ -163,5 +117,5 @@ goes_acts b m pt l k p x y z c e s r still needs step with_ queue_is memory =
       sent = tt;
       still = refl;
       count = refl;
-      records = λ q off. off_if (pid_eq p q) (Some (record_.Here z)) (k.records q) off;
+      records = λ q off. off_if (pid_eq p q) (Some (Record.Here z)) (k.records q) off;
     }

@@ -1,37 +1,13 @@
 -- The queue of a process that has ended is dropped, message by message.
-use Rattle.std.proofs.Common.{◌≡◌, ℕ, ◌≤◌, ◌==◌, ◌&&◌, Bool, true, false, List, [], ◌∷◌, map, refl, ap, ◌∙◌, sym, subst, arith}
-use Rattle.std.specs.Prelude.{if◌then◌else◌}
-use Rattle.std.specs.declared.option.Option.{Option}
-use Rattle.std.specs.declared.option.Option.TheVariants.{None, Some}
-use Rattle.dm_link.specs.declared.Pid.{Pid}
-use Rattle.dm_link.specs.Names.{pid_eq}
-use Rattle.dm_message.specs.declared.Message.{Message}
-use Rattle.dm_message.specs.declared.MsgId.{MsgId}
-use Rattle.dm_message.specs.Ids.{id_eq}
-use Rattle.dm_message.specs.Plain as what
-use Rattle.dm_message.specs.Plain.{PlainWhat}
-use Rattle.dm_onekernel.specs.declared.label.Label.TheVariants as label
-use Rattle.dm_onekernel.specs.declared.label.Why.{Why}
+use Rattle.dm_mirror.proofs.Names.{◌≡◌, ℕ, ◌≤◌, ◌==◌, ◌&&◌, Bool, true, false, List, [], ◌∷◌, map, refl, ap, ◌∙◌, sym, subst, arith, if◌then◌else◌, Option, None, Some, Pid, pid_eq, Message, MsgId, id_eq, Label, Why, id_eq-is, out_off, Line}
+use Rattle.dm_mirror.proofs.Names.{Point, moved, after, without_front, Spot, Queue, Inbox, times, standing, View, handled, dropped_for, receiver_of, Droppable, droppable_on, dropped_is, Placed, Mirrors, AreMessages, user_dropped}
+use Rattle.dm_kernel.specs.declared.part.Part.{Part}
 use Rattle.dm_onekernel.specs.Kernel.{Ended}
 use Rattle.dm_onekernel.specs.Service as service
-use Rattle.dm_onekernel.specs.Service.{is_dropped}
-use Rattle.dm_laws.proofs.Equal.{id_eq-is}
-use Rattle.dm_laws.proofs.Movers.{out_off}
-use Rattle.dm_line.specs.declared.line.Line.{Line}
-use Rattle.dm_line.specs.declared.line.Line.TheVariants as line
 use Rattle.dm_rule.specs.Parts as rule_part
-use Rattle.dm_rule.specs.Point.{Point, moved, after}
 use Rattle.dm_rule.specs.Rule as rule
-use Rattle.dm_line.specs.Sets.{without_front}
-use Rattle.dm_rule.specs.Spots.{Spot, Queue, Inbox, times, standing}
-use Rattle.dm_rule.specs.View.{View, handled, dropped_for, receiver_of}
-use Rattle.dm_rulelaws.proofs.Queued.{is_user}
-use Rattle.dm_rulelaws.proofs.Goes.Turns.{Droppable, droppable_on, dropped_is}
-use Rattle.dm_places.specs.Placed.{Placed, Mirrors}
 use Rattle.dm_places.specs.PlacedStep.{without_message}
-use Rattle.dm_kernel.specs.declared.part.Part.TheVariants as part
 use Rattle.dm_kernel.specs.State as machine
-use Rattle.dm_mirror.specs.Stands.{AreMessages}
 use Rattle.dm_mirror.proofs.Turning.{are_still}
 use Rattle.dm_mirror.proofs.Kernel.Sets.{ViewLeaves, Leaves, view_leaves_on, leaves_on, times_self, times_more}
 use Rattle.dm_mirror.proofs.Kernel.Labels.{view_same, view_queue, view_not_handled, kernel_same, kernel_out, placed_same, placed_out, not_own_there, label_mirrors, after_label}
@@ -39,16 +15,16 @@ use Rattle.dm_mirror.proofs.Serve.Runs.{Names}
 
 -- the lines, as the rule and as the machine say them
 abbrev pub drop_line : MsgId → Line
-drop_line i = line.Label (label.Dropped i)
+drop_line i = Line.Label (Label.Dropped i)
 
 abbrev pub drop_lines : List MsgId → List Line
 drop_lines ids = map drop_line ids
 
 pub rule_drops : (ids : List MsgId) → rule.drops ids ≡ map rule_part.Says (drop_lines ids)
 rule_drops [] = refl
-rule_drops (i ∷ is) = ap (λ (ps : List rule_part.Part). rule.says (label.Dropped i) ∷ ps) (rule_drops is)
+rule_drops (i ∷ is) = ap (λ (ps : List rule_part.Part). rule.says (Label.Dropped i) ∷ ps) (rule_drops is)
 
-pub machine_drops : (l : Placed) (ids : List MsgId) (ms : List Message) → Names l → AreMessages l.bag ids ms → machine.drops ms ≡ map part.Says (drop_lines ids)
+pub machine_drops : (l : Placed) (ids : List MsgId) (ms : List Message) → Names l → AreMessages l.bag ids ms → machine.drops ms ≡ map Part.Says (drop_lines ids)
 machine_drops l [] [] names are = refl
 machine_drops l [] (m ∷ ms) names are = cc
 machine_drops l (i ∷ is) [] names are = cc
@@ -57,7 +33,7 @@ machine_drops l (i ∷ is) (m ∷ ms) names are =
     let rest : AreMessages l.bag is ms = cc in
     let name = names i m there in
     let more = machine_drops l is ms names rest in
-    λ j. machine.says (label.Dropped (name j)) ∷ more j
+    λ j. machine.says (Label.Dropped (name j)) ∷ more j
 
 -- the messages stand at no other spot
 abbrev pub AreAlone : (Spot → Bool) → View → List MsgId → Type 0
@@ -96,10 +72,6 @@ pub record Drops (m : ℕ) (t : Spot → Bool) (p : Pid) (pt : Point) (l : Place
   pub ring : next.view.ring m ≡ pt.view.ring m
   pub known : next.view.known m p ≡ pt.view.known m p
 
-user_dropped : (w : PlainWhat) → is_user w ≡ true → is_dropped w ≡ true
-user_dropped (what.User code channel body links) e = refl
-user_dropped w e = cc
-
 pub drops_still : (ids : List MsgId) → are_still (drop_lines ids) ≡ true
 drops_still [] = refl
 drops_still (i ∷ is) = drops_still is
@@ -113,7 +85,7 @@ drops_stand m t p y (i ∷ is) pt l covers boxes mirrors at ended drop alone tol
     let x = drop.0.x in
     let u = service.without_message s i in
     let step = dropped_is s i x y drop.0.there (ap s.processes drop.0.to ∙ ended) (user_dropped x.what drop.0.user) in
-    let mid = moved pt (line.Label (label.Dropped i)) u in
+    let mid = moved pt (Line.Label (Label.Dropped i)) u in
     let lm = without_message l i in
     let o = receiver_of (pt.view.told i) in
     let keeps = drop_keeps pt.view i o in
@@ -122,13 +94,13 @@ drops_stand m t p y (i ∷ is) pt l covers boxes mirrors at ended drop alone tol
     view_dropped m t p pt.view i o (told i first) at covers (front_stays i (pt.view.inbox pt.view.acting) (λ j least. alone i first j (Inbox pt.view.acting) (boxes pt.view.acting) least)) in
     let leaves : Leaves m t p pt l mid lm = record { view = view_; kernel = kernel_out p s i; placed_ = placed_out t p pt.view l i (not_own_there s l i x mirrors.plain drop.0.there) (alone i first) } in
     let later : (j : MsgId) → 1 ≤ times j is → 1 ≤ times j (i ∷ is) = λ j least. let more = times_more j i is in omega (arith, least, more) in
-    let rest = drops_stand m t p y is mid lm covers boxes (label_mirrors pt l lm m (label.Dropped i) u mirrors at tt step refl) (keeps.acting ∙ at) ended
+    let rest = drops_stand m t p y is mid lm covers boxes (label_mirrors pt l lm m (Label.Dropped i) u mirrors at tt step refl) (keeps.acting ∙ at) ended
     (droppable_on s u p is (λ j least. out_off s i j (apart j least (id_eq i j) refl)) drop.2)
     (λ j least k spot off there. alone j (later j least) k spot off (subst (λ (n : ℕ). 1 ≤ n) (ap (times k) (view_.lists spot off)) there))
     (λ j least. ap receiver_of (keeps.told j) ∙ told j (later j least)) in
     record {
       next = rest.next;
-      after = after_label pt (label.Dropped i) u (drop_lines is) rest.next step rest.after;
+      after = after_label pt (Label.Dropped i) u (drop_lines is) rest.next step rest.after;
       placed = rest.placed;
       mirrors = rest.mirrors;
       leaves = leaves_on m t p pt mid rest.next l lm rest.placed leaves rest.leaves;

@@ -1,61 +1,18 @@
 -- A waiting process is served: it receives the first message that it waits for, or is refused it.
-use Rattle.std.proofs.Common.{◌≡◌, ℕ, ◌+◌, ◌≤◌, Bool, true, false, List, [], ◌∷◌, map, length, refl, ap, ◌∙◌, sym, subst, inl, inr, arith}
-use Rattle.std.specs.Prelude.{if◌then◌else◌}
-use Rattle.std.specs.declared.option.Option.{Option}
-use Rattle.std.specs.declared.option.Option.TheVariants.{None, Some}
-use Rattle.std.proofs.lemmas.Bool.{cases_Bool}
-use Rattle.std.proofs.lemmas.Bool.Decides.{nat_tests}
-use Rattle.arrayvec.specs.ArrayVec.{ArrayVec}
-use Rattle.dm_link.specs.declared.Link.{Link}
-use Rattle.dm_link.specs.declared.Pid.{Pid}
-use Rattle.dm_link.specs.Names.{pid_eq}
-use Rattle.dm_link.specs.Plain.{PlainLink, plain_link}
-use Rattle.dm_message.specs.declared.Message.{Message}
-use Rattle.dm_message.specs.declared.MsgId.{MsgId}
-use Rattle.dm_message.specs.declared.What.{What}
-use Rattle.dm_message.specs.declared.What.TheVariants as what
-use Rattle.dm_message.specs.Ids.{id_eq}
-use Rattle.dm_message.specs.Plain.{PlainMessage, plain_message}
-use Rattle.dm_process.specs.Lawful.{IsLawfulProcess, IsLawfulStatus}
-use Rattle.dm_process.specs.Mail.{first_on, what_is_on, without_first_on}
-use Rattle.dm_process.specs.declared.process.Process.{Process}
-use Rattle.dm_process.specs.declared.process.Status.{Status}
-use Rattle.dm_process.specs.declared.process.Status.TheVariants as status
-use Rattle.dm_records.specs.declared.record.Record.TheVariants as record_
-use Rattle.dm_onekernel.specs.declared.boot.Boot.{Boot}
-use Rattle.dm_onekernel.specs.declared.label.Label.TheVariants as label
-use Rattle.dm_onekernel.specs.declared.label.Reply.{Reply}
-use Rattle.dm_onekernel.specs.Codes.{reply_code}
-use Rattle.dm_onekernel.specs.Options.{bind, when}
-use Rattle.dm_onekernel.specs.Kernel.{Life, Alive, OneKernel}
-use Rattle.dm_onekernel.specs.Plain.{plain_process, plain_status}
-use Rattle.dm_onekernel.specs.PlainProcess.{PlainProcess}
+use Rattle.dm_mirror.proofs.Names.{◌≡◌, ℕ, ◌+◌, ◌≤◌, Bool, true, false, List, [], ◌∷◌, map, length, refl, ap, ◌∙◌, sym, subst, inl, inr, arith, if◌then◌else◌, Option, None, Some, cases_Bool, nat_tests, ArrayVec, Link, Pid, pid_eq}
+use Rattle.dm_mirror.proofs.Names.{PlainLink, plain_link, Message, MsgId, What, Record, Label, Line, id_eq, PlainMessage, plain_message, IsLawfulProcess, IsLawfulStatus, first_on, what_is_on, without_first_on, Process, Status, Boot, Reply}
+use Rattle.dm_mirror.proofs.Names.{reply_code, bind, when, Life, Alive, OneKernel, plain_process, plain_status, PlainProcess, receive_refusals, first_failed, length-written, Completion, plain_completed, status_plainly, id_eq-is}
+use Rattle.dm_mirror.proofs.Names.{pid_eq-same, Point, moved, moved_back, without_id, Spot, Queue, times, standing, StandsRight, View, serving, once_at, set_at, Placed, Ends, completed_matches, with_queue, KernelState, turned, with_here}
+use Rattle.dm_mirror.proofs.Names.{AreMessages}
 use Rattle.dm_onekernel.specs.Receiving as receiving
-use Rattle.dm_onekernel.specs.Receiving.{receive_refusals}
-use Rattle.dm_onekernel.specs.Refusals.{first_failed}
 use Rattle.dm_onekernel.specs.Service as service
 use Rattle.dm_onekernel.specs.Step as kernel
-use Rattle.dm_datamove.proofs.Services.{length-written}
 use Rattle.dm_syscall.specs.Completing as completing
-use Rattle.dm_syscall.specs.Completing.{Completion, IsAwaited, plain_completed}
-use Rattle.dm_syscall.proofs.Completes.{status_plainly}
-use Rattle.dm_laws.proofs.Equal.{id_eq-is, pid_eq-same}
-use Rattle.dm_line.specs.declared.line.Line.TheVariants as line
-use Rattle.dm_rule.specs.Point.{Point, moved}
+use Rattle.dm_syscall.specs.Completing.{IsAwaited}
 use Rattle.dm_rule.specs.Rule as rule
-use Rattle.dm_line.specs.Sets.{moved_back, without_id}
-use Rattle.dm_rule.specs.Spots.{Spot, Queue, times, standing, StandsRight}
-use Rattle.dm_rule.specs.View.{View, serving}
-use Rattle.dm_rule.proofs.Standing.{once_at}
-use Rattle.dm_rulelaws.proofs.Fits.Rises.{set_at}
-use Rattle.dm_places.specs.Placed.{Placed}
 use Rattle.dm_places.specs.PlacedStep as placed
-use Rattle.dm_places.proofs.Matches.{Ends, completed_matches}
-use Rattle.dm_places.proofs.Queues.{with_queue}
 use Rattle.dm_kernel.specs.State as machine
-use Rattle.dm_kernel.specs.State.{KernelState, Turned, turned, with_here}
 use Rattle.dm_kernel.specs.Serve as serve
-use Rattle.dm_mirror.specs.Stands.{AreMessages}
 use Rattle.dm_mirror.proofs.Kernel.Sets.{Leaves, view_leaves_on, kernel_leaves_on, placed_leaves_on, is_queue_of, off_if, on_if, messages_on, eq_self}
 use Rattle.dm_mirror.proofs.Kernel.Labels.{view_serving, view_queue, kernel_sets, kernel_out, placed_sets, placed_out, NotOwn, not_own_some, machine_on, record_on, label_mirrors, after_label}
 use Rattle.dm_mirror.proofs.Serve.Runs.{Found, found}
@@ -67,10 +24,10 @@ record UserIs (w : What) : Type 0 where
   channel : ℕ
   body : ArrayVec ℕ
   links : ArrayVec Link
-  is : w ≡ what.User code channel body links
+  is : w ≡ What.User code channel body links
 
 user_is : (mask : ℕ) (w : What) → what_is_on mask w ≡ true → UserIs w
-user_is mask (what.User code channel body links) e = record { code = code; channel = channel; body = body; links = links; is = refl }
+user_is mask (What.User code channel body links) e = record { code = code; channel = channel; body = body; links = links; is = refl }
 user_is mask w e = cc
 
 -- a message that stood once has left the list
@@ -108,7 +65,7 @@ record Completes (m : ℕ) (pt : Point) (l : Placed) (p : Pid) (x : Process) (w 
   completing_ : kernel.completing pt.kernel p w.id ≡ Some (plain_completed d.completed d.process)
   ends : Ends l p w.id d
 
-completes_of : (b : Boot) (m : ℕ) (pt : Point) (l : Placed) (k : KernelState) (p : Pid) (x : Process) (mask base size : ℕ) (w : Message) (d : Completion) (s : Served b m pt l k p x) → x.status ≡ status.Waiting mask base size → Found l mask (pt.view.queue m p) x.queue w
+completes_of : (b : Boot) (m : ℕ) (pt : Point) (l : Placed) (k : KernelState) (p : Pid) (x : Process) (mask base size : ℕ) (w : Message) (d : Completion) (s : Served b m pt l k p x) → x.status ≡ Status.Waiting mask base size → Found l mask (pt.view.queue m p) x.queue w
     → completing.completion x 0 x.status (Some w) ≡ Some d → Completes m pt l p x w d
 completes_of b m pt l k p x mask base size w d s waits f e =
     let c = comes_of b m pt l k p x mask w s f in
@@ -140,7 +97,7 @@ right_one i None u f z e least h = cc
 right_one i (Some v) u f z e least h = (once_at f z h least).0
 
 -- the message is received, unless it is refused
-receive_row : (b : Boot) (m : ℕ) (pt : Point) (l : Placed) (k : KernelState) (p : Pid) (x : Process) (mask base size : ℕ) (w : Message) (code channel : ℕ) (body : List ℕ) (links : List Link) (o : Option Reply) → Served b m pt l k p x → IsLawfulProcess x → x.status ≡ status.Waiting mask base size
+receive_row : (b : Boot) (m : ℕ) (pt : Point) (l : Placed) (k : KernelState) (p : Pid) (x : Process) (mask base size : ℕ) (w : Message) (code channel : ℕ) (body : List ℕ) (links : List Link) (o : Option Reply) → Served b m pt l k p x → IsLawfulProcess x → x.status ≡ Status.Waiting mask base size
     → Found l mask (pt.view.queue m p) x.queue w → first_failed (receive_refusals (plain_process x) size body (map plain_link links)) ≡ o
     → completing.completion x 0 x.status (Some w) ≡ Some (completing.completes_unless o x (completing.receives x 0 w.id base code channel body links)) → Acts b m pt l k p (serve.receives (moved_round k p) p x mask (Some w)) (rule.receives pt.kernel p (plain_process x) (Some w.id))
 receive_row b m pt l k p x mask base size w code channel body links None s lawful waits f fits e =
@@ -153,8 +110,8 @@ receive_row b m pt l k p x mask base size w code channel body links None s lawfu
     let ids = pt.view.queue m p in
     let out = service.without_message pt.kernel id in
     let u = kernel.goes_on out p (plain_process z) in
-    let step : kernel.step pt.kernel (label.Receive p id) ≡ Some u = ap (λ (v : Option receiving.Completed). bind v (kernel.receives pt.kernel p id)) c.completing_ in
-    let next = moved pt (line.Label (label.Receive p id)) u in
+    let step : kernel.step pt.kernel (Label.Receive p id) ≡ Some u = ap (λ (v : Option receiving.Completed). bind v (kernel.receives pt.kernel p id)) c.completing_ in
+    let next = moved pt (Line.Label (Label.Receive p id)) u in
     let lm = placed.without_message l id in
     let on = placed.with_process lm p (Some (with_queue z c.ends.queue)) in
     let leaves : Leaves m t p pt l next on = record {
@@ -170,24 +127,24 @@ receive_row b m pt l k p x mask base size w code channel body links None s lawfu
     in
     let reach : base + size ≤ length x.memory = subst (IsLawfulStatus (length x.memory)) waits lawful.status in
     let short = body_fits (plain_process x) size body (map plain_link links) fits in
-    acts_as b m pt l k p (serve.receives (moved_round k p) p x mask (Some w)) (turned (with_here (moved_round k p) p z) (machine.says (label.Receive p id) ∷ [])) (rule.receives pt.kernel p (plain_process x) (Some id)) (Some (rule.says (label.Receive p id) ∷ []))
+    acts_as b m pt l k p (serve.receives (moved_round k p) p x mask (Some w)) (turned (with_here (moved_round k p) p z) (machine.says (Label.Receive p id) ∷ [])) (rule.receives pt.kernel p (plain_process x) (Some id)) (Some (rule.says (Label.Receive p id) ∷ []))
     (ap (serve.received_by (moved_round k p) p x mask w) e) c.parts (record {
       state = with_here (moved_round k p) p z;
-      says = line.Label (label.Receive p id) ∷ [];
+      says = Line.Label (Label.Receive p id) ∷ [];
       route = None;
       turn = refl;
       outcome = refl;
       next = next;
-      after = after_label pt (label.Receive p id) u [] next step refl;
+      after = after_label pt (Label.Receive p id) u [] next step refl;
       placed = on;
-      mirrors = label_mirrors pt l on m (label.Receive p id) u s.mirrors s.acting tt step (ap (λ (v : Option Completion). bind v (λ (q : Completion). Some (placed.with_process lm p (Some q.process)))) c.ends.is);
+      mirrors = label_mirrors pt l on m (Label.Receive p id) u s.mirrors s.acting tt step (ap (λ (v : Option Completion). bind v (λ (q : Completion). Some (placed.with_process lm p (Some q.process)))) c.ends.is);
       kernel = served_goes b m pt next l on k p x z c.ends.queue s leaves refl (ring_on m p pt.view s.acting) (set_at out p (Alive (plain_process z))) (on_if (pid_eq p p) (Some (with_queue z c.ends.queue)) (lm.processes p) (pid_eq-same p)) messages
           (length-written x.memory base body (omega (arith, reach, short)));
       leaves = leaves;
       sent = tt;
       still = refl;
       count = refl;
-      records = λ q off. off_if (pid_eq p q) (Some (record_.Here z)) (k.records q) off;
+      records = λ q off. off_if (pid_eq p q) (Some (Record.Here z)) (k.records q) off;
     })
   where
     apart : (i : MsgId) (js : List MsgId) → times w.id js ≡ 0 → 1 ≤ times i js → id_eq w.id i ≡ false
@@ -202,30 +159,30 @@ receive_row b m pt l k p x mask base size w code channel body links (Some reply)
     let c = completes_of b m pt l k p x mask base size w d s waits f e in
     let z = d.process in
     let u = kernel.goes_on pt.kernel p (plain_process z) in
-    let step : kernel.step pt.kernel (label.Refuse p id reply) ≡ Some u = ap (λ (v : Option receiving.Completed). bind v (kernel.refuses pt.kernel p reply)) c.completing_ ∙ ap (λ (q : Bool). when q u) (eq_self (reply_code reply)) in
-    let next = moved pt (line.Label (label.Refuse p id reply)) u in
+    let step : kernel.step pt.kernel (Label.Refuse p id reply) ≡ Some u = ap (λ (v : Option receiving.Completed). bind v (kernel.refuses pt.kernel p reply)) c.completing_ ∙ ap (λ (q : Bool). when q u) (eq_self (reply_code reply)) in
+    let next = moved pt (Line.Label (Label.Refuse p id reply)) u in
     let on = placed.with_process l p (Some (with_queue z c.ends.queue)) in
     let leaves : Leaves m t p pt l next on = record { view = view_serving m t p pt.view s.acting; kernel = kernel_sets p pt.kernel (Alive (plain_process z)); placed_ = placed_sets t p pt.view l (Some (with_queue z c.ends.queue)) } in
-    acts_as b m pt l k p (serve.receives (moved_round k p) p x mask (Some w)) (turned (with_here (moved_round k p) p z) (machine.says (label.Refuse p id reply) ∷ [])) (rule.receives pt.kernel p (plain_process x) (Some id)) (Some (rule.says (label.Refuse p id reply) ∷ []))
+    acts_as b m pt l k p (serve.receives (moved_round k p) p x mask (Some w)) (turned (with_here (moved_round k p) p z) (machine.says (Label.Refuse p id reply) ∷ [])) (rule.receives pt.kernel p (plain_process x) (Some id)) (Some (rule.says (Label.Refuse p id reply) ∷ []))
     (ap (serve.received_by (moved_round k p) p x mask w) e) c.parts (record {
       state = with_here (moved_round k p) p z;
-      says = line.Label (label.Refuse p id reply) ∷ [];
+      says = Line.Label (Label.Refuse p id reply) ∷ [];
       route = None;
       turn = refl;
       outcome = refl;
       next = next;
-      after = after_label pt (label.Refuse p id reply) u [] next step refl;
+      after = after_label pt (Label.Refuse p id reply) u [] next step refl;
       placed = on;
-      mirrors = label_mirrors pt l on m (label.Refuse p id reply) u s.mirrors s.acting tt step (ap (λ (v : Option Completion). bind v (λ (q : Completion). Some (placed.with_process l p (Some q.process)))) c.ends.is);
+      mirrors = label_mirrors pt l on m (Label.Refuse p id reply) u s.mirrors s.acting tt step (ap (λ (v : Option Completion). bind v (λ (q : Completion). Some (placed.with_process l p (Some q.process)))) c.ends.is);
       kernel = served_goes b m pt next l on k p x z c.ends.queue s leaves refl (ring_on m p pt.view s.acting) (set_at pt.kernel p (Alive (plain_process z))) (on_if (pid_eq p p) (Some (with_queue z c.ends.queue)) (l.processes p) (pid_eq-same p)) s.at.messages refl;
       leaves = leaves;
       sent = tt;
       still = refl;
       count = refl;
-      records = λ q off. off_if (pid_eq p q) (Some (record_.Here z)) (k.records q) off;
+      records = λ q off. off_if (pid_eq p q) (Some (Record.Here z)) (k.records q) off;
     })
 
-pub receives_acts : (b : Boot) (m : ℕ) (pt : Point) (l : Placed) (k : KernelState) (p : Pid) (x : Process) (mask base size : ℕ) (w : Message) → Served b m pt l k p x → IsLawfulProcess x → x.status ≡ status.Waiting mask base size → first_on mask x.queue ≡ Some w
+pub receives_acts : (b : Boot) (m : ℕ) (pt : Point) (l : Placed) (k : KernelState) (p : Pid) (x : Process) (mask base size : ℕ) (w : Message) → Served b m pt l k p x → IsLawfulProcess x → x.status ≡ Status.Waiting mask base size → first_on mask x.queue ≡ Some w
     → Acts b m pt l k p (serve.receives (moved_round k p) p x mask (Some w)) (rule.receives pt.kernel p (plain_process x) (Some w.id))
 receives_acts b m pt l k p x mask base size w s lawful waits first =
     let f = found l mask (pt.view.queue m p) x.queue w (λ i n there. (s.mirrors.places.message i n there).id) s.at.messages first in

@@ -1,57 +1,20 @@
 -- The machine and the rule serve the same process: its messages, which process can be served, and how far it comes.
-use Rattle.std.proofs.Common.{◌≡◌, ℕ, zero, suc, ◌+◌, ◌<◌, ◌≤◌, ◌&&◌, not, Bool, true, false, List, [], ◌∷◌, map, refl, ap, ◌∙◌, sym, subst, inl, inr, arith, is_some}
-use Rattle.std.specs.Prelude.{if◌then◌else◌, option_map}
-use Rattle.std.specs.declared.option.Option.{Option}
-use Rattle.std.specs.declared.option.Option.TheVariants.{None, Some}
-use Rattle.std.proofs.lemmas.Bool.{cases_Bool, false≢true}
-use Rattle.dm_link.specs.declared.Pid.{Pid}
-use Rattle.dm_message.specs.declared.Message.{Message}
-use Rattle.dm_message.specs.declared.MsgId.{MsgId}
-use Rattle.dm_message.specs.declared.What.{What}
-use Rattle.dm_message.specs.declared.What.TheVariants as what
-use Rattle.dm_message.specs.Ids.{id_eq}
-use Rattle.dm_message.specs.Plain.{plain_message, plain_what, with_what}
-use Rattle.dm_processor.specs.declared.registers.Regs.{Regs}
-use Rattle.dm_processor.specs.declared.registers.Fault.{Fault}
-use Rattle.dm_processor.specs.Instructions.{Row, instruction}
-use Rattle.dm_processor.specs.Instructions as row
-use Rattle.dm_process.specs.Mail.{first_on, is_on, what_is_on, without_first_on}
-use Rattle.dm_process.specs.Process.{status_is_runnable}
-use Rattle.dm_process.specs.declared.process.Process.{Process}
-use Rattle.dm_process.specs.declared.process.Status.{Status}
-use Rattle.dm_process.specs.declared.process.Status.TheVariants as status
-use Rattle.dm_records.specs.declared.record.Record.TheVariants as record_
-use Rattle.dm_onekernel.specs.declared.boot.Boot.{Boot}
-use Rattle.dm_onekernel.specs.Options.{bind}
-use Rattle.dm_onekernel.specs.Kernel.{Life, Alive, OneKernel}
-use Rattle.dm_onekernel.specs.Kernel as kernels
-use Rattle.dm_onekernel.specs.Plain.{plain_process, plain_status}
-use Rattle.dm_onekernel.specs.PlainProcess.{PlainProcess}
+use Rattle.dm_mirror.proofs.Names.{◌≡◌, ℕ, zero, suc, ◌+◌, ◌<◌, ◌≤◌, ◌&&◌, not, Bool, true, false, List, [], ◌∷◌, map, refl, ap, ◌∙◌, sym, subst, inl, inr, arith, is_some, if◌then◌else◌, option_map, Option, None, Some, cases_Bool}
+use Rattle.dm_mirror.proofs.Names.{false≢true, Pid, Message, MsgId, What, Record, Halt, id_eq, plain_message, plain_what, with_what, Regs, Fault, Row, instruction, first_on, is_on, what_is_on, without_first_on, status_is_runnable, Process}
+use Rattle.dm_mirror.proofs.Names.{Status, Boot, bind, Life, Alive, OneKernel, plain_process, plain_status, PlainProcess, Machine, pid_eq-same, id_eq-is, id_eq-same, Point, without_id, times, is_server, rings, Placed, MirrorsKernel}
+use Rattle.dm_mirror.proofs.Names.{with_queue, KernelState, AreMessages, KnownStands, KernelStands}
 use Rattle.dm_onekernel.specs.Step as kernel
-use Rattle.dm_onekernel.specs.Step.{Machine}
-use Rattle.dm_laws.proofs.Equal.{pid_eq-same, id_eq-is, id_eq-same}
-use Rattle.dm_rule.specs.Point.{Point}
 use Rattle.dm_rule.specs.Rule as rule
-use Rattle.dm_line.specs.Sets.{without_id}
-use Rattle.dm_rule.specs.Spots.{times}
 use Rattle.dm_rule.specs.View as view
-use Rattle.dm_rule.specs.View.{View}
-use Rattle.dm_rulelaws.specs.Fits.{is_server}
-use Rattle.dm_rulelaws.specs.KnownStands.{rings}
 use Rattle.dm_rulelaws.specs.KnownStands as rings
-use Rattle.dm_places.specs.Placed.{Placed, MirrorsKernel}
-use Rattle.dm_places.proofs.Queues.{with_queue}
-use Rattle.dm_kernel.specs.declared.run.Halt.TheVariants as halt
 use Rattle.dm_kernel.specs.State as machine
-use Rattle.dm_kernel.specs.State.{KernelState}
 use Rattle.dm_kernel.specs.Serve as serve
 use Rattle.dm_kernel.specs.Turn as turn
-use Rattle.dm_mirror.specs.Stands.{AreMessages, KnownStands, KernelStands}
 use Rattle.dm_mirror.proofs.Kernel.Sets.{times_self, times_more}
 
 -- a message is awaited without its places where it is on the mask with them
 awaited_what : (mask : ℕ) (m : Message) (w : What) → rule.is_awaited mask (with_what m (plain_what w)) ≡ what_is_on mask w
-awaited_what mask m (what.User code channel body links) = refl
+awaited_what mask m (What.User code channel body links) = refl
 awaited_what mask m w = refl
 
 awaited_on : (s : OneKernel) (l : Placed) (mask : ℕ) (i : MsgId) (m : Message) → MirrorsKernel s l → l.bag i ≡ Some m → rule.is_awaited mask (s.bag i) ≡ is_on mask m
@@ -130,7 +93,7 @@ found l mask (i ∷ is) (n ∷ ns) m names are e =
 -- a living process of machine m is there, as the kernel without machines has it
 pub record IsHere (pt : Point) (l : Placed) (m : ℕ) (k : KernelState) (p : Pid) (z : PlainProcess) : Type 0 where
   pub x : Process
-  pub record_is : k.records p ≡ Some (record_.Here x)
+  pub record_is : k.records p ≡ Some (Record.Here x)
   pub queue : List Message
   pub there : l.processes p ≡ Some (with_queue x queue)
   pub messages : AreMessages l.bag (pt.view.queue m p) x.queue
@@ -139,7 +102,7 @@ pub record IsHere (pt : Point) (l : Placed) (m : ℕ) (k : KernelState) (p : Pid
 
 here_at : (pt : Point) (l : Placed) (m : ℕ) (k : KernelState) (p : Pid) (z : PlainProcess) (r : Option machine.Known) → k.records p ≡ r → pt.view.known m p ≡ view.Here → KnownStands pt l p (pt.view.queue m p) (pt.view.held m p) view.Here r
     → MirrorsKernel pt.kernel l → pt.kernel.processes p ≡ Some (Alive z) → IsHere pt l m k p z
-here_at pt l m k p z (Some (record_.Here x)) e known h mirrors alive =
+here_at pt l m k p z (Some (Record.Here x)) e known h mirrors alive =
     let f : Some z ≡ Some (plain_process x) = sym (ap kernel.alive alive) ∙ mirrors.processes p ∙ ap (option_map plain_process) h.0.1 in
     record { x = x; record_is = e; queue = h.0.0; there = h.0.1; messages = h.1; plain = cc; known = known }
 here_at pt l m k p z r e known h mirrors alive = absurd h
@@ -154,9 +117,9 @@ some_same None = refl
 some_same (Some m) = refl
 
 status_same : (s : OneKernel) (l : Placed) (ids : List MsgId) (ms : List Message) (st : Status) → MirrorsKernel s l → Names l → AreMessages l.bag ids ms → rule.status_can_go s ids (plain_status st) ≡ status_is_runnable st ms
-status_same s l ids ms status.Ready h names are = refl
-status_same s l ids ms (status.Waiting mask base size) h names are = ap is_some (first_same s l mask ids ms h names are) ∙ some_same (first_on mask ms)
-status_same s l ids ms (status.Moving dir owner base own left pending) h names are = refl
+status_same s l ids ms Status.Ready h names are = refl
+status_same s l ids ms (Status.Waiting mask base size) h names are = ap is_some (first_same s l mask ids ms h names are) ∙ some_same (first_on mask ms)
+status_same s l ids ms (Status.Moving dir owner base own left pending) h names are = refl
 
 go_same : (b : Boot) (pt : Point) (l : Placed) (m : ℕ) (k : KernelState) (p : Pid) (z : PlainProcess) → MirrorsKernel pt.kernel l → Names l → pt.kernel.processes p ≡ Some (Alive z) → IsHere pt l m k p z
     → rule.can_go pt.kernel (pt.view.queue m p) (kernel.alive (pt.kernel.processes p)) ≡ turn.known_is_runnable (k.records p)
@@ -200,7 +163,7 @@ turns_of false view.Ended least = absurd (omega (arith, least))
 
 rings_of : (pt : Point) (m : ℕ) (p : Pid) (o : Option Life) → pt.kernel.processes p ≡ o → is_server p ≡ false → pt.view.known m p ≡ view.Here → rings.agrees view.Here o ≡ true → Rings pt m p
 rings_of pt m p None e server here agree = cc
-rings_of pt m p (Some (kernels.Ended y)) e server here agree = cc
+rings_of pt m p (Some (Life.Ended y)) e server here agree = cc
 rings_of pt m p (Some (Alive z)) e server here agree = record { server = server; here = here; z = z; alive = e }
 
 pub in_ring : (pt : Point) (m : ℕ) (p : Pid) → rings.KnownStands pt.kernel pt.view → 1 ≤ rings p (pt.view.ring m) → Rings pt m p
@@ -219,9 +182,9 @@ first_runs b pt l m k h mirrors names known =
 -- how far a process comes: the same count by the rule and by the machine, and what stops it
 pub data Comes (k : ℕ) (u : rule.Ran) (r : serve.Ran) : Type 0 where
   Whole : (all : u.count ≡ k) → (is : r ≡ record { count = u.count; machine = u.machine; halt = None }) → Comes k u r
-  Called : (n : ℕ) → (regs : Regs) → (less : u.count < k) → (stops : instruction u.machine.regs u.machine.bytes ≡ row.Calls n regs)
-      → (is : r ≡ record { count = u.count; machine = record { regs = regs; bytes = u.machine.bytes }; halt = Some (halt.Call n) }) → Comes k u r
-  Faulted : (f : Fault) → (less : u.count < k) → (stops : instruction u.machine.regs u.machine.bytes ≡ row.Faults f) → (is : r ≡ record { count = u.count; machine = u.machine; halt = Some (halt.Fault f) }) → Comes k u r
+  Called : (n : ℕ) → (regs : Regs) → (less : u.count < k) → (stops : instruction u.machine.regs u.machine.bytes ≡ Row.Calls n regs)
+      → (is : r ≡ record { count = u.count; machine = record { regs = regs; bytes = u.machine.bytes }; halt = Some (Halt.Call n) }) → Comes k u r
+  Faulted : (f : Fault) → (less : u.count < k) → (stops : instruction u.machine.regs u.machine.bytes ≡ Row.Faults f) → (is : r ≡ record { count = u.count; machine = u.machine; halt = Some (Halt.Fault f) }) → Comes k u r
 
 comes_on : (k : ℕ) (u : rule.Ran) (r : serve.Ran) → Comes k u r → Comes (suc k) (rule.one_more u) (serve.one_more r)
 comes_on k u r (Whole all is) = Whole (omega (arith, all)) (ap serve.one_more is)
@@ -229,9 +192,9 @@ comes_on k u r (Called n regs less stops is) = Called n regs (omega (arith, less
 comes_on k u r (Faulted f less stops is) = Faulted f (omega (arith, less)) stops (ap serve.one_more is)
 
 comes_row : (k : ℕ) (m : Machine) (w : Row) → instruction m.regs m.bytes ≡ w → ((n : Machine) → Comes k (rule.ran k n) (serve.ran k n)) → Comes (suc k) (rule.goes_on m (kernel.plain_row w) (rule.ran k)) (serve.after_row m w (serve.ran k))
-comes_row k m (row.Plain regs bytes) e h = let n : Machine = record { regs = regs; bytes = bytes } in comes_on k (rule.ran k n) (serve.ran k n) (h n)
-comes_row k m (row.Calls n regs) e h = Called n regs (omega arith) e refl
-comes_row k m (row.Faults f) e h = Faulted f (omega arith) e refl
+comes_row k m (Row.Plain regs bytes) e h = let n : Machine = record { regs = regs; bytes = bytes } in comes_on k (rule.ran k n) (serve.ran k n) (h n)
+comes_row k m (Row.Calls n regs) e h = Called n regs (omega arith) e refl
+comes_row k m (Row.Faults f) e h = Faulted f (omega arith) e refl
 
 pub comes : (k : ℕ) (m : Machine) → Comes k (rule.ran k m) (serve.ran k m)
 comes zero m = Whole refl refl

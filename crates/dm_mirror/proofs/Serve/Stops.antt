@@ -1,52 +1,16 @@
 -- A ready process stops at a call that sends, or ends; and all that it can come to.
-use Rattle.std.proofs.Common.{◌≡◌, ℕ, ◌+◌, ◌≤◌, Bool, false, List, [], ◌∷◌, ◌++◌, map, length, refl, ap, ◌∙◌, sym, subst, arith, nat_lt, nat_le, is_some, true, not, ◌==◌, ◌&&◌}
-use Rattle.std.specs.declared.option.Option.{Option}
-use Rattle.std.specs.declared.option.Option.TheVariants.{None, Some}
-use Rattle.std.proofs.lemmas.Bool.{false≢true}
-use Rattle.std.proofs.lemmas.Bool.Decides.{nat_tests}
-use Rattle.dm_link.specs.declared.Pid.{Pid}
-use Rattle.dm_link.specs.Names.{pid_eq}
-use Rattle.dm_message.specs.declared.Message.{Message}
-use Rattle.dm_message.specs.declared.MsgId.{MsgId}
-use Rattle.dm_message.specs.Ids.{id_eq}
-use Rattle.dm_message.specs.Plain.{PlainMessage, plain_message}
-use Rattle.dm_process.specs.declared.process.Process.{Process}
-use Rattle.dm_records.specs.declared.record.Record.TheVariants as record_
-use Rattle.dm_onekernel.specs.declared.boot.Boot.{Boot}
-use Rattle.dm_onekernel.specs.declared.label.Label.TheVariants as label
-use Rattle.dm_onekernel.specs.declared.label.Why.{Why}
-use Rattle.dm_onekernel.specs.Options.{bind, when}
-use Rattle.dm_onekernel.specs.Kernel.{Alive, Ended, OneKernel, with_process, with_sent}
-use Rattle.dm_onekernel.specs.Plain.{plain_process}
-use Rattle.dm_onekernel.specs.PlainProcess.{PlainProcess}
-use Rattle.dm_onekernel.specs.Calls as calls
+use Rattle.dm_mirror.proofs.Names.{◌≡◌, ℕ, ◌+◌, ◌≤◌, Bool, false, List, [], ◌∷◌, ◌++◌, map, length, refl, ap, ◌∙◌, sym, subst, arith, nat_lt, nat_le, is_some, true, not, ◌==◌, ◌&&◌, Option, None, Some, false≢true, nat_tests, Pid, pid_eq}
+use Rattle.dm_mirror.proofs.Names.{Message, MsgId, id_eq, PlainMessage, plain_message, Process, Record, Label, Called, Line, Known, Boot, Why, bind, when, Alive, OneKernel, with_process, plain_process, PlainProcess, counts, is_counted}
+use Rattle.dm_mirror.proofs.Names.{id_eq-same, pid_eq-same, not_counted, counts_process, not_server, after_ran, nexts, Point, moved, moved_back, without, Spot, Queue, times, standing, View, is_kernels, set_at, droppable_on, Placed, parts}
+use Rattle.dm_mirror.proofs.Names.{with_queue, KernelState, turned, with_here, without_process, AllOwnStand, AreMessages}
+use Rattle.dm_onekernel.specs.Kernel.{Ended, with_sent}
 use Rattle.dm_onekernel.specs.Step as kernel
-use Rattle.dm_onekernel.specs.Step.{Machine}
-use Rattle.dm_laws.proofs.Entered.{counts, is_counted}
-use Rattle.dm_laws.proofs.Equal.{id_eq-same, pid_eq-same}
-use Rattle.dm_laws.proofs.Sound.{not_counted, counts_process, not_server}
-use Rattle.dm_laws.proofs.Steps.{after_ran, nexts}
-use Rattle.dm_line.specs.declared.line.Line.TheVariants as line
 use Rattle.dm_rule.specs.Parts as rule_part
-use Rattle.dm_rule.specs.Point.{Point, moved}
 use Rattle.dm_rule.specs.Rule as rule
-use Rattle.dm_line.specs.Sets.{moved_back, without}
-use Rattle.dm_rule.specs.Spots.{Spot, Queue, times, standing}
-use Rattle.dm_rule.specs.View as view
-use Rattle.dm_rule.specs.View.{View, receiver_of, is_kernels}
-use Rattle.dm_rulelaws.proofs.Fits.Rises.{set_at}
-use Rattle.dm_rulelaws.proofs.Goes.Turns.{droppable_on}
-use Rattle.dm_places.specs.Placed.{Placed}
 use Rattle.dm_places.specs.PlacedStep as placed
-use Rattle.dm_places.proofs.Keeps.{parts}
-use Rattle.dm_places.proofs.Queues.{with_queue}
 use Rattle.dm_kernel.specs.declared.part.Part.{Part}
-use Rattle.dm_kernel.specs.declared.part.Part.TheVariants as part
 use Rattle.dm_kernel.specs.State as machine
-use Rattle.dm_kernel.specs.State.{KernelState, Turned, turned, with_here, without_process}
 use Rattle.dm_kernel.specs.Serve as serve
-use Rattle.dm_mirror.specs.Own.{AllOwnStand}
-use Rattle.dm_mirror.specs.Stands.{AreMessages}
 use Rattle.dm_mirror.proofs.Kernel.Sets.{Leaves, leaves_on, kernel_leaves_on, placed_leaves_on, is_queue_of, off_if, on_if, queue_of_others, inbox_stands, messages_on}
 use Rattle.dm_mirror.proofs.Kernel.Labels.{view_same, view_ended, kernel_sets, kernel_puts, placed_sets, placed_puts, NotOwn, machine_on, record_on, nowhere_alone, label_mirrors, after_label}
 use Rattle.dm_mirror.proofs.Kernel.Goes.{ends_stands}
@@ -59,12 +23,12 @@ record IsFresh (s : OneKernel) (i : MsgId) : Type 0 where
   none : s.bag i ≡ None
   own : is_kernels i ≡ false
 
-fresh_message : (b : Boot) (m : ℕ) (pt : Point) (l : Placed) (k : KernelState) (p : Pid) (x y : Process) (c n : ℕ) (w : PlainMessage) (z : PlainProcess) (s : Served b m pt l k p x) → kernel.step pt.kernel (label.Ran p c) ≡ Some (ran_kernel pt p y)
-    → kernel.next (ran_kernel pt p y) p ≡ Some (kernel.Calls n (calls.Sends w z)) → IsFresh pt.kernel w.id
+fresh_message : (b : Boot) (m : ℕ) (pt : Point) (l : Placed) (k : KernelState) (p : Pid) (x y : Process) (c n : ℕ) (w : PlainMessage) (z : PlainProcess) (s : Served b m pt l k p x) → kernel.step pt.kernel (Label.Ran p c) ≡ Some (ran_kernel pt p y)
+    → kernel.next (ran_kernel pt p y) p ≡ Some (kernel.Calls n (Called.Sends w z)) → IsFresh pt.kernel w.id
 fresh_message b m pt l k p x y c n w z s step next =
     let t = ran_kernel pt p y in
     let a = after_ran s.r s.e pt.kernel t p c step s.sound in
-    let g = nexts t p (kernel.Calls n (calls.Sends w z)) next in
+    let g = nexts t p (kernel.Calls n (Called.Sends w z)) next in
     let (v, sent, pending, counted) = g.counts in
     let from : w.id.from ≡ p = ap (λ (i : MsgId). i.from) counted.id in
     let number : w.id.n ≡ v.sent = ap (λ (i : MsgId). i.n) counted.id in
@@ -84,22 +48,22 @@ not_own_fresh v l i h off x there none = false≢true (sym off ∙ (h i x there 
 
 -- a call that sends a message
 pub sends_acts : (b : Boot) (m : ℕ) (pt : Point) (l : Placed) (k : KernelState) (p : Pid) (x y z : Process) (c n : ℕ) (w : Message) (u : PlainMessage) (s : Served b m pt l k p x) → Ran m pt l p x s.at.queue c y → plain_message w ≡ Some u
-    → kernel.next (ran_kernel pt p y) p ≡ Some (kernel.Calls n (calls.Sends u (plain_process z)))
+    → kernel.next (ran_kernel pt p y) p ≡ Some (kernel.Calls n (Called.Sends u (plain_process z)))
     → placed.acts m (ran_placed l p y s.at.queue) p ≡ Some (placed.with_sent (placed.with_process (ran_placed l p y s.at.queue) p (Some (with_queue z s.at.queue))) (Some w)) → z.queue ≡ x.queue → length z.memory ≡ length x.memory
-    → Acts b m pt l k p (turned (with_here (moved_round k p) p z) (machine.says (label.Ran p c) ∷ machine.says (label.Send p w.id) ∷ part.Routes w ∷ [])) (Some (rule.says (label.Ran p c) ∷ rule.says (label.Send p u.id) ∷ rule_part.Routes u.id ∷ []))
+    → Acts b m pt l k p (turned (with_here (moved_round k p) p z) (machine.says (Label.Ran p c) ∷ machine.says (Label.Send p w.id) ∷ Part.Routes w ∷ [])) (Some (rule.says (Label.Ran p c) ∷ rule.says (Label.Send p u.id) ∷ rule_part.Routes u.id ∷ []))
 sends_acts b m pt l k p x y z c n w u s r says next with_ queue_is memory =
     let t = is_queue_of m p in
     let queue = s.at.queue in
     let o = ran_point pt p c y in
     let lm = ran_placed l p y queue in
     let name : w.id ≡ u.id = (parts w u says).id in
-    let e = label.Send p w.id in
+    let e = Label.Send p w.id in
     let goes = kernel.goes_on (ran_kernel pt p y) p (plain_process z) in
     let after_ = with_sent goes (Some u) in
     let step : kernel.step (ran_kernel pt p y) e ≡ Some after_ =
     ap (λ (v : Option kernel.Next). bind v (kernel.sends (ran_kernel pt p y) p w.id)) next ∙ ap (λ (d : Bool). when d after_) (ap (λ (i : MsgId). id_eq w.id i) (sym name) ∙ id_eq-same w.id)
     in
-    let next_ = moved o (line.Label e) after_ in
+    let next_ = moved o (Line.Label e) after_ in
     let mid = placed.with_process lm p (Some (with_queue z queue)) in
     let on = placed.with_sent mid (Some w) in
     let new = fresh_message b m pt l k p x y c n u (plain_process z) s r.step next in
@@ -118,12 +82,12 @@ sends_acts b m pt l k p x y z c n w u s r says next with_ queue_is memory =
     in
     record {
       state = with_here (moved_round k p) p z;
-      says = line.Label (label.Ran p c) ∷ line.Label e ∷ [];
+      says = Line.Label (Label.Ran p c) ∷ Line.Label e ∷ [];
       route = Some w;
       turn = refl;
-      outcome = ap (λ (i : MsgId). Some (rule.says (label.Ran p c) ∷ rule.says (label.Send p i) ∷ rule_part.Routes i ∷ [])) (sym name);
+      outcome = ap (λ (i : MsgId). Some (rule.says (Label.Ran p c) ∷ rule.says (Label.Send p i) ∷ rule_part.Routes i ∷ [])) (sym name);
       next = next_;
-      after = after_label pt (label.Ran p c) (ran_kernel pt p y) (line.Label e ∷ []) next_ r.step (after_label o e after_ [] next_ step refl);
+      after = after_label pt (Label.Ran p c) (ran_kernel pt p y) (Line.Label e ∷ []) next_ r.step (after_label o e after_ [] next_ step refl);
       placed = on;
       mirrors = label_mirrors o lm on m e after_ r.mirrors s.acting tt step with_;
       kernel = served_goes b m pt next_ l on k p x z queue s leaves refl r.ring (set_at (ran_kernel pt p y) p (Alive (plain_process z))) (on_if (pid_eq p p) (Some (with_queue z queue)) (lm.processes p) (pid_eq-same p)) messages memory;
@@ -131,7 +95,7 @@ sends_acts b m pt l k p x y z c n w u s r says next with_ queue_is memory =
       sent = (on_if (id_eq w.id w.id) (Some w) (mid.bag w.id) (id_eq-same w.id), ap is_some says);
       still = refl;
       count = refl;
-      records = λ q off. off_if (pid_eq p q) (Some (record_.Here z)) (k.records q) off;
+      records = λ q off. off_if (pid_eq p q) (Some (Record.Here z)) (k.records q) off;
     }
 
 -- it ends, and its queue goes
@@ -140,18 +104,18 @@ nothing_more [] = refl
 nothing_more (x ∷ xs) = ap (λ (ys : List _). x ∷ ys) (nothing_more xs)
 
 pub ends_acts : (b : Boot) (m : ℕ) (pt : Point) (l : Placed) (k : KernelState) (p : Pid) (x y z : Process) (c : ℕ) (because : Why) (s : Served b m pt l k p x) → Ran m pt l p x s.at.queue c y
-    → kernel.step (ran_kernel pt p y) (label.End p because) ≡ Some (with_process (ran_kernel pt p y) p (Ended because)) → placed.acts m (ran_placed l p y s.at.queue) p ≡ Some (placed.with_process (ran_placed l p y s.at.queue) p None)
+    → kernel.step (ran_kernel pt p y) (Label.End p because) ≡ Some (with_process (ran_kernel pt p y) p (Ended because)) → placed.acts m (ran_placed l p y s.at.queue) p ≡ Some (placed.with_process (ran_placed l p y s.at.queue) p None)
     → z.queue ≡ x.queue → length z.memory ≡ length x.memory
-    → Acts b m pt l k p (serve.ends (with_here (moved_round k p) p z) p c z because) (Some (rule.says (label.Ran p c) ∷ rule.says (label.End p because) ∷ rule.drops (pt.view.queue m p)))
+    → Acts b m pt l k p (serve.ends (with_here (moved_round k p) p z) p c z because) (Some (rule.says (Label.Ran p c) ∷ rule.says (Label.End p because) ∷ rule.drops (pt.view.queue m p)))
 ends_acts b m pt l k p x y z c because s r step with_ queue_is memory =
     let t = is_queue_of m p in
     let queue = s.at.queue in
     let ids = pt.view.queue m p in
     let o = ran_point pt p c y in
     let lm = ran_placed l p y queue in
-    let e = label.End p because in
+    let e = Label.End p because in
     let u = with_process (ran_kernel pt p y) p (Ended because) in
-    let o2 = moved o (line.Label e) u in
+    let o2 = moved o (Line.Label e) u in
     let l2 = placed.with_process lm p None in
     let second : Leaves m t p o lm o2 l2 = record { view = view_ended m t p o.view s.acting; kernel = kernel_sets p (ran_kernel pt p y) (Ended because); placed_ = placed_sets t p o.view lm None } in
     let first = leaves_on m t p pt o o2 l lm l2 r.leaves second in
@@ -168,26 +132,26 @@ ends_acts b m pt l k p x y z c because s r step with_ queue_is memory =
     ∙ sym d.ring in
     record {
       state = n;
-      says = line.Label (label.Ran p c) ∷ line.Label e ∷ drop_lines ids;
+      says = Line.Label (Label.Ran p c) ∷ Line.Label e ∷ drop_lines ids;
       route = None;
-      turn = ap (λ (ps : List Part). Some (record { state = n; parts = machine.says (label.Ran p c) ∷ machine.says e ∷ ps })) (machine_drops l ids z.queue names messages ∙ sym (nothing_more (map part.Says (drop_lines ids))));
-      outcome = ap (λ (ps : List rule_part.Part). Some (rule.says (label.Ran p c) ∷ rule.says e ∷ ps)) (rule_drops ids ∙ sym (nothing_more (map rule_part.Says (drop_lines ids))));
+      turn = ap (λ (ps : List Part). Some (record { state = n; parts = machine.says (Label.Ran p c) ∷ machine.says e ∷ ps })) (machine_drops l ids z.queue names messages ∙ sym (nothing_more (map Part.Says (drop_lines ids))));
+      outcome = ap (λ (ps : List rule_part.Part). Some (rule.says (Label.Ran p c) ∷ rule.says e ∷ ps)) (rule_drops ids ∙ sym (nothing_more (map rule_part.Says (drop_lines ids))));
       next = d.next;
-      after = after_label pt (label.Ran p c) (ran_kernel pt p y) (line.Label e ∷ drop_lines ids) d.next r.step (after_label o e u (drop_lines ids) d.next step d.after);
+      after = after_label pt (Label.Ran p c) (ran_kernel pt p y) (Line.Label e ∷ drop_lines ids) d.next r.step (after_label o e u (drop_lines ids) d.next step d.after);
       placed = d.placed;
       mirrors = d.mirrors;
       kernel = ends_stands b m t p pt d.next l d.placed k n x z because s.at leaves
           (record {
             here = refl;
-            records = λ q off. off_if (pid_eq p q) (Some (record_.Ended because)) ((with_here (moved_round k p) p z).records q) off ∙ off_if (pid_eq p q) (Some (record_.Here z)) (k.records q) off;
+            records = λ q off. off_if (pid_eq p q) (Some (Record.Ended because)) ((with_here (moved_round k p) p z).records q) off ∙ off_if (pid_eq p q) (Some (Record.Here z)) (k.records q) off;
             made = refl;
             servers = refl;
           })
-          (λ q off. queue_of_others m p q off) (λ q. refl) (on_if (pid_eq p p) (Some (record_.Ended because)) ((with_here (moved_round k p) p z).records p) (pid_eq-same p)) refl ring
-          (inbox_stands m t p pt d.next l d.placed k.inbox leaves refl s.stands.inbox) (d.known ∙ record_on o.view.known o.view.acting m p view.Ended s.acting) (d.process ∙ ended) memory s.made s.stands;
+          (λ q off. queue_of_others m p q off) (λ q. refl) (on_if (pid_eq p p) (Some (Record.Ended because)) ((with_here (moved_round k p) p z).records p) (pid_eq-same p)) refl ring
+          (inbox_stands m t p pt d.next l d.placed k.inbox leaves refl s.stands.inbox) (d.known ∙ record_on o.view.known o.view.acting m p Known.Ended s.acting) (d.process ∙ ended) memory s.made s.stands;
       leaves = leaves;
       sent = tt;
       still = drops_still ids;
       count = refl;
-      records = λ q off. off_if (pid_eq p q) (Some (record_.Ended because)) ((with_here (moved_round k p) p z).records q) off ∙ off_if (pid_eq p q) (Some (record_.Here z)) (k.records q) off;
+      records = λ q off. off_if (pid_eq p q) (Some (Record.Ended because)) ((with_here (moved_round k p) p z).records q) off ∙ off_if (pid_eq p q) (Some (Record.Here z)) (k.records q) off;
     }

@@ -1,54 +1,15 @@
 -- A turn with an empty inbox: the machine idles, or serves the first process of its ring that can be served.
-use Rattle.std.proofs.Common.{◌≡◌, ℕ, ◌+◌, ◌≤◌, ◌&&◌, not, Bool, true, false, List, [], ◌∷◌, map, refl, ap, ◌∙◌, sym, subst, arith, is_some, ◌≢◌, inl, inr}
-use Rattle.std.specs.Prelude.{if◌then◌else◌, option_map, slice_get}
-use Rattle.std.specs.declared.option.Option.{Option}
-use Rattle.std.specs.declared.option.Option.TheVariants.{None, Some}
-use Rattle.std.proofs.lemmas.Bool.{cases_Bool, false≢true}
-use Rattle.dm_link.specs.declared.Pid.{Pid}
-use Rattle.dm_link.specs.Names.{pid_eq, pid_of}
-use Rattle.dm_message.specs.declared.Message.{Message}
-use Rattle.dm_message.specs.declared.MsgId.{MsgId}
-use Rattle.dm_process.specs.Lawful.{IsLawfulProcess}
-use Rattle.dm_process.specs.Mail.{first_on}
-use Rattle.dm_process.specs.Process.{status_is_runnable}
-use Rattle.dm_process.specs.declared.process.Process.{Process}
-use Rattle.dm_process.specs.declared.process.Status.{Status}
-use Rattle.dm_process.specs.declared.process.Status.TheVariants as status
-use Rattle.dm_onekernel.specs.declared.boot.Boot.{Boot}
-use Rattle.dm_onekernel.specs.Options.{bind}
-use Rattle.dm_onekernel.specs.Kernel.{Life, Alive}
-use Rattle.dm_onekernel.specs.Plain.{plain_process, plain_status}
-use Rattle.dm_onekernel.specs.PlainProcess.{PlainProcess}
+use Rattle.dm_mirror.proofs.Names.{◌≡◌, ℕ, ◌+◌, ◌≤◌, ◌&&◌, not, Bool, true, false, List, [], ◌∷◌, map, refl, ap, ◌∙◌, sym, subst, arith, is_some, ◌≢◌, inl, inr, if◌then◌else◌, option_map, slice_get, Option, None, Some, cases_Bool}
+use Rattle.dm_mirror.proofs.Names.{false≢true, Pid, pid_eq, pid_of, Message, MsgId, IsLawfulProcess, first_on, status_is_runnable, Process, Status, Line, Record, Boot, bind, Life, Alive, plain_process, plain_status, PlainProcess, pid_eq-is}
+use Rattle.dm_mirror.proofs.Names.{pid_eq-same, Point, View, Phase, Rests, knows, is_here, is_away, stands_right, letter_of, InPhases, rests_here, rings, both, Run, queue_drops, Placed, Mirrors, mirrors_view, room_of, IsLawfulState}
+use Rattle.dm_mirror.proofs.Names.{KernelState, turned, of_known, AllOwnStand, MadeStands, AreMessages, KernelStands, RoomStands}
+use Rattle.dm_kernel.specs.declared.part.Part.{Part}
 use Rattle.dm_onekernel.specs.Step as kernel
-use Rattle.dm_laws.proofs.Equal.{pid_eq-is, pid_eq-same}
-use Rattle.dm_line.specs.declared.line.Line.TheVariants as line
-use Rattle.dm_rule.specs.Point.{Point}
 use Rattle.dm_rule.specs.Rule as rule
-use Rattle.dm_rule.specs.View.{View}
 use Rattle.dm_rule.specs.View as view
-use Rattle.dm_rule.specs.Phases.{Phase, Rests, knows, is_here, is_away}
-use Rattle.dm_rule.proofs.Groups.{stands_right}
-use Rattle.dm_rule.proofs.Letters.{letter_of}
-use Rattle.dm_rule.proofs.Phases.Stand.{InPhases}
-use Rattle.dm_rule.proofs.Phases.Rests.{rests_here}
-use Rattle.dm_rulelaws.specs.KnownStands.{rings}
-use Rattle.dm_rulelaws.proofs.Fits.Rises.{both}
-use Rattle.dm_rulelaws.proofs.Runs.{Run}
-use Rattle.dm_rulelaws.proofs.Goes.Turns.{queue_drops}
-use Rattle.dm_places.specs.Placed.{Placed, Mirrors}
-use Rattle.dm_places.proofs.Lines.{mirrors_view}
-use Rattle.dm_records.specs.declared.record.Record.TheVariants as record_
-use Rattle.dm_kernel.specs.declared.part.Part.TheVariants as part
-use Rattle.dm_kernel.specs.Begun.{room_of}
-use Rattle.dm_kernel.specs.Lawful.{IsLawfulState}
 use Rattle.dm_kernel.specs.State as machine
-use Rattle.dm_kernel.specs.State.{KernelState, Turned, turned}
 use Rattle.dm_kernel.specs.Serve as serve
 use Rattle.dm_kernel.specs.Turn as turn
-use Rattle.dm_kernel.proofs.LawfulRows.{of_known}
-use Rattle.dm_mirror.specs.Own.{AllOwnStand}
-use Rattle.dm_mirror.specs.Made.{MadeStands}
-use Rattle.dm_mirror.specs.Stands.{AreMessages, KernelStands, RoomStands}
 use Rattle.dm_mirror.proofs.Turning.{Elsewhere, Row, begun, is_moving}
 use Rattle.dm_mirror.proofs.Rooms.{taken_same}
 use Rattle.dm_mirror.proofs.Kernel.Sets.{IsAway, eq_apart, is_queue_of, elsewhere_of, queue_not_elsewhere, known_at, not_is}
@@ -156,7 +117,7 @@ chosen b m pt l k p h first =
     }
 
 -- it is ready, or waits for a message that is queued
-waits_acts : (b : Boot) (m : ℕ) (pt : Point) (l : Placed) (k : KernelState) (p : Pid) (x : Process) (mask base size : ℕ) (o : Option Message) → Served b m pt l k p x → IsLawfulProcess x → x.status ≡ status.Waiting mask base size → first_on mask x.queue ≡ o → is_some o ≡ true
+waits_acts : (b : Boot) (m : ℕ) (pt : Point) (l : Placed) (k : KernelState) (p : Pid) (x : Process) (mask base size : ℕ) (o : Option Message) → Served b m pt l k p x → IsLawfulProcess x → x.status ≡ Status.Waiting mask base size → first_on mask x.queue ≡ o → is_some o ≡ true
     → Acts b m pt l k p (serve.receives (moved_round k p) p x mask (first_on mask x.queue)) (rule.receives pt.kernel p (plain_process x) (rule.first_awaited pt.kernel mask (pt.view.queue m p)))
 waits_acts b m pt l k p x mask base size None s lawful waits first some = cc
 waits_acts b m pt l k p x mask base size (Some w) s lawful waits first some =
@@ -167,9 +128,9 @@ waits_acts b m pt l k p x mask base size (Some w) s lawful waits first some =
 
 status_acts : (b : Boot) (m : ℕ) (pt : Point) (l : Placed) (k : KernelState) (p : Pid) (x : Process) (st : Status) → Served b m pt l k p x → IsLawfulProcess x → x.status ≡ st → status_is_runnable st x.queue ≡ true
     → Acts b m pt l k p (serve.serves_status b.quantum (moved_round k p) p x st) (rule.serves_status b.quantum pt.kernel p (pt.view.queue m p) (plain_process x) (plain_status st))
-status_acts b m pt l k p x status.Ready s lawful is goes = executes_acts b m pt l k p x b.quantum s is
-status_acts b m pt l k p x (status.Waiting mask base size) s lawful is goes = waits_acts b m pt l k p x mask base size (first_on mask x.queue) s lawful is refl goes
-status_acts b m pt l k p x (status.Moving dir owner base own left pending) s lawful is goes = cc
+status_acts b m pt l k p x Status.Ready s lawful is goes = executes_acts b m pt l k p x b.quantum s is
+status_acts b m pt l k p x (Status.Waiting mask base size) s lawful is goes = waits_acts b m pt l k p x mask base size (first_on mask x.queue) s lawful is refl goes
+status_acts b m pt l k p x (Status.Moving dir owner base own left pending) s lawful is goes = cc
 
 serves_acts : (b : Boot) (m : ℕ) (pt : Point) (l : Placed) (k : KernelState) (p : Pid) → IsLawfulState k → Chosen b m pt l k p → Acts b m (begun pt m) l k p (turn.goes_round b k (Some p)) (rule.goes_round b pt m (Some p))
 serves_acts b m pt l k p lawful c =
@@ -177,7 +138,7 @@ serves_acts b m pt l k p lawful c =
     let s = c.served in
     acts_as b m (begun pt m) l k p (turn.goes_round b k (Some p)) (serve.serves_status b.quantum (moved_round k p) p x x.status) (rule.goes_round b pt m (Some p)) (rule.serves_status b.quantum pt.kernel p (pt.view.queue m p) (plain_process x) (plain_status x.status))
     (ap (serve.serves b.quantum (moved_round k p) p) s.at.record_is) (ap (λ (o : Option Life). bind (kernel.alive o) (λ (z : PlainProcess). rule.serves_status b.quantum pt.kernel p (pt.view.queue m p) z z.status)) s.at.alive)
-    (status_acts b m (begun pt m) l k p x x.status s (of_known k p (Some (record_.Here x)) lawful s.at.record_is) refl c.goes)
+    (status_acts b m (begun pt m) l k p x x.status s (of_known k p (Some (Record.Here x)) lawful s.at.record_is) refl c.goes)
 
 -- what a served process gives is a row, and so is a turn in which the machine idles
 pub record Round (b : Boot) (m : ℕ) (pt : Point) (l : Placed) (k : KernelState) (o : Option Pid) : Type 0 where
@@ -189,9 +150,9 @@ pub record Round (b : Boot) (m : ℕ) (pt : Point) (l : Placed) (k : KernelState
 abbrev idle_acts : (b : Boot) (m : ℕ) (pt : Point) (l : Placed) (k : KernelState) (p : Pid) → Mirrors pt.kernel pt.view pt.addresses l → KernelStands b pt l m k → Acts b m (begun pt m) l k p (turn.goes_round b k None) (rule.goes_round b pt m None)
 idle_acts b m pt l k p mirrors stands = record {
   state = k;
-  says = line.Idle m ∷ [];
+  says = Line.Idle m ∷ [];
   route = None;
-  turn = ap (λ (n : ℕ). turned k (part.Says (line.Idle n) ∷ [])) stands.here;
+  turn = ap (λ (n : ℕ). turned k (Part.Says (Line.Idle n) ∷ [])) stands.here;
   outcome = refl;
   next = begun pt m;
   after = refl;

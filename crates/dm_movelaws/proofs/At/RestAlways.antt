@@ -1,54 +1,12 @@
 -- Where nothing is on its way between machines all is at rest.
-use Rattle.std.proofs.Common.{◌≡◌, ◌≢◌, ℕ, ◌+◌, ◌<◌, ◌≤◌, ◌==◌, ◌||◌, Bool, true, false, is_some, List, [], ◌∷◌, drop, refl, ap, ◌∙◌, sym, subst, inl, inr, nat_lt, nat_le, arith}
-use Rattle.std.specs.Prelude.{if◌then◌else◌}
-use Rattle.std.proofs.Math.Seq.{drop-length, drop-nil}
-use Rattle.std.proofs.lemmas.Bool.{cases_Bool, false≢true}
-use Rattle.std.proofs.lemmas.Bool.Decides.{nat_tests}
-use Rattle.std.specs.declared.option.Option.{Option}
-use Rattle.std.specs.declared.option.Option.TheVariants.{None, Some}
-use Rattle.dm_link.specs.declared.Pid.{Pid}
-use Rattle.dm_link.specs.Names.{pid_eq}
-use Rattle.dm_message.specs.declared.MsgId.{MsgId}
-use Rattle.dm_message.specs.declared.kind.MessageKind.{MessageKind}
-use Rattle.dm_message.specs.declared.kind.MessageKind.TheVariants as kind
-use Rattle.dm_message.specs.Kinds.{plain_kind}
-use Rattle.dm_message.specs.Plain as what
-use Rattle.dm_message.specs.Plain.{PlainMessage, PlainWhat}
-use Rattle.dm_onekernel.specs.declared.boot.Boot.{Boot}
-use Rattle.dm_onekernel.specs.Boot.{manager}
-use Rattle.dm_onekernel.specs.Kernel.{Alive}
-use Rattle.dm_onekernel.specs.PlainProcess.{PlainProcess}
-use Rattle.dm_laws.proofs.Equal.{id_eq-same}
-use Rattle.dm_laws.proofs.Sound.{not_server}
-use Rattle.dm_rule.specs.Addresses.{Receiver}
-use Rattle.dm_rule.specs.Homes.{to_of}
+use Rattle.dm_movelaws.proofs.Names.{◌≡◌, ◌≢◌, ℕ, ◌+◌, ◌<◌, ◌≤◌, ◌==◌, ◌||◌, Bool, true, false, is_some, List, [], ◌∷◌, drop, refl, ap, ◌∙◌, sym, subst, inl, inr, nat_lt, nat_le, arith, if◌then◌else◌, drop-length, drop-nil, cases_Bool}
+use Rattle.dm_movelaws.proofs.Names.{false≢true, nat_tests, Option, None, Some, Pid, pid_eq, MsgId, MessageKind, PlainMessage, Boot, manager, Alive, PlainProcess, id_eq-same, not_server, Receiver, to_of, Phase, Nowhere, Rests, Over, Moves}
+use Rattle.dm_movelaws.proofs.Names.{is_unknown, is_here, is_over, is_away, is_due, IsToken, IsIn, Point, IsQuiet, Spot, Queue, Held, Inbox, Untaken, times, untaken, standing, View, Known, Unknown, Here, Frozen, Incoming, Ended, is_kernels}
+use Rattle.dm_movelaws.proofs.Names.{stands_right, kernels_fresh, phases_always, AtRestAlways, IsAt, IsWaiting, is_moving, is_server, has_no_queue, has_nothing_held, agrees, Run, run_always, told_of, eq_self, own_by, user_kind}
 use Rattle.dm_rule.specs.Phases as phases
-use Rattle.dm_rule.specs.Phases.{Phase, Nowhere, Rests, Over, Moves, knows, is_unknown, is_here, is_over, is_away, is_due, HasToken, IsToken, IsIn}
-use Rattle.dm_rule.specs.Point.{Point}
-use Rattle.dm_rule.specs.Quiet.{IsQuiet}
-use Rattle.dm_rule.specs.Spots.{Spot, Queue, Held, Inbox, Untaken, times, untaken, standing, StandsOutside}
-use Rattle.dm_rule.specs.View.{View, Told, Known, Unknown, Here, Frozen, Incoming, Forward, Ended, is_kernels}
-use Rattle.dm_rule.proofs.Groups.{stands_right}
-use Rattle.dm_rule.proofs.Letters.{kernels_fresh}
-use Rattle.dm_rule.proofs.Phases.Always.{phases_always}
-use Rattle.dm_movelaws.specs.AtRest.{AtRestAlways, IsAt, IsWaiting, is_moving}
-use Rattle.dm_rulelaws.specs.Fits.{is_server}
-use Rattle.dm_rulelaws.specs.Found.{machine_of, has_no_queue, has_nothing_held}
-use Rattle.dm_rulelaws.specs.KnownStands.{agrees}
+use Rattle.dm_rulelaws.specs.Found.{machine_of}
 use Rattle.dm_movelaws.proofs.At.RestPairs.{Routed, routed_always}
 use Rattle.dm_movelaws.proofs.At.RestQueues.{Dropped, dropped_always}
-use Rattle.dm_rulelaws.proofs.Queued.{is_user}
-use Rattle.dm_rulelaws.proofs.Runs.{Run}
-use Rattle.dm_rulelaws.proofs.RunsAlways.{run_always}
-
--- what stands somewhere stands on its way to a machine that there is
-own_by : (c : Bool) (f : Spot → ℕ) (z : Spot) → 1 ≤ f z → StandsOutside c f → c ≡ true
-own_by true f z least h = refl
-own_by false f z least h = absurd (let e : f z ≡ 0 = h z in omega (arith, least, e))
-
-told_of : (o : Option Told) → is_some o ≡ true → (t : Told) × (o ≡ Some t)
-told_of None e = cc
-told_of (Some t) e = (t, refl)
 
 within_by : (b : Boot) (pt : Point) (i : MsgId) (z : Spot) (o : Option PlainMessage) → pt.kernel.bag i ≡ o → Run b pt → 1 ≤ standing pt.view i z → (pt.addresses (Receiver i)).at < pt.kernel.machines
 within_by b pt i z (Some x) there h least = h.found.within (Receiver i) x.to (ap to_of there)
@@ -92,36 +50,24 @@ calm b pt h routed quiet = record {
 
 -- so no process moves
 unknown_still : (k : Known) → is_unknown k ≡ true → is_moving k ≡ false
-unknown_still Unknown e = refl
-unknown_still Here e = refl
 unknown_still (Frozen to) e = absurd (false≢true e)
 unknown_still (Incoming from) e = absurd (false≢true e)
-unknown_still (Forward to moves) e = refl
-unknown_still Ended e = refl
+unknown_still _ e = refl
 
 here_still : (k : Known) → is_here k ≡ true → is_moving k ≡ false
-here_still Unknown e = refl
-here_still Here e = refl
 here_still (Frozen to) e = absurd (false≢true e)
 here_still (Incoming from) e = absurd (false≢true e)
-here_still (Forward to moves) e = refl
-here_still Ended e = refl
+here_still _ e = refl
 
 over_still : (k : Known) → is_over k ≡ true → is_moving k ≡ false
-over_still Unknown e = refl
-over_still Here e = refl
 over_still (Frozen to) e = absurd (false≢true e)
 over_still (Incoming from) e = absurd (false≢true e)
-over_still (Forward to moves) e = refl
-over_still Ended e = refl
+over_still _ e = refl
 
 away_still : (k : Known) → is_away k ≡ true → is_moving k ≡ false
-away_still Unknown e = refl
-away_still Here e = refl
 away_still (Frozen to) e = absurd (false≢true e)
 away_still (Incoming from) e = absurd (false≢true e)
-away_still (Forward to moves) e = refl
-away_still Ended e = refl
+away_still _ e = refl
 
 rests_still : (c : Bool) (k : Known) → (if c then is_here k else is_away k) ≡ true → is_moving k ≡ false
 rests_still true k e = here_still k e
@@ -148,37 +94,16 @@ phase_still v p (Moves k s d (Some id)) m h is due =
     absurd (no_token v p k s d id h is.token)
 
 still_held : (k : Known) → is_moving k ≡ false → has_nothing_held k ≡ true
-still_held Unknown e = refl
-still_held Here e = refl
 still_held (Frozen to) e = sym e
 still_held (Incoming from) e = sym e
-still_held (Forward to moves) e = refl
-still_held Ended e = refl
+still_held _ e = refl
 
 -- a queue is where a process is
 still_queue : (k : Known) → is_moving k ≡ false → has_no_queue k ≡ false → (k ≡ Ended → ⊥) → k ≡ Here
-still_queue Unknown e f lives = absurd (false≢true (sym f))
 still_queue Here e f lives = refl
 still_queue (Frozen to) e f lives = absurd (false≢true (sym e))
-still_queue (Incoming from) e f lives = absurd (false≢true (sym f))
-still_queue (Forward to moves) e f lives = absurd (false≢true (sym f))
 still_queue Ended e f lives = absurd (lives refl)
-
-user_kind : (w : PlainWhat) → is_user w ≡ true → plain_kind w ≡ kind.User
-user_kind (what.User x1 x2 x3 x4) e = refl
-user_kind what.Stop e = absurd (false≢true e)
-user_kind what.Resume e = absurd (false≢true e)
-user_kind what.Kill e = absurd (false≢true e)
-user_kind (what.Read x1 x2) e = absurd (false≢true e)
-user_kind (what.Write x1 x2) e = absurd (false≢true e)
-user_kind (what.Block x1) e = absurd (false≢true e)
-user_kind what.Written e = absurd (false≢true e)
-user_kind what.Gone e = absurd (false≢true e)
-user_kind (what.Create x1 x2) e = absurd (false≢true e)
-user_kind (what.Created x1) e = absurd (false≢true e)
-user_kind what.NoRoom e = absurd (false≢true e)
-user_kind (what.Move x1) e = absurd (false≢true e)
-user_kind (what.Moved x1) e = absurd (false≢true e)
+still_queue _ e f lives = absurd (false≢true (sym f))
 
 -- all that stands stands in a queue
 pub record Rest (pt : Point) : Type 0 where
@@ -232,40 +157,25 @@ own_nowhere b pt i (Untaken c d) h rest own = ap (times i) (rest.calm.untaken c 
 
 -- where a living process is
 is_here_is : (k : Known) → is_here k ≡ true → k ≡ Here
-is_here_is Unknown e = absurd (false≢true e)
 is_here_is Here e = refl
-is_here_is (Frozen to) e = absurd (false≢true e)
-is_here_is (Incoming from) e = absurd (false≢true e)
-is_here_is (Forward to moves) e = absurd (false≢true e)
-is_here_is Ended e = absurd (false≢true e)
+is_here_is _ e = absurd (false≢true e)
 
 is_unknown_is : (k : Known) → is_unknown k ≡ true → k ≡ Unknown
 is_unknown_is Unknown e = refl
-is_unknown_is Here e = absurd (false≢true e)
-is_unknown_is (Frozen to) e = absurd (false≢true e)
-is_unknown_is (Incoming from) e = absurd (false≢true e)
-is_unknown_is (Forward to moves) e = absurd (false≢true e)
-is_unknown_is Ended e = absurd (false≢true e)
+is_unknown_is _ e = absurd (false≢true e)
 
 over_dead : (k : Known) (x : PlainProcess) → is_over k ≡ true → agrees k (Some (Alive x)) ≡ true → ⊥
-over_dead Unknown x e f = absurd (false≢true e)
-over_dead Here x e f = absurd (false≢true e)
-over_dead (Frozen to) x e f = absurd (false≢true e)
-over_dead (Incoming from) x e f = absurd (false≢true e)
-over_dead (Forward to moves) x e f = absurd (false≢true e)
 over_dead Ended x e f = absurd (false≢true f)
-
-self : (n : ℕ) → (n == n) ≡ true
-self n = grind (arith, nat_tests)
+over_dead _ x e f = absurd (false≢true e)
 
 phase_at : (v : View) (p : Pid) (x : PlainProcess) (phase : Phase) → Calm v → v.known p.home p ≢ Unknown → ((m : ℕ) → agrees (v.known m p) (Some (Alive x)) ≡ true) → IsIn v p phase → is_due phase ≡ false → IsAt v p
 phase_at v p x Nowhere h home alive is due = absurd (home (is_unknown_is (v.known p.home p) (is.known p.home)))
 phase_at v p x (Rests n) h home alive is due = record {
   machine = n;
-  here = is_here_is (v.known n p) (sym (ap (λ (c : Bool). if c then is_here (v.known n p) else is_away (v.known n p)) (self n)) ∙ is.known n);
+  here = is_here_is (v.known n p) (sym (ap (λ (c : Bool). if c then is_here (v.known n p) else is_away (v.known n p)) (eq_self n)) ∙ is.known n);
   away = λ m off. sym (ap (λ (c : Bool). if c then is_here (v.known m p) else is_away (v.known m p)) off) ∙ is.known m;
 }
-phase_at v p x (Over n) h home alive is due = absurd (over_dead (v.known n p) x (sym (ap (λ (c : Bool). if c then is_over (v.known n p) else is_away (v.known n p)) (self n)) ∙ is.known n) (alive n))
+phase_at v p x (Over n) h home alive is due = absurd (over_dead (v.known n p) x (sym (ap (λ (c : Bool). if c then is_over (v.known n p) else is_away (v.known n p)) (eq_self n)) ∙ is.known n) (alive n))
 phase_at v p x (Moves k s d None) h home alive is due = absurd (false≢true (sym due))
 phase_at v p x (Moves k s d (Some id)) h home alive is due = absurd (no_token v p k s d id h is.token)
 

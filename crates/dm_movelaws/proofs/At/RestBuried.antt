@@ -1,37 +1,10 @@
 -- Where a process has ended nothing comes to its queue: each group keeps it.
-use Rattle.std.proofs.Common.{◌≡◌, ℕ, ◌+◌, ◌==◌, Bool, true, false, List, [], ◌∷◌, ◌++◌, refl, ap, ◌∙◌, sym, subst, inl, inr}
-use Rattle.std.specs.Prelude.{if◌then◌else◌}
-use Rattle.std.proofs.lemmas.Bool.{cases_Bool, false≢true}
-use Rattle.std.specs.declared.option.Option.{Option}
-use Rattle.std.specs.declared.option.Option.TheVariants.{None, Some}
-use Rattle.dm_link.specs.declared.Pid.{Pid}
-use Rattle.dm_message.specs.declared.MsgId.{MsgId}
-use Rattle.dm_onekernel.specs.declared.boot.Boot.{Boot}
-use Rattle.dm_onekernel.specs.declared.label.Label.{Label}
-use Rattle.dm_onekernel.specs.declared.label.Label.TheVariants as label
-use Rattle.dm_onekernel.specs.PlainProcess.{PlainProcess}
-use Rattle.dm_onekernel.specs.Kernel.{Life, Alive, OneKernel}
-use Rattle.dm_onekernel.specs.Kernel as kernels
+use Rattle.dm_movelaws.proofs.Names.{◌≡◌, ℕ, ◌+◌, ◌==◌, Bool, true, false, List, [], ◌∷◌, ◌++◌, refl, ap, ◌∙◌, sym, subst, inl, inr, if◌then◌else◌, cases_Bool, false≢true, Option, None, Some, Pid, MsgId, Boot, Label, Line, Stage}
+use Rattle.dm_movelaws.proofs.Names.{PlainProcess, Life, Alive, OneKernel, Step, LifeGrows, after_step, Spelled, is_away, Point, kernel_after, label_of, group_of, at_record, without_id, without_front, View, Told, Known, Unknown, Here}
+use Rattle.dm_movelaws.proofs.Names.{Frozen, Incoming, Ended, handled, receiver_of, served_told, view_after, target_of, front_told, front_of, gone_to, Phased, Sane, is_server, KnownStands, agrees, group_keeps, Loud, keeps_by, set_all}
+use Rattle.dm_movelaws.proofs.Names.{killed_or}
 use Rattle.dm_onekernel.specs.Step as kernel
-use Rattle.dm_schedule.specs.declared.Step.{Step}
-use Rattle.dm_laws.proofs.Grown.{LifeGrows}
-use Rattle.dm_laws.proofs.Runs.{after_step}
-use Rattle.dm_line.specs.declared.line.Line.TheVariants as line
-use Rattle.dm_line.specs.declared.line.Stage.TheVariants as stage
-use Rattle.dm_rule.specs.Parts.{Spelled}
-use Rattle.dm_rule.specs.Phases.{is_away}
-use Rattle.dm_rule.specs.Point.{Point, kernel_after, label_of}
-use Rattle.dm_rule.specs.Rule.{group_of}
-use Rattle.dm_line.specs.Sets.{at_record, without_id, without_front}
-use Rattle.dm_rule.specs.View.{View, Told, Known, Unknown, Here, Frozen, Incoming, Forward, Ended, handled, receiver_of, served_told, view_after, target_of, front_told, front_of, gone_to}
 use Rattle.dm_rule.specs.View as view
-use Rattle.dm_rule.proofs.Phases.Always.{Phased}
-use Rattle.dm_rule.proofs.Telling.{Sane}
-use Rattle.dm_rulelaws.specs.Fits.{is_server}
-use Rattle.dm_rulelaws.specs.KnownStands.{KnownStands, agrees}
-use Rattle.dm_rulelaws.proofs.Based.Groups.{group_keeps}
-use Rattle.dm_rulelaws.proofs.Based.Loud.{Loud, keeps_by}
-use Rattle.dm_rulelaws.proofs.Based.Sets.{set_all, killed_or}
 
 abbrev pub Knows : Type 0
 Knows = ℕ → Pid → Known
@@ -39,7 +12,7 @@ Knows = ℕ → Pid → Known
 abbrev pub is_dead : Option Life → Bool
 is_dead None = false
 is_dead (Some (Alive x)) = false
-is_dead (Some (kernels.Ended y)) = true
+is_dead (Some (Life.Ended y)) = true
 
 -- what had ended before has ended, and has no queue
 pub record Buried (before : Knows) (s : OneKernel) (v : View) : Type 0 where
@@ -51,7 +24,7 @@ pub record Buried (before : Knows) (s : OneKernel) (v : View) : Type 0 where
 dead_grows : (a b : Option Life) → LifeGrows a b → is_dead a ≡ true → is_dead b ≡ true
 dead_grows None b h e = absurd (false≢true e)
 dead_grows (Some (Alive x)) b h e = absurd (false≢true e)
-dead_grows (Some (kernels.Ended y)) b h e = ap is_dead h
+dead_grows (Some (Life.Ended y)) b h e = ap is_dead h
 
 abbrev Dies : OneKernel → OneKernel → Type 0
 Dies s t = (q : Pid) → is_dead (s.processes q) ≡ true → is_dead (t.processes q) ≡ true
@@ -130,29 +103,29 @@ loud before = record {
     packet = λ pt a b k l h. record { known = h.known; queue = h.queue; dead = h.dead };
   };
   quiet = λ pt w t l e s told alike sane is h. subst (Buried before t) (sym e) (as_ before pt.kernel t pt.view w (dies_by pt t (label_of l) sane is) s.known s.queue h);
-  ran = λ pt t p k here alike sane is h. as_ before pt.kernel t pt.view (view_after pt.view (line.Label (label.Ran p k))) (dies_label pt t (label.Ran p k) sane is) refl refl h;
+  ran = λ pt t p k here alike sane is h. as_ before pt.kernel t pt.view (view_after pt.view (Line.Label (Label.Ran p k))) (dies_label pt t (Label.Ran p k) sane is) refl refl h;
   receive = λ pt t p id here alike sane is h.
-      queues before pt.kernel t pt.view (view_after pt.view (line.Label (label.Receive p id))) p (without_id id (pt.view.queue pt.view.acting p)) (dies_label pt t (label.Receive p id) sane is) refl refl (λ e. ap (without_id id) (h.queue pt.view.acting p e)) h;
-  refuse = λ pt t p id c here alike sane is h. as_ before pt.kernel t pt.view (view_after pt.view (line.Label (label.Refuse p id c))) (dies_label pt t (label.Refuse p id c) sane is) refl refl h;
-  end = λ pt t p y rests sane is h. learns before pt.kernel t pt.view (view_after pt.view (line.Label (label.End p y))) p Ended (dies_label pt t (label.End p y) sane is) refl refl (λ e. refl) h;
-  dropped = λ pt t id alike sane is h. dropped before pt.kernel t pt.view id (receiver_of (pt.view.told id)) (dies_label pt t (label.Dropped id) sane is) h;
-  served = λ pt t id serves sane is h. served before pt.kernel t pt.view id (pt.view.told id) (dies_label pt t (label.Served id) sane is) h;
+      queues before pt.kernel t pt.view (view_after pt.view (Line.Label (Label.Receive p id))) p (without_id id (pt.view.queue pt.view.acting p)) (dies_label pt t (Label.Receive p id) sane is) refl refl (λ e. ap (without_id id) (h.queue pt.view.acting p e)) h;
+  refuse = λ pt t p id c here alike sane is h. as_ before pt.kernel t pt.view (view_after pt.view (Line.Label (Label.Refuse p id c))) (dies_label pt t (Label.Refuse p id c) sane is) refl refl h;
+  end = λ pt t p y rests sane is h. learns before pt.kernel t pt.view (view_after pt.view (Line.Label (Label.End p y))) p Ended (dies_label pt t (Label.End p y) sane is) refl refl (λ e. refl) h;
+  dropped = λ pt t id alike sane is h. dropped before pt.kernel t pt.view id (receiver_of (pt.view.told id)) (dies_label pt t (Label.Dropped id) sane is) h;
+  served = λ pt t id serves sane is h. served before pt.kernel t pt.view id (pt.view.told id) (dies_label pt t (Label.Served id) sane is) h;
   created = λ pt t id p unborn sane is h.
-      learns before pt.kernel t pt.view (view_after pt.view (line.Label (label.Created id p))) p Here (dies_label pt t (label.Created id p) sane is) refl refl (λ e. absurd (not_ended before pt.kernel pt.view p Unknown h (unborn.unknown pt.view.acting) unknown_off e)) h;
+      learns before pt.kernel t pt.view (view_after pt.view (Line.Label (Label.Created id p))) p Here (dies_label pt t (Label.Created id p) sane is) refl refl (λ e. absurd (not_ended before pt.kernel pt.view p Unknown h (unborn.unknown pt.view.acting) unknown_off e)) h;
   queued = λ pt id need sane h. queued before pt.kernel pt.view id (pt.view.told id) (λ t e. (need t e).here) h;
   held = λ pt id need sane h. held before pt.kernel pt.view id (pt.view.told id) h;
   frozen = λ pt p lives here h.
-      learns before pt.kernel pt.kernel pt.view (view.after_stage pt.view p stage.Frozen) p (Frozen (target_of (front_told pt.view (pt.view.inbox pt.view.acting)))) (same pt.kernel) refl refl (λ e. absurd (not_ended before pt.kernel pt.view p Here h here here_off e)) h;
+      learns before pt.kernel pt.kernel pt.view (view.after_stage pt.view p Stage.Frozen) p (Frozen (target_of (front_told pt.view (pt.view.inbox pt.view.acting)))) (same pt.kernel) refl refl (λ e. absurd (not_ended before pt.kernel pt.view p Here h here here_off e)) h;
   accepted = λ pt p lives away h.
-      learns before pt.kernel pt.kernel pt.view (view.after_stage pt.view p stage.Accepted) p (Incoming (front_of (pt.view.inbox pt.view.acting))) (same pt.kernel) refl refl
+      learns before pt.kernel pt.kernel pt.view (view.after_stage pt.view p Stage.Accepted) p (Incoming (front_of (pt.view.inbox pt.view.acting))) (same pt.kernel) refl refl
       (λ e. absurd (false≢true (sym (ap is_away (h.known pt.view.acting p e)) ∙ away))) h;
   left = λ pt p leaves h.
-      learns before pt.kernel pt.kernel pt.view (view.after_stage pt.view p stage.Left) p (gone_to (pt.view.known pt.view.acting p) (pt.view.moves p + 1)) (same pt.kernel) refl refl
+      learns before pt.kernel pt.kernel pt.view (view.after_stage pt.view p Stage.Left) p (gone_to (pt.view.known pt.view.acting p) (pt.view.moves p + 1)) (same pt.kernel) refl refl
       (λ e. absurd (not_ended before pt.kernel pt.view p (Frozen leaves.to) h leaves.frozen (frozen_off leaves.to) e)) h;
   restarted = λ pt p lives off h.
-      learns before pt.kernel pt.kernel pt.view (view.after_stage pt.view p stage.Restarted) p Here (same pt.kernel) refl refl (λ e. absurd (lives_off before pt.kernel pt.view p lives.process h lives.alive e)) h;
-  stays_ = λ pt p lives off h. learns before pt.kernel pt.kernel pt.view (view_after pt.view (line.Stays p)) p Here (same pt.kernel) refl refl (λ e. absurd (lives_off before pt.kernel pt.view p lives.process h lives.alive e)) h;
-  sent_on = λ pt p n h. queues before pt.kernel pt.kernel pt.view (view_after pt.view (line.SentOn p n)) p [] (same pt.kernel) refl refl (λ e. refl) h;
+      learns before pt.kernel pt.kernel pt.view (view.after_stage pt.view p Stage.Restarted) p Here (same pt.kernel) refl refl (λ e. absurd (lives_off before pt.kernel pt.view p lives.process h lives.alive e)) h;
+  stays_ = λ pt p lives off h. learns before pt.kernel pt.kernel pt.view (view_after pt.view (Line.Stays p)) p Here (same pt.kernel) refl refl (λ e. absurd (lives_off before pt.kernel pt.view p lives.process h lives.alive e)) h;
+  sent_on = λ pt p n h. queues before pt.kernel pt.kernel pt.view (view_after pt.view (Line.SentOn p n)) p [] (same pt.kernel) refl refl (λ e. refl) h;
 }
 
 -- where a group begins
@@ -163,7 +136,7 @@ server_lives m false e = unknown_off e
 agrees_dead : (o : Option Life) → agrees Ended o ≡ true → is_dead o ≡ true
 agrees_dead None e = e
 agrees_dead (Some (Alive x)) e = e
-agrees_dead (Some (kernels.Ended y)) e = e
+agrees_dead (Some (Life.Ended y)) e = e
 
 pub dead_by : (s : OneKernel) (v : View) (n : ℕ) (q : Pid) → KnownStands s v → v.known n q ≡ Ended → is_dead (s.processes q) ≡ true
 dead_by s v n q h e = elim (cases_Bool (is_server q)) [

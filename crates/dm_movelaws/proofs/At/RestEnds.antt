@@ -1,59 +1,27 @@
 -- What ends a process in a turn is followed by its queue.
-use Rattle.std.proofs.Common.{◌≡◌, ℕ, ◌+◌, ◌/◌, ◌==◌, Bool, true, false, List, [], ◌∷◌, ◌++◌, length, refl, ap, ◌∙◌, sym}
-use Rattle.std.specs.Prelude.{⊤, if◌then◌else◌, slice_get}
-use Rattle.std.proofs.lemmas.Bool.{false≢true}
-use Rattle.std.specs.declared.option.Option.{Option}
-use Rattle.std.specs.declared.option.Option.TheVariants.{None, Some}
-use Rattle.dm_link.specs.declared.Pid.{Pid}
-use Rattle.dm_link.specs.Names.{pid_of, pid_eq}
-use Rattle.dm_message.specs.declared.MsgId.{MsgId}
-use Rattle.dm_message.specs.declared.kind.MessageKind.{MessageKind}
-use Rattle.dm_message.specs.declared.kind.MessageKind.TheVariants as kind
-use Rattle.dm_message.specs.Kinds.{plain_kind}
-use Rattle.dm_message.specs.Plain as what
-use Rattle.dm_message.specs.Plain.{PlainMessage, PlainWhat}
-use Rattle.dm_onekernel.specs.declared.boot.BootImage.{BootImage}
-use Rattle.dm_onekernel.specs.declared.boot.Boot.{Boot}
-use Rattle.dm_onekernel.specs.declared.label.Label.{Label}
-use Rattle.dm_onekernel.specs.declared.label.Label.TheVariants as label
-use Rattle.dm_onekernel.specs.Boot.{first_number, switchboard, manager}
-use Rattle.dm_onekernel.specs.Options.{bind}
-use Rattle.dm_onekernel.specs.PlainProcess.{PlainProcess, PlainStatus, Ready, Waiting, Moving}
-use Rattle.dm_onekernel.specs.Kernel.{OneKernel}
+use Rattle.dm_movelaws.proofs.Names.{◌≡◌, ℕ, ◌+◌, ◌/◌, ◌==◌, Bool, true, false, List, [], ◌∷◌, ◌++◌, length, refl, ap, ◌∙◌, sym, ⊤, if◌then◌else◌, slice_get, false≢true, Option, None, Some, Pid, pid_of, pid_eq, MsgId, MessageKind, Stage}
+use Rattle.dm_movelaws.proofs.Names.{plain_kind, PlainMessage, PlainWhat, BootImage, Boot, Label, first_number, switchboard, manager, bind, PlainProcess, PlainStatus, Ready, Waiting, Moving, OneKernel, machine_of, with_machine, instruction}
+use Rattle.dm_movelaws.proofs.Names.{Line, Addresses, Sender, is_told_back, forwards_on, sends_on, kernel_told, leaves, accepts, takes_chunk, takes_block, here_told, ended_told, process_told, server_told, Part, Says, Routes, Again, Owns}
+use Rattle.dm_movelaws.proofs.Names.{Transmits, Point, Told, About, Of, Known, Unknown, Here, Frozen, Forward, Ended, is_kill, Sane}
 use Rattle.dm_onekernel.specs.Calls as calls
 use Rattle.dm_onekernel.specs.Pieces as pieces
-use Rattle.dm_onekernel.specs.Step.{machine_of, with_machine}
-use Rattle.dm_processor.specs.Instructions.{instruction}
 use Rattle.dm_onekernel.specs.Receiving as receiving
 use Rattle.dm_onekernel.specs.Switchboard as board
 use Rattle.dm_onekernel.specs.Manager as manage
 use Rattle.dm_onekernel.specs.Step as kernel
-use Rattle.dm_line.specs.declared.line.Line.{Line}
-use Rattle.dm_line.specs.declared.line.Line.TheVariants as line
-use Rattle.dm_line.specs.declared.line.Stage.TheVariants as stage
-use Rattle.dm_rule.specs.Addresses.{Addresses, Sender, is_told_back}
 use Rattle.dm_rule.specs.Migrating as migrating
-use Rattle.dm_rule.specs.Migrating.{forwards_on, sends_on, kernel_told, leaves, moves_to, accepts, takes_chunk, takes_block, here_told, ended_told, process_told, server_told, migrates, migrates_child}
-use Rattle.dm_rule.specs.Parts.{Part, Says, Routes, Again, Owns, Transmits}
-use Rattle.dm_rule.specs.Point.{Point}
 use Rattle.dm_rule.specs.Rule as rule
-use Rattle.dm_rule.specs.View.{Pair, Sent, Told, About, NothingElse, Target, Of, Known, Unknown, Here, Frozen, Incoming, Forward, Ended}
 use Rattle.dm_rule.specs.View as view
-use Rattle.dm_rule.proofs.Phases.Quiet.{is_kill}
-use Rattle.dm_rule.proofs.Telling.{Sane}
 
 -- no process ends by such a line
 abbrev pub is_ending : Line → Bool
-is_ending (line.Label (label.End p y)) = true
-is_ending (line.Label (label.Served id)) = true
+is_ending (Line.Label (Label.End p y)) = true
+is_ending (Line.Label (Label.Served id)) = true
 is_ending l = false
 
 abbrev pub PartStays : Part → Type 0
 PartStays (Says l) = is_ending l ≡ false
-PartStays (Routes i) = ⊤
-PartStays (Again i b) = ⊤
-PartStays (Owns k q b) = ⊤
-PartStays (Transmits a b l) = ⊤
+PartStays _ = ⊤
 
 abbrev pub AllStay : List Part → Type 0
 AllStay [] = ⊤
@@ -61,8 +29,8 @@ AllStay (p ∷ ps) = PartStays p × AllStay ps
 
 -- a process may run first; where it ends, or a message kills its receiver, just its queue is dropped behind
 abbrev pub LineEnds : Point → ℕ → Line → List Part → Type 0
-LineEnds o a (line.Label (label.End p y)) ps = ps ≡ rule.drops (o.view.queue a p)
-LineEnds o a (line.Label (label.Served id)) ps = ((t : Told) → o.view.told id ≡ Some t → is_kill t.kind ≡ true → ps ≡ rule.drops (o.view.queue a t.receiver)) × (((t : Told) → o.view.told id ≡ Some t → is_kill t.kind ≡ false) → AllStay ps)
+LineEnds o a (Line.Label (Label.End p y)) ps = ps ≡ rule.drops (o.view.queue a p)
+LineEnds o a (Line.Label (Label.Served id)) ps = ((t : Told) → o.view.told id ≡ Some t → is_kill t.kind ≡ true → ps ≡ rule.drops (o.view.queue a t.receiver)) × (((t : Told) → o.view.told id ≡ Some t → is_kill t.kind ≡ false) → AllStay ps)
 LineEnds o a l ps = AllStay ps
 
 abbrev pub LastEnds : Point → ℕ → List Part → Type 0
@@ -76,7 +44,7 @@ LastEnds o a (Transmits x y l ∷ ps) = AllStay ps
 -- or a process runs, and then it is so
 pub data Ends (o : Point) (a : ℕ) (ps : List Part) : Type 0 where
   Once : LastEnds o a ps → Ends o a ps
-  Runs : (p : Pid) → (k : ℕ) → (rest : List Part) → ps ≡ rule.says (label.Ran p k) ∷ rest → LastEnds o a rest → Ends o a ps
+  Runs : (p : Pid) → (k : ℕ) → (rest : List Part) → ps ≡ rule.says (Label.Ran p k) ∷ rest → LastEnds o a rest → Ends o a ps
 
 abbrev pub EndsOf : Point → ℕ → Option (List Part) → Type 0
 EndsOf o a None = ⊤
@@ -96,11 +64,9 @@ stay_if false ps h = tt
 
 -- a process is served
 called_ends : (o : Point) (a : ℕ) (p : Pid) (n : ℕ) (c : calls.Called) → LastEnds o a (rule.called p n (o.view.queue a p) c)
-called_ends o a p n (calls.Replies reply x) = tt
 called_ends o a p n (calls.Sends m x) = (tt, tt)
-called_ends o a p n (calls.Waits x) = tt
-called_ends o a p n (calls.Outputs word x) = tt
 called_ends o a p n (calls.Ends because) = refl
+called_ends o a p n _ = tt
 
 stops_ends : (o : Point) (a : ℕ) (p : Pid) (next : Option kernel.Next) → LastEnds o a (rule.stops p (o.view.queue a p) next)
 stops_ends o a p None = tt
@@ -138,13 +104,13 @@ round_ends b o m (Some p) =
     (λ x is. serves_ends o m b.quantum p x x.status)
 
 -- a message of the bag
-no_kill : (o : Point) (a : ℕ) (id : MsgId) (msg : PlainMessage) (ps : List Part) → Sane o → o.kernel.bag id ≡ Some msg → is_kill (plain_kind msg.what) ≡ false → AllStay ps → LineEnds o a (line.Label (label.Served id)) ps
+no_kill : (o : Point) (a : ℕ) (id : MsgId) (msg : PlainMessage) (ps : List Part) → Sane o → o.kernel.bag id ≡ Some msg → is_kill (plain_kind msg.what) ≡ false → AllStay ps → LineEnds o a (Line.Label (Label.Served id)) ps
 no_kill o a id msg ps sane there off stays = (
   λ t told kills. absurd (false≢true (sym off ∙ sym (ap is_kill (sane.tells.kind id msg t there told)) ∙ kills)),
   λ none. stays,
 )
 
-kill_ends : (o : Point) (a : ℕ) (id : MsgId) (msg : PlainMessage) → Sane o → o.kernel.bag id ≡ Some msg → is_kill (plain_kind msg.what) ≡ true → (t : Told) → o.view.told id ≡ Some t → LineEnds o a (line.Label (label.Served id)) (rule.drops (o.view.queue a msg.to))
+kill_ends : (o : Point) (a : ℕ) (id : MsgId) (msg : PlainMessage) → Sane o → o.kernel.bag id ≡ Some msg → is_kill (plain_kind msg.what) ≡ true → (t : Told) → o.view.told id ≡ Some t → LineEnds o a (Line.Label (Label.Served id)) (rule.drops (o.view.queue a msg.to))
 kill_ends o a id msg sane there on t told = (
   λ u is kills. ap (λ (q : Pid). rule.drops (o.view.queue a q)) (sym (sane.tells.receiver id msg u there is)),
   λ none. absurd (false≢true (sym (none t told) ∙ ap is_kill (sane.tells.kind id msg t there told) ∙ on)),
@@ -156,47 +122,36 @@ lands_ends o a id msg (Some (pieces.Next request x)) sane there off = Once (no_k
 lands_ends o a id msg (Some (pieces.Done reply x)) sane there off = Once (no_kill o a id msg [] sane there off tt)
 
 here_ends : (o : Point) (m : ℕ) (id : MsgId) (msg : PlainMessage) (x : PlainProcess) (k : PlainWhat) → Sane o → o.kernel.bag id ≡ Some msg → msg.what ≡ k → (t : Told) → o.view.told id ≡ Some t → EndsOf o m (rule.here_handles o m id msg x k)
-here_ends o m id msg x (what.User x1 x2 x3 x4) sane there e t told = Once tt
-here_ends o m id msg x what.Stop sane there e t told = Once (no_kill o m id msg [] sane there (ap (λ w. is_kill (plain_kind w)) e) tt)
-here_ends o m id msg x what.Resume sane there e t told = Once (no_kill o m id msg [] sane there (ap (λ w. is_kill (plain_kind w)) e) tt)
-here_ends o m id msg x what.Kill sane there e t told = Once (kill_ends o m id msg sane there (ap (λ w. is_kill (plain_kind w)) e) t told)
-here_ends o m id msg x (what.Read x1 x2) sane there e t told = Once (no_kill o m id msg (Routes (pieces.answer_id id) ∷ []) sane there (ap (λ w. is_kill (plain_kind w)) e) (tt, tt))
-here_ends o m id msg x (what.Write x1 x2) sane there e t told = Once (no_kill o m id msg (Routes (pieces.answer_id id) ∷ []) sane there (ap (λ w. is_kill (plain_kind w)) e) (tt, tt))
-here_ends o m id msg x (what.Block x1) sane there e t told = lands_ends o m id msg (pieces.lands msg.to x msg x.status) sane there (ap (λ w. is_kill (plain_kind w)) e)
-here_ends o m id msg x what.Written sane there e t told = lands_ends o m id msg (pieces.lands msg.to x msg x.status) sane there (ap (λ w. is_kill (plain_kind w)) e)
-here_ends o m id msg x what.Gone sane there e t told = lands_ends o m id msg (pieces.lands msg.to x msg x.status) sane there (ap (λ w. is_kill (plain_kind w)) e)
-here_ends o m id msg x (what.Create x1 x2) sane there e t told = tt
-here_ends o m id msg x (what.Created x1) sane there e t told = tt
-here_ends o m id msg x what.NoRoom sane there e t told = tt
-here_ends o m id msg x (what.Move x1) sane there e t told = tt
-here_ends o m id msg x (what.Moved x1) sane there e t told = tt
+here_ends o m id msg x (PlainWhat.User x1 x2 x3 x4) sane there e t told = Once tt
+here_ends o m id msg x PlainWhat.Stop sane there e t told = Once (no_kill o m id msg [] sane there (ap (λ w. is_kill (plain_kind w)) e) tt)
+here_ends o m id msg x PlainWhat.Resume sane there e t told = Once (no_kill o m id msg [] sane there (ap (λ w. is_kill (plain_kind w)) e) tt)
+here_ends o m id msg x PlainWhat.Kill sane there e t told = Once (kill_ends o m id msg sane there (ap (λ w. is_kill (plain_kind w)) e) t told)
+here_ends o m id msg x (PlainWhat.Read x1 x2) sane there e t told = Once (no_kill o m id msg (Routes (pieces.answer_id id) ∷ []) sane there (ap (λ w. is_kill (plain_kind w)) e) (tt, tt))
+here_ends o m id msg x (PlainWhat.Write x1 x2) sane there e t told = Once (no_kill o m id msg (Routes (pieces.answer_id id) ∷ []) sane there (ap (λ w. is_kill (plain_kind w)) e) (tt, tt))
+here_ends o m id msg x (PlainWhat.Block x1) sane there e t told = lands_ends o m id msg (pieces.lands msg.to x msg x.status) sane there (ap (λ w. is_kill (plain_kind w)) e)
+here_ends o m id msg x PlainWhat.Written sane there e t told = lands_ends o m id msg (pieces.lands msg.to x msg x.status) sane there (ap (λ w. is_kill (plain_kind w)) e)
+here_ends o m id msg x PlainWhat.Gone sane there e t told = lands_ends o m id msg (pieces.lands msg.to x msg x.status) sane there (ap (λ w. is_kill (plain_kind w)) e)
+here_ends o m id msg x _ sane there e t told = tt
 
 ended_ends : (o : Point) (a : ℕ) (id : MsgId) (k : PlainWhat) → EndsOf o a (rule.ended_handles id k)
-ended_ends o a id (what.User x1 x2 x3 x4) = Once tt
-ended_ends o a id what.Stop = Once tt
-ended_ends o a id what.Resume = Once tt
-ended_ends o a id what.Kill = Once tt
-ended_ends o a id (what.Read x1 x2) = Once (tt, tt)
-ended_ends o a id (what.Write x1 x2) = Once (tt, tt)
-ended_ends o a id (what.Block x1) = Once tt
-ended_ends o a id what.Written = Once tt
-ended_ends o a id what.Gone = Once tt
-ended_ends o a id (what.Create x1 x2) = tt
-ended_ends o a id (what.Created x1) = tt
-ended_ends o a id what.NoRoom = tt
-ended_ends o a id (what.Move x1) = tt
-ended_ends o a id (what.Moved x1) = tt
+ended_ends o a id (PlainWhat.Read x1 x2) = Once (tt, tt)
+ended_ends o a id (PlainWhat.Write x1 x2) = Once (tt, tt)
+ended_ends o a id (PlainWhat.Create x1 x2) = tt
+ended_ends o a id (PlainWhat.Created x1) = tt
+ended_ends o a id PlainWhat.NoRoom = tt
+ended_ends o a id (PlainWhat.Move x1) = tt
+ended_ends o a id (PlainWhat.Moved x1) = tt
+ended_ends o a id _ = Once tt
 
 forwards_ends : (o : Point) (a : ℕ) (c : Addresses) (id : MsgId) (k : MessageKind) (sender : Pid) (to : ℕ) → Ends o a (forwards_on c id k sender to)
-forwards_ends o a c id k sender to = Once (tt, stay_if (is_told_back k) (Owns kind.Update sender (c (Sender id)).at ∷ []) (tt, tt))
+forwards_ends o a c id k sender to = Once (tt, stay_if (is_told_back k) (Owns MessageKind.Update sender (c (Sender id)).at ∷ []) (tt, tt))
 
 process_ends : (o : Point) (m : ℕ) (id : MsgId) (msg : PlainMessage) (k : Known) → Sane o → o.kernel.bag id ≡ Some msg → (t : Told) → o.view.told id ≡ Some t → EndsOf o m (rule.process_handles o m id msg k)
 process_ends o m id msg Unknown sane there t told = tt
 process_ends o m id msg Here sane there t told = of_bind o m (kernel.alive (o.kernel.processes msg.to)) (λ x. rule.here_handles o m id msg x msg.what) (λ x is. here_ends o m id msg x msg.what sane there refl t told)
-process_ends o m id msg (Frozen to) sane there t told = Once tt
-process_ends o m id msg (Incoming from) sane there t told = Once tt
 process_ends o m id msg (Forward at moves) sane there t told = forwards_ends o m o.addresses id (plain_kind msg.what) msg.sender at
 process_ends o m id msg Ended sane there t told = ended_ends o m id msg.what
+process_ends o m id msg _ sane there t told = Once tt
 
 label_if : (o : Point) (a : ℕ) (c : Bool) (l k : Label) (ps : List Part) → LastEnds o a (rule.says l ∷ ps) → LastEnds o a (rule.says k ∷ ps) → LastEnds o a ((if c then rule.says l else rule.says k) ∷ ps)
 label_if o a true l k ps h g = h
@@ -204,23 +159,11 @@ label_if o a false l k ps h g = g
 
 creates_ends : (o : Point) (m : ℕ) (id : MsgId) (r : rule.Room) (i : Option BootImage) → EndsOf o m (rule.creates o m id r i)
 creates_ends o m id r None = tt
-creates_ends o m id r (Some i) = Once (label_if o m (rule.has_room r i.blocks) (label.Created id (pid_of m (first_number + o.kernel.made m))) (label.NoSpace id r.slots r.blocks) (Routes (pieces.answer_id id) ∷ []) (tt, tt) (tt, tt))
+creates_ends o m id r (Some i) = Once (label_if o m (rule.has_room r i.blocks) (Label.Created id (pid_of m (first_number + o.kernel.made m))) (Label.NoSpace id r.slots r.blocks) (Routes (pieces.answer_id id) ∷ []) (tt, tt) (tt, tt))
 
 kernel_ends : (b : Boot) (o : Point) (m : ℕ) (id : MsgId) (k : PlainWhat) → EndsOf o m (rule.kernel_handles b o m id k)
-kernel_ends b o m id (what.Create image links) = creates_ends o m id (rule.free_room b o m) (slice_get b.images image)
-kernel_ends b o m id (what.User x1 x2 x3 x4) = tt
-kernel_ends b o m id what.Stop = tt
-kernel_ends b o m id what.Resume = tt
-kernel_ends b o m id what.Kill = tt
-kernel_ends b o m id (what.Read x1 x2) = tt
-kernel_ends b o m id (what.Write x1 x2) = tt
-kernel_ends b o m id (what.Block x1) = tt
-kernel_ends b o m id what.Written = tt
-kernel_ends b o m id what.Gone = tt
-kernel_ends b o m id (what.Created x1) = tt
-kernel_ends b o m id what.NoRoom = tt
-kernel_ends b o m id (what.Move x1) = tt
-kernel_ends b o m id (what.Moved x1) = tt
+kernel_ends b o m id (PlainWhat.Create image links) = creates_ends o m id (rule.free_room b o m) (slice_get b.images image)
+kernel_ends b o m id _ = tt
 
 routes_stay : (m : Option PlainMessage) → AllStay (rule.routes m)
 routes_stay None = tt
@@ -251,12 +194,8 @@ sends_stay to [] ps h = h
 sends_stay to (i ∷ is) ps h = (tt, sends_stay to is ps h)
 
 leaves_ends : (o : Point) (a : ℕ) (id : MsgId) (p : Pid) (ids : List MsgId) (k : Known) → EndsOf o a (leaves id p ids k)
-leaves_ends o a id p ids Unknown = tt
-leaves_ends o a id p ids Here = tt
-leaves_ends o a id p ids (Frozen to) = Once (sends_stay to ids (Says (line.Migration stage.Left p) ∷ migrating.to_kernel kind.Restart id.from.home ∷ []) (refl, (tt, tt)))
-leaves_ends o a id p ids (Incoming from) = tt
-leaves_ends o a id p ids (Forward at moves) = tt
-leaves_ends o a id p ids Ended = tt
+leaves_ends o a id p ids (Frozen to) = Once (sends_stay to ids (Says (Line.Migration Stage.Left p) ∷ migrating.to_kernel MessageKind.Restart id.from.home ∷ []) (refl, (tt, tt)))
+leaves_ends o a id p ids _ = tt
 
 accepts_ends : (o : Point) (a from : ℕ) (p : Pid) (c : Bool) (slots blocks : ℕ) → Ends o a (accepts from p c slots blocks)
 accepts_ends o a from p true slots blocks = Once (tt, tt)
@@ -271,137 +210,47 @@ block_ends o a id p true = Once (tt, tt)
 block_ends o a id p false = Once (tt, tt)
 
 told_ends : (o : Point) (m : ℕ) (id : MsgId) (p : Pid) (fits : Bool × ℕ × ℕ) (x : PlainProcess) (k : MessageKind) → EndsOf o m (kernel_told o m id p fits x k)
-told_ends o m id p fits x kind.Ask = accepts_ends o m id.from.home p fits.0 fits.1 fits.2
-told_ends o m id p fits x kind.Refuse = Once tt
-told_ends o m id p fits x kind.PullState = Once (tt, tt)
-told_ends o m id p fits x kind.State = chunk_ends o m id p (o.view.asked p == migrating.chunks_of x)
-told_ends o m id p fits x kind.PullBlock = Once (tt, tt)
-told_ends o m id p fits x kind.Memory = block_ends o m id p (o.view.asked p == migrating.pieces_of x)
-told_ends o m id p fits x kind.AllTaken = leaves_ends o m id p (o.view.queue m p ++ o.view.held m p) (o.view.known m p)
-told_ends o m id p fits x kind.Restart = Once tt
-told_ends o m id p fits x kind.User = tt
-told_ends o m id p fits x kind.Stop = tt
-told_ends o m id p fits x kind.Resume = tt
-told_ends o m id p fits x kind.Kill = tt
-told_ends o m id p fits x kind.Read = tt
-told_ends o m id p fits x kind.Write = tt
-told_ends o m id p fits x kind.Block = tt
-told_ends o m id p fits x kind.Written = tt
-told_ends o m id p fits x kind.Gone = tt
-told_ends o m id p fits x kind.Create = tt
-told_ends o m id p fits x kind.Created = tt
-told_ends o m id p fits x kind.NoRoom = tt
-told_ends o m id p fits x kind.Migrate = tt
-told_ends o m id p fits x kind.Update = tt
-told_ends o m id p fits x kind.Move = tt
-told_ends o m id p fits x kind.Moved = tt
-told_ends o m id p fits x kind.CallOff = tt
-told_ends o m id p fits x kind.Bury = tt
+told_ends o m id p fits x MessageKind.Ask = accepts_ends o m id.from.home p fits.0 fits.1 fits.2
+told_ends o m id p fits x MessageKind.Refuse = Once tt
+told_ends o m id p fits x MessageKind.PullState = Once (tt, tt)
+told_ends o m id p fits x MessageKind.State = chunk_ends o m id p (o.view.asked p == migrating.chunks_of x)
+told_ends o m id p fits x MessageKind.PullBlock = Once (tt, tt)
+told_ends o m id p fits x MessageKind.Memory = block_ends o m id p (o.view.asked p == migrating.pieces_of x)
+told_ends o m id p fits x MessageKind.AllTaken = leaves_ends o m id p (o.view.queue m p ++ o.view.held m p) (o.view.known m p)
+told_ends o m id p fits x MessageKind.Restart = Once tt
+told_ends o m id p fits x _ = tt
 
 hears_kernel_ends : (b : Boot) (o : Point) (m : ℕ) (id : MsgId) (k : MessageKind) (a : About) → EndsOf o m (rule.kernel_hears b o m id k a)
-hears_kernel_ends b o m id k NothingElse = tt
-hears_kernel_ends b o m id k (Target to) = tt
 hears_kernel_ends b o m id k (Of p) =
     of_bind o m (kernel.alive (o.kernel.processes p)) (λ x. kernel_told o m id p (rule.fits (rule.free_room b o m) (length x.memory / 256)) x k)
     (λ x is. told_ends o m id p (rule.fits (rule.free_room b o m) (length x.memory / 256)) x k)
-hears_kernel_ends b o m id k (view.Place p at moves) = tt
+hears_kernel_ends b o m id k _ = tt
 
 moves_if : (o : Point) (a : ℕ) (id : MsgId) (p : Pid) (to : ℕ) (c : Bool)
-    → Ends o a (if c then Says (line.Here id) ∷ [] else Says (line.Migration stage.Frozen p) ∷ Says (line.Migration stage.Asked p) ∷ migrating.to_kernel kind.Ask to ∷ [])
+    → Ends o a (if c then Says (Line.Here id) ∷ [] else Says (Line.Migration Stage.Frozen p) ∷ Says (Line.Migration Stage.Asked p) ∷ migrating.to_kernel MessageKind.Ask to ∷ [])
 moves_if o a id p to true = Once tt
 moves_if o a id p to false = Once (refl, (tt, tt))
 
 here_told_ends : (o : Point) (m : ℕ) (id : MsgId) (t : Told) (k : MessageKind) → EndsOf o m (here_told o m id t k)
-here_told_ends o m id t kind.Ask = tt
-here_told_ends o m id t kind.Refuse = tt
-here_told_ends o m id t kind.PullState = tt
-here_told_ends o m id t kind.State = tt
-here_told_ends o m id t kind.PullBlock = tt
-here_told_ends o m id t kind.Memory = tt
-here_told_ends o m id t kind.AllTaken = tt
-here_told_ends o m id t kind.Restart = tt
-here_told_ends o m id t kind.User = tt
-here_told_ends o m id t kind.Stop = tt
-here_told_ends o m id t kind.Resume = tt
-here_told_ends o m id t kind.Kill = tt
-here_told_ends o m id t kind.Read = tt
-here_told_ends o m id t kind.Write = tt
-here_told_ends o m id t kind.Block = tt
-here_told_ends o m id t kind.Written = tt
-here_told_ends o m id t kind.Gone = tt
-here_told_ends o m id t kind.Create = tt
-here_told_ends o m id t kind.Created = tt
-here_told_ends o m id t kind.NoRoom = tt
-here_told_ends o m id t kind.Migrate = moves_if o m id t.receiver (view.target_of (Some t)) (m == view.target_of (Some t))
-here_told_ends o m id t kind.Update = Once tt
-here_told_ends o m id t kind.Move = tt
-here_told_ends o m id t kind.Moved = tt
-here_told_ends o m id t kind.CallOff = tt
-here_told_ends o m id t kind.Bury = tt
+here_told_ends o m id t MessageKind.Migrate = moves_if o m id t.receiver (view.target_of (Some t)) (m == view.target_of (Some t))
+here_told_ends o m id t MessageKind.Update = Once tt
+here_told_ends o m id t _ = tt
 
 server_ends : (o : Point) (m : ℕ) (id : MsgId) (t : Told) (k : MessageKind) → EndsOf o m (server_told o id t k)
-server_ends o m id t kind.Ask = tt
-server_ends o m id t kind.Refuse = tt
-server_ends o m id t kind.PullState = tt
-server_ends o m id t kind.State = tt
-server_ends o m id t kind.PullBlock = tt
-server_ends o m id t kind.Memory = tt
-server_ends o m id t kind.AllTaken = tt
-server_ends o m id t kind.Restart = tt
-server_ends o m id t kind.User = tt
-server_ends o m id t kind.Stop = tt
-server_ends o m id t kind.Resume = tt
-server_ends o m id t kind.Kill = tt
-server_ends o m id t kind.Read = tt
-server_ends o m id t kind.Write = tt
-server_ends o m id t kind.Block = tt
-server_ends o m id t kind.Written = tt
-server_ends o m id t kind.Gone = tt
-server_ends o m id t kind.Create = tt
-server_ends o m id t kind.Created = tt
-server_ends o m id t kind.NoRoom = tt
-server_ends o m id t kind.Migrate = tt
-server_ends o m id t kind.Update = Once tt
-server_ends o m id t kind.Move = tt
-server_ends o m id t kind.Moved = tt
-server_ends o m id t kind.CallOff = tt
-server_ends o m id t kind.Bury = tt
+server_ends o m id t MessageKind.Update = Once tt
+server_ends o m id t _ = tt
 
 ended_told_ends : (o : Point) (m : ℕ) (id : MsgId) (k : MessageKind) → EndsOf o m (ended_told id k)
-ended_told_ends o m id kind.Ask = tt
-ended_told_ends o m id kind.Refuse = tt
-ended_told_ends o m id kind.PullState = tt
-ended_told_ends o m id kind.State = tt
-ended_told_ends o m id kind.PullBlock = tt
-ended_told_ends o m id kind.Memory = tt
-ended_told_ends o m id kind.AllTaken = tt
-ended_told_ends o m id kind.Restart = tt
-ended_told_ends o m id kind.User = tt
-ended_told_ends o m id kind.Stop = tt
-ended_told_ends o m id kind.Resume = tt
-ended_told_ends o m id kind.Kill = tt
-ended_told_ends o m id kind.Read = tt
-ended_told_ends o m id kind.Write = tt
-ended_told_ends o m id kind.Block = tt
-ended_told_ends o m id kind.Written = tt
-ended_told_ends o m id kind.Gone = tt
-ended_told_ends o m id kind.Create = tt
-ended_told_ends o m id kind.Created = tt
-ended_told_ends o m id kind.NoRoom = tt
-ended_told_ends o m id kind.Migrate = Once tt
-ended_told_ends o m id kind.Update = Once tt
-ended_told_ends o m id kind.Move = tt
-ended_told_ends o m id kind.Moved = tt
-ended_told_ends o m id kind.CallOff = tt
-ended_told_ends o m id kind.Bury = tt
+ended_told_ends o m id MessageKind.Migrate = Once tt
+ended_told_ends o m id MessageKind.Update = Once tt
+ended_told_ends o m id _ = tt
 
 process_told_ends : (o : Point) (m : ℕ) (id : MsgId) (t : Told) (k : Known) → EndsOf o m (process_told o m id t k)
 process_told_ends o m id t Unknown = tt
 process_told_ends o m id t Here = here_told_ends o m id t t.kind
-process_told_ends o m id t (Frozen to) = Once tt
-process_told_ends o m id t (Incoming from) = Once tt
 process_told_ends o m id t (Forward at moves) = forwards_ends o m o.addresses id t.kind manager at
 process_told_ends o m id t Ended = ended_told_ends o m id t.kind
+process_told_ends o m id t _ = Once tt
 
 hears_ends : (b : Boot) (o : Point) (m : ℕ) (id : MsgId) (q : Option Told) → EndsOf o m (rule.hears b o m id q)
 hears_ends b o m id None = tt

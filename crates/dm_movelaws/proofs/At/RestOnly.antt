@@ -1,39 +1,11 @@
 -- A process ends only where a group says so.
-use Rattle.std.proofs.Common.{◌≡◌, ℕ, ◌+◌, ◌==◌, Bool, true, false, not, filter, List, [], ◌∷◌, length, refl, ap, ◌∙◌, sym, subst}
-use Rattle.std.specs.Prelude.{if◌then◌else◌}
-use Rattle.std.proofs.lemmas.Bool.{false≢true}
-use Rattle.std.specs.declared.option.Option.{Option}
-use Rattle.std.specs.declared.option.Option.TheVariants.{None, Some}
-use Rattle.dm_link.specs.declared.Pid.{Pid}
-use Rattle.dm_link.specs.Names.{pid_eq}
-use Rattle.dm_message.specs.declared.MsgId.{MsgId}
-use Rattle.dm_message.specs.declared.kind.MessageKind.{MessageKind}
-use Rattle.dm_message.specs.declared.kind.MessageKind.TheVariants as kind
-use Rattle.dm_message.specs.Kinds.{plain_kind}
-use Rattle.dm_onekernel.specs.declared.label.Label.{Label}
-use Rattle.dm_onekernel.specs.declared.label.Label.TheVariants as label
+use Rattle.dm_movelaws.proofs.Names.{◌≡◌, ℕ, ◌+◌, ◌==◌, Bool, true, false, not, filter, List, [], ◌∷◌, length, refl, ap, ◌∙◌, sym, subst, if◌then◌else◌, false≢true, Option, None, Some, Pid, pid_eq, MsgId, MessageKind, Load, plain_kind}
+use Rattle.dm_movelaws.proofs.Names.{Label, bind, bind-is, Step, Line, Stage, Addresses, Receiver, child_number, migrates, migrates_child, Part, Says, Routes, Again, Owns, Transmits, Spelled, lines_of, puts, goes_out, packet_line, behind}
+use Rattle.dm_movelaws.proofs.Names.{spelled, Point, after_line, after, at_record, View, Told, About, NothingElse, Known, Here, Frozen, Incoming, Ended, view_after, handled, receiver_of, IsNetLine, IsNet, line_view, set_all}
 use Rattle.dm_onekernel.specs.Boot as boot
-use Rattle.dm_onekernel.specs.Options.{bind}
-use Rattle.dm_laws.proofs.Steps.{bind-is}
-use Rattle.dm_schedule.specs.declared.Step.{Step}
-use Rattle.dm_schedule.specs.declared.Step.TheVariants as step
-use Rattle.dm_line.specs.declared.line.Line.{Line}
-use Rattle.dm_line.specs.declared.line.Line.TheVariants as line
-use Rattle.dm_line.specs.declared.line.Load.TheVariants as load
-use Rattle.dm_line.specs.declared.line.Stage.{Stage}
-use Rattle.dm_line.specs.declared.line.Stage.TheVariants as stage
-use Rattle.dm_rule.specs.Addresses.{Addresses, Receiver, child_number}
-use Rattle.dm_rule.specs.Migrating.{migrates, migrates_child}
-use Rattle.dm_rule.specs.Parts.{Part, Says, Routes, Again, Owns, Transmits, Spelled, lines_of, puts, goes_out, packet_line, behind, spelled}
-use Rattle.dm_rule.specs.Point.{Point, after_line, after}
-use Rattle.dm_line.specs.Sets.{at_record}
-use Rattle.dm_rule.specs.View.{View, Told, About, NothingElse, Target, Of, Known, Unknown, Here, Frozen, Incoming, Forward, Ended, view_after, handled, receiver_of}
 use Rattle.dm_rule.specs.View as view
-use Rattle.dm_rule.proofs.Groups.{IsNetLine, IsNet}
-use Rattle.dm_rule.proofs.Pairs.Lines.{line_view}
 use Rattle.dm_movelaws.proofs.At.RestBuried.{Knows}
 use Rattle.dm_movelaws.proofs.At.RestEnds.{is_ending, PartStays, AllStay}
-use Rattle.dm_rulelaws.proofs.Based.Sets.{set_all}
 
 -- what has ended had ended before
 pub record Only (before : Knows) (v : View) : Type 0 where
@@ -70,55 +42,24 @@ taken_known v b (Some i) = refl
 
 asks_known : (v : View) (a : About) → (view.asks_on v a).known ≡ v.known
 asks_known v NothingElse = refl
-asks_known v (Target m) = refl
-asks_known v (Of p) = refl
-asks_known v (view.Place p m c) = refl
+asks_known v _ = refl
 
 follows_known : (v : View) (a : About) (k : MessageKind) → (view.follows_up v a k).known ≡ v.known
-follows_known v a kind.Ask = refl
-follows_known v a kind.Refuse = refl
-follows_known v a kind.PullState = refl
-follows_known v a kind.State = asks_known v a
-follows_known v a kind.PullBlock = refl
-follows_known v a kind.Memory = asks_known v a
-follows_known v a kind.AllTaken = refl
-follows_known v a kind.Restart = refl
-follows_known v a kind.User = refl
-follows_known v a kind.Stop = refl
-follows_known v a kind.Resume = refl
-follows_known v a kind.Kill = refl
-follows_known v a kind.Read = refl
-follows_known v a kind.Write = refl
-follows_known v a kind.Block = refl
-follows_known v a kind.Written = refl
-follows_known v a kind.Gone = refl
-follows_known v a kind.Create = refl
-follows_known v a kind.Created = refl
-follows_known v a kind.NoRoom = refl
-follows_known v a kind.Migrate = refl
-follows_known v a kind.Update = refl
-follows_known v a kind.Move = refl
-follows_known v a kind.Moved = refl
-follows_known v a kind.CallOff = refl
-follows_known v a kind.Bury = refl
+follows_known v a MessageKind.State = asks_known v a
+follows_known v a MessageKind.Memory = asks_known v a
+follows_known v a _ = refl
 
 proto_known : (v : View) (o : Option Told) → (view.after_proto v o).known ≡ v.known
 proto_known v None = refl
 proto_known v (Some t) = follows_known v t.about t.kind
 
 head_known : (v : View) (d : Step) → (view.after_head v d).known ≡ v.known
-head_known v (step.Turn m) = refl
-head_known v (step.Tick m) = refl
-head_known v (step.Deliver a b k) = refl
-head_known v (step.Migrate p m) = refl
+head_known v (Step.Turn m) = refl
+head_known v _ = refl
 
 gone_ended : (k : Known) (n : ℕ) → view.gone_to k n ≡ Ended → k ≡ Ended
-gone_ended Unknown n e = e
-gone_ended Here n e = e
 gone_ended (Frozen to) n e = cc
-gone_ended (Incoming from) n e = e
-gone_ended (Forward at_ c) n e = e
-gone_ended Ended n e = e
+gone_ended _ n e = e
 
 here_not : (T : Type 0) → Here ≡ Ended → T
 here_not T e = cc
@@ -130,62 +71,39 @@ incoming_not : (T : Type 0) (from : ℕ) → Incoming from ≡ Ended → T
 incoming_not T from e = cc
 
 stage_only : (before : Knows) (v : View) (p : Pid) (s : Stage) → Only before v → Only before (view.after_stage v p s)
-stage_only before v p stage.Frozen h =
+stage_only before v p Stage.Frozen h =
     let to = view.target_of (view.front_told v (v.inbox v.acting)) in
-    only_set before v (view.after_stage v p stage.Frozen) p (Frozen to) refl (frozen_not (v.known v.acting p ≡ Ended) to) h
-stage_only before v p stage.Asked h = h
-stage_only before v p stage.Accepted h =
+    only_set before v (view.after_stage v p Stage.Frozen) p (Frozen to) refl (frozen_not (v.known v.acting p ≡ Ended) to) h
+stage_only before v p Stage.Asked h = h
+stage_only before v p Stage.Accepted h =
     let from = view.front_of (v.inbox v.acting) in
-    only_set before v (view.after_stage v p stage.Accepted) p (Incoming from) refl (incoming_not (v.known v.acting p ≡ Ended) from) h
-stage_only before v p stage.StateTaken h = only_as before v (view.after_stage v p stage.StateTaken) refl h
-stage_only before v p stage.MemoryTaken h = only_as before v (view.after_stage v p stage.MemoryTaken) refl h
-stage_only before v p stage.Left h = only_set before v (view.after_stage v p stage.Left) p (view.gone_to (v.known v.acting p) (v.moves p + 1)) refl (gone_ended (v.known v.acting p) (v.moves p + 1)) h
-stage_only before v p stage.Restarted h = only_set before v (view.after_stage v p stage.Restarted) p Here refl (here_not (v.known v.acting p ≡ Ended)) h
+    only_set before v (view.after_stage v p Stage.Accepted) p (Incoming from) refl (incoming_not (v.known v.acting p ≡ Ended) from) h
+stage_only before v p Stage.Left h = only_set before v (view.after_stage v p Stage.Left) p (view.gone_to (v.known v.acting p) (v.moves p + 1)) refl (gone_ended (v.known v.acting p) (v.moves p + 1)) h
+stage_only before v p Stage.Restarted h = only_set before v (view.after_stage v p Stage.Restarted) p Here refl (here_not (v.known v.acting p ≡ Ended)) h
+stage_only before v p any_ h = only_as before v (view.after_stage v p any_) refl h
 
-label_only : (before : Knows) (v : View) (l : Label) → is_ending (line.Label l) ≡ false → Only before v → Only before (view_after v (line.Label l))
-label_only before v (label.End p y) e h = absurd (false≢true (sym e))
-label_only before v (label.Served id) e h = absurd (false≢true (sym e))
-label_only before v (label.Dropped id) e h = only_as before v (view_after v (line.Label (label.Dropped id))) (dropped_known (handled v id) id (receiver_of (v.told id))) h
-label_only before v (label.Created id p) e h = only_set before v (view_after v (line.Label (label.Created id p))) p Here refl (here_not (v.known v.acting p ≡ Ended)) h
-label_only before v (label.Ran p k) e h = only_as before v (view_after v (line.Label (label.Ran p k))) refl h
-label_only before v (label.Call p n c) e h = only_as before v (view_after v (line.Label (label.Call p n c))) refl h
-label_only before v (label.Send p id) e h = only_as before v (view_after v (line.Label (label.Send p id))) refl h
-label_only before v (label.Wait p) e h = only_as before v (view_after v (line.Label (label.Wait p))) refl h
-label_only before v (label.Out p w) e h = only_as before v (view_after v (line.Label (label.Out p w))) refl h
-label_only before v (label.Receive p id) e h = only_as before v (view_after v (line.Label (label.Receive p id))) refl h
-label_only before v (label.Refuse p id c) e h = only_as before v (view_after v (line.Label (label.Refuse p id c))) refl h
-label_only before v (label.Gone id) e h = only_as before v (view_after v (line.Label (label.Gone id))) refl h
-label_only before v (label.Took id) e h = only_as before v (view_after v (line.Label (label.Took id))) refl h
-label_only before v (label.NoSpace id x y) e h = only_as before v (view_after v (line.Label (label.NoSpace id x y))) refl h
+label_only : (before : Knows) (v : View) (l : Label) → is_ending (Line.Label l) ≡ false → Only before v → Only before (view_after v (Line.Label l))
+label_only before v (Label.End p y) e h = absurd (false≢true (sym e))
+label_only before v (Label.Served id) e h = absurd (false≢true (sym e))
+label_only before v (Label.Dropped id) e h = only_as before v (view_after v (Line.Label (Label.Dropped id))) (dropped_known (handled v id) id (receiver_of (v.told id))) h
+label_only before v (Label.Created id p) e h = only_set before v (view_after v (Line.Label (Label.Created id p))) p Here refl (here_not (v.known v.acting p ≡ Ended)) h
+label_only before v any_ e h = only_as before v (view_after v (Line.Label any_)) refl h
 
 line_only : (before : Knows) (v : View) (l : Line) → is_ending l ≡ false → Only before v → Only before (view_after v l)
-line_only before v (line.Label l) e h = label_only before v l e h
-line_only before v (line.Head d) e h = only_as before v (view_after v (line.Head d)) (head_known v d) h
-line_only before v (line.Taken a b k) e h =
+line_only before v (Line.Label l) e h = label_only before v l e h
+line_only before v (Line.Head d) e h = only_as before v (view_after v (Line.Head d)) (head_known v d) h
+line_only before v (Line.Taken a b k) e h =
     let p = v.pair a b in
     let w = view.with_pair v a b (record p { taken = p.taken + 1; kept = filter (λ j. not (j == k)) p.kept }) in
-    only_as before v (view_after v (line.Taken a b k)) (taken_known w b (view.oldest p)) h
-line_only before v (line.Queued id) e h = only_as before v (view_after v (line.Queued id)) (queued_known (handled v id) id (receiver_of (v.told id))) h
-line_only before v (line.Held id) e h = only_as before v (view_after v (line.Held id)) (held_known (handled v id) id (receiver_of (v.told id))) h
-line_only before v (line.Forwarded id m) e h = only_as before v (view_after v (line.Forwarded id m)) (forwarded_known (handled v id) (receiver_of (v.told id))) h
-line_only before v (line.Proto id) e h = only_as before v (view_after v (line.Proto id)) (proto_known (handled v id) (v.told id)) h
-line_only before v (line.Migration s p) e h = stage_only before v p s h
-line_only before v (line.Stays p) e h = only_set before v (view_after v (line.Stays p)) p Here refl (here_not (v.known v.acting p ≡ Ended)) h
-line_only before v line.Nothing e h = h
-line_only before v (line.Idle m) e h = only_as before v (view_after v (line.Idle m)) refl h
-line_only before v (line.Put a b id k q) e h = only_as before v (view_after v (line.Put a b id k q)) refl h
-line_only before v (line.Packet a b k l) e h = only_as before v (view_after v (line.Packet a b k l)) refl h
-line_only before v (line.Old a b k) e h = only_as before v (view_after v (line.Old a b k)) refl h
-line_only before v (line.Early a b k) e h = only_as before v (view_after v (line.Early a b k)) refl h
-line_only before v (line.Acked a b k) e h = only_as before v (view_after v (line.Acked a b k)) refl h
-line_only before v (line.Resent m k) e h = only_as before v (view_after v (line.Resent m k)) refl h
-line_only before v (line.Updated id k) e h = only_as before v (view_after v (line.Updated id k)) refl h
-line_only before v (line.SentOn p k) e h = only_as before v (view_after v (line.SentOn p k)) refl h
-line_only before v (line.Lacks p x y) e h = only_as before v (view_after v (line.Lacks p x y)) refl h
-line_only before v (line.Here id) e h = only_as before v (view_after v (line.Here id)) refl h
-line_only before v (line.NoMove id) e h = only_as before v (view_after v (line.NoMove id)) refl h
-line_only before v (line.NoChild p) e h = only_as before v (view_after v (line.NoChild p)) refl h
-line_only before v (line.Pinned p) e h = only_as before v (view_after v (line.Pinned p)) refl h
+    only_as before v (view_after v (Line.Taken a b k)) (taken_known w b (view.oldest p)) h
+line_only before v (Line.Queued id) e h = only_as before v (view_after v (Line.Queued id)) (queued_known (handled v id) id (receiver_of (v.told id))) h
+line_only before v (Line.Held id) e h = only_as before v (view_after v (Line.Held id)) (held_known (handled v id) id (receiver_of (v.told id))) h
+line_only before v (Line.Forwarded id m) e h = only_as before v (view_after v (Line.Forwarded id m)) (forwarded_known (handled v id) (receiver_of (v.told id))) h
+line_only before v (Line.Proto id) e h = only_as before v (view_after v (Line.Proto id)) (proto_known (handled v id) (v.told id)) h
+line_only before v (Line.Migration s p) e h = stage_only before v p s h
+line_only before v (Line.Stays p) e h = only_set before v (view_after v (Line.Stays p)) p Here refl (here_not (v.known v.acting p ≡ Ended)) h
+line_only before v Line.Nothing e h = h
+line_only before v any_ e h = only_as before v (view_after v any_) refl h
 
 -- parts that end nothing
 one_view : (pt next : Point) (l : Line) → after pt (l ∷ []) ≡ Some next → next.view ≡ view_after pt.view l
@@ -195,13 +113,13 @@ one_view pt next l e =
     sym (ap (λ (q : Point). q.view) f) ∙ line_view pt mid l first
 
 puts_by : (before : Knows) (pt next : Point) (b : ℕ) (i : MsgId) (k : MessageKind) (q : Pid) (c d : Bool) → Only before pt.view
-    → after pt (line.Put pt.view.acting b i k q ∷ (if c then [] else if d then packet_line pt.view pt.view.acting b (load.Data (length (pt.view.pair pt.view.acting b).ids)) ∷ [] else [])) ≡ Some next → Only before next.view
-puts_by before pt next b i k q true d h is = subst (Only before) (sym (one_view pt next (line.Put pt.view.acting b i k q) is)) (line_only before pt.view (line.Put pt.view.acting b i k q) refl h)
-puts_by before pt next b i k q false false h is = subst (Only before) (sym (one_view pt next (line.Put pt.view.acting b i k q) is)) (line_only before pt.view (line.Put pt.view.acting b i k q) refl h)
+    → after pt (Line.Put pt.view.acting b i k q ∷ (if c then [] else if d then packet_line pt.view pt.view.acting b (Load.Data (length (pt.view.pair pt.view.acting b).ids)) ∷ [] else [])) ≡ Some next → Only before next.view
+puts_by before pt next b i k q true d h is = subst (Only before) (sym (one_view pt next (Line.Put pt.view.acting b i k q) is)) (line_only before pt.view (Line.Put pt.view.acting b i k q) refl h)
+puts_by before pt next b i k q false false h is = subst (Only before) (sym (one_view pt next (Line.Put pt.view.acting b i k q) is)) (line_only before pt.view (Line.Put pt.view.acting b i k q) refl h)
 puts_by before pt next b i k q false true h is =
-    let l = packet_line pt.view pt.view.acting b (load.Data (length (pt.view.pair pt.view.acting b).ids)) in
-    let (mid, first, rest) = bind-is (after_line pt (line.Put pt.view.acting b i k q)) (λ q. after q (l ∷ [])) next is in
-    let one : Only before mid.view = subst (Only before) (sym (line_view pt mid (line.Put pt.view.acting b i k q) first)) (line_only before pt.view (line.Put pt.view.acting b i k q) refl h) in
+    let l = packet_line pt.view pt.view.acting b (Load.Data (length (pt.view.pair pt.view.acting b).ids)) in
+    let (mid, first, rest) = bind-is (after_line pt (Line.Put pt.view.acting b i k q)) (λ q. after q (l ∷ [])) next is in
+    let one : Only before mid.view = subst (Only before) (sym (line_view pt mid (Line.Put pt.view.acting b i k q) first)) (line_only before pt.view (Line.Put pt.view.acting b i k q) refl h) in
     subst (Only before) (sym (one_view mid next l rest)) (line_only before mid.view l refl one)
 
 puts_only : (before : Knows) (pt next : Point) (b : ℕ) (i : MsgId) (k : MessageKind) (q : Pid) (ls : List Line) → Only before pt.view → Some (puts pt.view b i k q) ≡ Some ls → after pt ls ≡ Some next → Only before next.view
@@ -235,30 +153,13 @@ parts_only before (p ∷ ps) pt w stays is h =
 
 -- all directives but turns are so
 net_stays : (l : Line) → IsNetLine l → is_ending l ≡ false
-net_stays (line.Head d) h = absurd h
-net_stays (line.Label l) h = absurd h
-net_stays (line.Taken a b k) h = refl
-net_stays (line.Queued id) h = absurd h
-net_stays (line.Held id) h = absurd h
-net_stays (line.Forwarded id m) h = absurd h
-net_stays (line.Proto id) h = absurd h
-net_stays (line.Migration s p) h = absurd h
-net_stays (line.Stays p) h = absurd h
-net_stays (line.Idle m) h = absurd h
-net_stays (line.Put a b id k q) h = absurd h
-net_stays (line.Packet a b k l) h = absurd h
-net_stays (line.Old a b k) h = refl
-net_stays (line.Early a b k) h = refl
-net_stays (line.Acked a b k) h = refl
-net_stays (line.Resent m k) h = refl
-net_stays (line.Updated id k) h = absurd h
-net_stays (line.SentOn p k) h = absurd h
-net_stays (line.Lacks p x y) h = absurd h
-net_stays (line.Here id) h = absurd h
-net_stays (line.NoMove id) h = absurd h
-net_stays (line.NoChild p) h = absurd h
-net_stays (line.Pinned p) h = absurd h
-net_stays line.Nothing h = refl
+net_stays (Line.Taken a b k) h = refl
+net_stays (Line.Old a b k) h = refl
+net_stays (Line.Early a b k) h = refl
+net_stays (Line.Acked a b k) h = refl
+net_stays (Line.Resent m k) h = refl
+net_stays Line.Nothing h = refl
+net_stays _ h = absurd h
 
 pub nets_stay : (ps : List Part) → IsNet ps → AllStay ps
 nets_stay [] h = tt
@@ -272,7 +173,7 @@ child_stay : (a : Addresses) (p : Pid) (n : Option ℕ) → AllStay (migrates_ch
 child_stay a p None = (refl, tt)
 child_stay a p (Some n) = (tt, tt)
 
-migrates_if : (a : Addresses) (p : Pid) (n : Option ℕ) (c d : Bool) → AllStay (if c then Says (line.Pinned p) ∷ [] else if d then Says (line.Pinned p) ∷ [] else migrates_child a p n)
+migrates_if : (a : Addresses) (p : Pid) (n : Option ℕ) (c d : Bool) → AllStay (if c then Says (Line.Pinned p) ∷ [] else if d then Says (Line.Pinned p) ∷ [] else migrates_child a p n)
 migrates_if a p n true d = (refl, tt)
 migrates_if a p n false true = (refl, tt)
 migrates_if a p n false false = child_stay a p n

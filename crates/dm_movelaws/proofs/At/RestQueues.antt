@@ -1,54 +1,15 @@
 -- Where a process has ended no message is queued for it.
-use Rattle.std.proofs.Common.{◌≡◌, ◌⊎◌, ℕ, ◌+◌, ◌≤◌, ◌==◌, ◌&&◌, Bool, true, false, List, [], ◌∷◌, refl, ap, ◌∙◌, sym, subst, inl, inr, arith}
-use Rattle.std.specs.Prelude.{if◌then◌else◌, slice_get}
-use Rattle.std.proofs.lemmas.Bool.{cases_Bool, false≢true}
-use Rattle.std.proofs.lemmas.Bool.Decides.{nat_tests}
-use Rattle.std.specs.declared.option.Option.{Option}
-use Rattle.std.specs.declared.option.Option.TheVariants.{None, Some}
-use Rattle.dm_link.specs.declared.Pid.{Pid}
-use Rattle.dm_link.specs.Names.{pid_eq}
-use Rattle.dm_message.specs.declared.MsgId.{MsgId}
-use Rattle.dm_message.specs.Ids.{id_eq}
-use Rattle.dm_message.specs.declared.kind.MessageKind.{MessageKind}
-use Rattle.dm_onekernel.specs.declared.boot.Boot.{Boot}
-use Rattle.dm_onekernel.specs.declared.label.Label.TheVariants as label
+use Rattle.dm_movelaws.proofs.Names.{◌≡◌, ◌⊎◌, ℕ, ◌≤◌, ◌==◌, ◌&&◌, Bool, true, false, List, [], ◌∷◌, refl, ap, ◌∙◌, sym, subst, inl, inr, arith, if◌then◌else◌, slice_get, cases_Bool, false≢true, nat_tests, Option, None, Some, Pid, pid_eq}
+use Rattle.dm_movelaws.proofs.Names.{MsgId, MessageKind, Boot, Label, id_eq-same, pid_eq-same, Step, Line, migrates, Part, Says, Routes, Again, Owns, Transmits, Spelled, spelled, Point, moved, group_of, at_record, without_front, times}
+use Rattle.dm_movelaws.proofs.Names.{View, Told, Ended, view_after, handled, receiver_of, PlainMessage, IsValid, Leads, first_point, Spot, Queue, Inbox, standing, StandsNowhere, StandsOutside, StandsRight, is_kernels, group_is, arrives_net}
+use Rattle.dm_movelaws.proofs.Names.{resends_net, stands_right, kernels_fresh, not_true, is_kill, says_next, DropsAlways, killed_or, stands_first, Both, both_start, both_group, Run, run_start, run_group, times_self, told_of, more_front}
 use Rattle.dm_laws.proofs.Equal as equal
-use Rattle.dm_laws.proofs.Equal.{id_eq-same, pid_eq-same}
-use Rattle.dm_schedule.specs.declared.Step.{Step}
-use Rattle.dm_schedule.specs.declared.Step.TheVariants as step
-use Rattle.dm_line.specs.declared.line.Line.{Line}
-use Rattle.dm_line.specs.declared.line.Line.TheVariants as line
-use Rattle.dm_rule.specs.Migrating.{migrates}
-use Rattle.dm_rule.specs.Parts.{Part, Says, Routes, Again, Owns, Transmits, Spelled, spelled}
-use Rattle.dm_rule.specs.Point.{Point, moved}
 use Rattle.dm_rule.specs.Rule as rule
-use Rattle.dm_rule.specs.Rule.{group_of}
-use Rattle.dm_line.specs.Sets.{at_record, without_front}
-use Rattle.dm_rule.specs.Spots.{times}
-use Rattle.dm_rule.specs.View.{View, Told, About, NothingElse, Target, Of, Known, Unknown, Here, Frozen, Incoming, Forward, Ended, view_after, handled, receiver_of}
 use Rattle.dm_rule.specs.View as view
-use Rattle.dm_message.specs.Plain.{PlainMessage}
-use Rattle.dm_onekernel.specs.Boot.{IsValid}
-use Rattle.dm_rule.specs.Laws.{Leads}
-use Rattle.dm_rule.specs.Point.{first_point}
-use Rattle.dm_rule.specs.Spots.{Spot, Queue, Inbox, standing, StandsNowhere, StandsOutside, StandsRight}
-use Rattle.dm_rule.specs.View.{is_kernels}
-use Rattle.std.specs.Prelude.{is_some}
-use Rattle.dm_rule.proofs.Groups.{group_is, arrives_net, resends_net, stands_right}
-use Rattle.dm_rule.proofs.Letters.{kernels_fresh}
 use Rattle.dm_rule.proofs.Lines as lines
-use Rattle.dm_rule.proofs.Lines.{not_true}
-use Rattle.dm_rule.proofs.Phases.Quiet.{is_kill}
-use Rattle.dm_rule.proofs.States.{says_next}
-use Rattle.dm_movelaws.specs.AtRest.{DropsAlways}
 use Rattle.dm_movelaws.proofs.At.RestBuried.{Knows, buried_group}
 use Rattle.dm_movelaws.proofs.At.RestEnds.{AllStay, LineEnds, LastEnds, Ends, Once, Runs, EndsOf, turns_ends}
 use Rattle.dm_movelaws.proofs.At.RestOnly.{Only, only_as, parts_only, nets_stay, migrates_stay}
-use Rattle.dm_rulelaws.proofs.Based.Sets.{killed_or}
-use Rattle.dm_rulelaws.proofs.Goes.Always.{stands_first}
-use Rattle.dm_rulelaws.proofs.Goes.Runs.{Both, both_start, both_group}
-use Rattle.dm_rulelaws.proofs.Runs.{Run}
-use Rattle.dm_rulelaws.proofs.RunsAlways.{run_start, run_group}
 
 -- what is left of the queue of a process that has ended
 record Left (a : ℕ) (p : Pid) (known : Knows) (v : View) (ids : List MsgId) : Type 0 where
@@ -62,21 +23,11 @@ at_self f m a p xs e =
     let here : (m == a) ≡ true = grind (arith, nat_tests) in
     ap (λ (c : Bool). if c && pid_eq p p then xs else f a p) here ∙ ap (λ (c : Bool). if c then xs else f a p) (pid_eq-same p)
 
-times_self : (i : MsgId) (is : List MsgId) → 1 ≤ times i (i ∷ is)
-times_self i is = let c : times i (i ∷ is) ≡ 1 + times i is = ap (λ (c : Bool). (if c then 1 else 0) + times i is) (id_eq-same i) in omega (arith, c)
-
-times_more : (i j : MsgId) (is : List MsgId) → 1 ≤ times i is → 1 ≤ times i (j ∷ is)
-times_more i j is least = counted (id_eq i j)
-  where
-    counted : (c : Bool) → 1 ≤ (if c then 1 else 0) + times i is
-    counted true = omega (arith, least)
-    counted false = omega (arith, least)
-
-drop_left : (a : ℕ) (p : Pid) (known : Knows) (v : View) (i : MsgId) (is : List MsgId) → Left a p known v (i ∷ is) → Left a p known (view_after v (line.Label (label.Dropped i))) is
+drop_left : (a : ℕ) (p : Pid) (known : Knows) (v : View) (i : MsgId) (is : List MsgId) → Left a p known v (i ∷ is) → Left a p known (view_after v (Line.Label (Label.Dropped i))) is
 drop_left a p known v i is h =
     let (t, told, for) = h.told i (times_self i is) in
     let w : View = record (handled v i) { queue = at_record v.queue v.acting p (without_front i (v.queue v.acting p)) } in
-    let look : view_after v (line.Label (label.Dropped i)) ≡ w = ap (λ (o : Option Told). view.dropped_for (handled v i) i (receiver_of o)) told ∙ ap (λ (q : Pid). view.dropped_for (handled v i) i (Some q)) for in
+    let look : view_after v (Line.Label (Label.Dropped i)) ≡ w = ap (λ (o : Option Told). view.dropped_for (handled v i) i (receiver_of o)) told ∙ ap (λ (q : Pid). view.dropped_for (handled v i) i (Some q)) for in
     let acting = h.acting in
     let front : without_front i (v.queue v.acting p) ≡ is =
     ap (λ (m : ℕ). without_front i (v.queue m p)) acting ∙ ap (without_front i) h.queue ∙ ap (λ (c : Bool). if c then is else i ∷ is) (id_eq-same i) in
@@ -84,15 +35,15 @@ drop_left a p known v i is h =
       acting = acting;
       same = h.same;
       queue = at_self v.queue v.acting a p (without_front i (v.queue v.acting p)) acting ∙ front;
-      told = λ j least. h.told j (times_more j i is least);
+      told = λ j least. h.told j (more_front j i is least);
     } in
     subst (λ (u : View). Left a p known u is) (sym look) goes
 
 drops_left : (a : ℕ) (p : Pid) (known : Knows) (ids : List MsgId) (pt : Point) (w : Spelled) → spelled pt (rule.drops ids) ≡ Some w → Left a p known pt.view ids → Left a p known w.point.view []
 drops_left a p known [] pt w is h = let f : record { lines = []; point = pt } ≡ w = cc in subst (λ (x : Spelled). Left a p known x.point.view []) f h
 drops_left a p known (i ∷ ids) pt w is h =
-    let k = says_next pt (line.Label (label.Dropped i)) (rule.drops ids) w is in
-    subst (λ (q : Point). Left a p known q.view []) k.point (drops_left a p known ids (moved pt (line.Label (label.Dropped i)) k.s) k.rest k.more (drop_left a p known pt.view i ids h))
+    let k = says_next pt (Line.Label (Label.Dropped i)) (rule.drops ids) w is in
+    subst (λ (q : Point). Left a p known q.view []) k.point (drops_left a p known ids (moved pt (Line.Label (Label.Dropped i)) k.s) k.rest k.more (drop_left a p known pt.view i ids h))
 
 -- what has ended had ended, or has no queue
 record Cleared (before : Knows) (v : View) : Type 0 where
@@ -148,7 +99,7 @@ kills_is k v p on = killed_or (λ w. w ≡ view.ended v p) k v p (λ e. refl) (�
 kills_not : (k : MessageKind) (v : View) (p : Pid) → is_kill k ≡ false → view.kills k v (Some p) ≡ v
 kills_not k v p off = killed_or (λ w. w ≡ v) k v p (λ e. absurd (false≢true (sym off ∙ e))) (λ e. refl)
 
-served_cleared : (o : Point) (a : ℕ) (id : MsgId) (ps : List Part) (pt mid : Point) (rest : Spelled) (x : Option Told) → Starts o a pt.view → pt.view.told id ≡ x → mid.view ≡ view.served_told (handled pt.view id) x → LineEnds o a (line.Label (label.Served id)) ps → spelled mid ps ≡ Some rest → Cleared o.view.known rest.point.view
+served_cleared : (o : Point) (a : ℕ) (id : MsgId) (ps : List Part) (pt mid : Point) (rest : Spelled) (x : Option Told) → Starts o a pt.view → pt.view.told id ≡ x → mid.view ≡ view.served_told (handled pt.view id) x → LineEnds o a (Line.Label (Label.Served id)) ps → spelled mid ps ≡ Some rest → Cleared o.view.known rest.point.view
 served_cleared o a id ps pt mid rest None h told now ends more =
     let none : (t : Told) → o.view.told id ≡ Some t → is_kill t.kind ≡ false = λ t is. absurd (let f : None ≡ Some t = sym told ∙ ap (λ (g : MsgId → Option Told). g id) h.told ∙ is in cc) in
     let start : Only o.view.known mid.view = only_as o.view.known pt.view mid.view (ap (λ (v : View). v.known) now) (begins_only o a pt.view h) in
@@ -168,47 +119,25 @@ served_cleared o a id ps pt mid rest (Some t) h told now ends more =
 
 -- the last of a turn
 line_cleared : (o : Point) (a : ℕ) (l : Line) (ps : List Part) (pt : Point) (z : Spelled) → Starts o a pt.view → LineEnds o a l ps → spelled pt (Says l ∷ ps) ≡ Some z → Cleared o.view.known z.point.view
-line_cleared o a (line.Label (label.End p y)) ps pt z h ends is =
-    let k = says_next pt (line.Label (label.End p y)) ps z is in
-    subst (λ (q : Point). Cleared o.view.known q.view) k.point (ends_left o a p pt (moved pt (line.Label (label.End p y)) k.s) ps k.rest h ends k.more refl refl refl refl)
-line_cleared o a (line.Label (label.Served id)) ps pt z h ends is =
-    let k = says_next pt (line.Label (label.Served id)) ps z is in
-    subst (λ (q : Point). Cleared o.view.known q.view) k.point (served_cleared o a id ps pt (moved pt (line.Label (label.Served id)) k.s) k.rest (pt.view.told id) h refl refl ends k.more)
-line_cleared o a (line.Label (label.Ran p k)) ps pt z h ends is = stays_cleared o a (rule.says (label.Ran p k) ∷ ps) pt z h (refl, ends) is
-line_cleared o a (line.Label (label.Call p n c)) ps pt z h ends is = stays_cleared o a (rule.says (label.Call p n c) ∷ ps) pt z h (refl, ends) is
-line_cleared o a (line.Label (label.Send p id)) ps pt z h ends is = stays_cleared o a (rule.says (label.Send p id) ∷ ps) pt z h (refl, ends) is
-line_cleared o a (line.Label (label.Wait p)) ps pt z h ends is = stays_cleared o a (rule.says (label.Wait p) ∷ ps) pt z h (refl, ends) is
-line_cleared o a (line.Label (label.Out p w)) ps pt z h ends is = stays_cleared o a (rule.says (label.Out p w) ∷ ps) pt z h (refl, ends) is
-line_cleared o a (line.Label (label.Receive p id)) ps pt z h ends is = stays_cleared o a (rule.says (label.Receive p id) ∷ ps) pt z h (refl, ends) is
-line_cleared o a (line.Label (label.Refuse p id c)) ps pt z h ends is = stays_cleared o a (rule.says (label.Refuse p id c) ∷ ps) pt z h (refl, ends) is
-line_cleared o a (line.Label (label.Dropped id)) ps pt z h ends is = stays_cleared o a (rule.says (label.Dropped id) ∷ ps) pt z h (refl, ends) is
-line_cleared o a (line.Label (label.Gone id)) ps pt z h ends is = stays_cleared o a (rule.says (label.Gone id) ∷ ps) pt z h (refl, ends) is
-line_cleared o a (line.Label (label.Took id)) ps pt z h ends is = stays_cleared o a (rule.says (label.Took id) ∷ ps) pt z h (refl, ends) is
-line_cleared o a (line.Label (label.Created id p)) ps pt z h ends is = stays_cleared o a (rule.says (label.Created id p) ∷ ps) pt z h (refl, ends) is
-line_cleared o a (line.Label (label.NoSpace id x y)) ps pt z h ends is = stays_cleared o a (rule.says (label.NoSpace id x y) ∷ ps) pt z h (refl, ends) is
-line_cleared o a (line.Head d) ps pt z h ends is = stays_cleared o a (Says (line.Head d) ∷ ps) pt z h (refl, ends) is
-line_cleared o a (line.Idle m) ps pt z h ends is = stays_cleared o a (Says (line.Idle m) ∷ ps) pt z h (refl, ends) is
-line_cleared o a (line.Put x y id k q) ps pt z h ends is = stays_cleared o a (Says (line.Put x y id k q) ∷ ps) pt z h (refl, ends) is
-line_cleared o a (line.Packet x y k l) ps pt z h ends is = stays_cleared o a (Says (line.Packet x y k l) ∷ ps) pt z h (refl, ends) is
-line_cleared o a (line.Taken x y k) ps pt z h ends is = stays_cleared o a (Says (line.Taken x y k) ∷ ps) pt z h (refl, ends) is
-line_cleared o a (line.Old x y k) ps pt z h ends is = stays_cleared o a (Says (line.Old x y k) ∷ ps) pt z h (refl, ends) is
-line_cleared o a (line.Early x y k) ps pt z h ends is = stays_cleared o a (Says (line.Early x y k) ∷ ps) pt z h (refl, ends) is
-line_cleared o a (line.Acked x y k) ps pt z h ends is = stays_cleared o a (Says (line.Acked x y k) ∷ ps) pt z h (refl, ends) is
-line_cleared o a line.Nothing ps pt z h ends is = stays_cleared o a (Says line.Nothing ∷ ps) pt z h (refl, ends) is
-line_cleared o a (line.Resent m k) ps pt z h ends is = stays_cleared o a (Says (line.Resent m k) ∷ ps) pt z h (refl, ends) is
-line_cleared o a (line.Queued id) ps pt z h ends is = stays_cleared o a (Says (line.Queued id) ∷ ps) pt z h (refl, ends) is
-line_cleared o a (line.Held id) ps pt z h ends is = stays_cleared o a (Says (line.Held id) ∷ ps) pt z h (refl, ends) is
-line_cleared o a (line.Forwarded id m) ps pt z h ends is = stays_cleared o a (Says (line.Forwarded id m) ∷ ps) pt z h (refl, ends) is
-line_cleared o a (line.Updated id k) ps pt z h ends is = stays_cleared o a (Says (line.Updated id k) ∷ ps) pt z h (refl, ends) is
-line_cleared o a (line.Migration s p) ps pt z h ends is = stays_cleared o a (Says (line.Migration s p) ∷ ps) pt z h (refl, ends) is
-line_cleared o a (line.SentOn p k) ps pt z h ends is = stays_cleared o a (Says (line.SentOn p k) ∷ ps) pt z h (refl, ends) is
-line_cleared o a (line.Lacks p x y) ps pt z h ends is = stays_cleared o a (Says (line.Lacks p x y) ∷ ps) pt z h (refl, ends) is
-line_cleared o a (line.Stays p) ps pt z h ends is = stays_cleared o a (Says (line.Stays p) ∷ ps) pt z h (refl, ends) is
-line_cleared o a (line.Here id) ps pt z h ends is = stays_cleared o a (Says (line.Here id) ∷ ps) pt z h (refl, ends) is
-line_cleared o a (line.NoMove id) ps pt z h ends is = stays_cleared o a (Says (line.NoMove id) ∷ ps) pt z h (refl, ends) is
-line_cleared o a (line.Proto id) ps pt z h ends is = stays_cleared o a (Says (line.Proto id) ∷ ps) pt z h (refl, ends) is
-line_cleared o a (line.NoChild p) ps pt z h ends is = stays_cleared o a (Says (line.NoChild p) ∷ ps) pt z h (refl, ends) is
-line_cleared o a (line.Pinned p) ps pt z h ends is = stays_cleared o a (Says (line.Pinned p) ∷ ps) pt z h (refl, ends) is
+line_cleared o a (Line.Label (Label.End p y)) ps pt z h ends is =
+    let k = says_next pt (Line.Label (Label.End p y)) ps z is in
+    subst (λ (q : Point). Cleared o.view.known q.view) k.point (ends_left o a p pt (moved pt (Line.Label (Label.End p y)) k.s) ps k.rest h ends k.more refl refl refl refl)
+line_cleared o a (Line.Label (Label.Served id)) ps pt z h ends is =
+    let k = says_next pt (Line.Label (Label.Served id)) ps z is in
+    subst (λ (q : Point). Cleared o.view.known q.view) k.point (served_cleared o a id ps pt (moved pt (Line.Label (Label.Served id)) k.s) k.rest (pt.view.told id) h refl refl ends k.more)
+line_cleared o a (Line.Label (Label.Ran p k)) ps pt z h ends is = stays_cleared o a (rule.says (Label.Ran p k) ∷ ps) pt z h (refl, ends) is
+line_cleared o a (Line.Label (Label.Call p n c)) ps pt z h ends is = stays_cleared o a (rule.says (Label.Call p n c) ∷ ps) pt z h (refl, ends) is
+line_cleared o a (Line.Label (Label.Send p id)) ps pt z h ends is = stays_cleared o a (rule.says (Label.Send p id) ∷ ps) pt z h (refl, ends) is
+line_cleared o a (Line.Label (Label.Wait p)) ps pt z h ends is = stays_cleared o a (rule.says (Label.Wait p) ∷ ps) pt z h (refl, ends) is
+line_cleared o a (Line.Label (Label.Out p w)) ps pt z h ends is = stays_cleared o a (rule.says (Label.Out p w) ∷ ps) pt z h (refl, ends) is
+line_cleared o a (Line.Label (Label.Receive p id)) ps pt z h ends is = stays_cleared o a (rule.says (Label.Receive p id) ∷ ps) pt z h (refl, ends) is
+line_cleared o a (Line.Label (Label.Refuse p id c)) ps pt z h ends is = stays_cleared o a (rule.says (Label.Refuse p id c) ∷ ps) pt z h (refl, ends) is
+line_cleared o a (Line.Label (Label.Dropped id)) ps pt z h ends is = stays_cleared o a (rule.says (Label.Dropped id) ∷ ps) pt z h (refl, ends) is
+line_cleared o a (Line.Label (Label.Gone id)) ps pt z h ends is = stays_cleared o a (rule.says (Label.Gone id) ∷ ps) pt z h (refl, ends) is
+line_cleared o a (Line.Label (Label.Took id)) ps pt z h ends is = stays_cleared o a (rule.says (Label.Took id) ∷ ps) pt z h (refl, ends) is
+line_cleared o a (Line.Label (Label.Created id p)) ps pt z h ends is = stays_cleared o a (rule.says (Label.Created id p) ∷ ps) pt z h (refl, ends) is
+line_cleared o a (Line.Label (Label.NoSpace id x y)) ps pt z h ends is = stays_cleared o a (rule.says (Label.NoSpace id x y) ∷ ps) pt z h (refl, ends) is
+line_cleared o a any_ ps pt z h ends is = stays_cleared o a (Says any_ ∷ ps) pt z h (refl, ends) is
 
 last_cleared : (o : Point) (a : ℕ) (ps : List Part) (pt : Point) (z : Spelled) → Starts o a pt.view → LastEnds o a ps → spelled pt ps ≡ Some z → Cleared o.view.known z.point.view
 last_cleared o a [] pt z h ends is = stays_cleared o a [] pt z h tt is
@@ -221,14 +150,9 @@ last_cleared o a (Transmits x y l ∷ ps) pt z h ends is = stays_cleared o a (Tr
 ends_cleared : (o : Point) (a : ℕ) (ps : List Part) (pt : Point) (z : Spelled) → Starts o a pt.view → Ends o a ps → spelled pt ps ≡ Some z → Cleared o.view.known z.point.view
 ends_cleared o a ps pt z h (Once ends) is = last_cleared o a ps pt z h ends is
 ends_cleared o a ps pt z h (Runs p k rest form ends) is =
-    let n = says_next pt (line.Label (label.Ran p k)) rest z (ap (spelled pt) (sym form) ∙ is) in
-    let start : Starts o a (moved pt (line.Label (label.Ran p k)) n.s).view = record { acting = h.acting; known = h.known; queue = h.queue; told = h.told; receivers = h.receivers } in
-    subst (λ (q : Point). Cleared o.view.known q.view) n.point (last_cleared o a rest (moved pt (line.Label (label.Ran p k)) n.s) n.rest start ends n.more)
-
--- whom a queued message is for
-told_of : (o : Option Told) → is_some o ≡ true → (t : Told) × (o ≡ Some t)
-told_of None e = cc
-told_of (Some t) e = (t, refl)
+    let n = says_next pt (Line.Label (Label.Ran p k)) rest z (ap (spelled pt) (sym form) ∙ is) in
+    let start : Starts o a (moved pt (Line.Label (Label.Ran p k)) n.s).view = record { acting = h.acting; known = h.known; queue = h.queue; told = h.told; receivers = h.receivers } in
+    subst (λ (q : Point). Cleared o.view.known q.view) n.point (last_cleared o a rest (moved pt (Line.Label (Label.Ran p k)) n.s) n.rest start ends n.more)
 
 in_bag : (i : MsgId) (x : Option PlainMessage) (f : Spot → ℕ) (z : Spot) → 1 ≤ f z → is_kernels i ≡ false → StandsRight i x f → (m : PlainMessage) × (x ≡ Some m)
 in_bag i None f z least off h = absurd (let k : StandsNowhere f = subst (λ (c : Bool). StandsOutside c f) off h in let e : f z ≡ 0 = k z in omega (arith, least, e))
@@ -246,28 +170,28 @@ receivers b pt a p i h least =
 
 -- a group
 group_cleared : (b : Boot) (pt : Point) (d : Step) (w : Spelled) → group_of b pt d ≡ Some w → Run b pt → Cleared pt.view.known w.point.view
-group_cleared b pt (step.Turn m) w is h =
-    let g = group_is b pt (step.Turn m) w is in
+group_cleared b pt (Step.Turn m) w is h =
+    let g = group_is b pt (Step.Turn m) w is in
     let ends : Ends pt m g.parts = subst (EndsOf pt m) g.is (turns_ends b pt m (pt.view.inbox m) h.based.phased.sane (λ i js box. told_of (pt.view.told i) (h.found.told i (Inbox m) (stands_first pt.view m i js box)))) in
-    let start : Starts pt m (moved pt (line.Head (step.Turn m)) pt.kernel).view = record { acting = refl; known = refl; queue = refl; told = refl; receivers = λ p i least. receivers b pt m p i h least } in
-    subst (λ (q : Point). Cleared pt.view.known q.view) g.point (ends_cleared pt m g.parts (moved pt (line.Head (step.Turn m)) pt.kernel) g.rest start ends g.said)
-group_cleared b pt (step.Tick m) w is h =
-    let g = group_is b pt (step.Tick m) w is in
-    let qs = Says (line.Resent m (rule.outstanding pt.view m pt.kernel.machines)) ∷ rule.resends pt.view m pt.kernel.machines in
+    let start : Starts pt m (moved pt (Line.Head (Step.Turn m)) pt.kernel).view = record { acting = refl; known = refl; queue = refl; told = refl; receivers = λ p i least. receivers b pt m p i h least } in
+    subst (λ (q : Point). Cleared pt.view.known q.view) g.point (ends_cleared pt m g.parts (moved pt (Line.Head (Step.Turn m)) pt.kernel) g.rest start ends g.said)
+group_cleared b pt (Step.Tick m) w is h =
+    let g = group_is b pt (Step.Tick m) w is in
+    let qs = Says (Line.Resent m (rule.outstanding pt.view m pt.kernel.machines)) ∷ rule.resends pt.view m pt.kernel.machines in
     let f : qs ≡ g.parts = let k = g.is in cc in
     let stays : AllStay g.parts = subst AllStay f (refl, nets_stay (rule.resends pt.view m pt.kernel.machines) (resends_net pt.view m pt.kernel.machines)) in
-    subst (λ (q : Point). Cleared pt.view.known q.view) g.point (cleared_only pt.view.known g.rest.point.view (parts_only pt.view.known g.parts (moved pt (line.Head (step.Tick m)) pt.kernel) g.rest stays g.said (record { only = λ n q e. e })))
-group_cleared b pt (step.Deliver a c k) w is h =
-    let g = group_is b pt (step.Deliver a c k) w is in
+    subst (λ (q : Point). Cleared pt.view.known q.view) g.point (cleared_only pt.view.known g.rest.point.view (parts_only pt.view.known g.parts (moved pt (Line.Head (Step.Tick m)) pt.kernel) g.rest stays g.said (record { only = λ n q e. e })))
+group_cleared b pt (Step.Deliver a c k) w is h =
+    let g = group_is b pt (Step.Deliver a c k) w is in
     let qs = rule.arrives a c (pt.view.pair a c) (pt.view.pair c a) (slice_get (pt.view.pair a c).wire k) in
     let f : qs ≡ g.parts = let t = g.is in cc in
     let stays : AllStay g.parts = subst AllStay f (nets_stay qs (arrives_net a c (pt.view.pair a c) (pt.view.pair c a) (slice_get (pt.view.pair a c).wire k))) in
-    subst (λ (q : Point). Cleared pt.view.known q.view) g.point (cleared_only pt.view.known g.rest.point.view (parts_only pt.view.known g.parts (moved pt (line.Head (step.Deliver a c k)) pt.kernel) g.rest stays g.said (record { only = λ n q e. e })))
-group_cleared b pt (step.Migrate p m) w is h =
-    let g = group_is b pt (step.Migrate p m) w is in
+    subst (λ (q : Point). Cleared pt.view.known q.view) g.point (cleared_only pt.view.known g.rest.point.view (parts_only pt.view.known g.parts (moved pt (Line.Head (Step.Deliver a c k)) pt.kernel) g.rest stays g.said (record { only = λ n q e. e })))
+group_cleared b pt (Step.Migrate p m) w is h =
+    let g = group_is b pt (Step.Migrate p m) w is in
     let f : migrates pt p ≡ g.parts = let k = g.is in cc in
     let stays : AllStay g.parts = subst AllStay f (migrates_stay pt p) in
-    subst (λ (q : Point). Cleared pt.view.known q.view) g.point (cleared_only pt.view.known g.rest.point.view (parts_only pt.view.known g.parts (moved pt (line.Head (step.Migrate p m)) pt.kernel) g.rest stays g.said (record { only = λ n q e. e })))
+    subst (λ (q : Point). Cleared pt.view.known q.view) g.point (cleared_only pt.view.known g.rest.point.view (parts_only pt.view.known g.parts (moved pt (Line.Head (Step.Migrate p m)) pt.kernel) g.rest stays g.said (record { only = λ n q e. e })))
 
 -- no message waits for a process where it has ended
 pub record Dropped (v : View) : Type 0 where

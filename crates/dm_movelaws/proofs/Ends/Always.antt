@@ -1,26 +1,7 @@
 -- Wherever the rule leads, each directive to move a process has at most one end, and one where nothing is on its way.
-use Rattle.std.proofs.Common.{◌≡◌, ℕ, ◌+◌, ◌==◌, ◌&&◌, ◌||◌, Bool, true, false, List, [], ◌∷◌, length, refl, ap, ◌∙◌, sym, subst, inl, inr, arith}
-use Rattle.std.specs.Prelude.{if◌then◌else◌}
-use Rattle.std.specs.declared.option.Option.TheVariants.{None, Some}
-use Rattle.std.proofs.lemmas.Bool.{false≢true}
-use Rattle.dm_link.specs.declared.Pid.{Pid}
-use Rattle.dm_link.specs.Names.{pid_eq}
-use Rattle.dm_message.specs.declared.MsgId.{MsgId}
-use Rattle.dm_onekernel.specs.declared.boot.Boot.{Boot}
-use Rattle.dm_onekernel.specs.declared.boot.BootProcess.{BootProcess}
-use Rattle.dm_onekernel.specs.Boot.{IsValid, switchboard, manager}
-use Rattle.dm_schedule.specs.declared.Step.{Step}
-use Rattle.dm_line.specs.declared.line.Line.{Line}
-use Rattle.dm_rule.specs.Laws.{IsStep}
-use Rattle.dm_rule.specs.Point.{Point, first_point}
-use Rattle.dm_rule.specs.Quiet.{IsQuiet}
-use Rattle.dm_rule.specs.View.{Known, Unknown, Here, known_at, first_view}
-use Rattle.dm_rule.proofs.Groups.{fits}
-use Rattle.dm_rulelaws.specs.Order.{LeadsBy}
-use Rattle.dm_rulelaws.proofs.Goes.Runs.{Both, both_start, both_group}
-use Rattle.dm_rulelaws.proofs.RunsAlways.{run_start, run_group}
-use Rattle.dm_movelaws.specs.AtRest.{is_moving}
-use Rattle.dm_movelaws.specs.Ends.{asks, ends, count, EndsAlways}
+use Rattle.dm_movelaws.proofs.Names.{◌≡◌, ℕ, ◌+◌, ◌==◌, ◌&&◌, ◌||◌, Bool, true, false, List, [], ◌∷◌, length, refl, ap, ◌∙◌, sym, subst, inl, inr, arith, if◌then◌else◌, None, Some, false≢true, Pid, pid_eq, MsgId, Boot, BootProcess, IsValid}
+use Rattle.dm_movelaws.proofs.Names.{switchboard, manager, Step, Line, IsStep, Point, first_point, IsQuiet, Known, Unknown, Here, known_at, first_view, fits, LeadsBy, Both, both_start, both_group, run_start, run_group, is_moving, asks}
+use Rattle.dm_movelaws.proofs.Names.{ends, count, EndsAlways}
 use Rattle.dm_movelaws.proofs.Ends.Smooth.{Extends}
 use Rattle.dm_movelaws.proofs.Ends.Moving.{moving_in, waits_or}
 use Rattle.dm_movelaws.proofs.Ends.Open.{Opens}

@@ -1,45 +1,9 @@
 -- What each group does with requests to move a process: directives and ends are counted against those that are under way.
-use Rattle.std.proofs.Common.{◌≡◌, ℕ, ◌+◌, Bool, true, false, List, [], ◌∷◌, length, refl, ap, ◌∙◌, sym, subst, inl, inr, arith}
-use Rattle.std.specs.Prelude.{if◌then◌else◌, slice_get}
-use Rattle.std.specs.declared.option.Option.{Option}
-use Rattle.std.specs.declared.option.Option.TheVariants.{None, Some}
-use Rattle.std.proofs.lemmas.Bool.{cases_Bool}
-use Rattle.dm_link.specs.declared.Pid.{Pid}
-use Rattle.dm_link.specs.Names.{pid_eq}
-use Rattle.dm_message.specs.declared.MsgId.{MsgId}
-use Rattle.dm_message.specs.declared.kind.MessageKind.TheVariants as kind
-use Rattle.dm_message.specs.Plain.{PlainMessage}
-use Rattle.dm_onekernel.specs.declared.boot.Boot.{Boot}
-use Rattle.dm_onekernel.specs.Boot.{switchboard, manager}
-use Rattle.dm_onekernel.specs.Options.{bind}
-use Rattle.dm_schedule.specs.declared.Step.{Step}
-use Rattle.dm_schedule.specs.declared.Step.TheVariants as step
-use Rattle.dm_laws.proofs.Steps.{bind-is}
-use Rattle.dm_line.specs.declared.line.Line.{Line}
-use Rattle.dm_line.specs.declared.line.Line.TheVariants as line
-use Rattle.dm_rule.specs.Addresses.{Addresses, Child, child_number}
-use Rattle.dm_rule.specs.Migrating.{migrates, migrates_child}
-use Rattle.dm_rule.specs.View.{View, Told, after_head, after_put, view_after, own_id}
-use Rattle.dm_rule.specs.View as view
-use Rattle.dm_rule.specs.Point.{Point, moved, after_line, after}
-use Rattle.dm_rule.specs.Parts.{Part, Says, Owns, Spelled, lines_of, behind, spelled}
+use Rattle.dm_movelaws.proofs.Names.{◌≡◌, ℕ, ◌+◌, Bool, true, false, List, [], ◌∷◌, length, refl, ap, ◌∙◌, sym, subst, inl, inr, arith, if◌then◌else◌, slice_get, Option, None, Some, cases_Bool, Pid, pid_eq, MsgId, MessageKind, PlainMessage}
+use Rattle.dm_movelaws.proofs.Names.{Boot, switchboard, manager, bind, Step, bind-is, Line, Addresses, Child, child_number, migrates, migrates_child, View, Told, after_head, after_put, view_after, own_id, Point, moved, after_line, after}
+use Rattle.dm_movelaws.proofs.Names.{Part, Says, Owns, Spelled, lines_of, behind, spelled, group_of, IsNet, arrives_net, resends_net, front_way, Phased, told_some, put_spots, put_at, head_calm, put_there, put_spot, InPhases, calm_phases}
+use Rattle.dm_movelaws.proofs.Names.{PairsFit, PacketsKeep, put_told_off, said, Sane, KnownStands, Begins, begins, WalksOf, loose_walks, begun, begun_sane, turned, resting, round_walks, handles_walks, asks, ends, count, first_none}
 use Rattle.dm_rule.specs.Rule as rule
-use Rattle.dm_rule.specs.Rule.{group_of}
-use Rattle.dm_rule.proofs.Groups.{IsNet, arrives_net, resends_net}
-use Rattle.dm_rule.proofs.Moves.States.{front_way}
-use Rattle.dm_rule.proofs.Phases.Always.{Phased}
-use Rattle.dm_rule.proofs.Phases.Leaves.{told_some}
-use Rattle.dm_rule.proofs.Phases.Lines.{put_spots, put_at}
-use Rattle.dm_rule.proofs.Phases.Net.{head_calm}
-use Rattle.dm_rule.proofs.Phases.Put.{put_there, put_spot}
-use Rattle.dm_rule.proofs.Phases.Stand.{InPhases, calm_phases}
-use Rattle.dm_rule.proofs.States.{PairsFit, PacketsKeep, put_told_off, said}
-use Rattle.dm_rule.proofs.Telling.{Sane}
-use Rattle.dm_rulelaws.specs.KnownStands.{KnownStands}
-use Rattle.dm_rulelaws.proofs.Based.Groups.{Begins, begins}
-use Rattle.dm_rulelaws.proofs.Based.Needs.{WalksOf, loose_walks, begun, begun_sane}
-use Rattle.dm_rulelaws.proofs.Based.Rows.{turned, resting, round_walks, handles_walks}
-use Rattle.dm_movelaws.specs.Ends.{asks, ends, count}
 use Rattle.dm_movelaws.proofs.Ends.Smooth.{is_migrate, Extends, Smooth, Still, plain_in_bag, own_untold, smooth_same}
 use Rattle.dm_movelaws.proofs.Ends.Lines.{Tame}
 use Rattle.dm_movelaws.proofs.Ends.Still.{still_same}
@@ -64,27 +28,27 @@ begun_phases pt d h = calm_phases pt.view (after_head pt.view d) (head_calm pt.v
 begun_fits : (pt : Point) (m : ℕ) → PairsFit pt.view → PairsFit (turned pt m).view
 begun_fits pt m h = record { within = h.within; home = h.home }
 
-front_comes : (p : Pid) (b : Boot) (o : Point) (m : ℕ) (i : MsgId) (is : List MsgId) (x : Option PlainMessage) (h : InPhases o.view) → Begins o m → PairsFit o.view → o.view.inbox m ≡ i ∷ is → o.kernel.bag i ≡ x → ComesOf p (turned o m) (begun_phases o (step.Turn m) h) (rule.comes_to b o m i x)
+front_comes : (p : Pid) (b : Boot) (o : Point) (m : ℕ) (i : MsgId) (is : List MsgId) (x : Option PlainMessage) (h : InPhases o.view) → Begins o m → PairsFit o.view → o.view.inbox m ≡ i ∷ is → o.kernel.bag i ≡ x → ComesOf p (turned o m) (begun_phases o (Step.Turn m) h) (rule.comes_to b o m i x)
 front_comes p b o m i is None h s fits front there =
     let pt = turned o m in
-    let phases = begun_phases o (step.Turn m) h in
+    let phases = begun_phases o (Step.Turn m) h in
     let (q, way) = front_way pt i is s.state front in
     let (t, told) = told_some (o.view.told i) q (s.state.stands.told i q way) in
     let turn : Turn pt i is t = record { front = front; told = told; state = s.state; sane = s.sane; fits = begun_fits o m fits; phases = phases } in
     subst (λ (u : Option Told). ComesOf p pt phases (rule.hears b o m i u)) (sym told) (hears_comes p b o m i is t turn)
 front_comes p b o m i is (Some msg) h s fits front there =
     let pt = turned o m in
-    let phases = begun_phases o (step.Turn m) h in
+    let phases = begun_phases o (Step.Turn m) h in
     let (q, way) = front_way pt i is s.state front in
     let (t, told) = told_some (o.view.told i) q (s.state.stands.told i q way) in
     let tame : Tame p pt.view i = record { what = t; told = told; plain = plain_in_bag p pt i msg s.sane there t told } in
     quiet_comes p pt phases (rule.handles b o m i msg) s.sane (begun_fits o m fits) (handles_quiet p pt.view b o m i msg tame) (handles_walks b o m i msg s.sane s.phases s.rooted (record { there = there; told = t; is = told }))
 
-turn_comes : (p : Pid) (b : Boot) (o : Point) (m : ℕ) (inbox : List MsgId) (h : InPhases o.view) → Begins o m → PairsFit o.view → o.view.inbox m ≡ inbox → ComesOf p (turned o m) (begun_phases o (step.Turn m) h) (rule.turns b o m inbox)
+turn_comes : (p : Pid) (b : Boot) (o : Point) (m : ℕ) (inbox : List MsgId) (h : InPhases o.view) → Begins o m → PairsFit o.view → o.view.inbox m ≡ inbox → ComesOf p (turned o m) (begun_phases o (Step.Turn m) h) (rule.turns b o m inbox)
 turn_comes p b o m [] h s fits front =
     let pt = turned o m in
     let q = rule.first_runnable o.kernel (o.view.queue m) (o.view.ring m) in
-    quiet_comes p pt (begun_phases o (step.Turn m) h) (rule.goes_round b o m q) s.sane (begun_fits o m fits) (round_quiet p pt.view b o m q) (round_walks pt b o m q (λ r is. resting pt.view r s.phases (s.rooted.served m r is)))
+    quiet_comes p pt (begun_phases o (Step.Turn m) h) (rule.goes_round b o m q) s.sane (begun_fits o m fits) (round_quiet p pt.view b o m q) (round_walks pt b o m q (λ r is. resting pt.view r s.phases (s.rooted.served m r is)))
 turn_comes p b o m (i ∷ is) h s fits front = front_comes p b o m i is (o.kernel.bag i) h s fits front refl
 
 -- a delivery or a tick
@@ -95,23 +59,23 @@ net_comes p pt h ps w net e g ids opens =
 
 -- the directive to move
 abbrev asked_by : Pid → Step → ℕ
-asked_by p d = one_if (asks p) (line.Head d)
+asked_by p d = one_if (asks p) (Line.Head d)
 
 abbrev Directed : Pid → Step → (pt : Point) → InPhases pt.view → List Part → Spelled → Type 0
 Directed p d pt h parts w = (g : InPhases w.point.view) (ids : List MsgId) → Opens p pt.view ids → Balance p w.point.view ids (asked_by p d) (moving_in (h.of p)) (moving_in (g.of p)) parts
 
-pinned_comes : (p q : Pid) (m : ℕ) (pt : Point) (h : InPhases pt.view) (w : Spelled) → spelled pt (Says (line.Pinned q) ∷ []) ≡ Some w → Directed p (step.Migrate q m) pt h (Says (line.Pinned q) ∷ []) w
+pinned_comes : (p q : Pid) (m : ℕ) (pt : Point) (h : InPhases pt.view) (w : Spelled) → spelled pt (Says (Line.Pinned q) ∷ []) ≡ Some w → Directed p (Step.Migrate q m) pt h (Says (Line.Pinned q) ∷ []) w
 pinned_comes p q m pt h w e g ids opens =
-    let at : moved pt (line.Pinned q) pt.kernel ≡ w.point = line_alone pt (line.Pinned q) w refl e in
+    let at : moved pt (Line.Pinned q) pt.kernel ≡ w.point = line_alone pt (Line.Pinned q) w refl e in
     let v = pt.view in
     let smooth : Smooth p v w.point.view = subst (λ (x : Point). Smooth p v x.view) at (smooth_same p v) in
     let still : Still p v w.point.view = subst (λ (x : Point). Still p v x.view) at (still_same p v) in
     let same = still_moves p v w.point.view h g still in
     record { left = ids; opens = smooth_opens p v w.point.view ids smooth opens; quiet = refl; sum = λ f ext. omega (arith, same) }
 
-no_child_comes : (p q : Pid) (m : ℕ) (pt : Point) (h : InPhases pt.view) (w : Spelled) → spelled pt (Says (line.NoChild q) ∷ []) ≡ Some w → Directed p (step.Migrate q m) pt h (Says (line.NoChild q) ∷ []) w
+no_child_comes : (p q : Pid) (m : ℕ) (pt : Point) (h : InPhases pt.view) (w : Spelled) → spelled pt (Says (Line.NoChild q) ∷ []) ≡ Some w → Directed p (Step.Migrate q m) pt h (Says (Line.NoChild q) ∷ []) w
 no_child_comes p q m pt h w e g ids opens =
-    let at : moved pt (line.NoChild q) pt.kernel ≡ w.point = line_alone pt (line.NoChild q) w refl e in
+    let at : moved pt (Line.NoChild q) pt.kernel ≡ w.point = line_alone pt (Line.NoChild q) w refl e in
     let v = pt.view in
     let smooth : Smooth p v w.point.view = subst (λ (x : Point). Smooth p v x.view) at (smooth_same p v) in
     let still : Still p v w.point.view = subst (λ (x : Point). Still p v x.view) at (still_same p v) in
@@ -124,56 +88,52 @@ record Added (p : Pid) (v : View) (ids : List MsgId) (w : View) : Type 0 where
   still : Still p v w
 
 added_packet : (p : Pid) (v : View) (ids : List MsgId) → PacketsKeep (λ q. Added p v ids q.view)
-added_packet p v ids q a b k l h = record { opens = smooth_opens p q.view (view_after q.view (line.Packet a b k l)) ids (packet_smooth p q.view a b k l) h.opens; still = h.still }
+added_packet p v ids q a b k l h = record { opens = smooth_opens p q.view (view_after q.view (Line.Packet a b k l)) ids (packet_smooth p q.view a b k l) h.opens; still = h.still }
 
-first_some : (o : Option Told) (u : Told) → o ≡ None → Some (view.first_told o u) ≡ Some u
-first_some None u e = refl
-first_some (Some t) u e = cc
-
-request_adds : (p q : Pid) (pt : Point) (b : ℕ) → Sane pt → PairsFit pt.view → pid_eq p q ≡ true → Adds p pt.view (after_put pt.view pt.view.acting b (own_id pt.view) kind.Migrate q) (own_id pt.view)
+request_adds : (p q : Pid) (pt : Point) (b : ℕ) → Sane pt → PairsFit pt.view → pid_eq p q ≡ true → Adds p pt.view (after_put pt.view pt.view.acting b (own_id pt.view) MessageKind.Migrate q) (own_id pt.view)
 request_adds p q pt b sane fits same =
     let v = pt.view in
     let i = own_id v in
-    let u : Told = record { kind = kind.Migrate; receiver = q; about = v.topic } in
+    let u : Told = record { kind = MessageKind.Migrate; receiver = q; about = v.topic } in
     let untold = own_untold pt sane in
     record {
       untold = untold;
-      now = record { told = u; is = put_at v v.acting b i kind.Migrate q ∙ first_some (v.told i) u untold; asks = same; stands = (put_spot v.acting b, put_there v v.acting b i kind.Migrate q fits) };
-      told = λ j apart. put_told_off v v.acting b i j kind.Migrate q apart;
-      spots = λ j apart z. put_spots v v.acting b i j kind.Migrate q fits apart z;
+      now = record { told = u; is = put_at v v.acting b i MessageKind.Migrate q ∙ first_none (v.told i) u untold; asks = same; stands = (put_spot v.acting b, put_there v v.acting b i MessageKind.Migrate q fits) };
+      told = λ j apart. put_told_off v v.acting b i j MessageKind.Migrate q apart;
+      spots = λ j apart z. put_spots v v.acting b i j MessageKind.Migrate q fits apart z;
     }
 
-request_comes : (p q : Pid) (m b : ℕ) (pt : Point) (h : InPhases pt.view) (w : Spelled) → Sane pt → PairsFit pt.view → pid_eq p q ≡ true → spelled pt (Owns kind.Migrate q b ∷ []) ≡ Some w → Directed p (step.Migrate q m) pt h (Owns kind.Migrate q b ∷ []) w
+request_comes : (p q : Pid) (m b : ℕ) (pt : Point) (h : InPhases pt.view) (w : Spelled) → Sane pt → PairsFit pt.view → pid_eq p q ≡ true → spelled pt (Owns MessageKind.Migrate q b ∷ []) ≡ Some w → Directed p (Step.Migrate q m) pt h (Owns MessageKind.Migrate q b ∷ []) w
 request_comes p q m b pt h w sane fits same e g ids opens =
     let v = pt.view in
     let i = own_id v in
-    let (ls, lines, rest) = bind-is (lines_of pt (Owns kind.Migrate q b)) (λ (xs : List Line). bind (after pt xs) (λ (x : Point). bind (spelled x []) (λ (z : Spelled). Some (behind xs z)))) w e in
+    let (ls, lines, rest) = bind-is (lines_of pt (Owns MessageKind.Migrate q b)) (λ (xs : List Line). bind (after pt xs) (λ (x : Point). bind (spelled x []) (λ (z : Spelled). Some (behind xs z)))) w e in
     let (next, leads, last) = bind-is (after pt ls) (λ (x : Point). bind (spelled x []) (λ (z : Spelled). Some (behind ls z))) w rest in
     let (z, more, end) = bind-is (spelled next []) (λ (y : Spelled). Some (behind ls y)) w last in
     let f : behind ls z ≡ w = cc in
     let at : next ≡ w.point = said next z more ∙ ap (λ (x : Spelled). x.point) f in
-    let first : Added p v (i ∷ ids) (after_put v v.acting b i kind.Migrate q) = record { opens = add_opens p v (after_put v v.acting b i kind.Migrate q) ids i (request_adds p q pt b sane fits same) opens; still = λ n. refl } in
-    let put : Added p v (i ∷ ids) next.view = puts_lead (λ (x : Point). Added p v (i ∷ ids) x.view) (added_packet p v (i ∷ ids)) pt next b i kind.Migrate q ls first lines leads in
+    let first : Added p v (i ∷ ids) (after_put v v.acting b i MessageKind.Migrate q) = record { opens = add_opens p v (after_put v v.acting b i MessageKind.Migrate q) ids i (request_adds p q pt b sane fits same) opens; still = λ n. refl } in
+    let put : Added p v (i ∷ ids) next.view = puts_lead (λ (x : Point). Added p v (i ∷ ids) x.view) (added_packet p v (i ∷ ids)) pt next b i MessageKind.Migrate q ls first lines leads in
     let there : Added p v (i ∷ ids) w.point.view = subst (λ (x : Point). Added p v (i ∷ ids) x.view) at put in
     let mv = still_moves p v w.point.view h g there.still in
-    let one : asked_by p (step.Migrate q m) ≡ 1 = ap (λ (c : Bool). if c then 1 else 0) same in
+    let one : asked_by p (Step.Migrate q m) ≡ 1 = ap (λ (c : Bool). if c then 1 else 0) same in
     record { left = i ∷ ids; opens = there.opens; quiet = refl; sum = λ f ext. omega (arith, one, mv) }
 
-owns_comes : (p q : Pid) (m b : ℕ) (pt : Point) (h : InPhases pt.view) (w : Spelled) → Sane pt → PairsFit pt.view → spelled pt (Owns kind.Migrate q b ∷ []) ≡ Some w → Directed p (step.Migrate q m) pt h (Owns kind.Migrate q b ∷ []) w
+owns_comes : (p q : Pid) (m b : ℕ) (pt : Point) (h : InPhases pt.view) (w : Spelled) → Sane pt → PairsFit pt.view → spelled pt (Owns MessageKind.Migrate q b ∷ []) ≡ Some w → Directed p (Step.Migrate q m) pt h (Owns MessageKind.Migrate q b ∷ []) w
 owns_comes p q m b pt h w sane fits e g ids opens = elim (cases_Bool (pid_eq p q)) [
   | inl same ↦ request_comes p q m b pt h w sane fits same e g ids opens
   | inr off ↦
-      let ps = Owns kind.Migrate q b ∷ [] in
-      let r = quiet_row p pt h ps w sane fits (and_off (is_migrate kind.Migrate) (pid_eq p q) off, tt) (loose_walks ps pt (λ x. tt, tt)) e g ids opens in
+      let ps = Owns MessageKind.Migrate q b ∷ [] in
+      let r = quiet_row p pt h ps w sane fits (and_off (is_migrate MessageKind.Migrate) (pid_eq p q) off, tt) (loose_walks ps pt (λ x. tt, tt)) e g ids opens in
       let zero_ = zero_if (pid_eq p q) off in
       record { left = r.left; opens = r.opens; quiet = r.quiet; sum = λ f ext. (let s = r.sum f ext in omega (arith, s, zero_)) }
 ]
 
-child_comes : (p q : Pid) (m : ℕ) (a : Addresses) (o : Option ℕ) (pt : Point) (h : InPhases pt.view) (w : Spelled) → Sane pt → PairsFit pt.view → spelled pt (migrates_child a q o) ≡ Some w → Directed p (step.Migrate q m) pt h (migrates_child a q o) w
+child_comes : (p q : Pid) (m : ℕ) (a : Addresses) (o : Option ℕ) (pt : Point) (h : InPhases pt.view) (w : Spelled) → Sane pt → PairsFit pt.view → spelled pt (migrates_child a q o) ≡ Some w → Directed p (Step.Migrate q m) pt h (migrates_child a q o) w
 child_comes p q m a None pt h w sane fits e = no_child_comes p q m pt h w e
 child_comes p q m a (Some n) pt h w sane fits e = owns_comes p q m (a (Child n)).at pt h w sane fits e
 
-migrates_by : (p q : Pid) (m : ℕ) (o pt : Point) (c d : Bool) (h : InPhases pt.view) (w : Spelled) → Sane pt → PairsFit pt.view → let ps = if c then Says (line.Pinned q) ∷ [] else if d then Says (line.Pinned q) ∷ [] else migrates_child o.addresses q (child_number o.kernel q) in spelled pt ps ≡ Some w → Directed p (step.Migrate q m) pt h ps w
+migrates_by : (p q : Pid) (m : ℕ) (o pt : Point) (c d : Bool) (h : InPhases pt.view) (w : Spelled) → Sane pt → PairsFit pt.view → let ps = if c then Says (Line.Pinned q) ∷ [] else if d then Says (Line.Pinned q) ∷ [] else migrates_child o.addresses q (child_number o.kernel q) in spelled pt ps ≡ Some w → Directed p (Step.Migrate q m) pt h ps w
 migrates_by p q m o pt true d h w sane fits e = pinned_comes p q m pt h w e
 migrates_by p q m o pt false true h w sane fits e = pinned_comes p q m pt h w e
 migrates_by p q m o pt false false h w sane fits e = child_comes p q m o.addresses (child_number o.kernel q) pt h w sane fits e
@@ -184,38 +144,38 @@ record GroupIs (b : Boot) (pt : Point) (d : Step) (w : Spelled) : Type 0 where
   is : rule.outcome b pt d ≡ Some parts
   rest : Spelled
   said : spelled (begun pt d) parts ≡ Some rest
-  whole : rule.headed (line.Head d) rest ≡ w
+  whole : rule.headed (Line.Head d) rest ≡ w
 
 group_is : (b : Boot) (pt : Point) (d : Step) (w : Spelled) → group_of b pt d ≡ Some w → GroupIs b pt d w
 group_is b pt d w e =
-    let (parts, is, more) = bind-is (rule.outcome b pt d) (λ parts. bind (after_line pt (line.Head d)) (λ begun. bind (spelled begun parts) (λ w. Some (rule.headed (line.Head d) w)))) w e in
-    let (start, head, last) = bind-is (after_line pt (line.Head d)) (λ begun. bind (spelled begun parts) (λ w. Some (rule.headed (line.Head d) w))) w more in
-    let (rest, told, end) = bind-is (spelled start parts) (λ w. Some (rule.headed (line.Head d) w)) w last in
-    let f : moved pt (line.Head d) pt.kernel ≡ start = cc in
-    let g : rule.headed (line.Head d) rest ≡ w = cc in
+    let (parts, is, more) = bind-is (rule.outcome b pt d) (λ parts. bind (after_line pt (Line.Head d)) (λ begun. bind (spelled begun parts) (λ w. Some (rule.headed (Line.Head d) w)))) w e in
+    let (start, head, last) = bind-is (after_line pt (Line.Head d)) (λ begun. bind (spelled begun parts) (λ w. Some (rule.headed (Line.Head d) w))) w more in
+    let (rest, told, end) = bind-is (spelled start parts) (λ w. Some (rule.headed (Line.Head d) w)) w last in
+    let f : moved pt (Line.Head d) pt.kernel ≡ start = cc in
+    let g : rule.headed (Line.Head d) rest ≡ w = cc in
     record { parts = parts; is = is; rest = rest; said = ap (λ p. spelled p parts) f ∙ told; whole = g }
 
 -- what comes of a directive
 directed : (p : Pid) (b : Boot) (pt : Point) (d : Step) (parts : List Part) (w : Spelled) (h : InPhases pt.view) → Phased pt → KnownStands pt.kernel pt.view → PairsFit pt.view → rule.outcome b pt d ≡ Some parts → spelled (begun pt d) parts ≡ Some w → Directed p d (begun pt d) (begun_phases pt d h) parts w
-directed p b pt (step.Turn m) parts w h phased known fits is e =
-    let start = begun pt (step.Turn m) in
-    let phases = begun_phases pt (step.Turn m) h in
+directed p b pt (Step.Turn m) parts w h phased known fits is e =
+    let start = begun pt (Step.Turn m) in
+    let phases = begun_phases pt (Step.Turn m) h in
     let all : ComesOf p start phases (Some parts) = subst (ComesOf p start phases) is (turn_comes p b pt m (pt.view.inbox m) h (begins pt m phased known) fits refl) in
     all w e
-directed p b pt (step.Tick m) parts w h phased known fits is e =
-    let qs = Says (line.Resent m (rule.outstanding pt.view m pt.kernel.machines)) ∷ rule.resends pt.view m pt.kernel.machines in
+directed p b pt (Step.Tick m) parts w h phased known fits is e =
+    let qs = Says (Line.Resent m (rule.outstanding pt.view m pt.kernel.machines)) ∷ rule.resends pt.view m pt.kernel.machines in
     let f : qs ≡ parts = cc in
-    net_comes p (begun pt (step.Tick m)) (begun_phases pt (step.Tick m) h) parts w (subst IsNet f (tt, resends_net pt.view m pt.kernel.machines)) e
-directed p b pt (step.Deliver a c k) parts w h phased known fits is e =
+    net_comes p (begun pt (Step.Tick m)) (begun_phases pt (Step.Tick m) h) parts w (subst IsNet f (tt, resends_net pt.view m pt.kernel.machines)) e
+directed p b pt (Step.Deliver a c k) parts w h phased known fits is e =
     let qs = rule.arrives a c (pt.view.pair a c) (pt.view.pair c a) (slice_get (pt.view.pair a c).wire k) in
     let f : qs ≡ parts = cc in
-    net_comes p (begun pt (step.Deliver a c k)) (begun_phases pt (step.Deliver a c k) h) parts w (subst IsNet f (arrives_net a c (pt.view.pair a c) (pt.view.pair c a) (slice_get (pt.view.pair a c).wire k))) e
-directed p b pt (step.Migrate q m) parts w h phased known fits is e =
-    let start = begun pt (step.Migrate q m) in
-    let phases = begun_phases pt (step.Migrate q m) h in
+    net_comes p (begun pt (Step.Deliver a c k)) (begun_phases pt (Step.Deliver a c k) h) parts w (subst IsNet f (arrives_net a c (pt.view.pair a c) (pt.view.pair c a) (slice_get (pt.view.pair a c).wire k))) e
+directed p b pt (Step.Migrate q m) parts w h phased known fits is e =
+    let start = begun pt (Step.Migrate q m) in
+    let phases = begun_phases pt (Step.Migrate q m) h in
     let f : migrates pt q ≡ parts = cc in
-    subst (λ (ps : List Part). Directed p (step.Migrate q m) start phases ps w) f
-    (migrates_by p q m pt start (pid_eq q switchboard) (pid_eq q manager) phases w (begun_sane pt (step.Migrate q m) phased.sane) (record { within = fits.within; home = fits.home }) (ap (spelled start) f ∙ e))
+    subst (λ (ps : List Part). Directed p (Step.Migrate q m) start phases ps w) f
+    (migrates_by p q m pt start (pid_eq q switchboard) (pid_eq q manager) phases w (begun_sane pt (Step.Migrate q m) phased.sane) (record { within = fits.within; home = fits.home }) (ap (spelled start) f ∙ e))
 
 -- what comes of a group
 pub record GroupBalance (p : Pid) (w : Spelled) (ids : List MsgId) (before behind : ℕ) : Type 0 where
@@ -224,7 +184,7 @@ pub record GroupBalance (p : Pid) (w : Spelled) (ids : List MsgId) (before behin
   pub sum : (f : MsgId → Option Told) → Extends w.point.view.told f → count (asks p) w.lines + (length ids + before) ≡ count (ends f p) w.lines + (length left + behind)
 
 whole_balance : (p : Pid) (d : Step) (parts : List Part) (ids : List MsgId) (before behind : ℕ) (start : Point) (rest : Spelled) → spelled start parts ≡ Some rest → Balance p rest.point.view ids (asked_by p d) before behind parts
-    → GroupBalance p (rule.headed (line.Head d) rest) ids before behind
+    → GroupBalance p (rule.headed (Line.Head d) rest) ids before behind
 whole_balance p d parts ids before behind start rest e h = record {
   left = h.left;
   opens = h.opens;

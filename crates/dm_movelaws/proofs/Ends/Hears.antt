@@ -1,44 +1,12 @@
 -- A turn that handles a kernel's own message: a request to move ends where it finds its process, and else goes on.
-use Rattle.std.proofs.Common.{◌≡◌, ℕ, ◌==◌, ◌&&◌, Bool, true, false, List, [], ◌∷◌, length, refl, ap, ◌∙◌, sym, subst, inl, inr, arith}
-use Rattle.std.specs.Prelude.{◌/◌, if◌then◌else◌}
-use Rattle.std.specs.declared.option.Option.{Option}
-use Rattle.std.specs.declared.option.Option.TheVariants.{None, Some}
-use Rattle.std.proofs.lemmas.Bool.{cases_Bool}
-use Rattle.dm_link.specs.declared.Pid.{Pid}
-use Rattle.dm_link.specs.Names.{pid_eq}
-use Rattle.dm_message.specs.declared.MsgId.{MsgId}
-use Rattle.dm_message.specs.declared.kind.MessageKind.{MessageKind}
-use Rattle.dm_message.specs.declared.kind.MessageKind.TheVariants as kind
-use Rattle.dm_onekernel.specs.declared.boot.Boot.{Boot}
-use Rattle.dm_onekernel.specs.Boot.{switchboard, manager}
-use Rattle.dm_onekernel.specs.Options.{bind}
+use Rattle.dm_movelaws.proofs.Names.{◌≡◌, ℕ, ◌==◌, ◌&&◌, Bool, true, false, List, [], ◌∷◌, length, refl, ap, ◌∙◌, sym, subst, inl, inr, arith, ◌/◌, if◌then◌else◌, Option, None, Some, cases_Bool, Pid, pid_eq, MsgId, MessageKind, Stage, Boot}
+use Rattle.dm_movelaws.proofs.Names.{switchboard, manager, bind, pid_eq-is, bind-is, Line, Addresses, Sender, is_told_back, to_kernel, forwards_on, kernel_told, here_told, ended_told, process_told, server_told, View, Told, About, Of, Known}
+use Rattle.dm_movelaws.proofs.Names.{Unknown, Here, Frozen, Forward, Ended, view_after, handled, handled_first, receiver_of, target_of, front_told, Point, moved, after, Part, Says, Again, Owns, Spelled, lines_of, puts, behind, spelled}
+use Rattle.dm_movelaws.proofs.Names.{free_room, kernel_hears, hears, Spot, Held, Inbox, ids_at, first_off, line_next, fits_put, fits_packet, pair_same, handled_spots, held_known, forwarded_spots, forwarded_known, put_spots, put_there}
+use Rattle.dm_movelaws.proofs.Names.{put_spot, InPhases, fits_as, PairsFit, PacketsKeep, sane_line, part_sane, AllLoose, loose_walks, turned, is_moving, is_for, frozen_off}
 use Rattle.dm_onekernel.specs.Step as kernel
-use Rattle.dm_laws.proofs.Equal.{pid_eq-is}
-use Rattle.dm_laws.proofs.Steps.{bind-is}
-use Rattle.dm_line.specs.declared.line.Line.{Line}
-use Rattle.dm_line.specs.declared.line.Line.TheVariants as line
-use Rattle.dm_line.specs.declared.line.Stage.TheVariants as stage
-use Rattle.dm_rule.specs.Addresses.{Addresses, Sender, is_told_back}
-use Rattle.dm_rule.specs.Migrating.{to_kernel, forwards_on, kernel_told, here_told, ended_told, process_told, server_told}
-use Rattle.dm_rule.specs.View.{View, Told, About, NothingElse, Target, Of, Known, Unknown, Here, Frozen, Incoming, Forward, Ended, view_after, handled, handled_first, receiver_of, target_of, front_told}
 use Rattle.dm_rule.specs.View as view
-use Rattle.dm_rule.specs.Point.{Point, moved, after}
-use Rattle.dm_rule.specs.Parts.{Part, Says, Again, Owns, Spelled, lines_of, puts, behind, spelled}
-use Rattle.dm_rule.specs.Rule.{fits, free_room, kernel_hears, hears}
-use Rattle.dm_rule.specs.Spots.{Spot, Queue, Held, Inbox, Untaken, ids_at}
-use Rattle.dm_rule.proofs.Moves.Lists.{first_off}
-use Rattle.dm_rule.proofs.Moves.Sent.{line_next, fits_put, fits_packet}
-use Rattle.dm_rule.proofs.Pairs.Lines.{pair_same}
-use Rattle.dm_rule.proofs.Phases.Lines.{handled_spots, held_known, forwarded_spots, forwarded_known, put_spots}
-use Rattle.dm_rule.proofs.Phases.Put.{put_there, put_spot}
-use Rattle.dm_rule.proofs.Phases.Stand.{InPhases}
-use Rattle.dm_rule.proofs.Said.{fits_as}
-use Rattle.dm_rule.proofs.States.{PairsFit, PacketsKeep}
-use Rattle.dm_rule.proofs.Telling.{sane_line, part_sane}
-use Rattle.dm_rulelaws.proofs.Based.Needs.{AllLoose, loose_walks}
-use Rattle.dm_rulelaws.proofs.Based.Rows.{turned}
-use Rattle.dm_movelaws.specs.AtRest.{is_moving}
-use Rattle.dm_movelaws.specs.Ends.{is_for}
+use Rattle.dm_rule.specs.Rule.{fits}
 use Rattle.dm_movelaws.proofs.Ends.Smooth.{is_migrate, asks_for, kind_not, Smooth, Still, smooth_trans, told_by}
 use Rattle.dm_movelaws.proofs.Ends.Lines.{Tame, Foreign}
 use Rattle.dm_movelaws.proofs.Ends.Still.{still_by}
@@ -51,18 +19,18 @@ use Rattle.dm_movelaws.proofs.Ends.Sends.{smooth_moves, held_smooth, again_told,
 use Rattle.dm_movelaws.proofs.Ends.Steps.{ComesOf, told_comes}
 
 -- a message is held
-held_comes : (p : Pid) (pt : Point) (i : MsgId) (is : List MsgId) (t : Told) (h : Turn pt i is t) → ComesOf p pt h.phases (Some (Says (line.Held i) ∷ []))
+held_comes : (p : Pid) (pt : Point) (i : MsgId) (is : List MsgId) (t : Told) (h : Turn pt i is t) → ComesOf p pt h.phases (Some (Says (Line.Held i) ∷ []))
 held_comes p pt i is t h w e =
     let v = pt.view in
-    let l = line.Held i in
+    let l = Line.Held i in
     let rest = line_then p pt l [] w refl refl refl h.sane h.fits tt tt e in
     let still : Still p v (view_after v l) = still_by p v (view_after v l) (λ m q. held_known (handled v i) i (receiver_of (v.told i)) m q) in
     level_row p pt h.phases l [] w (held_smooth p v i is t h.front h.told) tt rest (λ f. refl) refl (λ g. level_still p pt h.phases l w still rest g)
 
 -- a message is forwarded: it goes from the front, and is put again
-forwarded_put : (p : Pid) (v : View) (i : MsgId) (is : List MsgId) (t : Told) (to b : ℕ) → v.inbox v.acting ≡ i ∷ is → v.told i ≡ Some t → PairsFit (view_after v (line.Forwarded i to)) → let u = view_after v (line.Forwarded i to) in Smooth p v (view.after_put u u.acting b i t.kind t.receiver)
+forwarded_put : (p : Pid) (v : View) (i : MsgId) (is : List MsgId) (t : Told) (to b : ℕ) → v.inbox v.acting ≡ i ∷ is → v.told i ≡ Some t → PairsFit (view_after v (Line.Forwarded i to)) → let u = view_after v (Line.Forwarded i to) in Smooth p v (view.after_put u u.acting b i t.kind t.receiver)
 forwarded_put p v i is t to b front told pairs =
-    let l = line.Forwarded i to in
+    let l = Line.Forwarded i to in
     let u = view_after v l in
     let n = view.after_put u u.acting b i t.kind t.receiver in
     let same = told_by v l refl in
@@ -70,17 +38,17 @@ forwarded_put p v i is t to b front told pairs =
     smooth_moves p v n i (λ j. again_told u u.acting b i t (same i ∙ told) j ∙ same j) (Inbox v.acting, front_one v v.acting i is front) (put_spot u.acting b, put_there u u.acting b i t.kind t.receiver pairs)
     (λ j e z. put_spots u u.acting b i j t.kind t.receiver pairs e z ∙ forwarded_spots (handled v i) j o z ∙ handled_spots v i j e z)
 
-told_loose : (c : Bool) (q : Pid) (to : ℕ) → AllLoose (if c then Owns kind.Update q to ∷ [] else [])
+told_loose : (c : Bool) (q : Pid) (to : ℕ) → AllLoose (if c then Owns MessageKind.Update q to ∷ [] else [])
 told_loose true q to = (λ pt. tt, tt)
 told_loose false q to = tt
 
 rest_packet : (p : Pid) (v : View) → PacketsKeep (λ q. Rest p v q.view)
-rest_packet p v q a b k l h = record { smooth = smooth_trans p v q.view (view_after q.view (line.Packet a b k l)) h.smooth (packet_smooth p q.view a b k l); still = h.still; fits = fits_packet q.view a b k l h.fits }
+rest_packet p v q a b k l h = record { smooth = smooth_trans p v q.view (view_after q.view (Line.Packet a b k l)) h.smooth (packet_smooth p q.view a b k l); still = h.still; fits = fits_packet q.view a b k l h.fits }
 
-forwards_settle : (p : Pid) (pt : Point) (i : MsgId) (is : List MsgId) (t : Told) (to b : ℕ) (ps : List Part) (w : Spelled) → Turn pt i is t → ((v : View) → AllQuiet p v ps) → AllLoose ps → spelled pt (Says (line.Forwarded i to) ∷ Again i b ∷ ps) ≡ Some w → Settled p pt.view w.point
+forwards_settle : (p : Pid) (pt : Point) (i : MsgId) (is : List MsgId) (t : Told) (to b : ℕ) (ps : List Part) (w : Spelled) → Turn pt i is t → ((v : View) → AllQuiet p v ps) → AllLoose ps → spelled pt (Says (Line.Forwarded i to) ∷ Again i b ∷ ps) ≡ Some w → Settled p pt.view w.point
 forwards_settle p pt i is t to b ps w h quiet loose e =
     let v = pt.view in
-    let l = line.Forwarded i to in
+    let l = Line.Forwarded i to in
     let n = line_next pt l (Again i b ∷ ps) w refl e in
     let mid = moved pt l pt.kernel in
     let u = mid.view in
@@ -101,7 +69,7 @@ forwards_settle p pt i is t to b ps w h quiet loose e =
 
 forwards_comes : (p : Pid) (pt : Point) (i : MsgId) (is : List MsgId) (t : Told) (a : Addresses) (k : MessageKind) (sender : Pid) (to : ℕ) (h : Turn pt i is t) → ComesOf p pt h.phases (Some (forwards_on a i k sender to))
 forwards_comes p pt i is t a k sender to h w e g ids opens =
-    let ps = if is_told_back k then Owns kind.Update sender (a (Sender i)).at ∷ [] else [] in
+    let ps = if is_told_back k then Owns MessageKind.Update sender (a (Sender i)).at ∷ [] else [] in
     let quiet : (v : View) → AllQuiet p v ps = λ v. told_quiet p v (is_told_back k) sender (a (Sender i)).at in
     let s = forwards_settle p pt i is t to to ps w h quiet (told_loose (is_told_back k) sender (a (Sender i)).at) e in
     let u = w.point.view in
@@ -112,46 +80,39 @@ forwards_comes p pt i is t a k sender to h w e g ids opens =
 handled_first_off : (v : View) (i : MsgId) (is : List MsgId) (w : View) → v.inbox v.acting ≡ i ∷ is → ((z : Spot) → ids_at w z ≡ ids_at (handled v i) z) → (z : Spot) → ids_at w z ≡ ids_at (handled_first v) z
 handled_first_off v i is w front e z = e z ∙ sym (first_off v i is front z)
 
-asks_of : (p : Pid) (t : Told) → t.kind ≡ kind.Migrate → pid_eq p t.receiver ≡ true → asks_for p t ≡ true
+asks_of : (p : Pid) (t : Told) → t.kind ≡ MessageKind.Migrate → pid_eq p t.receiver ≡ true → asks_for p t ≡ true
 asks_of p t e same = ap (λ (k : MessageKind). is_migrate k && pid_eq p t.receiver) e ∙ same
 
-arrived_comes : (p : Pid) (pt : Point) (i : MsgId) (is : List MsgId) (t : Told) (h : Turn pt i is t) → t.kind ≡ kind.Migrate → ComesOf p pt h.phases (Some (Says (line.Here i) ∷ []))
+arrived_comes : (p : Pid) (pt : Point) (i : MsgId) (is : List MsgId) (t : Told) (h : Turn pt i is t) → t.kind ≡ MessageKind.Migrate → ComesOf p pt h.phases (Some (Says (Line.Here i) ∷ []))
 arrived_comes p pt i is t h k w e g ids opens = elim (cases_Bool (pid_eq p t.receiver)) [
   | inl same ↦
-      end_row p pt (line.Here i) i is t w h (asks_of p t k same) refl refl refl (handled_first_off pt.view i is (view_after pt.view (line.Here i)) h.front (λ z. refl)) (λ m. refl) (λ f told. ap (is_for p) told ∙ same) refl e g ids opens
+      end_row p pt (Line.Here i) i is t w h (asks_of p t k same) refl refl refl (handled_first_off pt.view i is (view_after pt.view (Line.Here i)) h.front (λ z. refl)) (λ m. refl) (λ f told. ap (is_for p) told ∙ same) refl e g ids opens
   | inr off ↦
       let foreign : Foreign p pt.view i = record { what = t; told = h.told; other = off } in
-      quiet_row p pt h.phases (Says (line.Here i) ∷ []) w h.sane h.fits (foreign, tt) (loose_walks (Says (line.Here i) ∷ []) pt (λ q. tt, tt)) e g ids opens
+      quiet_row p pt h.phases (Says (Line.Here i) ∷ []) w h.sane h.fits (foreign, tt) (loose_walks (Says (Line.Here i) ∷ []) pt (λ q. tt, tt)) e g ids opens
 ]
 
-ended_comes : (p : Pid) (pt : Point) (i : MsgId) (is : List MsgId) (t : Told) (h : Turn pt i is t) → t.kind ≡ kind.Migrate → ComesOf p pt h.phases (Some (Says (line.NoMove i) ∷ []))
+ended_comes : (p : Pid) (pt : Point) (i : MsgId) (is : List MsgId) (t : Told) (h : Turn pt i is t) → t.kind ≡ MessageKind.Migrate → ComesOf p pt h.phases (Some (Says (Line.NoMove i) ∷ []))
 ended_comes p pt i is t h k w e g ids opens = elim (cases_Bool (pid_eq p t.receiver)) [
   | inl same ↦
-      end_row p pt (line.NoMove i) i is t w h (asks_of p t k same) refl refl refl (handled_first_off pt.view i is (view_after pt.view (line.NoMove i)) h.front (λ z. refl)) (λ m. refl) (λ f told. ap (is_for p) told ∙ same) refl e g ids opens
+      end_row p pt (Line.NoMove i) i is t w h (asks_of p t k same) refl refl refl (handled_first_off pt.view i is (view_after pt.view (Line.NoMove i)) h.front (λ z. refl)) (λ m. refl) (λ f told. ap (is_for p) told ∙ same) refl e g ids opens
   | inr off ↦
       let foreign : Foreign p pt.view i = record { what = t; told = h.told; other = off } in
-      quiet_row p pt h.phases (Says (line.NoMove i) ∷ []) w h.sane h.fits (foreign, tt) (loose_walks (Says (line.NoMove i) ∷ []) pt (λ q. tt, tt)) e g ids opens
+      quiet_row p pt h.phases (Says (Line.NoMove i) ∷ []) w h.sane h.fits (foreign, tt) (loose_walks (Says (Line.NoMove i) ∷ []) pt (λ q. tt, tt)) e g ids opens
 ]
 
-updated_comes : (p : Pid) (pt : Point) (i : MsgId) (is : List MsgId) (t : Told) (n : ℕ) (h : Turn pt i is t) → t.kind ≡ kind.Update → ComesOf p pt h.phases (Some (Says (line.Updated i n) ∷ []))
+updated_comes : (p : Pid) (pt : Point) (i : MsgId) (is : List MsgId) (t : Told) (n : ℕ) (h : Turn pt i is t) → t.kind ≡ MessageKind.Update → ComesOf p pt h.phases (Some (Says (Line.Updated i n) ∷ []))
 updated_comes p pt i is t n h k w e =
     let tame : Tame p pt.view i = record { what = t; told = h.told; plain = kind_not p t (ap is_migrate k) } in
-    quiet_row p pt h.phases (Says (line.Updated i n) ∷ []) w h.sane h.fits (tame, tt) (loose_walks (Says (line.Updated i n) ∷ []) pt (λ q. tt, tt)) e
+    quiet_row p pt h.phases (Says (Line.Updated i n) ∷ []) w h.sane h.fits (tame, tt) (loose_walks (Says (Line.Updated i n) ∷ []) pt (λ q. tt, tt)) e
 
--- the process is frozen: the request has gone, and the process moves
-frozen_off : (v : View) (q : Pid) (z : Spot) → ids_at (view_after v (line.Migration stage.Frozen q)) z ≡ ids_at (handled_first v) z
-frozen_off v q (Queue m r) = refl
-frozen_off v q (Held m r) = refl
-frozen_off v q (Inbox m) = refl
-frozen_off v q (Untaken a b) = refl
-
-frozen_comes : (p : Pid) (pt : Point) (i : MsgId) (is : List MsgId) (t : Told) (to : ℕ) (h : Turn pt i is t) → t.kind ≡ kind.Migrate → pt.view.known pt.view.acting t.receiver ≡ Here
-    → ComesOf p pt h.phases (Some (Says (line.Migration stage.Frozen t.receiver) ∷ Says (line.Migration stage.Asked t.receiver) ∷ to_kernel kind.Ask to ∷ []))
+frozen_comes : (p : Pid) (pt : Point) (i : MsgId) (is : List MsgId) (t : Told) (to : ℕ) (h : Turn pt i is t) → t.kind ≡ MessageKind.Migrate → pt.view.known pt.view.acting t.receiver ≡ Here
+    → ComesOf p pt h.phases (Some (Says (Line.Migration Stage.Frozen t.receiver) ∷ Says (Line.Migration Stage.Asked t.receiver) ∷ to_kernel MessageKind.Ask to ∷ []))
 frozen_comes p pt i is t to h k here w e g ids opens =
     let v = pt.view in
     let q = t.receiver in
-    let l = line.Migration stage.Frozen q in
-    let ps = Says (line.Migration stage.Asked q) ∷ to_kernel kind.Ask to ∷ [] in
+    let l = Line.Migration Stage.Frozen q in
+    let ps = Says (Line.Migration Stage.Asked q) ∷ to_kernel MessageKind.Ask to ∷ [] in
     let mid = view_after v l in
     let u = w.point.view in
     let x = Frozen (target_of (front_told v (v.inbox v.acting))) in
@@ -177,33 +138,32 @@ frozen_comes p pt i is t to h k here w e g ids opens =
     foreign_not : (r : Pid) (s : Told) → pid_eq r s.receiver ≡ false → asks_for r s ≡ false
     foreign_not r s off = and_off (is_migrate s.kind) (pid_eq r s.receiver) off
 
-moves_comes : (p : Pid) (pt : Point) (i : MsgId) (is : List MsgId) (t : Told) (to : ℕ) (same : Bool) (h : Turn pt i is t) → t.kind ≡ kind.Migrate → pt.view.known pt.view.acting t.receiver ≡ Here
-    → ComesOf p pt h.phases (Some (if same then Says (line.Here i) ∷ [] else Says (line.Migration stage.Frozen t.receiver) ∷ Says (line.Migration stage.Asked t.receiver) ∷ to_kernel kind.Ask to ∷ []))
+moves_comes : (p : Pid) (pt : Point) (i : MsgId) (is : List MsgId) (t : Told) (to : ℕ) (same : Bool) (h : Turn pt i is t) → t.kind ≡ MessageKind.Migrate → pt.view.known pt.view.acting t.receiver ≡ Here
+    → ComesOf p pt h.phases (Some (if same then Says (Line.Here i) ∷ [] else Says (Line.Migration Stage.Frozen t.receiver) ∷ Says (Line.Migration Stage.Asked t.receiver) ∷ to_kernel MessageKind.Ask to ∷ []))
 moves_comes p pt i is t to true h k here = arrived_comes p pt i is t h k
 moves_comes p pt i is t to false h k here = frozen_comes p pt i is t to h k here
 
 -- at a process, at a server, and at a kernel
 here_comes : (p : Pid) (o : Point) (m : ℕ) (i : MsgId) (is : List MsgId) (t : Told) (k : MessageKind) (h : Turn (turned o m) i is t) → t.kind ≡ k → o.view.known m t.receiver ≡ Here → ComesOf p (turned o m) h.phases (here_told o m i t k)
-here_comes p o m i is t kind.Migrate h e here = moves_comes p (turned o m) i is t (target_of (Some t)) (m == target_of (Some t)) h e here
-here_comes p o m i is t kind.Update h e here = updated_comes p (turned o m) i is t _ h e
+here_comes p o m i is t MessageKind.Migrate h e here = moves_comes p (turned o m) i is t (target_of (Some t)) (m == target_of (Some t)) h e here
+here_comes p o m i is t MessageKind.Update h e here = updated_comes p (turned o m) i is t _ h e
 here_comes p o m i is t k h e here = tt
 
 over_comes : (p : Pid) (pt : Point) (i : MsgId) (is : List MsgId) (t : Told) (k : MessageKind) (h : Turn pt i is t) → t.kind ≡ k → ComesOf p pt h.phases (ended_told i k)
-over_comes p pt i is t kind.Migrate h e = ended_comes p pt i is t h e
-over_comes p pt i is t kind.Update h e = updated_comes p pt i is t 0 h e
+over_comes p pt i is t MessageKind.Migrate h e = ended_comes p pt i is t h e
+over_comes p pt i is t MessageKind.Update h e = updated_comes p pt i is t 0 h e
 over_comes p pt i is t k h e = tt
 
 server_comes : (p : Pid) (o pt : Point) (i : MsgId) (is : List MsgId) (t : Told) (k : MessageKind) (h : Turn pt i is t) → t.kind ≡ k → ComesOf p pt h.phases (server_told o i t k)
-server_comes p o pt i is t kind.Update h e = updated_comes p pt i is t _ h e
+server_comes p o pt i is t MessageKind.Update h e = updated_comes p pt i is t _ h e
 server_comes p o pt i is t k h e = tt
 
 process_comes : (p : Pid) (o : Point) (m : ℕ) (i : MsgId) (is : List MsgId) (t : Told) (k : Known) (h : Turn (turned o m) i is t) → o.view.known m t.receiver ≡ k → ComesOf p (turned o m) h.phases (process_told o m i t k)
 process_comes p o m i is t Unknown h known = tt
 process_comes p o m i is t Here h known = here_comes p o m i is t t.kind h refl known
-process_comes p o m i is t (Frozen to) h known = held_comes p (turned o m) i is t h
-process_comes p o m i is t (Incoming from) h known = held_comes p (turned o m) i is t h
 process_comes p o m i is t (Forward at moves) h known = forwards_comes p (turned o m) i is t o.addresses t.kind manager at h
 process_comes p o m i is t Ended h known = over_comes p (turned o m) i is t t.kind h refl
+process_comes p o m i is t _ h known = held_comes p (turned o m) i is t h
 
 of_bind : {X : Type 0} (p : Pid) (pt : Point) (h : InPhases pt.view) (x : Option X) (f : X → Option (List Part)) → ((y : X) → ComesOf p pt h (f y)) → ComesOf p pt h (bind x f)
 of_bind p pt h None f k = tt
@@ -214,12 +174,10 @@ of_if p pt h true x y k l = k
 of_if p pt h false x y k l = l
 
 kernel_comes : (p : Pid) (b : Boot) (o : Point) (m : ℕ) (i : MsgId) (is : List MsgId) (t : Told) (a : About) (h : Turn (turned o m) i is t) → t.about ≡ a → ComesOf p (turned o m) h.phases (kernel_hears b o m i t.kind a)
-kernel_comes p b o m i is t NothingElse h about = tt
-kernel_comes p b o m i is t (Target to) h about = tt
 kernel_comes p b o m i is t (Of q) h about =
     of_bind p (turned o m) h.phases (kernel.alive (o.kernel.processes q)) (λ x. kernel_told o m i q (fits (free_room b o m) (length x.memory / 256)) x t.kind)
     (λ x. told_comes p o m i is t q (fits (free_room b o m) (length x.memory / 256)) x t.kind h refl about)
-kernel_comes p b o m i is t (view.Place q at moves) h about = tt
+kernel_comes p b o m i is t _ h about = tt
 
 pub hears_comes : (p : Pid) (b : Boot) (o : Point) (m : ℕ) (i : MsgId) (is : List MsgId) (t : Told) (h : Turn (turned o m) i is t) → ComesOf p (turned o m) h.phases (hears b o m i (Some t))
 hears_comes p b o m i is t h =

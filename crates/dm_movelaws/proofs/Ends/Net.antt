@@ -1,41 +1,18 @@
 -- Heads, deliveries and ticks leave all requests to move a process under way.
-use Rattle.std.proofs.Common.{◌≡◌, ◌⊎◌, ℕ, zero, suc, ◌+◌, ◌≤◌, ◌==◌, ◌&&◌, Bool, true, false, not, filter, List, [], ◌∷◌, ◌++◌, drop, length, refl, ap, ◌∙◌, sym, subst, inl, inr, arith}
-use Rattle.std.specs.Prelude.{if◌then◌else◌, slice_get}
-use Rattle.std.specs.declared.option.Option.{Option}
-use Rattle.std.specs.declared.option.Option.TheVariants.{None, Some}
-use Rattle.std.proofs.lemmas.Bool.{cases_Bool}
-use Rattle.dm_link.specs.declared.Pid.{Pid}
-use Rattle.dm_message.specs.declared.MsgId.{MsgId}
-use Rattle.dm_schedule.specs.declared.Step.{Step}
-use Rattle.dm_schedule.specs.declared.Step.TheVariants as step
-use Rattle.dm_line.specs.declared.line.Line.{Line}
-use Rattle.dm_line.specs.declared.line.Line.TheVariants as line
-use Rattle.dm_line.specs.Sets.{at_machine, at_pair}
-use Rattle.dm_rule.specs.View.{View, Pair, Told, view_after, after_head, taken_id, with_pair}
-use Rattle.dm_rule.specs.Point.{Point, moved}
-use Rattle.dm_rule.specs.Parts.{Part, Says, Routes, Again, Owns, Transmits, Spelled, packet_line, spelled}
-use Rattle.dm_rule.specs.Spots.{Spot, Queue, Held, Inbox, Untaken, times, untaken, ids_at, standing}
-use Rattle.dm_rule.proofs.Standing.{times-append}
-use Rattle.dm_rule.proofs.Once.{one_of}
-use Rattle.dm_rule.proofs.Lines.{parts, eq_is, eq_self, at_place, past_place, pair_keeps}
-use Rattle.dm_rule.proofs.States.{says_next, transmits_next, said}
-use Rattle.dm_rule.proofs.Groups.{IsNetLine, IsNet, early_off, acked_off, turn_off, tick_off, deliver_off, migrate_off}
-use Rattle.dm_movelaws.specs.Ends.{asks, ends}
+use Rattle.dm_movelaws.proofs.Names.{◌≡◌, ℕ, suc, ◌+◌, ◌≤◌, ◌==◌, ◌&&◌, Bool, true, false, not, filter, List, [], ◌∷◌, ◌++◌, drop, length, refl, ap, ◌∙◌, sym, subst, inl, inr, arith, if◌then◌else◌, slice_get, Option, None, Some, cases_Bool}
+use Rattle.dm_movelaws.proofs.Names.{Pid, MsgId, Step, Line, at_machine, at_pair, View, Pair, Told, view_after, after_head, taken_id, with_pair, Point, moved, Part, Says, Routes, Again, Owns, Transmits, Spelled, packet_line, spelled, Spot}
+use Rattle.dm_movelaws.proofs.Names.{Queue, Held, Inbox, Untaken, times, untaken, ids_at, standing, times-append, one_of, parts, eq_is, eq_self, at_place, past_place, pair_keeps, says_next, transmits_next, said, IsNetLine, IsNet, early_off}
+use Rattle.dm_movelaws.proofs.Names.{acked_off, turn_off, tick_off, deliver_off, migrate_off, asks, ends}
 use Rattle.dm_movelaws.proofs.Ends.Smooth.{Somewhere, Smooth, Still, smooth_same, smooth_trans, smooth_still, moves_none}
 use Rattle.dm_movelaws.proofs.Ends.Still.{still_trans}
 use Rattle.dm_movelaws.proofs.Ends.Parts.{packet_smooth, part_count, zero_if}
+pub use Rattle.dm_rule.proofs.Moves.Lists.{zero_cases}
 
 pub head_smooth : (p : Pid) (v : View) (s : Step) → Smooth p v (after_head v s)
-head_smooth p v (step.Turn m) = smooth_still p v (after_head v (step.Turn m)) (λ i. refl) (λ i z. ap (times i) (turn_off v m z))
-head_smooth p v (step.Tick m) = smooth_still p v (after_head v (step.Tick m)) (λ i. refl) (λ i z. ap (times i) (tick_off v m z))
-head_smooth p v (step.Deliver a b k) = smooth_still p v (after_head v (step.Deliver a b k)) (λ i. refl) (λ i z. ap (times i) (deliver_off v a b k z))
-head_smooth p v (step.Migrate q m) = smooth_still p v (after_head v (step.Migrate q m)) (λ i. refl) (λ i z. ap (times i) (migrate_off v q m z))
-
-pub head_still : (p : Pid) (v : View) (s : Step) → Still p v (after_head v s)
-head_still p v (step.Turn m) n = refl
-head_still p v (step.Tick m) n = refl
-head_still p v (step.Deliver a b k) n = refl
-head_still p v (step.Migrate q m) n = refl
+head_smooth p v (Step.Turn m) = smooth_still p v (after_head v (Step.Turn m)) (λ i. refl) (λ i z. ap (times i) (turn_off v m z))
+head_smooth p v (Step.Tick m) = smooth_still p v (after_head v (Step.Tick m)) (λ i. refl) (λ i z. ap (times i) (tick_off v m z))
+head_smooth p v (Step.Deliver a b k) = smooth_still p v (after_head v (Step.Deliver a b k)) (λ i. refl) (λ i z. ap (times i) (deliver_off v a b k z))
+head_smooth p v (Step.Migrate q m) = smooth_still p v (after_head v (Step.Migrate q m)) (λ i. refl) (λ i z. ap (times i) (migrate_off v q m z))
 
 -- a message is taken: it comes from the stream to the inbox
 abbrev one_taken : Pair → ℕ → Pair
@@ -56,14 +33,8 @@ taken_front p n i is =
     at_place p.ids p.taken i is ∙ ap (λ m. i ∷ drop m p.ids) next
 
 none_off : (v : View) (a b n : ℕ) (z : Spot) → untaken (one_taken (v.pair a b) n) ≡ untaken (v.pair a b) → ids_at (taken_view v a b n) z ≡ ids_at v z
-none_off v a b n (Queue m p) same = refl
-none_off v a b n (Held m p) same = refl
-none_off v a b n (Inbox m) same = refl
 none_off v a b n (Untaken c d) same = pair_keeps v.pair a b (one_taken (v.pair a b) n) same c d
-
-pub zero_cases : (n : ℕ) → (n ≡ 0) ⊎ (1 ≤ n)
-zero_cases zero = inl refl
-zero_cases (suc n) = inr (omega arith)
+none_off v a b n _ same = refl
 
 -- the stream has one less, and the inbox one more
 stream_back : (v : View) (a b n : ℕ) (i j : MsgId) (c d : ℕ) → untaken (v.pair a b) ≡ i ∷ untaken (one_taken (v.pair a b) n) → 1 ≤ times j (untaken (at_pair v.pair a b (one_taken (v.pair a b) n) c d)) → 1 ≤ times j (untaken (v.pair c d))
@@ -139,56 +110,22 @@ taken_still p v b None m = refl
 taken_still p v b (Some i) m = refl
 
 net_smooth : (p : Pid) (v : View) (l : Line) → IsNetLine l → Smooth p v (view_after v l)
-net_smooth p v (line.Taken a b n) h = taken_by p v a b n (slice_get (v.pair a b).ids (v.pair a b).taken) refl
-net_smooth p v (line.Old a b n) h = smooth_same p v
-net_smooth p v (line.Early a b n) h = moves_none p v (line.Early a b n) refl (λ z. early_off v a b n z)
-net_smooth p v (line.Acked a b n) h = moves_none p v (line.Acked a b n) refl (λ z. acked_off v a b n z)
-net_smooth p v line.Nothing h = smooth_same p v
-net_smooth p v (line.Resent m n) h = smooth_same p v
-net_smooth p v (line.Head d) h = absurd h
-net_smooth p v (line.Idle m) h = absurd h
-net_smooth p v (line.Label l) h = absurd h
-net_smooth p v (line.Put a b i c q) h = absurd h
-net_smooth p v (line.Packet a b c l) h = absurd h
-net_smooth p v (line.Queued i) h = absurd h
-net_smooth p v (line.Held i) h = absurd h
-net_smooth p v (line.Forwarded i m) h = absurd h
-net_smooth p v (line.Updated i n) h = absurd h
-net_smooth p v (line.Migration st q) h = absurd h
-net_smooth p v (line.SentOn q n) h = absurd h
-net_smooth p v (line.Lacks q a b) h = absurd h
-net_smooth p v (line.Stays q) h = absurd h
-net_smooth p v (line.Here i) h = absurd h
-net_smooth p v (line.NoMove i) h = absurd h
-net_smooth p v (line.Proto i) h = absurd h
-net_smooth p v (line.NoChild q) h = absurd h
-net_smooth p v (line.Pinned q) h = absurd h
+net_smooth p v (Line.Taken a b n) h = taken_by p v a b n (slice_get (v.pair a b).ids (v.pair a b).taken) refl
+net_smooth p v (Line.Old a b n) h = smooth_same p v
+net_smooth p v (Line.Early a b n) h = moves_none p v (Line.Early a b n) refl (λ z. early_off v a b n z)
+net_smooth p v (Line.Acked a b n) h = moves_none p v (Line.Acked a b n) refl (λ z. acked_off v a b n z)
+net_smooth p v Line.Nothing h = smooth_same p v
+net_smooth p v (Line.Resent m n) h = smooth_same p v
+net_smooth p v _ h = absurd h
 
 net_still : (p : Pid) (v : View) (l : Line) → IsNetLine l → Still p v (view_after v l)
-net_still p v (line.Taken a b n) h = λ m. taken_still p (taken_view v a b n) b (slice_get (v.pair a b).ids (v.pair a b).taken) m
-net_still p v (line.Old a b n) h = λ m. refl
-net_still p v (line.Early a b n) h = λ m. refl
-net_still p v (line.Acked a b n) h = λ m. refl
-net_still p v line.Nothing h = λ m. refl
-net_still p v (line.Resent m n) h = λ k. refl
-net_still p v (line.Head d) h = absurd h
-net_still p v (line.Idle m) h = absurd h
-net_still p v (line.Label l) h = absurd h
-net_still p v (line.Put a b i c q) h = absurd h
-net_still p v (line.Packet a b c l) h = absurd h
-net_still p v (line.Queued i) h = absurd h
-net_still p v (line.Held i) h = absurd h
-net_still p v (line.Forwarded i m) h = absurd h
-net_still p v (line.Updated i n) h = absurd h
-net_still p v (line.Migration st q) h = absurd h
-net_still p v (line.SentOn q n) h = absurd h
-net_still p v (line.Lacks q a b) h = absurd h
-net_still p v (line.Stays q) h = absurd h
-net_still p v (line.Here i) h = absurd h
-net_still p v (line.NoMove i) h = absurd h
-net_still p v (line.Proto i) h = absurd h
-net_still p v (line.NoChild q) h = absurd h
-net_still p v (line.Pinned q) h = absurd h
+net_still p v (Line.Taken a b n) h = λ m. taken_still p (taken_view v a b n) b (slice_get (v.pair a b).ids (v.pair a b).taken) m
+net_still p v (Line.Old a b n) h = λ m. refl
+net_still p v (Line.Early a b n) h = λ m. refl
+net_still p v (Line.Acked a b n) h = λ m. refl
+net_still p v Line.Nothing h = λ m. refl
+net_still p v (Line.Resent m n) h = λ k. refl
+net_still p v _ h = absurd h
 
 -- what a group keeps
 pub record Level (p : Pid) (v w : View) : Type 0 where
@@ -229,16 +166,16 @@ net_none f n (Owns k q b ∷ ps) h = absurd h.0
 net_none f n (Transmits a b l ∷ ps) h = net_none f n ps h.1
 
 net_line_asks : (p : Pid) → Neither (asks p)
-net_line_asks p (line.Head d) h = absurd h
+net_line_asks p (Line.Head d) h = absurd h
 net_line_asks p l h = refl
 
 net_line_ends : (g : MsgId → Option Told) (p : Pid) → Neither (ends g p)
-net_line_ends g p (line.Taken a b n) h = refl
-net_line_ends g p (line.Old a b n) h = refl
-net_line_ends g p (line.Early a b n) h = refl
-net_line_ends g p (line.Acked a b n) h = refl
-net_line_ends g p line.Nothing h = refl
-net_line_ends g p (line.Resent m n) h = refl
+net_line_ends g p (Line.Taken a b n) h = refl
+net_line_ends g p (Line.Old a b n) h = refl
+net_line_ends g p (Line.Early a b n) h = refl
+net_line_ends g p (Line.Acked a b n) h = refl
+net_line_ends g p Line.Nothing h = refl
+net_line_ends g p (Line.Resent m n) h = refl
 net_line_ends g p l h = absurd h
 
 pub net_asks : (p : Pid) (ps : List Part) → IsNet ps → part_count (asks p) ps ≡ 0

@@ -1,20 +1,6 @@
 -- The requests to move a process that are under way, listed.
-use Rattle.std.proofs.Common.{◌≡◌, ℕ, suc, ◌+◌, ◌≤◌, Bool, true, false, List, [], ◌∷◌, length, refl, ap, ◌∙◌, sym, subst, inl, inr, arith}
-use Rattle.std.specs.Prelude.{if◌then◌else◌}
-use Rattle.std.specs.declared.option.Option.{Option}
-use Rattle.std.specs.declared.option.Option.TheVariants.{None, Some}
-use Rattle.std.proofs.lemmas.Bool.{cases_Bool}
-use Rattle.dm_link.specs.declared.Pid.{Pid}
-use Rattle.dm_message.specs.declared.MsgId.{MsgId}
-use Rattle.dm_message.specs.Ids.{id_eq}
-use Rattle.dm_laws.proofs.Equal.{id_eq-is, id_eq-same, id_eq-swap}
-use Rattle.dm_rule.specs.Parts.{Part}
-use Rattle.dm_line.specs.Sets.{without_id}
-use Rattle.dm_rule.specs.Spots.{Spot, times, standing}
-use Rattle.dm_rule.specs.View.{View, Told}
-use Rattle.dm_rule.proofs.Lines.{not_true, without_counts}
-use Rattle.dm_rule.proofs.Once.{one_of}
-use Rattle.dm_movelaws.specs.Ends.{asks, ends}
+use Rattle.dm_movelaws.proofs.Names.{◌≡◌, ℕ, suc, ◌+◌, ◌≤◌, Bool, true, false, List, [], ◌∷◌, length, refl, ap, ◌∙◌, sym, subst, inl, inr, arith, if◌then◌else◌, Option, None, Some, cases_Bool, Pid, MsgId, id_eq, id_eq-is, Part, without_id}
+use Rattle.dm_movelaws.proofs.Names.{Spot, times, standing, View, Told, not_true, without_counts, one_of, asks, ends, one_of-same, off_zero}
 use Rattle.dm_movelaws.proofs.Ends.Smooth.{asks_for, Somewhere, Extends, Smooth, stands_as, stands_was}
 use Rattle.dm_movelaws.proofs.Ends.Net.{zero_cases}
 use Rattle.dm_movelaws.proofs.Ends.Parts.{part_count}
@@ -50,12 +36,6 @@ pub record Closes (p : Pid) (v w : View) (i : MsgId) : Type 0 where
   pub on : (j : MsgId) → id_eq i j ≡ false → Somewhere v j → Somewhere w j
   pub back : (j : MsgId) → id_eq i j ≡ false → Somewhere w j → Somewhere v j
   pub gone : Somewhere w i → ⊥
-
-one_self : (i : MsgId) → one_of i i ≡ 1
-one_self i = ap (λ (c : Bool). if c then 1 else 0) (id_eq-same i)
-
-one_apart : (i j : MsgId) → id_eq i j ≡ false → one_of j i ≡ 0
-one_apart i j e = ap (λ (c : Bool). if c then 1 else 0) (id_eq-swap j i ∙ e)
 
 shorter_by : (i j : MsgId) (js : List MsgId) (c : Bool) → id_eq i j ≡ c → 1 ≤ times i (j ∷ js) → (1 ≤ times i js → length js ≡ suc (length (without_id i js))) → length (j ∷ js) ≡ suc (length (if c then js else j ∷ without_id i js))
 shorter_by i j js true is least h = refl
@@ -96,14 +76,14 @@ close_opens p v w ids i is c h =
             let ij : i ≡ j = id_eq-is i j e in
             let there : 1 ≤ times i left = subst (λ (x : MsgId). 1 ≤ times x left) (sym ij) some in
             let count = without_counts i i ids least in
-            let self = one_self i in
+            let self = one_of-same i in
             absurd (omega (arith, one, there, count, self))) in
             closes_on p v w i j c apart was;
         all = λ j now.
             let b = closes_back p v w i j c now in
             let sum = without_counts j i ids least in
             let was : times j ids ≡ 1 = h.all j b.0 in
-            let none = one_apart i j b.1 in
+            let none = off_zero i j b.1 in
             omega (arith, sum, was, none);
       };
       less = shorter i ids least;
@@ -132,15 +112,15 @@ pub add_opens : (p : Pid) (v w : View) (ids : List MsgId) (i : MsgId) → Adds p
 add_opens p v w ids i c h = record {
   each = λ j some. elim (cases_Bool (id_eq i j)) [
     | inl same ↦ subst (λ (x : MsgId). IsOpen p w x) (id_eq-is i j same) c.now
-    | inr apart ↦ let none = one_apart i j apart in adds_on p v w i j c apart (h.each j (omega (arith, some, none)))
+    | inr apart ↦ let none = off_zero i j apart in adds_on p v w i j c apart (h.each j (omega (arith, some, none)))
   ];
   all = λ j now. elim (cases_Bool (id_eq i j)) [
     | inl same ↦
-        let self = one_self i in
+        let self = one_of-same i in
         let zero_ = none_listed p v ids i c.untold h in
         subst (λ (x : MsgId). times x (i ∷ ids) ≡ 1) (id_eq-is i j same) (omega (arith, self, zero_))
     | inr apart ↦
-        let none = one_apart i j apart in
+        let none = off_zero i j apart in
         let was : times j ids ≡ 1 = h.all j (adds_back p v w i j c apart now) in
         omega (arith, none, was)
   ];

@@ -1,39 +1,13 @@
 -- Parts that leave all requests to move a process where they stand, and end none; and the lines of parts, counted.
-use Rattle.std.proofs.Common.{◌≡◌, ℕ, ◌+◌, ◌==◌, ◌&&◌, Bool, true, false, List, [], ◌∷◌, ◌++◌, length, refl, ap, ◌∙◌, sym, subst, arith}
-use Rattle.std.specs.Prelude.{⊤, if◌then◌else◌}
-use Rattle.std.specs.declared.option.Option.{Option}
-use Rattle.std.specs.declared.option.Option.TheVariants.{None, Some}
-use Rattle.dm_link.specs.declared.Pid.{Pid}
-use Rattle.dm_link.specs.Names.{pid_eq}
-use Rattle.dm_message.specs.declared.MsgId.{MsgId}
-use Rattle.dm_message.specs.declared.kind.MessageKind.{MessageKind}
-use Rattle.dm_message.specs.Kinds.{plain_kind}
-use Rattle.dm_onekernel.specs.Options.{bind}
-use Rattle.dm_laws.proofs.Steps.{bind-is}
-use Rattle.dm_line.specs.declared.line.Line.{Line}
-use Rattle.dm_line.specs.declared.line.Line.TheVariants as line
-use Rattle.dm_line.specs.declared.line.Load.{Load}
-use Rattle.dm_line.specs.declared.line.Load.TheVariants as load
-use Rattle.dm_line.specs.declared.line.Stage.TheVariants as stage
-use Rattle.dm_rule.specs.View.{View, Told, view_after, own_id, after_put}
+use Rattle.dm_movelaws.proofs.Names.{◌≡◌, ℕ, ◌+◌, ◌==◌, ◌&&◌, Bool, true, false, List, [], ◌∷◌, ◌++◌, length, refl, ap, ◌∙◌, sym, subst, arith, ⊤, if◌then◌else◌, Option, None, Some, Pid, pid_eq, MsgId, MessageKind, plain_kind, bind}
+use Rattle.dm_movelaws.proofs.Names.{bind-is, Line, Stage, Load, View, Told, view_after, own_id, after_put, Receiver, Point, moved, after, Part, Says, Routes, Again, Owns, Transmits, Spelled, lines_of, puts, goes_out, packet_line, behind}
+use Rattle.dm_movelaws.proofs.Names.{spelled, Held, is_put, touches, pair_same, PairsFit, put_told_off, fits_as, fits_put, fits_packet, Sane, Sayable, part_sane, put_spots, put_at, Needs, NeedsPart, Walks, Steps, Said, said_by, asks, ends}
+use Rattle.dm_movelaws.proofs.Names.{count, packet_off}
 use Rattle.dm_rule.specs.View as view
-use Rattle.dm_rule.specs.Addresses.{Receiver}
-use Rattle.dm_rule.specs.Point.{Point, moved, after}
-use Rattle.dm_rule.specs.Parts.{Part, Says, Routes, Again, Owns, Transmits, Spelled, lines_of, puts, goes_out, packet_line, behind, spelled}
-use Rattle.dm_rule.specs.Spots.{Spot, Queue, Held, Inbox, Untaken, ids_at}
-use Rattle.dm_rule.proofs.Hushed.{is_put}
-use Rattle.dm_rule.proofs.Lines.{pair_keeps}
-use Rattle.dm_rule.proofs.Pairs.Lines.{touches, pair_same}
-use Rattle.dm_rule.proofs.States.{PairsFit, put_told_off}
-use Rattle.dm_rule.proofs.Said.{fits_as}
-use Rattle.dm_rule.proofs.Moves.Sent.{fits_put, fits_packet}
-use Rattle.dm_rule.proofs.Telling.{Sane, Sayable, part_sane}
-use Rattle.dm_rule.proofs.Phases.Lines.{put_spots, put_at}
-use Rattle.dm_rulelaws.proofs.Based.Needs.{Needs, NeedsPart, Walks, Steps, Said, said_by}
-use Rattle.dm_movelaws.specs.Ends.{asks, ends, count}
 use Rattle.dm_movelaws.proofs.Ends.Smooth.{asks_for, is_migrate, plain_not, Extends, Smooth, Still, Plain, smooth_same, smooth_trans, smooth_others, moves_none, plain_in_bag, own_untold}
 use Rattle.dm_movelaws.proofs.Ends.Lines.{Tame, QuietLine, Foreign, tame_plain, line_smooth}
 use Rattle.dm_movelaws.proofs.Ends.Still.{still_same, still_trans, line_still, quiet_ends}
+pub use Rattle.dm_rule.proofs.Phases.Lines.{first_kept}
 
 -- a put of a message that is no request to move this process
 first_plain : (p : Pid) (o : Option Told) (k : MessageKind) (q : Pid) (a : view.About) (t : Told) → Some (view.first_told o (record { kind = k; receiver = q; about = a })) ≡ Some t → (is_migrate k && pid_eq p q) ≡ false → ((u : Told) → o ≡ Some u → asks_for p u ≡ false)
@@ -41,32 +15,21 @@ first_plain : (p : Pid) (o : Option Told) (k : MessageKind) (q : Pid) (a : view.
 first_plain p None k q a t e plain was = let f : record { kind = k; receiver = q; about = a } ≡ t = cc in subst (λ (s : Told). asks_for p s ≡ false) f plain
 first_plain p (Some u) k q a t e plain was = let f : u ≡ t = cc in subst (λ (s : Told). asks_for p s ≡ false) f (was u refl)
 
-pub first_kept : (o : Option Told) (u t : Told) → o ≡ Some t → Some (view.first_told o u) ≡ Some t
-first_kept None u t e = cc
-first_kept (Some s) u t e = e
-
 pub put_smooth : (p : Pid) (v : View) (a b : ℕ) (i : MsgId) (k : MessageKind) (q : Pid) → PairsFit v → (is_migrate k && pid_eq p q) ≡ false → Plain p v i → Smooth p v (after_put v a b i k q)
 put_smooth p v a b i k q fits plain was =
     let u : Told = record { kind = k; receiver = q; about = v.topic } in
     smooth_others p v (after_put v a b i k q) i was (λ t is. first_plain p (v.told i) k q v.topic t (sym (put_at v a b i k q) ∙ is) plain was) (λ t is. put_at v a b i k q ∙ first_kept (v.told i) u t is)
     (record { told = λ j apart. put_told_off v a b i j k q apart; spots = λ j apart z. put_spots v a b i j k q fits apart z })
 
-packet_off : (v : View) (a b k : ℕ) (l : Load) (z : Spot) → ids_at (view_after v (line.Packet a b k l)) z ≡ ids_at v z
-packet_off v a b k l (Queue m p) = refl
-packet_off v a b k l (Held m p) = refl
-packet_off v a b k l (Inbox m) = refl
-packet_off v a b k l (Untaken c d) = pair_keeps v.pair a b _ refl c d
-
-pub packet_smooth : (p : Pid) (v : View) (a b k : ℕ) (l : Load) → Smooth p v (view_after v (line.Packet a b k l))
-packet_smooth p v a b k l = moves_none p v (line.Packet a b k l) refl (λ z. packet_off v a b k l z)
+pub packet_smooth : (p : Pid) (v : View) (a b k : ℕ) (l : Load) → Smooth p v (view_after v (Line.Packet a b k l))
+packet_smooth p v a b k l = moves_none p v (Line.Packet a b k l) refl (λ z. packet_off v a b k l z)
 
 -- parts
 abbrev pub Quiet : Pid → View → Part → Type 0
 Quiet p v (Says l) = QuietLine p v l
-Quiet p v (Routes i) = ⊤
 Quiet p v (Again i b) = Tame p v i
 Quiet p v (Owns k q b) = (is_migrate k && pid_eq p q) ≡ false
-Quiet p v (Transmits a b l) = ⊤
+Quiet p v _ = ⊤
 
 abbrev pub AllQuiet : Pid → View → List Part → Type 0
 AllQuiet p v [] = ⊤
@@ -80,40 +43,38 @@ foreign_on : (p : Pid) (v w : View) (i : MsgId) → Smooth p v w → Foreign p v
 foreign_on p v w i c h = record { what = h.what; told = c.kept i h.what h.told; other = h.other }
 
 line_on : (p : Pid) (v w : View) (l : Line) → Smooth p v w → QuietLine p v l → QuietLine p w l
-line_on p v w (line.Queued i) c h = tame_on p v w i c h
-line_on p v w (line.Held i) c h = tame_on p v w i c h
-line_on p v w (line.Forwarded i m) c h = tame_on p v w i c h
-line_on p v w (line.Updated i n) c h = tame_on p v w i c h
-line_on p v w (line.Proto i) c h = tame_on p v w i c h
-line_on p v w (line.Here i) c h = foreign_on p v w i c h
-line_on p v w (line.NoMove i) c h = foreign_on p v w i c h
-line_on p v w (line.Migration stage.Asked q) c h = h
-line_on p v w (line.Migration stage.Frozen q) c h = h
-line_on p v w (line.Migration stage.Accepted q) c h = h
-line_on p v w (line.Migration stage.StateTaken q) c h = h
-line_on p v w (line.Migration stage.MemoryTaken q) c h = h
-line_on p v w (line.Migration stage.Left q) c h = h
-line_on p v w (line.Migration stage.Restarted q) c h = h
+line_on p v w (Line.Queued i) c h = tame_on p v w i c h
+line_on p v w (Line.Held i) c h = tame_on p v w i c h
+line_on p v w (Line.Forwarded i m) c h = tame_on p v w i c h
+line_on p v w (Line.Updated i n) c h = tame_on p v w i c h
+line_on p v w (Line.Proto i) c h = tame_on p v w i c h
+line_on p v w (Line.Here i) c h = foreign_on p v w i c h
+line_on p v w (Line.NoMove i) c h = foreign_on p v w i c h
+line_on p v w (Line.Migration Stage.Asked q) c h = h
+line_on p v w (Line.Migration Stage.Frozen q) c h = h
+line_on p v w (Line.Migration Stage.Accepted q) c h = h
+line_on p v w (Line.Migration Stage.StateTaken q) c h = h
+line_on p v w (Line.Migration Stage.MemoryTaken q) c h = h
+line_on p v w (Line.Migration Stage.Left q) c h = h
+line_on p v w (Line.Migration Stage.Restarted q) c h = h
 line_on p v w l c h = h
 
 quiet_on : (p : Pid) (v w : View) (x : Part) → Smooth p v w → Quiet p v x → Quiet p w x
 quiet_on p v w (Says l) c h = line_on p v w l c h
-quiet_on p v w (Routes i) c h = h
 quiet_on p v w (Again i b) c h = tame_on p v w i c h
-quiet_on p v w (Owns k q b) c h = h
-quiet_on p v w (Transmits a b l) c h = h
+quiet_on p v w _ c h = h
 
 quiet_touches : (p : Pid) (v : View) (l : Line) → QuietLine p v l → touches l ≡ false
-quiet_touches p v (line.Head s) h = absurd h
-quiet_touches p v (line.Put a b i k q) h = absurd h
-quiet_touches p v (line.Packet a b k l) h = absurd h
-quiet_touches p v (line.Taken a b n) h = absurd h
-quiet_touches p v (line.Early a b n) h = absurd h
-quiet_touches p v (line.Acked a b n) h = absurd h
+quiet_touches p v (Line.Head s) h = absurd h
+quiet_touches p v (Line.Put a b i k q) h = absurd h
+quiet_touches p v (Line.Packet a b k l) h = absurd h
+quiet_touches p v (Line.Taken a b n) h = absurd h
+quiet_touches p v (Line.Early a b n) h = absurd h
+quiet_touches p v (Line.Acked a b n) h = absurd h
 quiet_touches p v l h = refl
 
 quiet_put : (p : Pid) (v : View) (l : Line) → QuietLine p v l → is_put l ≡ false
-quiet_put p v (line.Put a b i k q) h = absurd h
+quiet_put p v (Line.Put a b i k q) h = absurd h
 quiet_put p v l h = refl
 
 -- what is kept through parts
@@ -128,12 +89,12 @@ pub record Rest (p : Pid) (v w : View) : Type 0 where
   pub still : Still p v w
   pub fits : PairsFit w
 
-packet_or_none : (p : Pid) (v : View) (pt next : Point) (c d : Bool) (a b k : ℕ) (l : Load) → Rest p v pt.view → after pt (if c then [] else if d then line.Packet a b k l ∷ [] else []) ≡ Some next → Rest p v next.view
+packet_or_none : (p : Pid) (v : View) (pt next : Point) (c d : Bool) (a b k : ℕ) (l : Load) → Rest p v pt.view → after pt (if c then [] else if d then Line.Packet a b k l ∷ [] else []) ≡ Some next → Rest p v next.view
 packet_or_none p v pt next true d a b k l h is = let f : pt ≡ next = cc in subst (λ (q : Point). Rest p v q.view) f h
 packet_or_none p v pt next false false a b k l h is = let f : pt ≡ next = cc in subst (λ (q : Point). Rest p v q.view) f h
 packet_or_none p v pt next false true a b k l h is =
-    let f : moved pt (line.Packet a b k l) pt.kernel ≡ next = cc in
-    let w = view_after pt.view (line.Packet a b k l) in
+    let f : moved pt (Line.Packet a b k l) pt.kernel ≡ next = cc in
+    let w = view_after pt.view (Line.Packet a b k l) in
     let r : Rest p v w = record { smooth = smooth_trans p v pt.view w h.smooth (packet_smooth p pt.view a b k l); still = h.still; fits = fits_packet pt.view a b k l h.fits } in
     subst (λ (q : Point). Rest p v q.view) f r
 
@@ -141,8 +102,8 @@ puts_rest : (p : Pid) (pt next : Point) (b : ℕ) (i : MsgId) (k : MessageKind) 
 puts_rest p pt next b i k q ls fits e plain is leads =
     let v = pt.view in
     let f : puts v b i k q ≡ ls = cc in
-    let mid = moved pt (line.Put v.acting b i k q) pt.kernel in
-    packet_or_none p v mid next (v.acting == b) (goes_out (v.pair v.acting b)) v.acting b (length (v.pair v.acting b).wire) (load.Data (length (v.pair v.acting b).ids))
+    let mid = moved pt (Line.Put v.acting b i k q) pt.kernel in
+    packet_or_none p v mid next (v.acting == b) (goes_out (v.pair v.acting b)) v.acting b (length (v.pair v.acting b).wire) (Load.Data (length (v.pair v.acting b).ids))
     (record { smooth = put_smooth p v v.acting b i k q fits e plain; still = λ m. refl; fits = fits_put v v.acting b i k q fits }) (ap (after pt) f ∙ leads)
 
 says_rest : (p : Pid) (pt next : Point) (l : Line) → Sane pt → PairsFit pt.view → QuietLine p pt.view l → Needs pt l → Said pt l next → Rest p pt.view next.view
@@ -173,10 +134,7 @@ part_rest p pt next (Transmits a b l) h fits quiet need s =
 
 sayable_of : (p : Pid) (v : View) (x : Part) → Quiet p v x → Sayable x
 sayable_of p v (Says l) h = quiet_put p v l h
-sayable_of p v (Routes i) h = tt
-sayable_of p v (Again i b) h = tt
-sayable_of p v (Owns k q b) h = tt
-sayable_of p v (Transmits a b l) h = tt
+sayable_of p v _ h = tt
 
 pub settled_same : (p : Pid) (pt : Point) → Sane pt → PairsFit pt.view → Settled p pt.view pt
 settled_same p pt sane fits = record { smooth = smooth_same p pt.view; still = still_same p pt.view; sane = sane; fits = fits }
@@ -213,8 +171,8 @@ part_count f (Transmits a b l ∷ ps) = part_count f ps
 
 -- puts and packets don't count
 pub record Silent (f : Line → Bool) : Type 0 where
-  pub put : (a b : ℕ) (i : MsgId) (k : MessageKind) (q : Pid) → f (line.Put a b i k q) ≡ false
-  pub packet : (a b k : ℕ) (l : Load) → f (line.Packet a b k l) ≡ false
+  pub put : (a b : ℕ) (i : MsgId) (k : MessageKind) (q : Pid) → f (Line.Put a b i k q) ≡ false
+  pub packet : (a b k : ℕ) (l : Load) → f (Line.Packet a b k l) ≡ false
 
 pub asks_silent : (p : Pid) → Silent (asks p)
 asks_silent p = record { put = λ a b i k q. refl; packet = λ a b k l. refl }
@@ -232,13 +190,13 @@ unit_if c = if c then 1 else 0
 pub zero_if : (c : Bool) → c ≡ false → unit_if c ≡ 0
 zero_if c e = ap unit_if e
 
-puts_zero : (f : Line → Bool) (v : View) (b : ℕ) (i : MsgId) (k : MessageKind) (q : Pid) (c d : Bool) → Silent f → count f (line.Put v.acting b i k q ∷ (if c then [] else if d then packet_line v v.acting b (load.Data (length (v.pair v.acting b).ids)) ∷ [] else [])) ≡ 0
-puts_zero f v b i k q true d h = let x = zero_if (f (line.Put v.acting b i k q)) (h.put v.acting b i k q) in omega (arith, x)
-puts_zero f v b i k q false false h = let x = zero_if (f (line.Put v.acting b i k q)) (h.put v.acting b i k q) in omega (arith, x)
+puts_zero : (f : Line → Bool) (v : View) (b : ℕ) (i : MsgId) (k : MessageKind) (q : Pid) (c d : Bool) → Silent f → count f (Line.Put v.acting b i k q ∷ (if c then [] else if d then packet_line v v.acting b (Load.Data (length (v.pair v.acting b).ids)) ∷ [] else [])) ≡ 0
+puts_zero f v b i k q true d h = let x = zero_if (f (Line.Put v.acting b i k q)) (h.put v.acting b i k q) in omega (arith, x)
+puts_zero f v b i k q false false h = let x = zero_if (f (Line.Put v.acting b i k q)) (h.put v.acting b i k q) in omega (arith, x)
 puts_zero f v b i k q false true h =
-    let l = packet_line v v.acting b (load.Data (length (v.pair v.acting b).ids)) in
-    let x = zero_if (f (line.Put v.acting b i k q)) (h.put v.acting b i k q) in
-    let y = zero_if (f l) (h.packet v.acting b (length (v.pair v.acting b).wire) (load.Data (length (v.pair v.acting b).ids))) in
+    let l = packet_line v v.acting b (Load.Data (length (v.pair v.acting b).ids)) in
+    let x = zero_if (f (Line.Put v.acting b i k q)) (h.put v.acting b i k q) in
+    let y = zero_if (f l) (h.packet v.acting b (length (v.pair v.acting b).wire) (Load.Data (length (v.pair v.acting b).ids))) in
     omega (arith, x, y)
 
 puts_count : (f : Line → Bool) (v : View) (b : ℕ) (i : MsgId) (k : MessageKind) (q : Pid) (ls : List Line) → Silent f → Some (puts v b i k q) ≡ Some ls → count f ls ≡ 0
@@ -287,7 +245,7 @@ quiet_count p v (Owns k q b ∷ ps) f quiet ext = quiet_count p v ps f quiet.1 e
 quiet_count p v (Transmits a b l ∷ ps) f quiet ext = quiet_count p v ps f quiet.1 ext
 
 line_asks : (p : Pid) (v : View) (l : Line) → QuietLine p v l → asks p l ≡ false
-line_asks p v (line.Head d) h = absurd h
+line_asks p v (Line.Head d) h = absurd h
 line_asks p v l h = refl
 
 pub quiet_asks : (p : Pid) (v : View) (ps : List Part) → AllQuiet p v ps → part_count (asks p) ps ≡ 0

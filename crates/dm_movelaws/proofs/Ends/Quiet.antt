@@ -1,39 +1,16 @@
 -- Where nothing is on its way between machines, no kernel's own message stands anywhere, and no process moves.
-use Rattle.std.proofs.Common.{◌≡◌, ◌⊎◌, ℕ, zero, suc, ◌<◌, ◌≤◌, Bool, true, false, List, [], ◌∷◌, drop, length, refl, ap, ◌∙◌, sym, subst, inl, inr, arith}
-use Rattle.std.specs.Prelude.{nat_le, if◌then◌else◌}
-use Rattle.std.specs.declared.option.Option.{Option}
-use Rattle.std.specs.declared.option.Option.TheVariants.{None, Some}
-use Rattle.std.proofs.lemmas.Bool.{cases_Bool, false≢true}
-use Rattle.std.proofs.lemmas.Bool.Decides.{nat_tests}
-use Rattle.std.proofs.Math.Seq.{drop-length}
-use Rattle.dm_link.specs.declared.Pid.{Pid}
-use Rattle.dm_message.specs.declared.MsgId.{MsgId}
-use Rattle.dm_message.specs.Plain.{PlainMessage}
-use Rattle.dm_onekernel.specs.declared.boot.Boot.{Boot}
-use Rattle.dm_laws.proofs.Equal.{id_eq-same}
-use Rattle.dm_rule.specs.Phases.{Phase, Nowhere, Rests, Over, Moves, is_due, IsIn, sender_in, receiver_in, told_between}
-use Rattle.dm_rule.specs.Point.{Point}
-use Rattle.dm_rule.specs.Quiet.{IsQuiet}
-use Rattle.dm_rule.specs.Spots.{Spot, Queue, Held, Inbox, Untaken, times, untaken, standing}
-use Rattle.dm_rule.specs.View.{View, Known, Unknown, Here, Frozen, Incoming, Forward, Ended, Told, is_kernels}
-use Rattle.dm_rule.proofs.Letters.{letters, kernels_fresh}
-use Rattle.dm_rule.proofs.Moves.Lists.{under_way}
-use Rattle.dm_rule.proofs.Moves.States.{kernels_by}
-use Rattle.dm_rule.proofs.Once.{one_of}
-use Rattle.dm_rule.proofs.Phases.Calm.{between_of}
-use Rattle.dm_rulelaws.specs.Found.{has_nothing_held}
-use Rattle.dm_rulelaws.proofs.Runs.{Run}
-use Rattle.dm_movelaws.specs.AtRest.{is_moving}
+use Rattle.dm_movelaws.proofs.Names.{◌≡◌, ◌⊎◌, ℕ, zero, suc, ◌<◌, ◌≤◌, Bool, true, false, List, [], ◌∷◌, drop, length, refl, ap, ◌∙◌, sym, subst, inl, inr, arith, nat_le, Option, None, Some, cases_Bool, false≢true, nat_tests, drop-length}
+use Rattle.dm_movelaws.proofs.Names.{Pid, MsgId, PlainMessage, Boot, Phase, Moves, is_due, IsIn, sender_in, receiver_in, told_between, Point, IsQuiet, Spot, Queue, Held, Inbox, Untaken, times, untaken, standing, View, Known, Frozen}
+use Rattle.dm_movelaws.proofs.Names.{Incoming, Told, is_kernels, letters, kernels_fresh, under_way, kernels_by, between_of, has_nothing_held, Run, is_moving, not_true, times_self}
 use Rattle.dm_movelaws.proofs.Ends.Smooth.{plain_in_bag}
 use Rattle.dm_movelaws.proofs.Ends.Moving.{moving_in, waits_moves}
 use Rattle.dm_movelaws.proofs.Ends.Open.{IsOpen, Opens}
 use Rattle.dm_movelaws.proofs.Ends.Sources.{Sources}
 
 abbrev is_listed : Spot → Bool
-is_listed (Queue m p) = true
-is_listed (Held m p) = true
 is_listed (Inbox m) = false
 is_listed (Untaken a b) = false
+is_listed _ = true
 
 nothing_stands : (i : MsgId) (xs : List MsgId) → xs ≡ [] → 1 ≤ times i xs → ⊥
 nothing_stands i xs none st = let z : times i xs ≡ 0 = ap (times i) none in omega (arith, z, st)
@@ -57,14 +34,13 @@ stream_empty n v quiet sources a b less = elim (less_or a n) [
 
 -- a kernel's own message then stands in a list of a process, if anywhere
 own_listed : (b : Boot) (pt : Point) (h : Run b pt) (n : ℕ) → pt.kernel.machines ≡ n → IsQuiet n pt.view → Sources n pt.view → (i : MsgId) (t : Told) → pt.view.told i ≡ Some t → is_kernels i ≡ true → (z : Spot) → 1 ≤ standing pt.view i z → is_listed z ≡ true
-own_listed b pt h n is quiet sources i t told mine (Queue m p) st = refl
-own_listed b pt h n is quiet sources i t told mine (Held m p) st = refl
 own_listed b pt h n is quiet sources i t told mine (Inbox m) st =
     let less : m < n = subst (λ (k : ℕ). m < k) is (subst (λ (k : ℕ). k < pt.kernel.machines) (h.found.at_ i (Inbox m) st) (h.found.own_within i t told mine)) in
     absurd (nothing_stands i (pt.view.inbox m) (quiet.inbox m less) st)
 own_listed b pt h n is quiet sources i t told mine (Untaken a c) st =
     let less : c < n = subst (λ (k : ℕ). c < k) is (subst (λ (k : ℕ). k < pt.kernel.machines) (h.found.at_ i (Untaken a c) st) (h.found.own_within i t told mine)) in
     absurd (nothing_stands i (untaken (pt.view.pair a c)) (stream_empty n pt.view quiet sources a c less) st)
+own_listed b pt h n is quiet sources i t told mine _ st = refl
 
 -- so no process moves
 token_spot : (z : Spot) (from to : ℕ) → (z ≡ Inbox to) ⊎ (z ≡ Untaken from to) → is_listed z ≡ false
@@ -74,36 +50,27 @@ token_spot z from to e = elim e [
 ]
 
 none_moves : (b : Boot) (pt : Point) (h : Run b pt) (n : ℕ) → pt.kernel.machines ≡ n → IsQuiet n pt.view → Sources n pt.view → (p : Pid) (x : Phase) → IsIn pt.view p x → is_due x ≡ false → moving_in x ≡ 0
-none_moves b pt h n is quiet sources p Nowhere i due = refl
-none_moves b pt h n is quiet sources p (Rests at) i due = refl
-none_moves b pt h n is quiet sources p (Over at) i due = refl
 none_moves b pt h n is quiet sources p (Moves k s d None) i due = absurd (false≢true (sym due))
 none_moves b pt h n is quiet sources p (Moves k s d (Some id)) i due =
     let token = i.token in
     let mine = h.based.phased.sane.tells.own id (told_between p k s d) token.told (between_of k s d i.apart) in
     let listed = own_listed b pt h n is quiet sources id (told_between p k s d) token.told mine token.spot token.stands in
     absurd (false≢true (sym (token_spot token.spot (sender_in k s d) (receiver_in k s d) (token.ways token.spot token.stands)) ∙ listed))
-
-not_true_of : (c : Bool) → (c ≡ true → ⊥) → c ≡ false
-not_true_of true f = absurd (f refl)
-not_true_of false f = refl
+none_moves b pt h n is quiet sources p _ i due = refl
 
 pub quiet_stays : (b : Boot) (pt : Point) (h : Run b pt) (n : ℕ) → pt.kernel.machines ≡ n → IsQuiet n pt.view → Sources n pt.view → (p : Pid) → moving_in (h.based.phased.phases.of p) ≡ 0
 quiet_stays b pt h n is quiet sources p =
     let phases = h.based.phased.phases in
-    none_moves b pt h n is quiet sources p (phases.of p) (phases.each p) (not_true_of (is_due (phases.of p)) (λ e. let f : None ≡ Some p = phases.put p e in cc))
+    none_moves b pt h n is quiet sources p (phases.of p) (phases.each p) (not_true (is_due (phases.of p)) (λ e. let f : None ≡ Some p = phases.put p e in cc))
 
 -- and nothing is held
 rests_empty : (k : Known) → is_moving k ≡ false → has_nothing_held k ≡ true
-rests_empty Unknown e = refl
-rests_empty Here e = refl
 rests_empty (Frozen to) e = absurd (false≢true (sym e))
 rests_empty (Incoming from) e = absurd (false≢true (sym e))
-rests_empty (Forward at moves) e = refl
-rests_empty Ended e = refl
+rests_empty _ e = refl
 
 quiet_rests : (b : Boot) (pt : Point) (h : Run b pt) (n : ℕ) → pt.kernel.machines ≡ n → IsQuiet n pt.view → Sources n pt.view → (m : ℕ) (p : Pid) → is_moving (pt.view.known m p) ≡ false
-quiet_rests b pt h n is quiet sources m p = not_true_of (is_moving (pt.view.known m p)) (λ e.
+quiet_rests b pt h n is quiet sources m p = not_true (is_moving (pt.view.known m p)) (λ e.
     let one = waits_moves pt.view h.based.phased.phases p m e in
     let none = quiet_stays b pt h n is quiet sources p in
     omega (arith, one, none))
@@ -118,8 +85,7 @@ quiet_own b pt h n is quiet sources i t told mine (Queue m p) st =
     omega (arith, some, none)
 quiet_own b pt h n is quiet sources i t told mine (Held m p) st =
     nothing_stands i (pt.view.held m p) (h.based.lists.held m p (rests_empty (pt.view.known m p) (quiet_rests b pt h n is quiet sources m p))) st
-quiet_own b pt h n is quiet sources i t told mine (Inbox m) st = false≢true (own_listed b pt h n is quiet sources i t told mine (Inbox m) st)
-quiet_own b pt h n is quiet sources i t told mine (Untaken a c) st = false≢true (own_listed b pt h n is quiet sources i t told mine (Untaken a c) st)
+quiet_own b pt h n is quiet sources i t told mine any_ st = false≢true (own_listed b pt h n is quiet sources i t told mine any_ st)
 
 -- a request to move is a kernel's own
 outside : (p : Pid) (pt : Point) (b : Boot) (h : Run b pt) (i : MsgId) (o : Option PlainMessage) → IsOpen p pt.view i → pt.kernel.bag i ≡ o → pt.kernel.bag i ≡ None
@@ -136,13 +102,9 @@ open_own p pt b h i is =
 none_open : (p : Pid) (b : Boot) (pt : Point) (h : Run b pt) (n : ℕ) → pt.kernel.machines ≡ n → IsQuiet n pt.view → Sources n pt.view → (i : MsgId) → IsOpen p pt.view i → ⊥
 none_open p b pt h n is quiet sources i k = let (z, st) = k.stands in quiet_own b pt h n is quiet sources i k.told k.is (open_own p pt b h i k) z st
 
--- none is listed
-self_listed : (i : MsgId) (is : List MsgId) → 1 ≤ times i (i ∷ is)
-self_listed i is = let one : one_of i i ≡ 1 = ap (λ (c : Bool). if c then 1 else 0) (id_eq-same i) in omega (arith, one)
-
 empty_by : (p : Pid) (v : View) (ids : List MsgId) → ((i : MsgId) → IsOpen p v i → ⊥) → Opens p v ids → length ids ≡ 0
 empty_by p v [] none h = refl
-empty_by p v (i ∷ is) none h = absurd (none i (h.each i (self_listed i is)))
+empty_by p v (i ∷ is) none h = absurd (none i (h.each i (times_self i is)))
 
 pub quiet_empty : (p : Pid) (b : Boot) (pt : Point) (h : Run b pt) (n : ℕ) (ids : List MsgId) → pt.kernel.machines ≡ n → IsQuiet n pt.view → Sources n pt.view → Opens p pt.view ids → length ids ≡ 0
 quiet_empty p b pt h n ids is quiet sources opens = empty_by p pt.view ids (none_open p b pt h n is quiet sources) opens

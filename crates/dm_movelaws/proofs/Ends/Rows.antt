@@ -1,47 +1,17 @@
 -- What a turn does with a kernel's own message: what comes of it, line by line.
-use Rattle.std.proofs.Common.{◌≡◌, ℕ, ◌≤◌, ◌==◌, ◌&&◌, Bool, true, false, List, [], ◌∷◌, refl, ap, ◌∙◌, sym, subst, arith}
-use Rattle.std.specs.Prelude.{if◌then◌else◌}
-use Rattle.std.specs.declared.option.Option.{Option}
-use Rattle.std.specs.declared.option.Option.TheVariants.{None, Some}
-use Rattle.std.proofs.lemmas.Bool.{false≢true}
-use Rattle.dm_link.specs.declared.Pid.{Pid}
-use Rattle.dm_link.specs.Names.{pid_eq}
-use Rattle.dm_message.specs.declared.MsgId.{MsgId}
-use Rattle.dm_message.specs.declared.kind.MessageKind.{MessageKind}
-use Rattle.dm_message.specs.declared.kind.MessageKind.TheVariants as kind
-use Rattle.dm_message.specs.Ids.{id_eq}
-use Rattle.dm_onekernel.specs.declared.label.Label.{Label}
-use Rattle.dm_onekernel.specs.Kernel.{OneKernel}
-use Rattle.dm_onekernel.specs.Options.{bind}
-use Rattle.dm_laws.proofs.Equal.{id_eq-same, pid_eq-is, pid_eq-same}
-use Rattle.dm_line.specs.declared.line.Line.{Line}
-use Rattle.dm_rule.specs.View.{View, Told, Of, Known, view_after, handled_first}
-use Rattle.dm_rule.specs.Point.{Point, label_of, kernel_after, moved, after_line}
-use Rattle.dm_rule.specs.Parts.{Part, Says, Spelled, spelled}
-use Rattle.dm_rule.specs.Phases.{is_between}
-use Rattle.dm_line.specs.Sets.{at_record}
-use Rattle.dm_rule.specs.Spots.{Spot, Inbox, times, ids_at, standing}
-use Rattle.dm_rule.proofs.Hushed.{is_put}
-use Rattle.dm_rule.proofs.Lines.{not_true, at_record_at, at_record_off}
-use Rattle.dm_rule.proofs.Moves.Lists.{first_off}
-use Rattle.dm_rule.proofs.Moves.Sent.{line_next}
-use Rattle.dm_rule.proofs.Once.{one_of}
-use Rattle.dm_rule.proofs.Pairs.Lines.{touches, pair_same}
-use Rattle.dm_rule.proofs.Phases.Answers.{due, front_gone}
-use Rattle.dm_rule.proofs.Phases.Lines.{handled_spots}
-use Rattle.dm_rule.proofs.Phases.Stand.{InPhases}
-use Rattle.dm_rule.proofs.Said.{fits_as}
-use Rattle.dm_rule.proofs.States.{State, PairsFit, said}
-use Rattle.dm_rule.proofs.Telling.{Sane, sane_line}
-use Rattle.dm_rulelaws.proofs.Based.Needs.{Walks}
-use Rattle.dm_movelaws.specs.AtRest.{is_moving}
-use Rattle.dm_movelaws.specs.Ends.{asks, ends}
+use Rattle.dm_movelaws.proofs.Names.{◌≡◌, ℕ, ◌==◌, Bool, true, false, List, [], ◌∷◌, refl, ap, ◌∙◌, sym, subst, arith, if◌then◌else◌, Option, None, Some, false≢true, Pid, pid_eq, MsgId, MessageKind, id_eq, Label, OneKernel, bind, pid_eq-is}
+use Rattle.dm_movelaws.proofs.Names.{pid_eq-same, Line, View, Told, Of, Known, view_after, handled_first, Point, label_of, kernel_after, moved, after_line, Part, Says, Spelled, spelled, is_between, at_record, Spot, Inbox, times, ids_at}
+use Rattle.dm_movelaws.proofs.Names.{standing, is_put, not_true, at_record_at, at_record_off, first_off, line_next, touches, pair_same, due, front_gone, handled_spots, InPhases, fits_as, State, PairsFit, said, Sane, sane_line, Walks}
+use Rattle.dm_movelaws.proofs.Names.{is_moving, asks, ends}
 use Rattle.dm_movelaws.proofs.Ends.Smooth.{is_migrate, asks_for, kind_not, Somewhere, Smooth, Still, Plain, smooth_trans, hushed_smooth, told_by, stands_as, stands_was}
 use Rattle.dm_movelaws.proofs.Ends.Lines.{told_one}
 use Rattle.dm_movelaws.proofs.Ends.Still.{still_trans}
 use Rattle.dm_movelaws.proofs.Ends.Parts.{AllQuiet, Settled, settled_same, parts_settle, one_if, zero_if, quiet_count, quiet_asks}
 use Rattle.dm_movelaws.proofs.Ends.Moving.{moving_in, still_moves}
 use Rattle.dm_movelaws.proofs.Ends.Open.{Opens, IsOpen, Closes, Balance, level_balance, close_opens, smooth_opens}
+pub use Rattle.dm_rule.proofs.Phases.Answers.{about_same}
+pub use Rattle.dm_rulelaws.proofs.Goes.Always.{stands_first as front_one}
+pub use Rattle.dm_rule.proofs.Phases.Pieces.{and_false as and_off}
 
 -- behind the head of a turn: the message at the front, and all that stands there
 pub record Turn (pt : Point) (i : MsgId) (is : List MsgId) (t : Told) : Type 0 where
@@ -57,7 +27,7 @@ abbrev pub Comes : Pid → (pt : Point) → InPhases pt.view → List Part → S
 Comes p pt h parts w = (g : InPhases w.point.view) (ids : List MsgId) → Opens p pt.view ids → Balance p w.point.view ids 0 (moving_in (h.of p)) (moving_in (g.of p)) parts
 
 between_not : (k : MessageKind) → is_between k ≡ true → is_migrate k ≡ false
-between_not kind.Migrate e = absurd (false≢true e)
+between_not MessageKind.Migrate e = absurd (false≢true e)
 between_not k e = refl
 
 pub plain_one : (p : Pid) (v : View) (i : MsgId) (t : Told) → v.told i ≡ Some t → asks_for p t ≡ false → Plain p v i
@@ -65,12 +35,6 @@ plain_one p v i t told e u is = subst (λ (x : Told). asks_for p x ≡ false) (t
 
 pub between_plain : (p : Pid) (v : View) (i : MsgId) (t : Told) → v.told i ≡ Some t → is_between t.kind ≡ true → Plain p v i
 between_plain p v i t told b = plain_one p v i t told (kind_not p t (between_not t.kind b))
-
-pub front_one : (v : View) (m : ℕ) (i : MsgId) (is : List MsgId) → v.inbox m ≡ i ∷ is → 1 ≤ standing v i (Inbox m)
-front_one v m i is front =
-    let a : times i (v.inbox m) ≡ times i (i ∷ is) = ap (times i) front in
-    let b : one_of i i ≡ 1 = ap (λ (c : Bool). if c then 1 else 0) (id_eq-same i) in
-    omega (arith, a, b)
 
 pub stands_front : (pt : Point) (i : MsgId) (is : List MsgId) (t : Told) → Turn pt i is t → Somewhere pt.view i
 stands_front pt i is t h = (Inbox pt.view.acting, front_one pt.view pt.view.acting i is h.front)
@@ -109,10 +73,6 @@ line_then p pt l ps w none quiet calm sane fits q walks e =
 pub line_alone : (pt : Point) (l : Line) (w : Spelled) → label_of l ≡ None → spelled pt (Says l ∷ []) ≡ Some w → moved pt l pt.kernel ≡ w.point
 line_alone pt l w none e = let n = line_next pt l [] w none e in said (moved pt l pt.kernel) n.rest n.more ∙ n.point
 
--- a process that moves
-pub about_same : (p q : Pid) → Of p ≡ Of q → p ≡ q
-about_same p q e = cc
-
 pub due_moves : (p q : Pid) (pt : Point) (i : MsgId) (is : List MsgId) (t : Told) (h : Turn pt i is t) → is_between t.kind ≡ true → t.about ≡ Of q → pid_eq p q ≡ true → moving_in (h.phases.of p) ≡ 1
 due_moves p q pt i is t h b about same =
     let u = due pt i is t h.phases h.front h.told b in
@@ -122,10 +82,6 @@ due_moves p q pt i is t h b about same =
 
 pub pid_swap : (p q : Pid) → pid_eq p q ≡ false → pid_eq q p ≡ false
 pid_swap p q off = not_true (pid_eq q p) (λ e. let is : q ≡ p = pid_eq-is q p e in false≢true (sym off ∙ ap (pid_eq p) is ∙ pid_eq-same p))
-
-pub and_off : (b c : Bool) → c ≡ false → (b && c) ≡ false
-and_off true c e = e
-and_off false c e = refl
 
 -- one machine knows something else of another process
 pub other_still : (p q : Pid) (f : ℕ → Pid → Known) (a : ℕ) (x : Known) → pid_eq p q ≡ false → (m : ℕ) → is_moving (at_record f a q x m p) ≡ is_moving (f m p)

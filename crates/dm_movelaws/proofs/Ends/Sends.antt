@@ -1,40 +1,14 @@
 -- Messages that go on, those that are held, and those that come back from a held list: all stand somewhere again.
-use Rattle.std.proofs.Common.{◌≡◌, ◌⊎◌, ℕ, ◌≤◌, ◌==◌, ◌&&◌, Bool, true, false, List, [], ◌∷◌, ◌++◌, length, refl, ap, ◌∙◌, sym, subst, inl, inr, arith}
-use Rattle.std.specs.Prelude.{if◌then◌else◌}
-use Rattle.std.specs.declared.option.Option.{Option}
-use Rattle.std.specs.declared.option.Option.TheVariants.{None, Some}
-use Rattle.std.proofs.lemmas.Bool.{cases_Bool, false≢true}
-use Rattle.dm_link.specs.declared.Pid.{Pid}
-use Rattle.dm_link.specs.Names.{pid_eq}
-use Rattle.dm_message.specs.declared.MsgId.{MsgId}
-use Rattle.dm_message.specs.declared.kind.MessageKind.{MessageKind}
-use Rattle.dm_message.specs.Ids.{id_eq}
-use Rattle.dm_onekernel.specs.Options.{bind}
-use Rattle.dm_laws.proofs.Equal.{id_eq-is, id_eq-same}
-use Rattle.dm_laws.proofs.Steps.{bind-is}
-use Rattle.dm_line.specs.declared.line.Line.{Line}
-use Rattle.dm_line.specs.declared.line.Line.TheVariants as line
-use Rattle.dm_line.specs.declared.line.Load.TheVariants as load
-use Rattle.dm_line.specs.Sets.{at_machine, at_record}
-use Rattle.dm_rule.specs.View.{View, Told, Known, Here, view_after, after_put, handled, handled_first, held_for, forwarded_for, receiver_of, released, with_ring, knowing}
+use Rattle.dm_movelaws.proofs.Names.{◌≡◌, ◌⊎◌, ℕ, ◌≤◌, ◌==◌, ◌&&◌, Bool, true, false, List, [], ◌∷◌, ◌++◌, length, refl, ap, ◌∙◌, sym, subst, inl, inr, arith, if◌then◌else◌, Option, None, Some, cases_Bool, false≢true, Pid, pid_eq, MsgId}
+use Rattle.dm_movelaws.proofs.Names.{MessageKind, id_eq, bind, id_eq-is, id_eq-same, bind-is, Line, Load, at_machine, at_record, View, Told, Here, view_after, after_put, handled, handled_first, held_for, receiver_of, released, with_ring}
+use Rattle.dm_movelaws.proofs.Names.{knowing, Point, moved, after, Part, Again, Spelled, lines_of, puts, goes_out, packet_line, behind, spelled, sends_on, Spot, Queue, Held, Inbox, Untaken, times, ids_at, standing, at_record_at, parts}
+use Rattle.dm_movelaws.proofs.Names.{eq_is, eq_self, fits_put, fits_packet, one_of, handled_spots, held_spots, put_spots, put_there, put_spot, times-append, PairsFit, PacketsKeep, Sane, part_sane, pid_eq-is, last_there, fewer_record}
 use Rattle.dm_rule.specs.View as view
-use Rattle.dm_rule.specs.Point.{Point, moved, after}
-use Rattle.dm_rule.specs.Parts.{Part, Again, Spelled, lines_of, puts, goes_out, packet_line, behind, spelled}
-use Rattle.dm_rule.specs.Migrating.{sends_on}
-use Rattle.dm_rule.specs.Spots.{Spot, Queue, Held, Inbox, Untaken, times, ids_at, standing}
-use Rattle.dm_rule.proofs.Lines.{at_record_at, parts, eq_is, eq_self}
-use Rattle.dm_rule.proofs.Moves.Sent.{fits_put, fits_packet}
-use Rattle.dm_rule.proofs.Once.{one_of}
-use Rattle.dm_rule.proofs.Phases.Lines.{handled_spots, held_spots, put_spots, put_at}
-use Rattle.dm_rule.proofs.Phases.Put.{put_there, put_spot}
-use Rattle.dm_rule.proofs.Standing.{times-append}
-use Rattle.dm_rule.proofs.States.{PairsFit, PacketsKeep, put_told_off}
-use Rattle.dm_rule.proofs.Telling.{Sane, part_sane}
-use Rattle.dm_laws.proofs.Equal.{pid_eq-is}
 use Rattle.dm_movelaws.proofs.Ends.Smooth.{asks_for, Somewhere, Smooth, Plain, smooth_trans, smooth_still, smooth_others, stands_as, stands_was, told_by}
 use Rattle.dm_movelaws.proofs.Ends.Net.{zero_cases}
-use Rattle.dm_movelaws.proofs.Ends.Parts.{first_kept, packet_smooth, part_count}
+use Rattle.dm_movelaws.proofs.Ends.Parts.{packet_smooth, part_count}
 use Rattle.dm_movelaws.proofs.Ends.Rows.{front_one, first_spots}
+pub use Rattle.dm_rule.proofs.Moves.States.{again_told}
 
 -- one message stands elsewhere, and the others where they stood
 pub smooth_moves : (p : Pid) (v w : View) (i : MsgId) → ((j : MsgId) → w.told j ≡ v.told j) → Somewhere v i → Somewhere w i → ((j : MsgId) → id_eq i j ≡ false → (z : Spot) → standing w j z ≡ standing v j z) → Smooth p v w
@@ -51,48 +25,31 @@ smooth_moves p v w i told was now spots = record {
   ];
 }
 
--- a message is held
-last_there : (i : MsgId) (xs : List MsgId) → 1 ≤ times i (xs ++ i ∷ [])
-last_there i xs =
-    let a = times-append i xs (i ∷ []) in
-    let one : one_of i i ≡ 1 = ap (λ (c : Bool). if c then 1 else 0) (id_eq-same i) in
-    omega (arith, a, one)
-
 held_there : (v : View) (i : MsgId) (o : Option Pid) (q : Pid) → o ≡ Some q → Somewhere (held_for v i o) i
 held_there v i None q e = cc
 held_there v i (Some r) q e = (Held v.acting r, subst (λ n. 1 ≤ n) (sym (ap (times i) (at_record_at v.held v.acting r (v.held v.acting r ++ i ∷ [])))) (last_there i (v.held v.acting r)))
 
-pub held_smooth : (p : Pid) (v : View) (i : MsgId) (is : List MsgId) (t : Told) → v.inbox v.acting ≡ i ∷ is → v.told i ≡ Some t → Smooth p v (view_after v (line.Held i))
+pub held_smooth : (p : Pid) (v : View) (i : MsgId) (is : List MsgId) (t : Told) → v.inbox v.acting ≡ i ∷ is → v.told i ≡ Some t → Smooth p v (view_after v (Line.Held i))
 held_smooth p v i is t front told =
     let o = receiver_of (v.told i) in
-    smooth_moves p v (view_after v (line.Held i)) i (told_by v (line.Held i) refl) (Inbox v.acting, front_one v v.acting i is front) (held_there (handled v i) i o t.receiver (ap receiver_of told))
+    smooth_moves p v (view_after v (Line.Held i)) i (told_by v (Line.Held i) refl) (Inbox v.acting, front_one v v.acting i is front) (held_there (handled v i) i o t.receiver (ap receiver_of told))
     (λ j e z. held_spots (handled v i) i j o e z ∙ handled_spots v i j e z)
 
--- a message that was told of is put again
-pub again_told : (v : View) (a b : ℕ) (i : MsgId) (t : Told) → v.told i ≡ Some t → (j : MsgId) → (after_put v a b i t.kind t.receiver).told j ≡ v.told j
-again_told v a b i t is j = elim (cases_Bool (id_eq i j)) [
-  | inl same ↦
-      let ij : i ≡ j = id_eq-is i j same in
-      let u : Told = record { kind = t.kind; receiver = t.receiver; about = v.topic } in
-      subst (λ (x : MsgId). (after_put v a b i t.kind t.receiver).told x ≡ v.told x) ij (put_at v a b i t.kind t.receiver ∙ first_kept (v.told i) u t is ∙ sym is)
-  | inr apart ↦ put_told_off v a b i j t.kind t.receiver apart
-]
-
 -- a put and its packet
-puts_by : (P : Point → Type 0) (keeps : PacketsKeep P) (pt next : Point) (b : ℕ) (i : MsgId) (k : MessageKind) (q : Pid) (c d : Bool) → P (moved pt (line.Put pt.view.acting b i k q) pt.kernel)
-    → after pt (line.Put pt.view.acting b i k q ∷ (if c then [] else if d then packet_line pt.view pt.view.acting b (load.Data (length (pt.view.pair pt.view.acting b).ids)) ∷ [] else [])) ≡ Some next → P next
+puts_by : (P : Point → Type 0) (keeps : PacketsKeep P) (pt next : Point) (b : ℕ) (i : MsgId) (k : MessageKind) (q : Pid) (c d : Bool) → P (moved pt (Line.Put pt.view.acting b i k q) pt.kernel)
+    → after pt (Line.Put pt.view.acting b i k q ∷ (if c then [] else if d then packet_line pt.view pt.view.acting b (Load.Data (length (pt.view.pair pt.view.acting b).ids)) ∷ [] else [])) ≡ Some next → P next
 puts_by P keeps pt next b i k q true d h is =
-    let f : moved pt (line.Put pt.view.acting b i k q) pt.kernel ≡ next = cc in subst P f h
+    let f : moved pt (Line.Put pt.view.acting b i k q) pt.kernel ≡ next = cc in subst P f h
 puts_by P keeps pt next b i k q false false h is =
-    let f : moved pt (line.Put pt.view.acting b i k q) pt.kernel ≡ next = cc in subst P f h
+    let f : moved pt (Line.Put pt.view.acting b i k q) pt.kernel ≡ next = cc in subst P f h
 puts_by P keeps pt next b i k q false true h is =
     let n = length (pt.view.pair pt.view.acting b).wire in
-    let l = load.Data (length (pt.view.pair pt.view.acting b).ids) in
-    let mid = moved pt (line.Put pt.view.acting b i k q) pt.kernel in
-    let f : moved mid (line.Packet pt.view.acting b n l) mid.kernel ≡ next = cc in
+    let l = Load.Data (length (pt.view.pair pt.view.acting b).ids) in
+    let mid = moved pt (Line.Put pt.view.acting b i k q) pt.kernel in
+    let f : moved mid (Line.Packet pt.view.acting b n l) mid.kernel ≡ next = cc in
     subst P f (keeps mid pt.view.acting b n l h)
 
-pub puts_lead : (P : Point → Type 0) (keeps : PacketsKeep P) (pt next : Point) (b : ℕ) (i : MsgId) (k : MessageKind) (q : Pid) (ls : List Line) → P (moved pt (line.Put pt.view.acting b i k q) pt.kernel) → Some (puts pt.view b i k q) ≡ Some ls → after pt ls ≡ Some next → P next
+pub puts_lead : (P : Point → Type 0) (keeps : PacketsKeep P) (pt next : Point) (b : ℕ) (i : MsgId) (k : MessageKind) (q : Pid) (ls : List Line) → P (moved pt (Line.Put pt.view.acting b i k q) pt.kernel) → Some (puts pt.view b i k q) ≡ Some ls → after pt ls ≡ Some next → P next
 puts_lead P keeps pt next b i k q ls h is leads =
     let f : puts pt.view b i k q ≡ ls = cc in
     puts_by P keeps pt next b i k q (pt.view.acting == b) (goes_out (pt.view.pair pt.view.acting b)) h (ap (after pt) f ∙ leads)
@@ -109,7 +66,7 @@ pub record Sending (p : Pid) (v : View) (js : List MsgId) (w : View) : Type 0 wh
 
 pub sending_packet : (p : Pid) (v : View) (js : List MsgId) → PacketsKeep (λ q. Sending p v js q.view)
 sending_packet p v js q a b k l h =
-    let w = view_after q.view (line.Packet a b k l) in
+    let w = view_after q.view (Line.Packet a b k l) in
     let s = packet_smooth p q.view a b k l in
     record {
       told = h.told;
@@ -205,14 +162,8 @@ emptied_on f a q i m r least = elim (cases_Bool ((a == m) && pid_eq q r)) [
   | inr apart ↦ inl (subst (λ n. 1 ≤ n) (sym (ap (λ (c : Bool). times i (if c then [] else f m r)) apart)) least)
 ]
 
-emptied_back : (f : ℕ → Pid → List MsgId) (a : ℕ) (q : Pid) (i : MsgId) (m : ℕ) (r : Pid) → 1 ≤ times i (at_record f a q [] m r) → 1 ≤ times i (f m r)
-emptied_back f a q i m r least = elim (cases_Bool ((a == m) && pid_eq q r)) [
-  | inl same ↦ absurd (let none : times i (at_record f a q [] m r) ≡ 0 = ap (λ (c : Bool). times i (if c then [] else f m r)) same in omega (arith, least, none))
-  | inr apart ↦ subst (λ n. 1 ≤ n) (ap (λ (c : Bool). times i (if c then [] else f m r)) apart) least
-]
-
 abbrev sent_view : View → Pid → ℕ → View
-sent_view v q n = view_after v (line.SentOn q n)
+sent_view v q n = view_after v (Line.SentOn q n)
 
 both_first : (i : MsgId) (xs ys : List MsgId) → 1 ≤ times i xs → 1 ≤ times i (xs ++ ys)
 both_first i xs ys least = let a = times-append i xs ys in omega (arith, a, least)
@@ -233,8 +184,8 @@ sent_on v q n i same (Inbox m) st = inl (Inbox m, subst (λ k. 1 ≤ k) (sym (sa
 sent_on v q n i same (Untaken a b) st = inl (Untaken a b, st)
 
 sent_back : (v : View) (q : Pid) (n : ℕ) (i : MsgId) → ((z : Spot) → standing (handled_first v) i z ≡ standing v i z) → (z : Spot) → 1 ≤ standing (sent_view v q n) i z → Somewhere v i
-sent_back v q n i same (Queue m r) st = (Queue m r, emptied_back v.queue v.acting q i m r st)
-sent_back v q n i same (Held m r) st = (Held m r, emptied_back v.held v.acting q i m r st)
+sent_back v q n i same (Queue m r) st = (Queue m r, fewer_record v.queue v.acting q i m r st)
+sent_back v q n i same (Held m r) st = (Held m r, fewer_record v.held v.acting q i m r st)
 sent_back v q n i same (Inbox m) st = (Inbox m, subst (λ k. 1 ≤ k) (same (Inbox m)) st)
 sent_back v q n i same (Untaken a b) st = (Untaken a b, st)
 
@@ -285,7 +236,7 @@ released_on v q i (Untaken a b) st = (Untaken a b, st)
 
 released_back : (v : View) (q : Pid) (i : MsgId) (z : Spot) → 1 ≤ standing (released v q) i z → Somewhere v i
 released_back v q i (Queue m r) st = (Queue m r, st)
-released_back v q i (Held m r) st = (Held m r, emptied_back v.held v.acting q i m r st)
+released_back v q i (Held m r) st = (Held m r, fewer_record v.held v.acting q i m r st)
 released_back v q i (Inbox m) st = elim (cases_Bool (v.acting == m)) [
   | inl same ↦
       let now : times i (at_machine v.inbox v.acting (v.held v.acting q ++ v.inbox v.acting) m) ≡ times i (v.held v.acting q ++ v.inbox v.acting) = ap (λ (c : Bool). times i (if c then v.held v.acting q ++ v.inbox v.acting else v.inbox m)) same in
@@ -306,9 +257,7 @@ handled_smooth p v i is front plain = smooth_others p v (handled_first v) i plai
 
 here_off : (v : View) (q : Pid) (ring : List Pid) (z : Spot) → ids_at (with_ring (knowing v q Here) ring) z ≡ ids_at v z
 here_off v q ring (Queue m r) = refl
-here_off v q ring (Held m r) = refl
-here_off v q ring (Inbox m) = refl
-here_off v q ring (Untaken a b) = refl
+here_off v q ring _ = refl
 
 pub rejoins_smooth : (p : Pid) (v : View) (q : Pid) → Smooth p v (view.rejoins v q)
 rejoins_smooth p v q =

@@ -1,29 +1,10 @@
 -- Requests to move one process stay where they stand, or stand elsewhere: none comes and none goes.
-use Rattle.std.proofs.Common.{◌≡◌, ℕ, ◌≤◌, ◌&&◌, Bool, true, false, refl, ap, ◌∙◌, sym, subst, inl, inr, arith}
-use Rattle.std.specs.declared.option.Option.{Option}
-use Rattle.std.specs.declared.option.Option.TheVariants.{None, Some}
-use Rattle.std.proofs.lemmas.Bool.{cases_Bool, false≢true}
-use Rattle.dm_link.specs.declared.Pid.{Pid}
-use Rattle.dm_link.specs.Names.{pid_eq}
-use Rattle.dm_message.specs.declared.MsgId.{MsgId}
-use Rattle.dm_message.specs.declared.kind.MessageKind.{MessageKind}
-use Rattle.dm_message.specs.declared.kind.MessageKind.TheVariants as kind
-use Rattle.dm_message.specs.Ids.{id_eq}
-use Rattle.dm_message.specs.Kinds.{plain_kind}
-use Rattle.dm_message.specs.Plain as what
-use Rattle.dm_message.specs.Plain.{PlainMessage, PlainWhat}
-use Rattle.dm_laws.proofs.Equal.{id_eq-is}
-use Rattle.dm_line.specs.declared.line.Line.{Line}
-use Rattle.dm_rule.specs.Point.{Point}
-use Rattle.dm_rule.specs.Spots.{Spot, times, ids_at, standing}
-use Rattle.dm_rule.specs.View.{View, Told, view_after, own_id}
-use Rattle.dm_rule.proofs.Hushed.{is_put, hushed}
-use Rattle.dm_rule.proofs.Lines.{not_true}
-use Rattle.dm_rule.proofs.Telling.{Sane}
-use Rattle.dm_movelaws.specs.AtRest.{is_moving}
+use Rattle.dm_movelaws.proofs.Names.{◌≡◌, ℕ, ◌≤◌, ◌&&◌, Bool, true, false, refl, ap, ◌∙◌, sym, subst, inl, inr, Option, Some, cases_Bool, false≢true, Pid, pid_eq, MsgId, MessageKind, id_eq, plain_kind, PlainMessage, PlainWhat, id_eq-is}
+use Rattle.dm_movelaws.proofs.Names.{Line, Point, Spot, times, ids_at, standing, View, Told, view_after, is_put, hushed, not_true, Sane, is_moving}
+pub use Rattle.dm_rulelaws.proofs.Found.Parts.{own_fresh as own_untold}
 
 abbrev pub is_migrate : MessageKind → Bool
-is_migrate kind.Migrate = true
+is_migrate MessageKind.Migrate = true
 is_migrate _ = false
 
 -- a request to move this process
@@ -110,20 +91,8 @@ moves_none p v l quiet off = smooth_still p v (view_after v l) (told_by v l quie
 
 -- a message of the bag is none
 pub plain_not : (w : PlainWhat) → is_migrate (plain_kind w) ≡ false
-plain_not (what.User a b c d) = refl
-plain_not what.Stop = refl
-plain_not what.Resume = refl
-plain_not what.Kill = refl
-plain_not (what.Read a b) = refl
-plain_not (what.Write a b) = refl
-plain_not (what.Block a) = refl
-plain_not what.Written = refl
-plain_not what.Gone = refl
-plain_not (what.Create a b) = refl
-plain_not (what.Created a) = refl
-plain_not what.NoRoom = refl
-plain_not (what.Move a) = refl
-plain_not (what.Moved a) = refl
+plain_not (PlainWhat.User a b c d) = refl
+plain_not _ = refl
 
 pub kind_not : (p : Pid) (t : Told) → is_migrate t.kind ≡ false → asks_for p t ≡ false
 kind_not p t e = ap (λ (c : Bool). c && pid_eq p t.receiver) e
@@ -133,6 +102,3 @@ plain_message p w t e = kind_not p t (ap is_migrate e ∙ plain_not w)
 
 pub plain_in_bag : (p : Pid) (pt : Point) (i : MsgId) (x : PlainMessage) → Sane pt → pt.kernel.bag i ≡ Some x → Plain p pt.view i
 plain_in_bag p pt i x h there t told = plain_message p x.what t (h.tells.kind i x t there told)
-
-pub own_untold : (pt : Point) → Sane pt → pt.view.told (own_id pt.view) ≡ None
-own_untold pt h = h.numbered pt.view.acting (pt.view.count pt.view.acting) (omega arith)

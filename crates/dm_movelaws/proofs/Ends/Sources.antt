@@ -1,45 +1,12 @@
 -- Messages come only from machines that there are; and what was told stays.
-use Rattle.std.proofs.Common.{◌≡◌, ℕ, ◌<◌, ◌≤◌, ◌==◌, ◌&&◌, Bool, true, false, List, [], ◌∷◌, refl, ap, ◌∙◌, sym, subst, inl, inr, arith}
-use Rattle.std.specs.Prelude.{⊤, if◌then◌else◌, slice_get}
-use Rattle.std.specs.declared.option.Option.{Option}
-use Rattle.std.specs.declared.option.Option.TheVariants.{None, Some}
-use Rattle.std.proofs.lemmas.Bool.{cases_Bool, false≢true}
-use Rattle.dm_link.specs.declared.Pid.{Pid}
-use Rattle.dm_message.specs.declared.MsgId.{MsgId}
-use Rattle.dm_message.specs.declared.kind.MessageKind.{MessageKind}
-use Rattle.dm_message.specs.Ids.{id_eq}
-use Rattle.dm_message.specs.Kinds.{plain_kind}
-use Rattle.dm_onekernel.specs.declared.boot.Boot.{Boot}
-use Rattle.dm_onekernel.specs.Options.{bind}
-use Rattle.dm_schedule.specs.declared.Step.{Step}
-use Rattle.dm_schedule.specs.declared.Step.TheVariants as step
-use Rattle.dm_laws.proofs.Equal.{id_eq-is}
-use Rattle.dm_laws.proofs.Steps.{bind-is}
-use Rattle.dm_line.specs.declared.line.Line.{Line}
-use Rattle.dm_line.specs.declared.line.Line.TheVariants as line
-use Rattle.dm_line.specs.declared.line.Stage.TheVariants as stage
-use Rattle.dm_line.specs.Sets.{at_pair}
-use Rattle.dm_rule.specs.Addresses.{Receiver}
-use Rattle.dm_rule.specs.Laws.{IsStep}
-use Rattle.dm_rule.specs.Migrating.{migrates}
-use Rattle.dm_rule.specs.View.{View, Pair, Told, About, NothingElse, Target, Of, view_after, after_head, after_put, handled, receiver_of, own_id}
+use Rattle.dm_movelaws.proofs.Names.{◌≡◌, ℕ, ◌<◌, ◌≤◌, ◌==◌, ◌&&◌, Bool, true, false, List, [], ◌∷◌, refl, ap, ◌∙◌, sym, subst, inl, inr, arith, ⊤, if◌then◌else◌, slice_get, Option, Some, cases_Bool, false≢true, Pid, MsgId, MessageKind}
+use Rattle.dm_movelaws.proofs.Names.{id_eq, plain_kind, Boot, bind, Step, Stage, id_eq-is, bind-is, Line, at_pair, Receiver, IsStep, migrates, View, Pair, Told, view_after, after_head, after_put, handled, receiver_of, own_id, Point, moved}
+use Rattle.dm_movelaws.proofs.Names.{after, Part, Says, Routes, Again, Owns, Transmits, Spelled, lines_of, puts, packet_line, behind, spelled, group_of, group_is, IsNetLine, IsNet, arrives_net, resends_net, acting_label, is_put, eq_is}
+use Rattle.dm_movelaws.proofs.Names.{touches, pair_same, taken_pair, AllFit, migrates_fit, turns_fit, put_at, PacketsKeep, put_told_off, says_next, transmits_next, said, begun, acting_taken, proto_acting, queued_acting, held_acting}
+use Rattle.dm_movelaws.proofs.Names.{forwarded_acting}
 use Rattle.dm_rule.specs.View as view
-use Rattle.dm_rule.specs.Point.{Point, moved, after}
-use Rattle.dm_rule.specs.Parts.{Part, Says, Routes, Again, Owns, Transmits, Spelled, lines_of, puts, packet_line, behind, spelled}
 use Rattle.dm_rule.specs.Rule as rule
-use Rattle.dm_rule.specs.Rule.{group_of}
-use Rattle.dm_rule.proofs.Groups.{group_is, IsNetLine, IsNet, arrives_net, resends_net}
-use Rattle.dm_rule.proofs.Homes.Lines.{acting_label}
-use Rattle.dm_rule.proofs.Hushed.{is_put}
-use Rattle.dm_rule.proofs.Lines.{eq_is}
-use Rattle.dm_rule.proofs.Pairs.Lines.{touches, pair_same, taken_pair, AllFit}
-use Rattle.dm_rule.proofs.Pairs.Migrating.{migrates_fit}
-use Rattle.dm_rule.proofs.Pairs.Turns.{turns_fit}
-use Rattle.dm_rule.proofs.Phases.Lines.{put_at}
-use Rattle.dm_rule.proofs.States.{PacketsKeep, put_told_off, says_next, transmits_next, said}
-use Rattle.dm_rulelaws.proofs.Based.Needs.{begun}
 use Rattle.dm_movelaws.proofs.Ends.Smooth.{Extends, told_by}
-use Rattle.dm_movelaws.proofs.Ends.Lines.{follows_or}
 use Rattle.dm_movelaws.proofs.Ends.Parts.{first_kept}
 use Rattle.dm_movelaws.proofs.Ends.Sends.{puts_lead}
 
@@ -62,100 +29,47 @@ pair_ids f a b p e c d = elim (cases_Bool ((a == c) && (b == d))) [
     right_of true y h = h
     right_of false y h = absurd (false≢true h)
 
-head_ids : (v : View) (d : Step) (a b : ℕ) → ((after_head v d).pair a b).ids ≡ (v.pair a b).ids
-head_ids v (step.Turn m) a b = refl
-head_ids v (step.Tick m) a b = refl
-head_ids v (step.Deliver x y k) a b = pair_ids v.pair x y (view.marked (v.pair x y) k) refl a b
-head_ids v (step.Migrate p m) a b = refl
+pub head_ids : (v : View) (d : Step) (a b : ℕ) → ((after_head v d).pair a b).ids ≡ (v.pair a b).ids
+head_ids v (Step.Deliver x y k) a b = pair_ids v.pair x y (view.marked (v.pair x y) k) refl a b
+head_ids v _ a b = refl
 
-line_ids : (v : View) (l : Line) → is_put l ≡ false → (a b : ℕ) → ((view_after v l).pair a b).ids ≡ (v.pair a b).ids
-line_ids v (line.Head d) e a b = head_ids v d a b
-line_ids v (line.Put x y i k q) e a b = absurd (false≢true (sym e))
-line_ids v (line.Packet x y k l) e a b = pair_ids v.pair x y _ refl a b
-line_ids v (line.Taken x y n) e a b = ap (λ (f : ℕ → ℕ → Pair). (f a b).ids) (taken_pair (view.with_pair v x y _) y (view.oldest (v.pair x y))) ∙ pair_ids v.pair x y _ refl a b
-line_ids v (line.Early x y n) e a b = pair_ids v.pair x y _ refl a b
-line_ids v (line.Acked x y n) e a b = pair_ids v.pair y x _ refl a b
-line_ids v (line.Idle m) e a b = ap (λ (f : ℕ → ℕ → Pair). (f a b).ids) (pair_same v (line.Idle m) refl)
-line_ids v (line.Label l) e a b = ap (λ (f : ℕ → ℕ → Pair). (f a b).ids) (pair_same v (line.Label l) refl)
-line_ids v (line.Old x y n) e a b = refl
-line_ids v line.Nothing e a b = refl
-line_ids v (line.Resent m n) e a b = refl
-line_ids v (line.Queued i) e a b = ap (λ (f : ℕ → ℕ → Pair). (f a b).ids) (pair_same v (line.Queued i) refl)
-line_ids v (line.Held i) e a b = ap (λ (f : ℕ → ℕ → Pair). (f a b).ids) (pair_same v (line.Held i) refl)
-line_ids v (line.Forwarded i m) e a b = ap (λ (f : ℕ → ℕ → Pair). (f a b).ids) (pair_same v (line.Forwarded i m) refl)
-line_ids v (line.Updated i n) e a b = refl
-line_ids v (line.Migration s p) e a b = ap (λ (f : ℕ → ℕ → Pair). (f a b).ids) (pair_same v (line.Migration s p) refl)
-line_ids v (line.SentOn p n) e a b = refl
-line_ids v (line.Lacks p x y) e a b = refl
-line_ids v (line.Stays p) e a b = refl
-line_ids v (line.Here i) e a b = refl
-line_ids v (line.NoMove i) e a b = refl
-line_ids v (line.Proto i) e a b = ap (λ (f : ℕ → ℕ → Pair). (f a b).ids) (pair_same v (line.Proto i) refl)
-line_ids v (line.NoChild p) e a b = refl
-line_ids v (line.Pinned p) e a b = refl
+pub line_ids : (v : View) (l : Line) → is_put l ≡ false → (a b : ℕ) → ((view_after v l).pair a b).ids ≡ (v.pair a b).ids
+line_ids v (Line.Head d) e a b = head_ids v d a b
+line_ids v (Line.Put x y i k q) e a b = absurd (false≢true (sym e))
+line_ids v (Line.Packet x y k l) e a b = pair_ids v.pair x y _ refl a b
+line_ids v (Line.Taken x y n) e a b = ap (λ (f : ℕ → ℕ → Pair). (f a b).ids) (taken_pair (view.with_pair v x y _) y (view.oldest (v.pair x y))) ∙ pair_ids v.pair x y _ refl a b
+line_ids v (Line.Early x y n) e a b = pair_ids v.pair x y _ refl a b
+line_ids v (Line.Acked x y n) e a b = pair_ids v.pair y x _ refl a b
+line_ids v (Line.Idle m) e a b = ap (λ (f : ℕ → ℕ → Pair). (f a b).ids) (pair_same v (Line.Idle m) refl)
+line_ids v (Line.Label l) e a b = ap (λ (f : ℕ → ℕ → Pair). (f a b).ids) (pair_same v (Line.Label l) refl)
+line_ids v (Line.Queued i) e a b = ap (λ (f : ℕ → ℕ → Pair). (f a b).ids) (pair_same v (Line.Queued i) refl)
+line_ids v (Line.Held i) e a b = ap (λ (f : ℕ → ℕ → Pair). (f a b).ids) (pair_same v (Line.Held i) refl)
+line_ids v (Line.Forwarded i m) e a b = ap (λ (f : ℕ → ℕ → Pair). (f a b).ids) (pair_same v (Line.Forwarded i m) refl)
+line_ids v (Line.Migration s p) e a b = ap (λ (f : ℕ → ℕ → Pair). (f a b).ids) (pair_same v (Line.Migration s p) refl)
+line_ids v (Line.Proto i) e a b = ap (λ (f : ℕ → ℕ → Pair). (f a b).ids) (pair_same v (Line.Proto i) refl)
+line_ids v _ e a b = refl
 
 -- no line but a head sets the machine that acts
 abbrev is_head : Line → Bool
-is_head (line.Head d) = true
+is_head (Line.Head d) = true
 is_head l = false
 
-taken_acting : (v : View) (b : ℕ) (o : Option MsgId) → (view.taken_id v b o).acting ≡ v.acting
-taken_acting v b None = refl
-taken_acting v b (Some i) = refl
-
-queued_acting : (v : View) (i : MsgId) (o : Option Pid) → (view.queued_for v i o).acting ≡ v.acting
-queued_acting v i None = refl
-queued_acting v i (Some q) = refl
-
-held_acting : (v : View) (i : MsgId) (o : Option Pid) → (view.held_for v i o).acting ≡ v.acting
-held_acting v i None = refl
-held_acting v i (Some q) = refl
-
-forwarded_acting : (v : View) (o : Option Pid) → (view.forwarded_for v o).acting ≡ v.acting
-forwarded_acting v None = refl
-forwarded_acting v (Some q) = refl
-
-asks_acting : (v : View) (a : About) → (view.asks_on v a).acting ≡ v.acting
-asks_acting v NothingElse = refl
-asks_acting v (Target m) = refl
-asks_acting v (Of q) = refl
-asks_acting v (view.Place q at moves) = refl
-
-proto_acting : (v : View) (o : Option Told) → (view.after_proto v o).acting ≡ v.acting
-proto_acting v None = refl
-proto_acting v (Some t) = follows_or (λ (w : View). w.acting ≡ v.acting) v t.about t.kind refl (asks_acting v t.about)
-
 line_acting : (v : View) (l : Line) → is_head l ≡ false → (view_after v l).acting ≡ v.acting
-line_acting v (line.Head d) e = absurd (false≢true (sym e))
-line_acting v (line.Put x y i k q) e = refl
-line_acting v (line.Packet x y k l) e = refl
-line_acting v (line.Taken x y n) e = taken_acting (view.with_pair v x y _) y (view.oldest (v.pair x y))
-line_acting v (line.Early x y n) e = refl
-line_acting v (line.Acked x y n) e = refl
-line_acting v (line.Idle m) e = refl
-line_acting v (line.Label l) e = acting_label v l
-line_acting v (line.Old x y n) e = refl
-line_acting v line.Nothing e = refl
-line_acting v (line.Resent m n) e = refl
-line_acting v (line.Queued i) e = queued_acting (handled v i) i (receiver_of (v.told i))
-line_acting v (line.Held i) e = held_acting (handled v i) i (receiver_of (v.told i))
-line_acting v (line.Forwarded i m) e = forwarded_acting (handled v i) (receiver_of (v.told i))
-line_acting v (line.Updated i n) e = refl
-line_acting v (line.Migration stage.Frozen p) e = refl
-line_acting v (line.Migration stage.Asked p) e = refl
-line_acting v (line.Migration stage.Accepted p) e = refl
-line_acting v (line.Migration stage.StateTaken p) e = refl
-line_acting v (line.Migration stage.MemoryTaken p) e = refl
-line_acting v (line.Migration stage.Left p) e = refl
-line_acting v (line.Migration stage.Restarted p) e = refl
-line_acting v (line.SentOn p n) e = refl
-line_acting v (line.Lacks p x y) e = refl
-line_acting v (line.Stays p) e = refl
-line_acting v (line.Here i) e = refl
-line_acting v (line.NoMove i) e = refl
-line_acting v (line.Proto i) e = proto_acting (handled v i) (v.told i)
-line_acting v (line.NoChild p) e = refl
-line_acting v (line.Pinned p) e = refl
+line_acting v (Line.Head d) e = absurd (false≢true (sym e))
+line_acting v (Line.Taken x y n) e = acting_taken (view.with_pair v x y _) y (view.oldest (v.pair x y))
+line_acting v (Line.Label l) e = acting_label v l
+line_acting v (Line.Queued i) e = queued_acting (handled v i) i (receiver_of (v.told i))
+line_acting v (Line.Held i) e = held_acting (handled v i) i (receiver_of (v.told i))
+line_acting v (Line.Forwarded i m) e = forwarded_acting (handled v i) (receiver_of (v.told i))
+line_acting v (Line.Migration Stage.Frozen p) e = refl
+line_acting v (Line.Migration Stage.Asked p) e = refl
+line_acting v (Line.Migration Stage.Accepted p) e = refl
+line_acting v (Line.Migration Stage.StateTaken p) e = refl
+line_acting v (Line.Migration Stage.MemoryTaken p) e = refl
+line_acting v (Line.Migration Stage.Left p) e = refl
+line_acting v (Line.Migration Stage.Restarted p) e = refl
+line_acting v (Line.Proto i) e = proto_acting (handled v i) (v.told i)
+line_acting v _ e = refl
 
 -- what stands between the lines of a group
 pub record Acts (n : ℕ) (f : MsgId → Option Told) (v : View) : Type 0 where
@@ -195,17 +109,14 @@ put_acts n f v b i k q h = record {
 -- parts
 abbrev Goes : Part → Type 0
 Goes (Says l) = (is_head l ≡ false) × (is_put l ≡ false)
-Goes (Routes i) = ⊤
-Goes (Again i b) = ⊤
-Goes (Owns k q b) = ⊤
-Goes (Transmits a b l) = ⊤
+Goes _ = ⊤
 
 abbrev AllGo : List Part → Type 0
 AllGo [] = ⊤
 AllGo (x ∷ ps) = Goes x × AllGo ps
 
 acts_packet : (n : ℕ) (f : MsgId → Option Told) → PacketsKeep (λ q. Acts n f q.view)
-acts_packet n f q a b k l h = line_acts n f q.view (line.Packet a b k l) refl refl h
+acts_packet n f q a b k l h = line_acts n f q.view (Line.Packet a b k l) refl refl h
 
 -- a part that puts a message
 record ActsNext (n : ℕ) (f : MsgId → Option Told) (ps : List Part) (w : Spelled) : Type 0 where
@@ -251,8 +162,8 @@ parts_act n f (Owns c q b ∷ ps) pt w ok h e =
 
 -- what the parts of a group are
 fit_goes : (l : Line) → touches l ≡ false → (is_head l ≡ false) × (is_put l ≡ false)
-fit_goes (line.Head d) e = absurd (false≢true (sym e))
-fit_goes (line.Put a b i k q) e = absurd (false≢true (sym e))
+fit_goes (Line.Head d) e = absurd (false≢true (sym e))
+fit_goes (Line.Put a b i k q) e = absurd (false≢true (sym e))
 fit_goes l e = (refl, refl)
 
 fit_go : (f : ℕ → ℕ → Pair) (ps : List Part) → AllFit f ps → AllGo ps
@@ -264,8 +175,8 @@ fit_go f (Owns k q b ∷ ps) h = (tt, fit_go f ps h.1)
 fit_go f (Transmits a b l ∷ ps) h = (tt, fit_go f ps h.1)
 
 net_goes : (l : Line) → IsNetLine l → (is_head l ≡ false) × (is_put l ≡ false)
-net_goes (line.Head d) e = absurd e
-net_goes (line.Put a b i k q) e = absurd e
+net_goes (Line.Head d) e = absurd e
+net_goes (Line.Put a b i k q) e = absurd e
 net_goes l e = (refl, refl)
 
 net_go : (ps : List Part) → IsNet ps → AllGo ps
@@ -277,29 +188,28 @@ net_go (Owns k q b ∷ ps) h = absurd h.0
 net_go (Transmits a b l ∷ ps) h = (tt, net_go ps h.1)
 
 outcome_go : (b : Boot) (pt : Point) (d : Step) (ps : List Part) → rule.outcome b pt d ≡ Some ps → AllGo ps
-outcome_go b pt (step.Turn m) ps e = fit_go pt.view.pair ps (turns_fit pt.view.pair b pt m (pt.view.inbox m) ps e)
-outcome_go b pt (step.Tick m) ps e =
-    let qs = Says (line.Resent m (rule.outstanding pt.view m pt.kernel.machines)) ∷ rule.resends pt.view m pt.kernel.machines in
+outcome_go b pt (Step.Turn m) ps e = fit_go pt.view.pair ps (turns_fit pt.view.pair b pt m (pt.view.inbox m) ps e)
+outcome_go b pt (Step.Tick m) ps e =
+    let qs = Says (Line.Resent m (rule.outstanding pt.view m pt.kernel.machines)) ∷ rule.resends pt.view m pt.kernel.machines in
     let f : qs ≡ ps = cc in
     subst AllGo f (net_go qs (tt, resends_net pt.view m pt.kernel.machines))
-outcome_go b pt (step.Deliver a c k) ps e =
+outcome_go b pt (Step.Deliver a c k) ps e =
     let qs = rule.arrives a c (pt.view.pair a c) (pt.view.pair c a) (slice_get (pt.view.pair a c).wire k) in
     let f : qs ≡ ps = cc in
     subst AllGo f (net_go qs (arrives_net a c (pt.view.pair a c) (pt.view.pair c a) (slice_get (pt.view.pair a c).wire k)))
-outcome_go b pt (step.Migrate q m) ps e =
+outcome_go b pt (Step.Migrate q m) ps e =
     let f : migrates pt q ≡ ps = cc in
     subst AllGo f (fit_go pt.view.pair (migrates pt q) (migrates_fit pt.view.pair pt q))
 
 -- a directive acts on a machine that there is
 actor_less : (n : ℕ) (v : View) (d : Step) → IsStep n d → (after_head v d).acting < n
-actor_less n v (step.Turn m) h = h
-actor_less n v (step.Tick m) h = h
-actor_less n v (step.Deliver a b k) h = h.1
-actor_less n v (step.Migrate p m) h = omega (arith, h)
+actor_less n v (Step.Deliver a b k) h = h.1
+actor_less n v (Step.Migrate p m) h = omega (arith, h)
+actor_less n v _ h = h
 
 -- each group
 pub group_acts : (n : ℕ) (b : Boot) (pt : Point) (d : Step) (w : Spelled) → IsStep n d → group_of b pt d ≡ Some w → Sources n pt.view → Acts n pt.view.told w.point.view
 group_acts n b pt d w fit e h =
     let g = group_is b pt d w e in
-    let start : Acts n pt.view.told (begun pt d).view = record { acting = actor_less n pt.view d fit; sources = λ x y le. head_ids pt.view d x y ∙ h x y le; grows = λ i t told. told_by pt.view (line.Head d) refl i ∙ told } in
+    let start : Acts n pt.view.told (begun pt d).view = record { acting = actor_less n pt.view d fit; sources = λ x y le. head_ids pt.view d x y ∙ h x y le; grows = λ i t told. told_by pt.view (Line.Head d) refl i ∙ told } in
     subst (λ (q : Point). Acts n pt.view.told q.view) g.point (parts_act n pt.view.told g.parts (begun pt d) g.rest (outcome_go b pt d g.parts g.is) start g.said)

@@ -1,34 +1,8 @@
 -- A turn that handles a message of a migration: a step of it is made, or it ends.
-use Rattle.std.proofs.Common.{◌≡◌, ℕ, ◌+◌, ◌==◌, ◌&&◌, Bool, true, false, not, List, [], ◌∷◌, ◌++◌, length, refl, ap, ◌∙◌, sym, subst, inl, inr, arith}
-use Rattle.std.specs.Prelude.{⊤, if◌then◌else◌}
-use Rattle.std.specs.declared.option.Option.{Option}
-use Rattle.std.specs.declared.option.Option.TheVariants.{None, Some}
-use Rattle.std.proofs.lemmas.Bool.{cases_Bool}
-use Rattle.dm_link.specs.declared.Pid.{Pid}
-use Rattle.dm_link.specs.Names.{pid_of, pid_eq}
-use Rattle.dm_message.specs.declared.MsgId.{MsgId}
-use Rattle.dm_message.specs.declared.kind.MessageKind.{MessageKind}
-use Rattle.dm_message.specs.declared.kind.MessageKind.TheVariants as kind
-use Rattle.dm_onekernel.specs.PlainProcess.{PlainProcess}
-use Rattle.dm_laws.proofs.Equal.{pid_eq-is}
-use Rattle.dm_line.specs.declared.line.Line.{Line}
-use Rattle.dm_line.specs.declared.line.Line.TheVariants as line
-use Rattle.dm_line.specs.declared.line.Stage.TheVariants as stage
-use Rattle.dm_rule.specs.Migrating.{to_kernel, accepts, takes_chunk, takes_block, leaves, sends_on, kernel_told, chunks_of, pieces_of}
-use Rattle.dm_rule.specs.View.{View, Told, Of, Known, Unknown, Here, Frozen, Incoming, Forward, Ended, view_after, handled_first, rejoins, front_of, gone_to}
-use Rattle.dm_rule.specs.Point.{Point, moved}
-use Rattle.dm_rule.specs.Parts.{Part, Says, Spelled, spelled}
-use Rattle.dm_rule.specs.Phases.{Phase, Moves, is_apart, is_between, knows, receiver_in}
-use Rattle.dm_rule.specs.Spots.{Spot, Queue, Held, Inbox, Untaken, times, ids_at}
-use Rattle.dm_rule.proofs.Lines.{parts, at_record_off}
-use Rattle.dm_rule.proofs.Moves.Sent.{line_next}
-use Rattle.dm_rule.proofs.Phases.Answers.{due}
-use Rattle.dm_rule.proofs.Phases.Stand.{InPhases}
-use Rattle.dm_rule.proofs.Telling.{sane_line}
-use Rattle.dm_rulelaws.proofs.Based.Needs.{Walks, loose_walks}
-use Rattle.dm_rulelaws.proofs.Based.Rows.{turned}
-use Rattle.dm_movelaws.specs.AtRest.{is_moving}
-use Rattle.dm_movelaws.specs.Ends.{asks, ends}
+use Rattle.dm_movelaws.proofs.Names.{◌≡◌, ℕ, ◌+◌, ◌==◌, ◌&&◌, Bool, true, false, not, List, [], ◌∷◌, ◌++◌, length, refl, ap, ◌∙◌, sym, subst, inl, inr, arith, ⊤, if◌then◌else◌, Option, None, Some, cases_Bool, Pid, pid_of, pid_eq, MsgId}
+use Rattle.dm_movelaws.proofs.Names.{MessageKind, Stage, PlainProcess, pid_eq-is, Line, to_kernel, accepts, takes_chunk, takes_block, leaves, sends_on, kernel_told, chunks_of, pieces_of, View, Told, Of, Known, Here, Frozen, Incoming}
+use Rattle.dm_movelaws.proofs.Names.{view_after, handled_first, rejoins, front_of, gone_to, Point, moved, Part, Says, Spelled, spelled, Phase, Moves, is_apart, is_between, knows, receiver_in, Spot, Queue, times, ids_at, parts}
+use Rattle.dm_movelaws.proofs.Names.{at_record_off, line_next, due, InPhases, sane_line, Walks, loose_walks, turned, is_moving, asks, ends, accepted_off, state_off, memory_off, lacks_off, left_off}
 use Rattle.dm_movelaws.proofs.Ends.Smooth.{is_migrate, Smooth, Still, smooth_trans, smooth_still, moves_none}
 use Rattle.dm_movelaws.proofs.Ends.Lines.{Tame}
 use Rattle.dm_movelaws.proofs.Ends.Parts.{AllQuiet, Settled, one_if, zero_if}
@@ -40,37 +14,6 @@ use Rattle.dm_movelaws.proofs.Ends.Sends.{all_sent, sent_smooth, sends_count, se
 abbrev pub ComesOf : Pid → (pt : Point) → InPhases pt.view → Option (List Part) → Type 0
 ComesOf p pt h None = ⊤
 ComesOf p pt h (Some ps) = (w : Spelled) → spelled pt ps ≡ Some w → Comes p pt h ps w
-
--- lines at which only the front goes
-accepted_off : (v : View) (q : Pid) (z : Spot) → ids_at (view_after v (line.Migration stage.Accepted q)) z ≡ ids_at (handled_first v) z
-accepted_off v q (Queue m r) = refl
-accepted_off v q (Held m r) = refl
-accepted_off v q (Inbox m) = refl
-accepted_off v q (Untaken a b) = refl
-
-state_off : (v : View) (q : Pid) (z : Spot) → ids_at (view_after v (line.Migration stage.StateTaken q)) z ≡ ids_at (handled_first v) z
-state_off v q (Queue m r) = refl
-state_off v q (Held m r) = refl
-state_off v q (Inbox m) = refl
-state_off v q (Untaken a b) = refl
-
-memory_off : (v : View) (q : Pid) (z : Spot) → ids_at (view_after v (line.Migration stage.MemoryTaken q)) z ≡ ids_at (handled_first v) z
-memory_off v q (Queue m r) = refl
-memory_off v q (Held m r) = refl
-memory_off v q (Inbox m) = refl
-memory_off v q (Untaken a b) = refl
-
-lacks_off : (v : View) (q : Pid) (x y : ℕ) (z : Spot) → ids_at (view_after v (line.Lacks q x y)) z ≡ ids_at (handled_first v) z
-lacks_off v q x y (Queue m r) = refl
-lacks_off v q x y (Held m r) = refl
-lacks_off v q x y (Inbox m) = refl
-lacks_off v q x y (Untaken a b) = refl
-
-left_off : (v : View) (q : Pid) (z : Spot) → ids_at (view_after v (line.Migration stage.Left q)) z ≡ ids_at v z
-left_off v q (Queue m r) = refl
-left_off v q (Held m r) = refl
-left_off v q (Inbox m) = refl
-left_off v q (Untaken a b) = refl
 
 owns_loose : (k : MessageKind) (b : ℕ) (pt : Point) → Walks pt (to_kernel k b ∷ [])
 owns_loose k b pt = loose_walks (to_kernel k b ∷ []) pt (λ q. tt, tt)
@@ -85,24 +28,24 @@ step_comes p pt i is t l k b h between first still rest plain none silent w e =
     level_row p pt h.phases l (to_kernel k b ∷ []) w first (kernel_quiet p (view_after pt.view l) k b plain) (rest w e) none silent (λ g. level_still p pt h.phases l w still (rest w e) g)
 
 -- the destination accepts, and waits for the process
-accepted_comes : (p : Pid) (pt : Point) (i : MsgId) (is : List MsgId) (t : Told) (q : Pid) (b : ℕ) (h : Turn pt i is t) → is_between t.kind ≡ true → t.about ≡ Of q → ComesOf p pt h.phases (Some (Says (line.Migration stage.Accepted q) ∷ to_kernel kind.PullState b ∷ []))
+accepted_comes : (p : Pid) (pt : Point) (i : MsgId) (is : List MsgId) (t : Told) (q : Pid) (b : ℕ) (h : Turn pt i is t) → is_between t.kind ≡ true → t.about ≡ Of q → ComesOf p pt h.phases (Some (Says (Line.Migration Stage.Accepted q) ∷ to_kernel MessageKind.PullState b ∷ []))
 accepted_comes p pt i is t q b h between about w e =
     let v = pt.view in
-    let l = line.Migration stage.Accepted q in
+    let l = Line.Migration Stage.Accepted q in
     let mid = view_after v l in
     let x = Incoming (front_of (v.inbox v.acting)) in
-    let rest = line_then p pt l (to_kernel kind.PullState b ∷ []) w refl refl refl h.sane h.fits (refl, tt) (owns_loose kind.PullState b (moved pt l pt.kernel)) e in
-    level_row p pt h.phases l (to_kernel kind.PullState b ∷ []) w (first_smooth p v l i is h.front (between_plain p v i t h.told between) refl (accepted_off v q)) (refl, tt) rest (λ f. refl) refl
+    let rest = line_then p pt l (to_kernel MessageKind.PullState b ∷ []) w refl refl refl h.sane h.fits (refl, tt) (owns_loose MessageKind.PullState b (moved pt l pt.kernel)) e in
+    level_row p pt h.phases l (to_kernel MessageKind.PullState b ∷ []) w (first_smooth p v l i is h.front (between_plain p v i t h.told between) refl (accepted_off v q)) (refl, tt) rest (λ f. refl) refl
     (λ g. elim (cases_Bool (pid_eq p q)) [
       | inl same ↦ due_moves p q pt i is t h between about same ∙ sym (waits_moves w.point.view g p v.acting (rest.still v.acting ∙ ap is_moving (set_here p q v.known v.acting x same)))
       | inr off ↦ level_still p pt h.phases l w (λ m. other_still p q v.known v.acting x off m) rest g
     ])
 
-lacks_comes : (p : Pid) (pt : Point) (i : MsgId) (is : List MsgId) (t : Told) (q : Pid) (x y b : ℕ) (h : Turn pt i is t) → is_between t.kind ≡ true → ComesOf p pt h.phases (Some (Says (line.Lacks q x y) ∷ to_kernel kind.Refuse b ∷ []))
+lacks_comes : (p : Pid) (pt : Point) (i : MsgId) (is : List MsgId) (t : Told) (q : Pid) (x y b : ℕ) (h : Turn pt i is t) → is_between t.kind ≡ true → ComesOf p pt h.phases (Some (Says (Line.Lacks q x y) ∷ to_kernel MessageKind.Refuse b ∷ []))
 lacks_comes p pt i is t q x y b h between =
-    let l = line.Lacks q x y in
-    step_comes p pt i is t l kind.Refuse b h between (first_smooth p pt.view l i is h.front (between_plain p pt.view i t h.told between) refl (lacks_off pt.view q x y)) (λ m. refl)
-    (λ w e. line_then p pt l (to_kernel kind.Refuse b ∷ []) w refl refl refl h.sane h.fits (refl, tt) (owns_loose kind.Refuse b (moved pt l pt.kernel)) e) refl (λ f. refl) refl
+    let l = Line.Lacks q x y in
+    step_comes p pt i is t l MessageKind.Refuse b h between (first_smooth p pt.view l i is h.front (between_plain p pt.view i t h.told between) refl (lacks_off pt.view q x y)) (λ m. refl)
+    (λ w e. line_then p pt l (to_kernel MessageKind.Refuse b ∷ []) w refl refl refl h.sane h.fits (refl, tt) (owns_loose MessageKind.Refuse b (moved pt l pt.kernel)) e) refl (λ f. refl) refl
 
 accepts_comes : (p : Pid) (pt : Point) (i : MsgId) (is : List MsgId) (t : Told) (q : Pid) (room : Bool) (x y b : ℕ) (h : Turn pt i is t) → is_between t.kind ≡ true → t.about ≡ Of q → ComesOf p pt h.phases (Some (accepts b q room x y))
 accepts_comes p pt i is t q true x y b h between about = accepted_comes p pt i is t q b h between about
@@ -112,24 +55,24 @@ tame_one : (p : Pid) (pt : Point) (i : MsgId) (is : List MsgId) (t : Told) → T
 tame_one p pt i is t h between = record { what = t; told = h.told; plain = between_plain p pt.view i t h.told between t h.told }
 
 -- a message that is no step
-piece_comes : (p : Pid) (pt : Point) (i : MsgId) (is : List MsgId) (t : Told) (k : MessageKind) (b : ℕ) (h : Turn pt i is t) → is_between t.kind ≡ true → is_migrate k ≡ false → ComesOf p pt h.phases (Some (Says (line.Proto i) ∷ to_kernel k b ∷ []))
+piece_comes : (p : Pid) (pt : Point) (i : MsgId) (is : List MsgId) (t : Told) (k : MessageKind) (b : ℕ) (h : Turn pt i is t) → is_between t.kind ≡ true → is_migrate k ≡ false → ComesOf p pt h.phases (Some (Says (Line.Proto i) ∷ to_kernel k b ∷ []))
 piece_comes p pt i is t k b h between plain w e =
-    let ps = Says (line.Proto i) ∷ to_kernel k b ∷ [] in
+    let ps = Says (Line.Proto i) ∷ to_kernel k b ∷ [] in
     quiet_row p pt h.phases ps w h.sane h.fits (tame_one p pt i is t h between, kernel_quiet p pt.view k b plain) (loose_walks ps pt (λ q. tt, (λ q. tt, tt))) e
 
 chunk_comes : (p : Pid) (pt : Point) (i : MsgId) (is : List MsgId) (t : Told) (q : Pid) (last : Bool) (h : Turn pt i is t) → is_between t.kind ≡ true → ComesOf p pt h.phases (Some (takes_chunk i q last))
 chunk_comes p pt i is t q true h between =
-    let l = line.Migration stage.StateTaken q in
-    step_comes p pt i is t l kind.PullBlock i.from.home h between (first_smooth p pt.view l i is h.front (between_plain p pt.view i t h.told between) refl (state_off pt.view q)) (λ m. refl)
-    (λ w e. line_then p pt l (to_kernel kind.PullBlock i.from.home ∷ []) w refl refl refl h.sane h.fits (refl, tt) (owns_loose kind.PullBlock i.from.home (moved pt l pt.kernel)) e) refl (λ f. refl) refl
-chunk_comes p pt i is t q false h between = piece_comes p pt i is t kind.PullState i.from.home h between refl
+    let l = Line.Migration Stage.StateTaken q in
+    step_comes p pt i is t l MessageKind.PullBlock i.from.home h between (first_smooth p pt.view l i is h.front (between_plain p pt.view i t h.told between) refl (state_off pt.view q)) (λ m. refl)
+    (λ w e. line_then p pt l (to_kernel MessageKind.PullBlock i.from.home ∷ []) w refl refl refl h.sane h.fits (refl, tt) (owns_loose MessageKind.PullBlock i.from.home (moved pt l pt.kernel)) e) refl (λ f. refl) refl
+chunk_comes p pt i is t q false h between = piece_comes p pt i is t MessageKind.PullState i.from.home h between refl
 
 block_comes : (p : Pid) (pt : Point) (i : MsgId) (is : List MsgId) (t : Told) (q : Pid) (last : Bool) (h : Turn pt i is t) → is_between t.kind ≡ true → ComesOf p pt h.phases (Some (takes_block i q last))
 block_comes p pt i is t q true h between =
-    let l = line.Migration stage.MemoryTaken q in
-    step_comes p pt i is t l kind.AllTaken i.from.home h between (first_smooth p pt.view l i is h.front (between_plain p pt.view i t h.told between) refl (memory_off pt.view q)) (λ m. refl)
-    (λ w e. line_then p pt l (to_kernel kind.AllTaken i.from.home ∷ []) w refl refl refl h.sane h.fits (refl, tt) (owns_loose kind.AllTaken i.from.home (moved pt l pt.kernel)) e) refl (λ f. refl) refl
-block_comes p pt i is t q false h between = piece_comes p pt i is t kind.PullBlock i.from.home h between refl
+    let l = Line.Migration Stage.MemoryTaken q in
+    step_comes p pt i is t l MessageKind.AllTaken i.from.home h between (first_smooth p pt.view l i is h.front (between_plain p pt.view i t h.told between) refl (memory_off pt.view q)) (λ m. refl)
+    (λ w e. line_then p pt l (to_kernel MessageKind.AllTaken i.from.home ∷ []) w refl refl refl h.sane h.fits (refl, tt) (owns_loose MessageKind.AllTaken i.from.home (moved pt l pt.kernel)) e) refl (λ f. refl) refl
+block_comes p pt i is t q false h between = piece_comes p pt i is t MessageKind.PullBlock i.from.home h between refl
 
 -- a process is here again: its move has ended
 comes_back : (p : Pid) (pt : Point) (i : MsgId) (is : List MsgId) (t : Told) (q : Pid) (l : Line) (w : Spelled) (h : Turn pt i is t) → is_between t.kind ≡ true → t.about ≡ Of q → Smooth p pt.view (view_after pt.view l) → ((m : ℕ) (r : Pid) → (view_after pt.view l).known m r ≡ (rejoins (handled_first pt.view) q).known m r)
@@ -154,23 +97,21 @@ comes_back p pt i is t q l w h between about first known rest at ended plain g i
           level_row p pt h.phases l [] w first tt rest (λ f. ended f ∙ off) plain (λ x. level_still p pt h.phases l w still rest x) g ids opens
     ]
 
-stays_comes : (p : Pid) (pt : Point) (i : MsgId) (is : List MsgId) (t : Told) (q : Pid) (h : Turn pt i is t) → is_between t.kind ≡ true → t.about ≡ Of q → ComesOf p pt h.phases (Some (Says (line.Stays q) ∷ []))
+stays_comes : (p : Pid) (pt : Point) (i : MsgId) (is : List MsgId) (t : Told) (q : Pid) (h : Turn pt i is t) → is_between t.kind ≡ true → t.about ≡ Of q → ComesOf p pt h.phases (Some (Says (Line.Stays q) ∷ []))
 stays_comes p pt i is t q h between about w e =
     let v = pt.view in
-    let l = line.Stays q in
+    let l = Line.Stays q in
     let first : Smooth p v (view_after v l) = smooth_trans p v (handled_first v) (view_after v l) (handled_smooth p v i is h.front (between_plain p v i t h.told between)) (rejoins_smooth p (handled_first v) q) in
     comes_back p pt i is t q l w h between about first (λ m r. refl) (line_then p pt l [] w refl refl refl h.sane h.fits tt tt e) (line_alone pt l w refl e) (λ f. refl) refl
 
-restarted_off : (v : View) (q : Pid) (z : Spot) → ids_at (view_after v (line.Migration stage.Restarted q)) z ≡ ids_at (rejoins (handled_first v) q) z
+restarted_off : (v : View) (q : Pid) (z : Spot) → ids_at (view_after v (Line.Migration Stage.Restarted q)) z ≡ ids_at (rejoins (handled_first v) q) z
 restarted_off v q (Queue m r) = refl
-restarted_off v q (Held m r) = refl
-restarted_off v q (Inbox m) = refl
-restarted_off v q (Untaken a b) = refl
+restarted_off v q _ = refl
 
-restarted_comes : (p : Pid) (pt : Point) (i : MsgId) (is : List MsgId) (t : Told) (q : Pid) (h : Turn pt i is t) → is_between t.kind ≡ true → t.about ≡ Of q → ComesOf p pt h.phases (Some (Says (line.Migration stage.Restarted q) ∷ []))
+restarted_comes : (p : Pid) (pt : Point) (i : MsgId) (is : List MsgId) (t : Told) (q : Pid) (h : Turn pt i is t) → is_between t.kind ≡ true → t.about ≡ Of q → ComesOf p pt h.phases (Some (Says (Line.Migration Stage.Restarted q) ∷ []))
 restarted_comes p pt i is t q h between about w e =
     let v = pt.view in
-    let l = line.Migration stage.Restarted q in
+    let l = Line.Migration Stage.Restarted q in
     let u = rejoins (handled_first v) q in
     let back : Smooth p v u = smooth_trans p v (handled_first v) u (handled_smooth p v i is h.front (between_plain p v i t h.told between)) (rejoins_smooth p (handled_first v) q) in
     let first : Smooth p v (view_after v l) = smooth_trans p v u (view_after v l) back (smooth_still p u (view_after v l) (λ j. refl) (λ j z. ap (times j) (restarted_off v q z))) in
@@ -178,41 +119,41 @@ restarted_comes p pt i is t q h between about w e =
 
 -- a process has left: what waited for it goes on, and the destination waits for it still
 abbrev leaving : ℕ → MsgId → Pid → List MsgId → List Part
-leaving to i q ids = Says (line.SentOn q (length ids)) ∷ sends_on to ids ++ Says (line.Migration stage.Left q) ∷ to_kernel kind.Restart i.from.home ∷ []
+leaving to i q ids = Says (Line.SentOn q (length ids)) ∷ sends_on to ids ++ Says (Line.Migration Stage.Left q) ∷ to_kernel MessageKind.Restart i.from.home ∷ []
 
 -- the destination waits
-target_expects : (p q : Pid) (pt : Point) (i : MsgId) (is : List MsgId) (t : Told) (h : Turn pt i is t) → t.kind ≡ kind.AllTaken → t.about ≡ Of q → pid_eq p q ≡ true → (d : ℕ) × ((pt.view.acting == d) ≡ false) × (is_moving (pt.view.known d p) ≡ true)
+target_expects : (p q : Pid) (pt : Point) (i : MsgId) (is : List MsgId) (t : Told) (h : Turn pt i is t) → t.kind ≡ MessageKind.AllTaken → t.about ≡ Of q → pid_eq p q ≡ true → (d : ℕ) × ((pt.view.acting == d) ≡ false) × (is_moving (pt.view.known d p) ≡ true)
 target_expects p q pt i is t h all about same =
     let v = pt.view in
     let u = due pt i is t h.phases h.front h.told (ap is_between all) in
     let uq : u.p ≡ q = about_same u.p q (sym (ap (λ (y : Told). y.about) u.told) ∙ about) in
     let pu : p ≡ u.p = pid_eq-is p q same ∙ sym uq in
-    let kind_is : u.k ≡ kind.AllTaken = sym (ap (λ (y : Told). y.kind) u.told) ∙ all in
-    let phase : h.phases.of p ≡ Moves kind.AllTaken u.s u.d (Some i) = ap h.phases.of pu ∙ u.phase ∙ ap (λ (k : MessageKind). Moves k u.s u.d (Some i)) kind_is in
+    let kind_is : u.k ≡ MessageKind.AllTaken = sym (ap (λ (y : Told). y.kind) u.told) ∙ all in
+    let phase : h.phases.of p ≡ Moves MessageKind.AllTaken u.s u.d (Some i) = ap h.phases.of pu ∙ u.phase ∙ ap (λ (k : MessageKind). Moves k u.s u.d (Some i)) kind_is in
     let acting : v.acting ≡ u.s = u.acting ∙ ap (λ (k : MessageKind). receiver_in k u.s u.d) kind_is in
-    let far : (u.s == u.d) ≡ false = not_false (u.s == u.d) (parts (is_between kind.AllTaken) (not (u.s == u.d)) (sym (ap is_apart phase) ∙ (h.phases.each p).apart)).1 in
-    let known : knows (Moves kind.AllTaken u.s u.d (Some i)) u.d (v.known u.d p) ≡ true = sym (ap (λ (x : Phase). knows x u.d (v.known u.d p)) phase) ∙ (h.phases.each p).known u.d in
-    (u.d, ap (λ (m : ℕ). m == u.d) acting ∙ far, target_waits kind.AllTaken u.s (v.known u.d p) refl (knows_target kind.AllTaken u.s u.d (Some i) (v.known u.d p) far known))
+    let far : (u.s == u.d) ≡ false = not_false (u.s == u.d) (parts (is_between MessageKind.AllTaken) (not (u.s == u.d)) (sym (ap is_apart phase) ∙ (h.phases.each p).apart)).1 in
+    let known : knows (Moves MessageKind.AllTaken u.s u.d (Some i)) u.d (v.known u.d p) ≡ true = sym (ap (λ (x : Phase). knows x u.d (v.known u.d p)) phase) ∙ (h.phases.each p).known u.d in
+    (u.d, ap (λ (m : ℕ). m == u.d) acting ∙ far, target_waits MessageKind.AllTaken u.s (v.known u.d p) refl (knows_target MessageKind.AllTaken u.s u.d (Some i) (v.known u.d p) far known))
 
 first_off_and : (b c : Bool) → b ≡ false → (b && c) ≡ false
 first_off_and b c e = ap (λ (x : Bool). x && c) e
 
-left_comes : (p : Pid) (pt : Point) (i : MsgId) (is : List MsgId) (t : Told) (q : Pid) (to : ℕ) (h : Turn pt i is t) → t.kind ≡ kind.AllTaken → t.about ≡ Of q → ComesOf p pt h.phases (Some (leaving to i q (pt.view.queue pt.view.acting q ++ pt.view.held pt.view.acting q)))
+left_comes : (p : Pid) (pt : Point) (i : MsgId) (is : List MsgId) (t : Told) (q : Pid) (to : ℕ) (h : Turn pt i is t) → t.kind ≡ MessageKind.AllTaken → t.about ≡ Of q → ComesOf p pt h.phases (Some (leaving to i q (pt.view.queue pt.view.acting q ++ pt.view.held pt.view.acting q)))
 left_comes p pt i is t q to h all about w e g listed opens =
     let v = pt.view in
     let ids = v.queue v.acting q ++ v.held v.acting q in
     let b = i.from.home in
     let between : is_between t.kind ≡ true = ap is_between all in
-    let l = line.SentOn q (length ids) in
-    let l2 = line.Migration stage.Left q in
-    let qs = Says l2 ∷ to_kernel kind.Restart b ∷ [] in
+    let l = Line.SentOn q (length ids) in
+    let l2 = Line.Migration Stage.Left q in
+    let qs = Says l2 ∷ to_kernel MessageKind.Restart b ∷ [] in
     let n = line_next pt l (sends_on to ids ++ qs) w refl e in
     let mid = moved pt l pt.kernel in
     let s = all_sent p v ids to qs mid n.rest (sent_begins p v q (length ids) i is h.front (between_plain p v i t h.told between) h.fits) (sane_line pt mid l refl refl h.sane) n.more in
     let pt3 = s.next in
     let v3 = view_after pt3.view l2 in
     let at : s.rest.point ≡ w.point = s.point ∙ n.point in
-    let rest : Settled p v3 w.point = subst (λ (x : Point). Settled p v3 x) at (line_then p pt3 l2 (to_kernel kind.Restart b ∷ []) s.rest refl refl refl s.sane s.sending.fits (refl, tt) (owns_loose kind.Restart b (moved pt3 l2 pt3.kernel)) s.more) in
+    let rest : Settled p v3 w.point = subst (λ (x : Point). Settled p v3 x) at (line_then p pt3 l2 (to_kernel MessageKind.Restart b ∷ []) s.rest refl refl refl s.sane s.sending.fits (refl, tt) (owns_loose MessageKind.Restart b (moved pt3 l2 pt3.kernel)) s.more) in
     let smooth : Smooth p v w.point.view = smooth_trans p v pt3.view w.point.view (sent_smooth p v pt3.view s.sending) (smooth_trans p pt3.view v3 w.point.view (moves_none p pt3.view l2 refl (left_off pt3.view q)) rest.smooth) in
     let x = gone_to (pt3.view.known pt3.view.acting q) (pt3.view.moves q + 1) in
     level_balance p v w.point.view listed (moving_in (h.phases.of p)) (moving_in (g.of p)) (leaving to i q ids) smooth opens
@@ -228,22 +169,18 @@ left_comes p pt i is t q to h all about w e g listed opens =
     ])
     (let c = sends_count (asks p) to ids qs in omega (arith, c)) (λ f ext. let c = sends_count (ends f p) to ids qs in omega (arith, c))
 
-leaves_comes : (p : Pid) (pt : Point) (i : MsgId) (is : List MsgId) (t : Told) (q : Pid) (k : Known) (h : Turn pt i is t) → t.kind ≡ kind.AllTaken → t.about ≡ Of q → ComesOf p pt h.phases (leaves i q (pt.view.queue pt.view.acting q ++ pt.view.held pt.view.acting q) k)
-leaves_comes p pt i is t q Unknown h all about = tt
-leaves_comes p pt i is t q Here h all about = tt
+leaves_comes : (p : Pid) (pt : Point) (i : MsgId) (is : List MsgId) (t : Told) (q : Pid) (k : Known) (h : Turn pt i is t) → t.kind ≡ MessageKind.AllTaken → t.about ≡ Of q → ComesOf p pt h.phases (leaves i q (pt.view.queue pt.view.acting q ++ pt.view.held pt.view.acting q) k)
 leaves_comes p pt i is t q (Frozen to) h all about = left_comes p pt i is t q to h all about
-leaves_comes p pt i is t q (Incoming from) h all about = tt
-leaves_comes p pt i is t q (Forward at moves) h all about = tt
-leaves_comes p pt i is t q Ended h all about = tt
+leaves_comes p pt i is t q _ h all about = tt
 
 -- by the kind of the message
 pub told_comes : (p : Pid) (o : Point) (m : ℕ) (i : MsgId) (is : List MsgId) (t : Told) (q : Pid) (room : Bool × ℕ × ℕ) (x : PlainProcess) (k : MessageKind) (h : Turn (turned o m) i is t) → t.kind ≡ k → t.about ≡ Of q → ComesOf p (turned o m) h.phases (kernel_told o m i q room x k)
-told_comes p o m i is t q room x kind.Ask h e about = accepts_comes p (turned o m) i is t q room.0 room.1 room.2 i.from.home h (ap is_between e) about
-told_comes p o m i is t q room x kind.Refuse h e about = stays_comes p (turned o m) i is t q h (ap is_between e) about
-told_comes p o m i is t q room x kind.PullState h e about = piece_comes p (turned o m) i is t kind.State i.from.home h (ap is_between e) refl
-told_comes p o m i is t q room x kind.State h e about = chunk_comes p (turned o m) i is t q (o.view.asked q == chunks_of x) h (ap is_between e)
-told_comes p o m i is t q room x kind.PullBlock h e about = piece_comes p (turned o m) i is t kind.Memory i.from.home h (ap is_between e) refl
-told_comes p o m i is t q room x kind.Memory h e about = block_comes p (turned o m) i is t q (o.view.asked q == pieces_of x) h (ap is_between e)
-told_comes p o m i is t q room x kind.AllTaken h e about = leaves_comes p (turned o m) i is t q (o.view.known m q) h e about
-told_comes p o m i is t q room x kind.Restart h e about = restarted_comes p (turned o m) i is t q h (ap is_between e) about
+told_comes p o m i is t q room x MessageKind.Ask h e about = accepts_comes p (turned o m) i is t q room.0 room.1 room.2 i.from.home h (ap is_between e) about
+told_comes p o m i is t q room x MessageKind.Refuse h e about = stays_comes p (turned o m) i is t q h (ap is_between e) about
+told_comes p o m i is t q room x MessageKind.PullState h e about = piece_comes p (turned o m) i is t MessageKind.State i.from.home h (ap is_between e) refl
+told_comes p o m i is t q room x MessageKind.State h e about = chunk_comes p (turned o m) i is t q (o.view.asked q == chunks_of x) h (ap is_between e)
+told_comes p o m i is t q room x MessageKind.PullBlock h e about = piece_comes p (turned o m) i is t MessageKind.Memory i.from.home h (ap is_between e) refl
+told_comes p o m i is t q room x MessageKind.Memory h e about = block_comes p (turned o m) i is t q (o.view.asked q == pieces_of x) h (ap is_between e)
+told_comes p o m i is t q room x MessageKind.AllTaken h e about = leaves_comes p (turned o m) i is t q (o.view.known m q) h e about
+told_comes p o m i is t q room x MessageKind.Restart h e about = restarted_comes p (turned o m) i is t q h (ap is_between e) about
 told_comes p o m i is t q room x k h e about = tt

@@ -1,28 +1,8 @@
 -- Quiet lines make no machine wait for a process, and leave none waiting less; and they end no request.
-use Rattle.std.proofs.Common.{◌≡◌, ℕ, ◌==◌, ◌&&◌, Bool, false, refl, ap, ◌∙◌, sym, subst, inl, inr}
-use Rattle.std.specs.Prelude.{if◌then◌else◌}
-use Rattle.std.specs.declared.option.Option.{Option}
-use Rattle.std.specs.declared.option.Option.TheVariants.{None, Some}
-use Rattle.std.proofs.lemmas.Bool.{cases_Bool}
-use Rattle.dm_link.specs.declared.Pid.{Pid}
-use Rattle.dm_link.specs.Names.{pid_eq}
-use Rattle.dm_message.specs.declared.MsgId.{MsgId}
-use Rattle.dm_onekernel.specs.declared.label.Label.{Label}
-use Rattle.dm_onekernel.specs.declared.label.Label.TheVariants as label
-use Rattle.dm_line.specs.declared.line.Line.{Line}
-use Rattle.dm_line.specs.declared.line.Line.TheVariants as line
-use Rattle.dm_line.specs.declared.line.Stage.TheVariants as stage
-use Rattle.dm_line.specs.Sets.{at_record}
-use Rattle.dm_rule.specs.View.{View, About, NothingElse, Target, Of, Known, Unknown, Here, Ended, Told, view_after, handled, receiver_of}
+use Rattle.dm_movelaws.proofs.Names.{◌≡◌, ℕ, ◌==◌, ◌&&◌, Bool, false, refl, ap, ◌∙◌, sym, subst, inl, inr, if◌then◌else◌, Option, None, Some, cases_Bool, Pid, pid_eq, MsgId, Label, Stage, Line, at_record, View, About, NothingElse, Known}
+use Rattle.dm_movelaws.proofs.Names.{Here, Ended, Told, view_after, handled, receiver_of, Point, pid_eq-is, parts, eq_is, queued_known, held_known, dropped_known, forwarded_known, Needs, NeedsLabel, Serves, killed_or, is_moving, ends}
+use Rattle.dm_movelaws.proofs.Names.{is_for}
 use Rattle.dm_rule.specs.View as view
-use Rattle.dm_rule.specs.Point.{Point}
-use Rattle.dm_laws.proofs.Equal.{pid_eq-is}
-use Rattle.dm_rule.proofs.Lines.{parts, eq_is}
-use Rattle.dm_rule.proofs.Phases.Lines.{queued_known, held_known, dropped_known, forwarded_known}
-use Rattle.dm_rulelaws.proofs.Based.Needs.{Needs, NeedsLabel, Serves}
-use Rattle.dm_rulelaws.proofs.Based.Sets.{killed_or}
-use Rattle.dm_movelaws.specs.AtRest.{is_moving}
-use Rattle.dm_movelaws.specs.Ends.{ends, is_for}
 use Rattle.dm_movelaws.proofs.Ends.Smooth.{Extends, Still}
 use Rattle.dm_movelaws.proofs.Ends.Lines.{QuietLine, Foreign, follows_or}
 
@@ -50,102 +30,66 @@ ended_still p v q here m = set_still v.known v.acting q Ended (sym (ap is_moving
 served_by : (p : Pid) (v : View) (o : Option Told) (t : Told) → o ≡ Some t → Still p v (view.kills t.kind v (Some t.receiver)) → Still p v (view.served_told v o)
 served_by p v o t e h = subst (λ (x : Option Told). Still p v (view.served_told v x)) (sym e) h
 
-served_still : (p : Pid) (v : View) (id : MsgId) → Serves v id → Still p v (view_after v (line.Label (label.Served id)))
+served_still : (p : Pid) (v : View) (id : MsgId) → Serves v id → Still p v (view_after v (Line.Label (Label.Served id)))
 served_still p v id h =
     let u = handled v id in
     let s : Still p u (view.served_told u (v.told id)) = served_by p u (v.told id) h.told h.is (killed_or (λ (w : View). Still p u w) h.told.kind u h.told.receiver (λ k. ended_still p u h.told.receiver (h.rests k).here) (λ k. still_same p u)) in
     λ m. s m
 
-label_still : (p : Pid) (pt : Point) (l : Label) → NeedsLabel pt l → Still p pt.view (view_after pt.view (line.Label l))
-label_still p pt (label.Ran q k) need = λ m. refl
-label_still p pt (label.Call q n c) need = λ m. refl
-label_still p pt (label.Send q id) need = λ m. refl
-label_still p pt (label.Wait q) need = λ m. refl
-label_still p pt (label.Out q w) need = λ m. refl
-label_still p pt (label.End q y) need = ended_still p pt.view q need.here
-label_still p pt (label.Receive q id) need = λ m. refl
-label_still p pt (label.Refuse q id c) need = λ m. refl
-label_still p pt (label.Dropped id) need = still_by p pt.view (view_after pt.view (line.Label (label.Dropped id))) (λ m q. dropped_known (handled pt.view id) id (receiver_of (pt.view.told id)) m q)
-label_still p pt (label.Served id) need = served_still p pt.view id need
-label_still p pt (label.Gone id) need = λ m. refl
-label_still p pt (label.Took id) need = λ m. refl
-label_still p pt (label.Created id q) need = λ m. set_still pt.view.known pt.view.acting q Here (sym (ap is_moving (need.unknown pt.view.acting))) m p
-label_still p pt (label.NoSpace id a b) need = λ m. refl
+label_still : (p : Pid) (pt : Point) (l : Label) → NeedsLabel pt l → Still p pt.view (view_after pt.view (Line.Label l))
+label_still p pt (Label.End q y) need = ended_still p pt.view q need.here
+label_still p pt (Label.Dropped id) need = still_by p pt.view (view_after pt.view (Line.Label (Label.Dropped id))) (λ m q. dropped_known (handled pt.view id) id (receiver_of (pt.view.told id)) m q)
+label_still p pt (Label.Served id) need = served_still p pt.view id need
+label_still p pt (Label.Created id q) need = λ m. set_still pt.view.known pt.view.acting q Here (sym (ap is_moving (need.unknown pt.view.acting))) m p
+label_still p pt _ need = λ m. refl
 
 asks_still : (p : Pid) (v : View) (a : About) → Still p v (view.asks_on v a)
 asks_still p v NothingElse m = refl
-asks_still p v (Target n) m = refl
-asks_still p v (Of q) m = refl
-asks_still p v (view.Place q at moves) m = refl
+asks_still p v _ m = refl
 
 pub proto_still : (p : Pid) (v : View) (o : Option Told) → Still p v (view.after_proto v o)
 proto_still p v None m = refl
 proto_still p v (Some t) m = follows_or (λ (w : View). is_moving (w.known m p) ≡ is_moving (v.known m p)) v t.about t.kind refl (asks_still p v t.about m)
 
 pub line_still : (p : Pid) (pt : Point) (l : Line) → QuietLine p pt.view l → Needs pt l → Still p pt.view (view_after pt.view l)
-line_still p pt (line.Idle m) quiet need = λ n. refl
-line_still p pt (line.Label l) quiet need = label_still p pt l need
-line_still p pt (line.Old a b n) quiet need = λ m. refl
-line_still p pt line.Nothing quiet need = λ m. refl
-line_still p pt (line.Resent m n) quiet need = λ k. refl
-line_still p pt (line.Queued i) quiet need = still_by p pt.view (view_after pt.view (line.Queued i)) (λ m q. queued_known (handled pt.view i) i (receiver_of (pt.view.told i)) m q)
-line_still p pt (line.Held i) quiet need = still_by p pt.view (view_after pt.view (line.Held i)) (λ m q. held_known (handled pt.view i) i (receiver_of (pt.view.told i)) m q)
-line_still p pt (line.Forwarded i n) quiet need = still_by p pt.view (view_after pt.view (line.Forwarded i n)) (λ m q. forwarded_known (handled pt.view i) (receiver_of (pt.view.told i)) m q)
-line_still p pt (line.Updated i n) quiet need = λ m. refl
-line_still p pt (line.Proto i) quiet need = λ m. proto_still p (handled pt.view i) (pt.view.told i) m
-line_still p pt (line.Here i) quiet need = λ m. refl
-line_still p pt (line.NoMove i) quiet need = λ m. refl
-line_still p pt (line.NoChild q) quiet need = λ m. refl
-line_still p pt (line.Pinned q) quiet need = λ m. refl
-line_still p pt (line.Head d) quiet need = absurd quiet
-line_still p pt (line.Put a b i k q) quiet need = absurd quiet
-line_still p pt (line.Packet a b k l) quiet need = absurd quiet
-line_still p pt (line.Taken a b n) quiet need = absurd quiet
-line_still p pt (line.Early a b n) quiet need = absurd quiet
-line_still p pt (line.Acked a b n) quiet need = absurd quiet
-line_still p pt (line.SentOn q n) quiet need = absurd quiet
-line_still p pt (line.Lacks q a b) quiet need = absurd quiet
-line_still p pt (line.Stays q) quiet need = absurd quiet
-line_still p pt (line.Migration stage.Frozen q) quiet need = absurd quiet
-line_still p pt (line.Migration stage.Asked q) quiet need = λ m. refl
-line_still p pt (line.Migration stage.Accepted q) quiet need = absurd quiet
-line_still p pt (line.Migration stage.StateTaken q) quiet need = absurd quiet
-line_still p pt (line.Migration stage.MemoryTaken q) quiet need = absurd quiet
-line_still p pt (line.Migration stage.Left q) quiet need = absurd quiet
-line_still p pt (line.Migration stage.Restarted q) quiet need = absurd quiet
+line_still p pt (Line.Idle m) quiet need = λ n. refl
+line_still p pt (Line.Label l) quiet need = label_still p pt l need
+line_still p pt (Line.Old a b n) quiet need = λ m. refl
+line_still p pt Line.Nothing quiet need = λ m. refl
+line_still p pt (Line.Resent m n) quiet need = λ k. refl
+line_still p pt (Line.Queued i) quiet need = still_by p pt.view (view_after pt.view (Line.Queued i)) (λ m q. queued_known (handled pt.view i) i (receiver_of (pt.view.told i)) m q)
+line_still p pt (Line.Held i) quiet need = still_by p pt.view (view_after pt.view (Line.Held i)) (λ m q. held_known (handled pt.view i) i (receiver_of (pt.view.told i)) m q)
+line_still p pt (Line.Forwarded i n) quiet need = still_by p pt.view (view_after pt.view (Line.Forwarded i n)) (λ m q. forwarded_known (handled pt.view i) (receiver_of (pt.view.told i)) m q)
+line_still p pt (Line.Updated i n) quiet need = λ m. refl
+line_still p pt (Line.Proto i) quiet need = λ m. proto_still p (handled pt.view i) (pt.view.told i) m
+line_still p pt (Line.Here i) quiet need = λ m. refl
+line_still p pt (Line.NoMove i) quiet need = λ m. refl
+line_still p pt (Line.NoChild q) quiet need = λ m. refl
+line_still p pt (Line.Pinned q) quiet need = λ m. refl
+line_still p pt (Line.Migration Stage.Frozen q) quiet need = absurd quiet
+line_still p pt (Line.Migration Stage.Asked q) quiet need = λ m. refl
+line_still p pt (Line.Migration Stage.Accepted q) quiet need = absurd quiet
+line_still p pt (Line.Migration Stage.StateTaken q) quiet need = absurd quiet
+line_still p pt (Line.Migration Stage.MemoryTaken q) quiet need = absurd quiet
+line_still p pt (Line.Migration Stage.Left q) quiet need = absurd quiet
+line_still p pt (Line.Migration Stage.Restarted q) quiet need = absurd quiet
+line_still p pt _ quiet need = absurd quiet
 
 -- a line for another process ends no request
 for_other : (p : Pid) (v : View) (i : MsgId) (f : MsgId → Option Told) → Foreign p v i → Extends v.told f → is_for p (f i) ≡ false
 for_other p v i f h ext = ap (is_for p) (ext i h.what h.told) ∙ h.other
 
 pub quiet_ends : (p : Pid) (v : View) (l : Line) (f : MsgId → Option Told) → QuietLine p v l → Extends v.told f → ends f p l ≡ false
-quiet_ends p v (line.Idle m) f quiet ext = refl
-quiet_ends p v (line.Label l) f quiet ext = refl
-quiet_ends p v (line.Old a b n) f quiet ext = refl
-quiet_ends p v line.Nothing f quiet ext = refl
-quiet_ends p v (line.Resent m n) f quiet ext = refl
-quiet_ends p v (line.Queued i) f quiet ext = refl
-quiet_ends p v (line.Held i) f quiet ext = refl
-quiet_ends p v (line.Forwarded i n) f quiet ext = refl
-quiet_ends p v (line.Updated i n) f quiet ext = refl
-quiet_ends p v (line.Proto i) f quiet ext = refl
-quiet_ends p v (line.Here i) f quiet ext = for_other p v i f quiet ext
-quiet_ends p v (line.NoMove i) f quiet ext = for_other p v i f quiet ext
-quiet_ends p v (line.NoChild q) f quiet ext = quiet
-quiet_ends p v (line.Pinned q) f quiet ext = quiet
-quiet_ends p v (line.Head d) f quiet ext = refl
-quiet_ends p v (line.Put a b i k q) f quiet ext = refl
-quiet_ends p v (line.Packet a b k l) f quiet ext = refl
-quiet_ends p v (line.Taken a b n) f quiet ext = refl
-quiet_ends p v (line.Early a b n) f quiet ext = refl
-quiet_ends p v (line.Acked a b n) f quiet ext = refl
-quiet_ends p v (line.SentOn q n) f quiet ext = refl
-quiet_ends p v (line.Lacks q a b) f quiet ext = refl
-quiet_ends p v (line.Stays q) f quiet ext = absurd quiet
-quiet_ends p v (line.Migration stage.Frozen q) f quiet ext = refl
-quiet_ends p v (line.Migration stage.Asked q) f quiet ext = refl
-quiet_ends p v (line.Migration stage.Accepted q) f quiet ext = refl
-quiet_ends p v (line.Migration stage.StateTaken q) f quiet ext = refl
-quiet_ends p v (line.Migration stage.MemoryTaken q) f quiet ext = refl
-quiet_ends p v (line.Migration stage.Left q) f quiet ext = refl
-quiet_ends p v (line.Migration stage.Restarted q) f quiet ext = absurd quiet
+quiet_ends p v (Line.Here i) f quiet ext = for_other p v i f quiet ext
+quiet_ends p v (Line.NoMove i) f quiet ext = for_other p v i f quiet ext
+quiet_ends p v (Line.NoChild q) f quiet ext = quiet
+quiet_ends p v (Line.Pinned q) f quiet ext = quiet
+quiet_ends p v (Line.Stays q) f quiet ext = absurd quiet
+quiet_ends p v (Line.Migration Stage.Frozen q) f quiet ext = refl
+quiet_ends p v (Line.Migration Stage.Asked q) f quiet ext = refl
+quiet_ends p v (Line.Migration Stage.Accepted q) f quiet ext = refl
+quiet_ends p v (Line.Migration Stage.StateTaken q) f quiet ext = refl
+quiet_ends p v (Line.Migration Stage.MemoryTaken q) f quiet ext = refl
+quiet_ends p v (Line.Migration Stage.Left q) f quiet ext = refl
+quiet_ends p v (Line.Migration Stage.Restarted q) f quiet ext = absurd quiet
+quiet_ends p v _ f quiet ext = refl

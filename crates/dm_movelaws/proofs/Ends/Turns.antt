@@ -1,37 +1,13 @@
 -- A turn that handles a message of the bag, or serves a process, leaves all requests to move a process where they stand.
-use Rattle.std.proofs.Common.{ℕ, ◌+◌, ◌==◌, Bool, true, false, List, [], ◌∷◌, refl, length}
-use Rattle.std.specs.Prelude.{⊤, if◌then◌else◌, slice_get}
-use Rattle.std.specs.declared.option.Option.{Option}
-use Rattle.std.specs.declared.option.Option.TheVariants.{None, Some}
-use Rattle.dm_link.specs.declared.Pid.{Pid}
-use Rattle.dm_link.specs.Names.{pid_of, pid_eq}
-use Rattle.dm_message.specs.declared.MsgId.{MsgId}
-use Rattle.dm_message.specs.declared.kind.MessageKind.{MessageKind}
-use Rattle.dm_message.specs.declared.kind.MessageKind.TheVariants as kind
-use Rattle.dm_message.specs.Kinds.{plain_kind}
-use Rattle.dm_message.specs.Plain as what
-use Rattle.dm_message.specs.Plain.{PlainMessage, PlainWhat}
-use Rattle.dm_processor.specs.Instructions.{instruction}
-use Rattle.dm_onekernel.specs.declared.boot.BootImage.{BootImage}
-use Rattle.dm_onekernel.specs.declared.boot.Boot.{Boot}
-use Rattle.dm_onekernel.specs.declared.label.Label.TheVariants as label
-use Rattle.dm_onekernel.specs.Boot.{first_number, switchboard, manager}
-use Rattle.dm_onekernel.specs.Options.{bind}
-use Rattle.dm_onekernel.specs.PlainProcess.{PlainProcess, PlainStatus, Ready, Waiting, Moving}
-use Rattle.dm_onekernel.specs.Kernel.{OneKernel}
+use Rattle.dm_movelaws.proofs.Names.{ℕ, ◌+◌, ◌==◌, Bool, true, false, List, [], ◌∷◌, refl, length, ⊤, if◌then◌else◌, slice_get, Option, None, Some, Pid, pid_of, pid_eq, MsgId, MessageKind, Label, plain_kind, PlainMessage, PlainWhat}
+use Rattle.dm_movelaws.proofs.Names.{instruction, BootImage, Boot, first_number, switchboard, manager, bind, PlainProcess, PlainStatus, Ready, Waiting, Moving, OneKernel, answer_id, machine_of, with_machine, View, Known, Unknown, Here}
+use Rattle.dm_movelaws.proofs.Names.{Forward, Ended, Addresses, Sender, is_told_back, Point, Part, Routes, Owns, forwards_on}
 use Rattle.dm_onekernel.specs.Calls as calls
 use Rattle.dm_onekernel.specs.Pieces as pieces
-use Rattle.dm_onekernel.specs.Pieces.{answer_id}
 use Rattle.dm_onekernel.specs.Receiving as receiving
 use Rattle.dm_onekernel.specs.Switchboard as board
 use Rattle.dm_onekernel.specs.Manager as manage
 use Rattle.dm_onekernel.specs.Step as kernel
-use Rattle.dm_onekernel.specs.Step.{machine_of, with_machine}
-use Rattle.dm_rule.specs.View.{View, Known, Unknown, Here, Frozen, Incoming, Forward, Ended}
-use Rattle.dm_rule.specs.Addresses.{Addresses, Sender, is_told_back}
-use Rattle.dm_rule.specs.Point.{Point}
-use Rattle.dm_rule.specs.Parts.{Part, Routes, Owns}
-use Rattle.dm_rule.specs.Migrating.{forwards_on}
 use Rattle.dm_rule.specs.Rule as rule
 use Rattle.dm_movelaws.proofs.Ends.Lines.{Tame}
 use Rattle.dm_movelaws.proofs.Ends.Parts.{AllQuiet}
@@ -54,11 +30,9 @@ drops_quiet p v [] = tt
 drops_quiet p v (i ∷ is) = (tt, drops_quiet p v is)
 
 called_quiet : (p : Pid) (v : View) (q : Pid) (n : ℕ) (queue : List MsgId) (c : calls.Called) → AllQuiet p v (rule.called q n queue c)
-called_quiet p v q n queue (calls.Replies reply x) = (tt, tt)
 called_quiet p v q n queue (calls.Sends m x) = (tt, (tt, tt))
-called_quiet p v q n queue (calls.Waits x) = (tt, tt)
-called_quiet p v q n queue (calls.Outputs word x) = (tt, tt)
 called_quiet p v q n queue (calls.Ends because) = (tt, drops_quiet p v queue)
+called_quiet p v q n queue _ = (tt, tt)
 
 stops_quiet : (p : Pid) (v : View) (q : Pid) (queue : List MsgId) (o : Option kernel.Next) → AllQuiet p v (rule.stops q queue o)
 stops_quiet p v q queue None = tt
@@ -98,38 +72,28 @@ lands_quiet p v id (Some (pieces.Next request x)) = (tt, (tt, tt))
 lands_quiet p v id (Some (pieces.Done reply x)) = (tt, tt)
 
 here_quiet : (p : Pid) (v : View) (o : Point) (m : ℕ) (id : MsgId) (msg : PlainMessage) (x : PlainProcess) (k : PlainWhat) → Tame p v id → QuietOf p v (rule.here_handles o m id msg x k)
-here_quiet p v o m id msg x (what.User x1 x2 x3 x4) h = (h, tt)
-here_quiet p v o m id msg x what.Stop h = (tt, tt)
-here_quiet p v o m id msg x what.Resume h = (tt, tt)
-here_quiet p v o m id msg x what.Kill h = (tt, drops_quiet p v (o.view.queue m msg.to))
-here_quiet p v o m id msg x (what.Read x1 x2) h = (tt, (tt, tt))
-here_quiet p v o m id msg x (what.Write x1 x2) h = (tt, (tt, tt))
-here_quiet p v o m id msg x (what.Block x1) h = lands_quiet p v id (pieces.lands msg.to x msg x.status)
-here_quiet p v o m id msg x what.Written h = lands_quiet p v id (pieces.lands msg.to x msg x.status)
-here_quiet p v o m id msg x what.Gone h = lands_quiet p v id (pieces.lands msg.to x msg x.status)
-here_quiet p v o m id msg x (what.Create x1 x2) h = tt
-here_quiet p v o m id msg x (what.Created x1) h = tt
-here_quiet p v o m id msg x what.NoRoom h = tt
-here_quiet p v o m id msg x (what.Move x1) h = tt
-here_quiet p v o m id msg x (what.Moved x1) h = tt
+here_quiet p v o m id msg x (PlainWhat.User x1 x2 x3 x4) h = (h, tt)
+here_quiet p v o m id msg x PlainWhat.Stop h = (tt, tt)
+here_quiet p v o m id msg x PlainWhat.Resume h = (tt, tt)
+here_quiet p v o m id msg x PlainWhat.Kill h = (tt, drops_quiet p v (o.view.queue m msg.to))
+here_quiet p v o m id msg x (PlainWhat.Read x1 x2) h = (tt, (tt, tt))
+here_quiet p v o m id msg x (PlainWhat.Write x1 x2) h = (tt, (tt, tt))
+here_quiet p v o m id msg x (PlainWhat.Block x1) h = lands_quiet p v id (pieces.lands msg.to x msg x.status)
+here_quiet p v o m id msg x PlainWhat.Written h = lands_quiet p v id (pieces.lands msg.to x msg x.status)
+here_quiet p v o m id msg x PlainWhat.Gone h = lands_quiet p v id (pieces.lands msg.to x msg x.status)
+here_quiet p v o m id msg x _ h = tt
 
 ended_quiet : (p : Pid) (v : View) (id : MsgId) (k : PlainWhat) → QuietOf p v (rule.ended_handles id k)
-ended_quiet p v id (what.User x1 x2 x3 x4) = (tt, tt)
-ended_quiet p v id what.Stop = (tt, tt)
-ended_quiet p v id what.Resume = (tt, tt)
-ended_quiet p v id what.Kill = (tt, tt)
-ended_quiet p v id (what.Read x1 x2) = (tt, (tt, tt))
-ended_quiet p v id (what.Write x1 x2) = (tt, (tt, tt))
-ended_quiet p v id (what.Block x1) = (tt, tt)
-ended_quiet p v id what.Written = (tt, tt)
-ended_quiet p v id what.Gone = (tt, tt)
-ended_quiet p v id (what.Create x1 x2) = tt
-ended_quiet p v id (what.Created x1) = tt
-ended_quiet p v id what.NoRoom = tt
-ended_quiet p v id (what.Move x1) = tt
-ended_quiet p v id (what.Moved x1) = tt
+ended_quiet p v id (PlainWhat.Read x1 x2) = (tt, (tt, tt))
+ended_quiet p v id (PlainWhat.Write x1 x2) = (tt, (tt, tt))
+ended_quiet p v id (PlainWhat.Create x1 x2) = tt
+ended_quiet p v id (PlainWhat.Created x1) = tt
+ended_quiet p v id PlainWhat.NoRoom = tt
+ended_quiet p v id (PlainWhat.Move x1) = tt
+ended_quiet p v id (PlainWhat.Moved x1) = tt
+ended_quiet p v id _ = (tt, tt)
 
-pub told_quiet : (p : Pid) (v : View) (c : Bool) (q : Pid) (to : ℕ) → AllQuiet p v (if c then Owns kind.Update q to ∷ [] else [])
+pub told_quiet : (p : Pid) (v : View) (c : Bool) (q : Pid) (to : ℕ) → AllQuiet p v (if c then Owns MessageKind.Update q to ∷ [] else [])
 told_quiet p v true q to = (refl, tt)
 told_quiet p v false q to = tt
 
@@ -139,10 +103,9 @@ forwards_quiet p v a i k sender to tame = (tame, (tame, told_quiet p v (is_told_
 process_quiet : (p : Pid) (v : View) (o : Point) (m : ℕ) (id : MsgId) (msg : PlainMessage) (k : Known) → Tame p v id → QuietOf p v (rule.process_handles o m id msg k)
 process_quiet p v o m id msg Unknown h = tt
 process_quiet p v o m id msg Here h = quiet_bind p v (kernel.alive (o.kernel.processes msg.to)) (λ x. rule.here_handles o m id msg x msg.what) (λ x. here_quiet p v o m id msg x msg.what h)
-process_quiet p v o m id msg (Frozen to) h = (h, tt)
-process_quiet p v o m id msg (Incoming from) h = (h, tt)
 process_quiet p v o m id msg (Forward at moves) h = forwards_quiet p v o.addresses id (plain_kind msg.what) msg.sender at h
 process_quiet p v o m id msg Ended h = ended_quiet p v id msg.what
+process_quiet p v o m id msg _ h = (h, tt)
 
 routes_quiet : (p : Pid) (v : View) (o : Option PlainMessage) → AllQuiet p v (rule.routes o)
 routes_quiet p v None = tt
@@ -156,7 +119,7 @@ manager_quiet : (p : Pid) (v : View) (id : MsgId) (o : Option manage.Took) → Q
 manager_quiet p v id None = tt
 manager_quiet p v id (Some t) = (tt, routes_quiet p v t.message)
 
-made_quiet : (p : Pid) (v : View) (c : Bool) (id : MsgId) (q : Pid) (a b : ℕ) → AllQuiet p v ((if c then rule.says (label.Created id q) else rule.says (label.NoSpace id a b)) ∷ Routes (answer_id id) ∷ [])
+made_quiet : (p : Pid) (v : View) (c : Bool) (id : MsgId) (q : Pid) (a b : ℕ) → AllQuiet p v ((if c then rule.says (Label.Created id q) else rule.says (Label.NoSpace id a b)) ∷ Routes (answer_id id) ∷ [])
 made_quiet p v true id q a b = (tt, (tt, tt))
 made_quiet p v false id q a b = (tt, (tt, tt))
 
@@ -165,7 +128,7 @@ creates_quiet p v o m id r None = tt
 creates_quiet p v o m id r (Some i) = made_quiet p v (rule.has_room r i.blocks) id (pid_of m (first_number + o.kernel.made m)) r.slots r.blocks
 
 kernel_quiet : (p : Pid) (v : View) (b : Boot) (o : Point) (m : ℕ) (id : MsgId) (k : PlainWhat) → QuietOf p v (rule.kernel_handles b o m id k)
-kernel_quiet p v b o m id (what.Create x1 x2) = creates_quiet p v o m id (rule.free_room b o m) (slice_get b.images x1)
+kernel_quiet p v b o m id (PlainWhat.Create x1 x2) = creates_quiet p v o m id (rule.free_room b o m) (slice_get b.images x1)
 kernel_quiet p v b o m id k = tt
 
 pub handles_quiet : (p : Pid) (v : View) (b : Boot) (o : Point) (m : ℕ) (id : MsgId) (msg : PlainMessage) → Tame p v id → QuietOf p v (rule.handles b o m id msg)

@@ -1,33 +1,7 @@
 -- Where all is at rest, a process that was told of a forward has links that lead to where the other is.
-use Rattle.std.proofs.Common.{◌≡◌, ◌≢◌, ℕ, ◌+◌, ◌<◌, ◌≤◌, ◌==◌, Bool, true, false, List, [], ◌∷◌, ◌++◌, is_some, refl, ap, ◌∙◌, sym, subst, arith}
-use Rattle.std.specs.Prelude.{if◌then◌else◌, slice_get}
-use Rattle.std.proofs.lemmas.Bool.{false≢true}
-use Rattle.std.proofs.lemmas.Option.{slice_get_within}
-use Rattle.std.specs.declared.option.Option.{Option}
-use Rattle.std.specs.declared.option.Option.TheVariants.{None, Some}
-use Rattle.dm_link.specs.declared.Pid.{Pid}
-use Rattle.dm_link.specs.Names.{Place}
-use Rattle.dm_message.specs.declared.MsgId.{MsgId}
-use Rattle.dm_onekernel.specs.declared.boot.Boot.{Boot}
-use Rattle.dm_onekernel.specs.Kernel.{Life, Alive, OneKernel}
-use Rattle.dm_onekernel.specs.Kernel as kernels
-use Rattle.dm_laws.specs.Laws.{receptions}
-use Rattle.dm_laws.proofs.Grown.{LifeGrows}
-use Rattle.dm_laws.proofs.Runs.{reached}
-use Rattle.dm_laws.proofs.Sound.{Sound}
-use Rattle.dm_schedule.specs.declared.Step.{Step}
-use Rattle.dm_schedule.specs.declared.Step.TheVariants as step
-use Rattle.dm_rule.specs.Laws.{IsStep, Leads}
-use Rattle.dm_rule.specs.Point.{Point, first_point, labels}
-use Rattle.dm_rule.specs.Trails.{Trails}
-use Rattle.dm_rule.specs.View.{View, Known, Unknown, Here, Forward, actor}
-use Rattle.dm_rulelaws.specs.Fits.{is_server}
-use Rattle.dm_rulelaws.specs.KnownStands.{KnownStands, agrees}
-use Rattle.dm_rulelaws.proofs.RunLabels.{group_replay}
-use Rattle.dm_rulelaws.proofs.RunsAlways.{run_always}
-use Rattle.dm_movelaws.specs.AtRest.{AtRest}
-use Rattle.dm_movelaws.specs.Links.{IsThere, CountsPromise}
-use Rattle.dm_movelaws.specs.Promise.{update_of, IsUnderWay}
+use Rattle.dm_movelaws.proofs.Names.{◌≡◌, ◌≢◌, ℕ, ◌+◌, ◌<◌, ◌≤◌, ◌==◌, Bool, true, false, List, [], ◌∷◌, ◌++◌, is_some, refl, ap, ◌∙◌, sym, subst, arith, if◌then◌else◌, slice_get, false≢true, slice_get_within, Option, None, Some, Pid}
+use Rattle.dm_movelaws.proofs.Names.{Place, MsgId, Boot, Life, Alive, OneKernel, receptions, LifeGrows, reached, Sound, Step, IsStep, Leads, Point, first_point, labels, Trails, View, Known, Unknown, Here, Forward, actor, is_server}
+use Rattle.dm_movelaws.proofs.Names.{KnownStands, agrees, group_replay, run_always, AtRest, IsThere, CountsPromise, update_of, IsUnderWay}
 use Rattle.dm_movelaws.proofs.At.RestAlways.{at_rest_always}
 use Rattle.dm_movelaws.proofs.Forwards.Told.{forwards_tell}
 use Rattle.dm_movelaws.proofs.Promise.Always.{promises_always}
@@ -39,7 +13,7 @@ use Rattle.dm_movelaws.proofs.Trail.Known.{trail_known}
 -- a process that was made stays made
 life_stays : (a b : Option Life) → LifeGrows a b → is_some a ≡ true → is_some b ≡ true
 life_stays None b g e = absurd (false≢true e)
-life_stays (Some (kernels.Ended y)) b g e = ap is_some g
+life_stays (Some (Life.Ended y)) b g e = ap is_some g
 life_stays (Some (Alive x)) None g e = absurd g
 life_stays (Some (Alive x)) (Some l) g e = refl
 
@@ -69,7 +43,7 @@ one_count to m n e = cc
 same_some : (m n : ℕ) → Some m ≡ Some n → m ≡ n
 same_some m n e = cc
 
-turn_fits : (n : ℕ) (d : Step) → d ≡ step.Turn (actor d) → actor d < n → IsStep n d
+turn_fits : (n : ℕ) (d : Step) → d ≡ Step.Turn (actor d) → actor d < n → IsStep n d
 turn_fits n d e h = subst (IsStep n) (sym e) h
 
 forwarded_made : (s : OneKernel) (v : View) (m : ℕ) (q : Pid) (to moves : ℕ) → KnownStands s v → v.known m q ≡ Forward to moves → (is_server q ≡ false) × (is_some (s.processes q) ≡ true)

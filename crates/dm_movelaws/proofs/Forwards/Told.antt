@@ -1,46 +1,10 @@
 -- Where a group that sends a message on leads: the update for its sender is under way.
-use Rattle.std.proofs.Common.{◌≡◌, ℕ, ◌==◌, Bool, true, false, List, [], ◌∷◌, ◌++◌, length, refl, ap, ◌∙◌, sym, subst}
-use Rattle.std.specs.Prelude.{if◌then◌else◌}
-use Rattle.std.specs.declared.option.Option.{Option}
-use Rattle.std.specs.declared.option.Option.TheVariants.{None, Some}
-use Rattle.dm_link.specs.declared.Pid.{Pid}
-use Rattle.dm_link.specs.Names.{Place}
-use Rattle.dm_message.specs.declared.MsgId.{MsgId}
-use Rattle.dm_message.specs.declared.kind.MessageKind.{MessageKind}
-use Rattle.dm_message.specs.declared.kind.MessageKind.TheVariants as kind
-use Rattle.dm_message.specs.Kinds.{plain_kind}
-use Rattle.dm_message.specs.Plain as what
-use Rattle.dm_message.specs.Plain.{PlainMessage, PlainWhat}
-use Rattle.dm_onekernel.specs.declared.boot.Boot.{Boot}
-use Rattle.dm_onekernel.specs.Boot.{manager}
-use Rattle.dm_onekernel.specs.Options.{bind}
-use Rattle.dm_laws.proofs.Steps.{bind-is}
-use Rattle.dm_schedule.specs.declared.Step.{Step}
-use Rattle.dm_schedule.specs.declared.Step.TheVariants as step
-use Rattle.dm_line.specs.declared.line.Line.{Line}
-use Rattle.dm_line.specs.declared.line.Line.TheVariants as line
-use Rattle.dm_line.specs.declared.line.Load.TheVariants as load
-use Rattle.dm_rule.specs.Addresses.{Receiver, Sender, is_told_back}
-use Rattle.dm_rule.specs.Parts.{Part, Says, Routes, Again, Owns, Transmits, Spelled, lines_of, puts, goes_out, packet_line, behind, spelled}
-use Rattle.dm_rule.specs.Point.{Point, after_line, after}
+use Rattle.dm_movelaws.proofs.Names.{◌≡◌, ℕ, ◌==◌, Bool, true, false, List, [], ◌∷◌, ◌++◌, length, refl, ap, ◌∙◌, sym, subst, if◌then◌else◌, Option, None, Some, Pid, Place, MsgId, MessageKind, Load, plain_kind, PlainMessage, PlainWhat}
+use Rattle.dm_movelaws.proofs.Names.{Boot, manager, bind, bind-is, Step, Line, Receiver, Sender, is_told_back, Part, Says, Routes, Again, Owns, Transmits, Spelled, lines_of, puts, goes_out, packet_line, behind, spelled, Point, after_line}
+use Rattle.dm_movelaws.proofs.Names.{after, group_of, View, Told, About, Known, Forward, own_id, handled, receiver_of, actor, view_after, fits, fits_put, fits_packet, pair_same, put_at, fits_as, PairsFit, Sane, part_sane, Steps, begun}
+use Rattle.dm_movelaws.proofs.Names.{begun_sane, said_by, again_rides, again_same, own_fresh, front, Run, Tells, ForwardsTell, RequestsTell, update_of, IsUnderWay, run_always, last_point, first_none, forwarded_own}
 use Rattle.dm_rule.specs.Rule as rule
-use Rattle.dm_rule.specs.Rule.{group_of}
-use Rattle.dm_rule.specs.View.{View, Told, About, Known, Forward, own_id, handled, receiver_of, actor, view_after}
 use Rattle.dm_rule.specs.View as view
-use Rattle.dm_rule.proofs.Groups.{fits}
-use Rattle.dm_rule.proofs.Moves.Sent.{fits_put, fits_packet}
-use Rattle.dm_rule.proofs.Pairs.Lines.{pair_same}
-use Rattle.dm_rule.proofs.Phases.Lines.{put_at}
-use Rattle.dm_rule.proofs.Said.{fits_as}
-use Rattle.dm_rule.proofs.States.{PairsFit}
-use Rattle.dm_rule.proofs.Telling.{Sane, part_sane}
-use Rattle.dm_rulelaws.proofs.Based.Needs.{Steps, begun, begun_sane, said_by, again_rides}
-use Rattle.dm_rulelaws.proofs.Found.Parts.{again_same, own_fresh}
-use Rattle.dm_rulelaws.proofs.Goes.Always.{front}
-use Rattle.dm_rulelaws.proofs.Runs.{Run}
-use Rattle.dm_movelaws.specs.Forwards.{Tells, ForwardsTell, RequestsTell}
-use Rattle.dm_movelaws.specs.Promise.{update_of, IsUnderWay}
-use Rattle.dm_rulelaws.proofs.RunsAlways.{run_always}
 use Rattle.dm_movelaws.proofs.Ends.Sends.{puts_lead}
 use Rattle.dm_movelaws.proofs.Forwards.Rows.{Onward, with_forward, part_forwards, forwards_of, goes_on, GoesOn, GoesOnOwn, Form, Nothing, Plain, Own, FormOf, outcome_form}
 use Rattle.dm_movelaws.proofs.Promise.Parts.{next_of}
@@ -53,7 +17,7 @@ sent_on [] = []
 sent_on (l ∷ ls) = with_forward l (sent_on ls)
 
 with_append : (l : Line) (xs ys : List Onward) → with_forward l (xs ++ ys) ≡ with_forward l xs ++ ys
-with_append (line.Forwarded i m) xs ys = refl
+with_append (Line.Forwarded i m) xs ys = refl
 with_append l xs ys = refl
 
 sent_append : (xs ys : List Line) → sent_on (xs ++ ys) ≡ sent_on xs ++ sent_on ys
@@ -62,7 +26,7 @@ sent_append (x ∷ xs) ys = ap (with_forward x) (sent_append xs ys) ∙ with_app
 
 -- those of a group's lines are those of its parts
 puts_if : (v : View) (b : ℕ) (i : MsgId) (k : MessageKind) (q : Pid) (c d : Bool)
-    → sent_on (line.Put v.acting b i k q ∷ (if c then [] else if d then packet_line v v.acting b (load.Data (length (v.pair v.acting b).ids)) ∷ [] else [])) ≡ []
+    → sent_on (Line.Put v.acting b i k q ∷ (if c then [] else if d then packet_line v v.acting b (Load.Data (length (v.pair v.acting b).ids)) ∷ [] else [])) ≡ []
 puts_if v b i k q true d = refl
 puts_if v b i k q false true = refl
 puts_if v b i k q false false = refl
@@ -101,15 +65,15 @@ record Grouped (b : Boot) (o : Point) (d : Step) (w : Spelled) : Type 0 where
   is : rule.outcome b o d ≡ Some parts
   rest : Spelled
   said : spelled (begun o d) parts ≡ Some rest
-  whole : rule.headed (line.Head d) rest ≡ w
+  whole : rule.headed (Line.Head d) rest ≡ w
 
 grouped : (b : Boot) (o : Point) (d : Step) (w : Spelled) → group_of b o d ≡ Some w → Grouped b o d w
 grouped b o d w e =
-    let (parts, is, more) = bind-is (rule.outcome b o d) (λ parts. bind (after_line o (line.Head d)) (λ begun. bind (spelled begun parts) (λ w. Some (rule.headed (line.Head d) w)))) w e in
-    let (start, head, last) = bind-is (after_line o (line.Head d)) (λ begun. bind (spelled begun parts) (λ w. Some (rule.headed (line.Head d) w))) w more in
-    let (rest, told, end) = bind-is (spelled start parts) (λ w. Some (rule.headed (line.Head d) w)) w last in
+    let (parts, is, more) = bind-is (rule.outcome b o d) (λ parts. bind (after_line o (Line.Head d)) (λ begun. bind (spelled begun parts) (λ w. Some (rule.headed (Line.Head d) w)))) w e in
+    let (start, head, last) = bind-is (after_line o (Line.Head d)) (λ begun. bind (spelled begun parts) (λ w. Some (rule.headed (Line.Head d) w))) w more in
+    let (rest, told, end) = bind-is (spelled start parts) (λ w. Some (rule.headed (Line.Head d) w)) w last in
     let f : begun o d ≡ start = cc in
-    let g : rule.headed (line.Head d) rest ≡ w = cc in
+    let g : rule.headed (Line.Head d) rest ≡ w = cc in
     record { parts = parts; is = is; rest = rest; said = ap (λ (x : Point). spelled x parts) f ∙ told; whole = g }
 
 -- the only one of a list
@@ -121,9 +85,9 @@ one_there : (xs ys : List Onward) (f g : Onward) → xs ++ f ∷ ys ≡ g ∷ []
 one_there [] ys f g e = cc
 one_there (x ∷ xs) ys f g e = let h : xs ++ f ∷ ys ≡ [] = cc in absurd (none_there xs ys f h)
 
-there_in : (b : Boot) (o : Point) (d : Step) (w : Spelled) (g : Grouped b o d w) (id : MsgId) (to : ℕ) (xs ys : List Line) → w.lines ≡ xs ++ line.Forwarded id to ∷ ys → sent_on xs ++ (id, to) ∷ sent_on ys ≡ forwards_of g.parts
+there_in : (b : Boot) (o : Point) (d : Step) (w : Spelled) (g : Grouped b o d w) (id : MsgId) (to : ℕ) (xs ys : List Line) → w.lines ≡ xs ++ Line.Forwarded id to ∷ ys → sent_on xs ++ (id, to) ∷ sent_on ys ≡ forwards_of g.parts
 there_in b o d w g id to xs ys e =
-    sym (sent_append xs (line.Forwarded id to ∷ ys)) ∙ sym (ap sent_on e) ∙ sym (ap (λ (x : Spelled). sent_on x.lines) g.whole) ∙ parts_send g.parts (begun o d) g.rest g.said
+    sym (sent_append xs (Line.Forwarded id to ∷ ys)) ∙ sym (ap sent_on e) ∙ sym (ap (λ (x : Spelled). sent_on x.lines) g.whole) ∙ parts_send g.parts (begun o d) g.rest g.said
 
 -- a group that says that a message of the bag is sent on
 record Sent (b : Boot) (o : Point) (d : Step) (w : Spelled) (id : MsgId) (to : ℕ) : Type 0 where
@@ -138,7 +102,7 @@ same_id f g e = ap (λ (h : Onward). h.0) e
 same_to : (f g : Onward) → f ≡ g → f.1 ≡ g.1
 same_to f g e = ap (λ (h : Onward). h.1) e
 
-sent_by : (b : Boot) (o : Point) (d : Step) (w : Spelled) (g : Grouped b o d w) (id : MsgId) (message : PlainMessage) (to : ℕ) (xs ys : List Line) → o.kernel.bag id ≡ Some message → w.lines ≡ xs ++ line.Forwarded id to ∷ ys → Form o d g.parts → Sent b o d w id to
+sent_by : (b : Boot) (o : Point) (d : Step) (w : Spelled) (g : Grouped b o d w) (id : MsgId) (message : PlainMessage) (to : ℕ) (xs ys : List Line) → o.kernel.bag id ≡ Some message → w.lines ≡ xs ++ Line.Forwarded id to ∷ ys → Form o d g.parts → Sent b o d w id to
 sent_by b o d w g id message to xs ys there says (Nothing none) = absurd (none_there (sent_on xs) (sent_on ys) (id, to) (there_in b o d w g id to xs ys says ∙ none))
 sent_by b o d w g id message to xs ys there says (Own h) =
     let same = one_there (sent_on xs) (sent_on ys) (id, to) (h.id, h.to) (there_in b o d w g id to xs ys says ∙ ap forwards_of h.are ∙ goes_on o.addresses h.id h.told.kind manager h.to) in
@@ -155,11 +119,11 @@ record SentOwn (b : Boot) (o : Point) (d : Step) (w : Spelled) (id : MsgId) (to 
   id_is : goes.id ≡ id
   to_is : goes.to ≡ to
 
-no_request : (w : PlainWhat) → plain_kind w ≡ kind.Migrate → ⊥
-no_request (what.User code channel body links) e = cc
+no_request : (w : PlainWhat) → plain_kind w ≡ MessageKind.Migrate → ⊥
+no_request (PlainWhat.User code channel body links) e = cc
 no_request w e = cc
 
-own_by : (b : Boot) (o : Point) (d : Step) (w : Spelled) (g : Grouped b o d w) (id : MsgId) (t : Told) (to : ℕ) (xs ys : List Line) → Sane o → o.view.told id ≡ Some t → t.kind ≡ kind.Migrate → w.lines ≡ xs ++ line.Forwarded id to ∷ ys → Form o d g.parts → SentOwn b o d w id to
+own_by : (b : Boot) (o : Point) (d : Step) (w : Spelled) (g : Grouped b o d w) (id : MsgId) (t : Told) (to : ℕ) (xs ys : List Line) → Sane o → o.view.told id ≡ Some t → t.kind ≡ MessageKind.Migrate → w.lines ≡ xs ++ Line.Forwarded id to ∷ ys → Form o d g.parts → SentOwn b o d w id to
 own_by b o d w g id t to xs ys sane told request says (Nothing none) = absurd (none_there (sent_on xs) (sent_on ys) (id, to) (there_in b o d w g id to xs ys says ∙ none))
 own_by b o d w g id t to xs ys sane told request says (Plain h) =
     let same = one_there (sent_on xs) (sent_on ys) (id, to) (h.id, h.to) (there_in b o d w g id to xs ys says ∙ ap forwards_of h.are ∙ goes_on o.addresses h.id (plain_kind h.message.what) h.message.sender h.to) in
@@ -170,21 +134,11 @@ own_by b o d w g id t to xs ys sane told request says (Own h) =
     record { group = g; goes = h; id_is = sym (same_id (id, to) (h.id, h.to) same); to_is = sym (same_to (id, to) (h.id, h.to) same) }
 
 -- what the update is about
-topic_at : (v : View) (i : MsgId) (m : ℕ) (t : Told) (p : Pid) (to moves : ℕ) → v.told i ≡ Some t → t.receiver ≡ p → v.known v.acting p ≡ Forward to moves → (view_after v (line.Forwarded i m)).topic ≡ view.Place p to moves
+topic_at : (v : View) (i : MsgId) (m : ℕ) (t : Told) (p : Pid) (to moves : ℕ) → v.told i ≡ Some t → t.receiver ≡ p → v.known v.acting p ≡ Forward to moves → (view_after v (Line.Forwarded i m)).topic ≡ view.Place p to moves
 topic_at v i m t p to moves told receiver known =
     ap (λ (o : Option Told). (view.forwarded_for (handled v i) (receiver_of o)).topic) told
     ∙ ap (λ (q : Pid). view.forward_about q (v.known v.acting q)) receiver
     ∙ ap (λ (k : Known). view.forward_about p k) known
-
--- a kernel's own message that is put for the first time
-first_told : (o : Option Told) (u : Told) → o ≡ None → Some (view.first_told o u) ≡ Some u
-first_told None u e = refl
-first_told (Some t) u e = cc
-
--- its name is that of the next message of the kernel where the group begins
-forwarded_own : (v : View) (o : Option Pid) → own_id (view.forwarded_for v o) ≡ own_id v
-forwarded_own v None = refl
-forwarded_own v (Some p) = refl
 
 -- between the parts of such a group: what its own message will be about, and its name
 record Ready (v : View) (a : About) (pt : Point) : Type 0 where
@@ -193,10 +147,10 @@ record Ready (v : View) (a : About) (pt : Point) : Type 0 where
   topic : pt.view.topic ≡ a
   own : own_id pt.view ≡ own_id v
 
-forwarded_ready : (pt next : Point) (id : MsgId) (t : Told) (q : Pid) (to moves : ℕ) → Sane pt → PairsFit pt.view → pt.view.told id ≡ Some t → t.receiver ≡ q → pt.view.known pt.view.acting q ≡ Forward to moves → Steps pt (Says (line.Forwarded id to)) next
+forwarded_ready : (pt next : Point) (id : MsgId) (t : Told) (q : Pid) (to moves : ℕ) → Sane pt → PairsFit pt.view → pt.view.told id ≡ Some t → t.receiver ≡ q → pt.view.known pt.view.acting q ≡ Forward to moves → Steps pt (Says (Line.Forwarded id to)) next
     → Ready pt.view (view.Place q to moves) next
 forwarded_ready pt next id t q to moves sane fit told receiver known s =
-    let l = line.Forwarded id to in
+    let l = Line.Forwarded id to in
     let k = said_by pt next l s in
     record {
       sane = part_sane pt next (Says l) s.lines refl s.are s.leads sane;
@@ -223,28 +177,25 @@ record Put (i : MsgId) (u : Told) (next : Point) : Type 0 where
   told : next.view.told i ≡ Some u
   stands : Stands next.view i
 
-put_new : (v : View) (pt next : Point) (p q : Pid) (place : Place) (b : ℕ) → v.told (own_id v) ≡ None → Ready v (view.Place q place.at place.moves) pt → Steps pt (Owns kind.Update p b) next → New v next.view p q place
+put_new : (v : View) (pt next : Point) (p q : Pid) (place : Place) (b : ℕ) → v.told (own_id v) ≡ None → Ready v (view.Place q place.at place.moves) pt → Steps pt (Owns MessageKind.Update p b) next → New v next.view p q place
 put_new v pt next p q place b new h s =
     let i = own_id pt.view in
     let a = view.Place q place.at place.moves in
-    let u : Told = record { kind = kind.Update; receiver = p; about = pt.view.topic } in
+    let u : Told = record { kind = MessageKind.Update; receiver = p; about = pt.view.topic } in
     let put : Put i (update_of p q place) next =
-    puts_lead (Put i (update_of p q place)) (λ x c d k l e. record { told = e.told; stands = packet_stands x.view c d k l i e.stands }) pt next b i kind.Update p s.lines
+    puts_lead (Put i (update_of p q place)) (λ x c d k l e. record { told = e.told; stands = packet_stands x.view c d k l i e.stands }) pt next b i MessageKind.Update p s.lines
     (record {
-      told = put_at pt.view pt.view.acting b i kind.Update p ∙ first_told (pt.view.told i) u (own_fresh pt h.sane) ∙ ap (λ (x : About). Some (record { kind = kind.Update; receiver = p; about = x })) h.topic;
-      stands = put_this pt.view pt.view.acting b i kind.Update p h.fit;
+      told = put_at pt.view pt.view.acting b i MessageKind.Update p ∙ first_none (pt.view.told i) u (own_fresh pt h.sane) ∙ ap (λ (x : About). Some (record { kind = MessageKind.Update; receiver = p; about = x })) h.topic;
+      stands = put_this pt.view pt.view.acting b i MessageKind.Update p h.fit;
     }) s.are s.leads in
     record { update = i; new = ap v.told h.own ∙ new; way = record { told = put.told; spot = put.stands.spot; stands = put.stands.least } }
 
-last_point : (pt : Point) (w : Spelled) → spelled pt [] ≡ Some w → pt ≡ w.point
-last_point pt w is = let f : record { lines = []; point = pt } ≡ w = cc in ap (λ (x : Spelled). x.point) f
-
 -- where the parts of such a group lead
 tells : (pt : Point) (w : Spelled) (id : MsgId) (sender : Pid) (place : Place) (back : ℕ) (t : Told) (q : Pid) → Sane pt → PairsFit pt.view → pt.view.told id ≡ Some t → t.receiver ≡ q → pt.view.known pt.view.acting q ≡ Forward place.at place.moves
-    → spelled pt (Says (line.Forwarded id place.at) ∷ Again id place.at ∷ Owns kind.Update sender back ∷ []) ≡ Some w → New pt.view w.point.view sender q place
+    → spelled pt (Says (Line.Forwarded id place.at) ∷ Again id place.at ∷ Owns MessageKind.Update sender back ∷ []) ≡ Some w → New pt.view w.point.view sender q place
 tells pt w id sender place back t q sane fit told receiver known is =
-    let last = Owns kind.Update sender back in
-    let n = next_of pt (Says (line.Forwarded id place.at)) (Again id place.at ∷ last ∷ []) w is in
+    let last = Owns MessageKind.Update sender back in
+    let n = next_of pt (Says (Line.Forwarded id place.at)) (Again id place.at ∷ last ∷ []) w is in
     let k = next_of n.next (Again id place.at) (last ∷ []) n.rest n.more in
     let z = next_of k.next last [] k.rest k.more in
     let ready = again_ready pt.view (view.Place q place.at place.moves) n.next k.next id place.at k.steps (forwarded_ready pt n.next id t q place.at place.moves sane fit told receiver known n.steps) in
@@ -254,12 +205,12 @@ tells pt w id sender place back t q sane fit told receiver known is =
 
 -- it goes on, and its sender is told
 told_parts : (o : Point) (d : Step) (ps : List Part) (h : GoesOn o d ps) → is_told_back (plain_kind h.message.what) ≡ true
-    → ps ≡ Says (line.Forwarded h.id h.to) ∷ Again h.id h.to ∷ Owns kind.Update h.message.sender (o.addresses (Sender h.id)).at ∷ []
+    → ps ≡ Says (Line.Forwarded h.id h.to) ∷ Again h.id h.to ∷ Owns MessageKind.Update h.message.sender (o.addresses (Sender h.id)).at ∷ []
 told_parts o d ps h back =
-    h.are ∙ ap (λ (c : Bool). Says (line.Forwarded h.id h.to) ∷ Again h.id h.to ∷ (if c then Owns kind.Update h.message.sender (o.addresses (Sender h.id)).at ∷ [] else [])) back
+    h.are ∙ ap (λ (c : Bool). Says (Line.Forwarded h.id h.to) ∷ Again h.id h.to ∷ (if c then Owns MessageKind.Update h.message.sender (o.addresses (Sender h.id)).at ∷ [] else [])) back
 
 -- where the group begins
-turn_fits : (v : View) (m : ℕ) → PairsFit v → PairsFit (view.after_head v (step.Turn m))
+turn_fits : (v : View) (m : ℕ) → PairsFit v → PairsFit (view.after_head v (Step.Turn m))
 turn_fits v m h = record { within = h.within; home = h.home }
 
 sent_tells : (b : Boot) (o : Point) (d : Step) (w : Spelled) (g : Grouped b o d w) (h : GoesOn o d g.parts) → Run b o → is_told_back (plain_kind h.message.what) ≡ true → Tells d o w.point h.message.sender h.message.to h.to
@@ -269,14 +220,14 @@ sent_tells b o d w g h run back =
     let place : Place = record { at = h.to; moves = h.moves } in
     let sane = run.based.phased.sane in
     let f = front b h.machine o h.id h.rest h.message h.box h.there run in
-    let begins : (begun o d).view ≡ view.after_head o.view (step.Turn h.machine) = ap (λ (e : Step). view.after_head o.view e) h.acts in
+    let begins : (begun o d).view ≡ view.after_head o.view (Step.Turn h.machine) = ap (λ (e : Step). view.after_head o.view e) h.acts in
     let known : (begun o d).view.known (begun o d).view.acting q ≡ Forward h.to h.moves = ap (λ (v : View). v.known v.acting q) begins ∙ h.known in
     let told : (begun o d).view.told h.id ≡ Some f.told = ap (λ (v : View). v.told h.id) begins ∙ f.told_is in
     let fit : PairsFit (begun o d).view = subst PairsFit (sym begins) (turn_fits o.view h.machine (fits o.view run.based.phased.pairs)) in
     let said = sym (ap (spelled (begun o d)) (told_parts o d g.parts h back)) ∙ g.said in
     let t = tells (begun o d) g.rest h.id p place (o.addresses (Sender h.id)).at f.told q (begun_sane o d sane) fit told (sane.tells.receiver h.id h.message f.told h.there f.told_is) known said in
     record {
-      turn = h.acts ∙ ap (λ (e : Step). step.Turn (actor e)) (sym h.acts);
+      turn = h.acts ∙ ap (λ (e : Step). Step.Turn (actor e)) (sym h.acts);
       moves = h.moves;
       known = ap (λ (e : Step). o.view.known (actor e) q) h.acts ∙ h.known;
       update = t.update;
@@ -302,22 +253,22 @@ forwards_tell b es pt d w p q to valid leads f =
     (subst (λ (r : Pid). Tells d pt w.point h.message.sender r h.to) receiver t))
 
 -- a request to move goes on, and the manager is told
-own_parts : (o : Point) (d : Step) (ps : List Part) (h : GoesOnOwn o d ps) → is_told_back h.told.kind ≡ true → ps ≡ Says (line.Forwarded h.id h.to) ∷ Again h.id h.to ∷ Owns kind.Update manager (o.addresses (Sender h.id)).at ∷ []
-own_parts o d ps h back = h.are ∙ ap (λ (c : Bool). Says (line.Forwarded h.id h.to) ∷ Again h.id h.to ∷ (if c then Owns kind.Update manager (o.addresses (Sender h.id)).at ∷ [] else [])) back
+own_parts : (o : Point) (d : Step) (ps : List Part) (h : GoesOnOwn o d ps) → is_told_back h.told.kind ≡ true → ps ≡ Says (Line.Forwarded h.id h.to) ∷ Again h.id h.to ∷ Owns MessageKind.Update manager (o.addresses (Sender h.id)).at ∷ []
+own_parts o d ps h back = h.are ∙ ap (λ (c : Bool). Says (Line.Forwarded h.id h.to) ∷ Again h.id h.to ∷ (if c then Owns MessageKind.Update manager (o.addresses (Sender h.id)).at ∷ [] else [])) back
 
 own_tells : (b : Boot) (o : Point) (d : Step) (w : Spelled) (g : Grouped b o d w) (h : GoesOnOwn o d g.parts) → Run b o → is_told_back h.told.kind ≡ true → Tells d o w.point manager h.told.receiver h.to
 own_tells b o d w g h run back =
     let q = h.told.receiver in
     let place : Place = record { at = h.to; moves = h.moves } in
     let sane = run.based.phased.sane in
-    let begins : (begun o d).view ≡ view.after_head o.view (step.Turn h.machine) = ap (λ (e : Step). view.after_head o.view e) h.acts in
+    let begins : (begun o d).view ≡ view.after_head o.view (Step.Turn h.machine) = ap (λ (e : Step). view.after_head o.view e) h.acts in
     let known : (begun o d).view.known (begun o d).view.acting q ≡ Forward h.to h.moves = ap (λ (v : View). v.known v.acting q) begins ∙ h.known in
     let told : (begun o d).view.told h.id ≡ Some h.told = ap (λ (v : View). v.told h.id) begins ∙ h.told_is in
     let fit : PairsFit (begun o d).view = subst PairsFit (sym begins) (turn_fits o.view h.machine (fits o.view run.based.phased.pairs)) in
     let said = sym (ap (spelled (begun o d)) (own_parts o d g.parts h back)) ∙ g.said in
     let t = tells (begun o d) g.rest h.id manager place (o.addresses (Sender h.id)).at h.told q (begun_sane o d sane) fit told refl known said in
     record {
-      turn = h.acts ∙ ap (λ (e : Step). step.Turn (actor e)) (sym h.acts);
+      turn = h.acts ∙ ap (λ (e : Step). Step.Turn (actor e)) (sym h.acts);
       moves = h.moves;
       known = ap (λ (e : Step). o.view.known (actor e) q) h.acts ∙ h.known;
       update = t.update;

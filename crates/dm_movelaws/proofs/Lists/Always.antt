@@ -1,43 +1,12 @@
 -- Messages wait only where a machine has a list for them.
-use Rattle.std.proofs.Common.{◌≡◌, ℕ, ◌+◌, ◌≤◌, Bool, true, false, is_some, List, [], ◌∷◌, refl, ap, ◌∙◌, subst, arith}
-use Rattle.std.proofs.lemmas.Bool.{false≢true}
-use Rattle.std.specs.Prelude.{if◌then◌else◌, slice_get}
-use Rattle.std.specs.declared.option.Option.{Option}
-use Rattle.std.specs.declared.option.Option.TheVariants.{None, Some}
-use Rattle.dm_link.specs.declared.Pid.{Pid}
-use Rattle.dm_message.specs.declared.MsgId.{MsgId}
-use Rattle.dm_message.specs.Plain.{PlainMessage}
-use Rattle.dm_onekernel.specs.declared.boot.Boot.{Boot}
-use Rattle.dm_onekernel.specs.Boot.{IsValid}
-use Rattle.dm_onekernel.specs.Options.{bind}
-use Rattle.dm_laws.proofs.Equal.{id_eq-same}
-use Rattle.dm_laws.proofs.Steps.{bind-is}
-use Rattle.dm_schedule.specs.declared.Step.{Step}
-use Rattle.dm_schedule.specs.declared.Step.TheVariants as step
-use Rattle.dm_line.specs.declared.line.Line.TheVariants as line
-use Rattle.dm_rule.specs.Laws.{Leads}
-use Rattle.dm_rule.specs.Migrating.{migrates}
-use Rattle.dm_rule.specs.Parts.{Part, Says, Spelled, spelled}
-use Rattle.dm_rule.specs.Point.{Point, first_point, moved, after_line}
+use Rattle.dm_movelaws.proofs.Names.{◌≡◌, ℕ, ◌+◌, ◌≤◌, Bool, true, false, List, [], ◌∷◌, refl, ap, ◌∙◌, subst, arith, if◌then◌else◌, slice_get, Some, Pid, MsgId, PlainMessage, Boot, IsValid, bind, id_eq-same, bind-is, Step, Line, Leads}
+use Rattle.dm_movelaws.proofs.Names.{migrates, Part, Says, Spelled, spelled, Point, first_point, moved, after_line, group_of, Inbox, times, View, arrives_net, resends_net, is_server, Both, both_start, both_group, Run, run_start, run_group}
+use Rattle.dm_movelaws.proofs.Names.{ListsAlways, some_is}
 use Rattle.dm_rule.specs.Rule as rule
-use Rattle.dm_rule.specs.Rule.{group_of}
-use Rattle.dm_rule.specs.Spots.{Inbox, times}
-use Rattle.dm_rule.specs.View.{View, Told}
-use Rattle.dm_rule.proofs.Groups.{arrives_net, resends_net}
-use Rattle.dm_rulelaws.specs.Fits.{is_server}
-use Rattle.dm_rulelaws.proofs.Goes.Runs.{Both, both_start, both_group}
-use Rattle.dm_rulelaws.proofs.Runs.{Run}
-use Rattle.dm_rulelaws.proofs.RunsAlways.{run_start, run_group}
-use Rattle.dm_movelaws.specs.Lists.{ListsAlways}
 use Rattle.dm_movelaws.proofs.At.RestQueues.{drops_always}
 use Rattle.dm_movelaws.proofs.Lists.Hears.{migrates_ok}
 use Rattle.dm_movelaws.proofs.Lists.Parts.{ForProcess, NoQueues, AllOk, nets_ok, line_queues, parts_queues}
 use Rattle.dm_movelaws.proofs.Lists.Turns.{turns_ok}
-
--- the message at the front of an inbox was told of
-some_is : (o : Option Told) → is_some o ≡ true → (t : Told) × (o ≡ Some t)
-some_is (Some t) e = (t, refl)
-some_is None e = absurd (false≢true e)
 
 at_front : (xs is : List MsgId) (i : MsgId) → xs ≡ i ∷ is → 1 ≤ times i xs
 at_front xs is i e =
@@ -51,28 +20,28 @@ front_process b pt m i is msg h box there process =
     record { what = t; told = told; process = ap is_server (h.based.phased.sane.tells.receiver i msg t there told) ∙ process }
 
 outcome_ok : (b : Boot) (pt : Point) (d : Step) (ps : List Part) → Run b pt → rule.outcome b pt d ≡ Some ps → AllOk (ForProcess pt.view) ps
-outcome_ok b pt (step.Turn m) ps h is = turns_ok (ForProcess pt.view) b pt m (pt.view.inbox m) ps (λ i js msg box there process. front_process b pt m i js msg h box there process) is
-outcome_ok b pt (step.Tick m) ps h is =
-    let qs = Says (line.Resent m (rule.outstanding pt.view m pt.kernel.machines)) ∷ rule.resends pt.view m pt.kernel.machines in
+outcome_ok b pt (Step.Turn m) ps h is = turns_ok (ForProcess pt.view) b pt m (pt.view.inbox m) ps (λ i js msg box there process. front_process b pt m i js msg h box there process) is
+outcome_ok b pt (Step.Tick m) ps h is =
+    let qs = Says (Line.Resent m (rule.outstanding pt.view m pt.kernel.machines)) ∷ rule.resends pt.view m pt.kernel.machines in
     let f : qs ≡ ps = cc in
     subst (AllOk (ForProcess pt.view)) f (nets_ok (ForProcess pt.view) qs (tt, resends_net pt.view m pt.kernel.machines))
-outcome_ok b pt (step.Deliver a c k) ps h is =
+outcome_ok b pt (Step.Deliver a c k) ps h is =
     let qs = rule.arrives a c (pt.view.pair a c) (pt.view.pair c a) (slice_get (pt.view.pair a c).wire k) in
     let f : qs ≡ ps = cc in
     subst (AllOk (ForProcess pt.view)) f (nets_ok (ForProcess pt.view) qs (arrives_net a c (pt.view.pair a c) (pt.view.pair c a) (slice_get (pt.view.pair a c).wire k)))
-outcome_ok b pt (step.Migrate p m) ps h is = let f : migrates pt p ≡ ps = cc in subst (AllOk (ForProcess pt.view)) f (migrates_ok (ForProcess pt.view) pt p)
+outcome_ok b pt (Step.Migrate p m) ps h is = let f : migrates pt p ≡ ps = cc in subst (AllOk (ForProcess pt.view)) f (migrates_ok (ForProcess pt.view) pt p)
 
 abbrev NoneQueued : View → Type 0
 NoneQueued v = (m : ℕ) (p : Pid) → is_server p ≡ true → v.queue m p ≡ []
 
 queues_group : (b : Boot) (pt : Point) (d : Step) (w : Spelled) → group_of b pt d ≡ Some w → Run b pt → NoneQueued pt.view → NoneQueued w.point.view
 queues_group b pt d w e h none =
-    let (ps, is, more) = bind-is (rule.outcome b pt d) (λ ps. bind (after_line pt (line.Head d)) (λ start. bind (spelled start ps) (λ w. Some (rule.headed (line.Head d) w)))) w e in
-    let begun : Point = moved pt (line.Head d) pt.kernel in
-    let (rest, said, end) = bind-is (spelled begun ps) (λ w. Some (rule.headed (line.Head d) w)) w more in
-    let g : rule.headed (line.Head d) rest ≡ w = cc in
+    let (ps, is, more) = bind-is (rule.outcome b pt d) (λ ps. bind (after_line pt (Line.Head d)) (λ start. bind (spelled start ps) (λ w. Some (rule.headed (Line.Head d) w)))) w e in
+    let begun : Point = moved pt (Line.Head d) pt.kernel in
+    let (rest, said, end) = bind-is (spelled begun ps) (λ w. Some (rule.headed (Line.Head d) w)) w more in
+    let g : rule.headed (Line.Head d) rest ≡ w = cc in
     let first : NoQueues pt.view pt.view = record { told = λ i t f. f; none = none } in
-    let last = parts_queues pt.view ps begun rest (outcome_ok b pt d ps h is) said (line_queues pt.view pt.view (line.Head d) tt first) in
+    let last = parts_queues pt.view ps begun rest (outcome_ok b pt d ps h is) said (line_queues pt.view pt.view (Line.Head d) tt first) in
     subst (λ (x : Spelled). NoneQueued x.point.view) g last.none
 
 -- wherever the rule leads

@@ -1,40 +1,6 @@
 -- What is queued for a process is a user message for it, and what is held back for one is for it.
-use Rattle.std.proofs.Common.{◌≡◌, ℕ, ◌≤◌, Bool, true, false, refl, ◌∙◌, sym, inl, inr, arith}
-use Rattle.std.specs.declared.option.Option.{Option}
-use Rattle.std.specs.declared.option.Option.TheVariants.{None, Some}
-use Rattle.std.proofs.lemmas.Bool.{cases_Bool, false≢true}
-use Rattle.dm_link.specs.declared.Pid.{Pid}
-use Rattle.dm_message.specs.declared.MsgId.{MsgId}
-use Rattle.dm_message.specs.declared.kind.MessageKind.TheVariants as kind
-use Rattle.dm_message.specs.Kinds.{plain_kind}
-use Rattle.dm_message.specs.Plain as what
-use Rattle.dm_message.specs.Plain.{PlainMessage, PlainWhat}
-use Rattle.dm_onekernel.specs.declared.boot.Boot.{Boot}
-use Rattle.dm_rule.specs.Point.{Point}
-use Rattle.dm_rule.specs.Spots.{Spot, Queue, Held, StandsOutside, StandsRight, standing}
-use Rattle.dm_rule.specs.View.{is_kernels}
-use Rattle.dm_rule.proofs.Groups.{stands_right}
-use Rattle.dm_rule.proofs.Letters.{kernels_fresh}
-use Rattle.dm_rulelaws.proofs.Queued.{is_user, IsQueued}
-use Rattle.dm_rulelaws.proofs.Runs.{Run}
-use Rattle.dm_rulelaws.proofs.RunsAlways.{run_always}
-use Rattle.dm_movelaws.specs.Lists.{IsUserFor, IsFor, ListsForTheirs}
-
-user_kind : (w : PlainWhat) → is_user w ≡ true → plain_kind w ≡ kind.User
-user_kind (what.User code channel body links) e = refl
-user_kind what.Stop e = absurd (false≢true e)
-user_kind what.Resume e = absurd (false≢true e)
-user_kind what.Kill e = absurd (false≢true e)
-user_kind (what.Read base len) e = absurd (false≢true e)
-user_kind (what.Write base bytes) e = absurd (false≢true e)
-user_kind (what.Block bytes) e = absurd (false≢true e)
-user_kind what.Written e = absurd (false≢true e)
-user_kind what.Gone e = absurd (false≢true e)
-user_kind (what.Create image links) e = absurd (false≢true e)
-user_kind (what.Created p) e = absurd (false≢true e)
-user_kind what.NoRoom e = absurd (false≢true e)
-user_kind (what.Move machine) e = absurd (false≢true e)
-user_kind (what.Moved outcome) e = absurd (false≢true e)
+use Rattle.dm_movelaws.proofs.Names.{◌≡◌, ℕ, ◌≤◌, Bool, true, false, refl, ◌∙◌, sym, inl, inr, arith, Option, None, Some, cases_Bool, false≢true, Pid, MsgId, PlainMessage, Boot, Point, Spot, Queue, Held, StandsOutside, StandsRight}
+use Rattle.dm_movelaws.proofs.Names.{standing, is_kernels, stands_right, kernels_fresh, IsQueued, Run, run_always, IsUserFor, IsFor, ListsForTheirs, user_kind}
 
 -- a message that stands and has entered is in the bag
 queued_by : (b : Boot) (pt : Point) (p : Pid) (i : MsgId) (z : Spot) (o : Option PlainMessage) (h : Run b pt) → pt.kernel.bag i ≡ o → IsQueued (h.based.phased.state.e i) p o → 1 ≤ standing pt.view i z → IsUserFor pt p i

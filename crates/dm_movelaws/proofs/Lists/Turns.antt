@@ -1,38 +1,14 @@
 -- A turn queues only the message at the front of the inbox, and only where that is for no server.
-use Rattle.std.proofs.Common.{◌≡◌, ℕ, ◌+◌, ◌==◌, ◌||◌, Bool, true, false, List, [], ◌∷◌, refl, ap, ◌∙◌, subst, length}
-use Rattle.std.specs.Prelude.{if◌then◌else◌, slice_get}
-use Rattle.std.specs.declared.option.Option.{Option}
-use Rattle.std.specs.declared.option.Option.TheVariants.{None, Some}
-use Rattle.dm_link.specs.declared.Pid.{Pid}
-use Rattle.dm_link.specs.Names.{pid_of, pid_eq}
-use Rattle.dm_message.specs.declared.MsgId.{MsgId}
-use Rattle.dm_message.specs.Kinds.{plain_kind}
-use Rattle.dm_message.specs.Plain as what
-use Rattle.dm_message.specs.Plain.{PlainMessage, PlainWhat}
-use Rattle.dm_processor.specs.Instructions.{instruction}
-use Rattle.dm_onekernel.specs.declared.boot.BootImage.{BootImage}
-use Rattle.dm_onekernel.specs.declared.boot.Boot.{Boot}
-use Rattle.dm_onekernel.specs.declared.label.Label.TheVariants as label
-use Rattle.dm_onekernel.specs.Boot.{first_number, switchboard, manager}
-use Rattle.dm_onekernel.specs.Options.{bind}
-use Rattle.dm_onekernel.specs.PlainProcess.{PlainProcess, PlainStatus, Ready, Waiting, Moving}
-use Rattle.dm_onekernel.specs.Kernel.{OneKernel}
+use Rattle.dm_movelaws.proofs.Names.{◌≡◌, ℕ, ◌+◌, ◌==◌, ◌||◌, Bool, true, false, List, [], ◌∷◌, refl, ap, ◌∙◌, subst, length, if◌then◌else◌, slice_get, Option, None, Some, Pid, pid_of, pid_eq, MsgId, plain_kind, Label, Line, PlainMessage}
+use Rattle.dm_movelaws.proofs.Names.{PlainWhat, instruction, BootImage, Boot, first_number, switchboard, manager, bind, PlainProcess, PlainStatus, Ready, Waiting, Moving, OneKernel, answer_id, machine_of, with_machine, Known, Unknown, Here}
+use Rattle.dm_movelaws.proofs.Names.{Forward, Ended, Point, Part, Says, Routes, Ran, Room, says, drops, called, stops, executes, ran, completes, receives, first_awaited, first_runnable, serves_status, goes_round, has_room, free_room}
+use Rattle.dm_movelaws.proofs.Names.{creates, kernel_handles, routes, board_took, manager_took, lands, here_handles, ended_handles, process_handles, comes_to, turns, forwards_on, bind-is, is_server}
 use Rattle.dm_onekernel.specs.Calls as calls
 use Rattle.dm_onekernel.specs.Pieces as pieces
-use Rattle.dm_onekernel.specs.Pieces.{answer_id}
 use Rattle.dm_onekernel.specs.Receiving as receiving
 use Rattle.dm_onekernel.specs.Switchboard as board
 use Rattle.dm_onekernel.specs.Manager as manage
 use Rattle.dm_onekernel.specs.Step as kernel
-use Rattle.dm_onekernel.specs.Step.{machine_of, with_machine}
-use Rattle.dm_line.specs.declared.line.Line.TheVariants as line
-use Rattle.dm_rule.specs.View.{Known, Unknown, Here, Frozen, Incoming, Forward, Ended}
-use Rattle.dm_rule.specs.Point.{Point}
-use Rattle.dm_rule.specs.Parts.{Part, Says, Routes}
-use Rattle.dm_rule.specs.Rule.{Ran, Room, says, drops, called, stops, executes, ran, completes, receives, first_awaited, first_runnable, serves_status, goes_round, has_room, free_room, creates, kernel_handles, routes, board_took, manager_took, lands, here_handles, ended_handles, process_handles, comes_to, turns}
-use Rattle.dm_rule.specs.Migrating.{forwards_on}
-use Rattle.dm_laws.proofs.Steps.{bind-is}
-use Rattle.dm_rulelaws.specs.Fits.{is_server}
 use Rattle.dm_movelaws.proofs.Lists.Parts.{PartOk, AllOk}
 use Rattle.dm_movelaws.proofs.Lists.Hears.{forwards_ok, hears_ok}
 
@@ -44,11 +20,9 @@ drops_ok ok [] = tt
 drops_ok ok (i ∷ is) = (tt, drops_ok ok is)
 
 called_ok : (ok : MsgId → Type 0) (p : Pid) (n : ℕ) (queue : List MsgId) (c : calls.Called) → AllOk ok (called p n queue c)
-called_ok ok p n queue (calls.Replies reply x) = (tt, tt)
 called_ok ok p n queue (calls.Sends m x) = (tt, (tt, tt))
-called_ok ok p n queue (calls.Waits x) = (tt, tt)
-called_ok ok p n queue (calls.Outputs word x) = (tt, tt)
 called_ok ok p n queue (calls.Ends because) = (tt, drops_ok ok queue)
+called_ok ok p n queue _ = (tt, tt)
 
 stops_ok : (ok : MsgId → Type 0) (p : Pid) (queue : List MsgId) (o : Option kernel.Next) → AllOk ok (stops p queue o)
 stops_ok ok p queue None = tt
@@ -82,7 +56,7 @@ serves_ok ok quantum s p queue x (Waiting mask base cap_) ps e = receives_ok ok 
 serves_ok ok quantum s p queue x (Moving dir owner base own left pending) ps e = cc
 
 round_ok : (ok : MsgId → Type 0) (b : Boot) (pt : Point) (m : ℕ) (o : Option Pid) (ps : List Part) → goes_round b pt m o ≡ Some ps → AllOk ok ps
-round_ok ok b pt m None ps e = given ok (Says (line.Idle m) ∷ []) ps (tt, tt) e
+round_ok ok b pt m None ps e = given ok (Says (Line.Idle m) ∷ []) ps (tt, tt) e
 round_ok ok b pt m (Some p) ps e =
     let (x, there, is) = bind-is (kernel.alive (pt.kernel.processes p)) (λ x. serves_status b.quantum pt.kernel p (pt.view.queue m p) x x.status) ps e in
     serves_ok ok b.quantum pt.kernel p (pt.view.queue m p) x x.status ps is
@@ -94,25 +68,13 @@ says_if_ok ok false p q h k = k
 creates_ok : (ok : MsgId → Type 0) (pt : Point) (m : ℕ) (id : MsgId) (r : Room) (o : Option BootImage) (ps : List Part) → creates pt m id r o ≡ Some ps → AllOk ok ps
 creates_ok ok pt m id r None ps e = cc
 creates_ok ok pt m id r (Some i) ps e =
-    let yes = says (label.Created id (pid_of m (first_number + pt.kernel.made m))) in
-    let no = says (label.NoSpace id r.slots r.blocks) in
+    let yes = says (Label.Created id (pid_of m (first_number + pt.kernel.made m))) in
+    let no = says (Label.NoSpace id r.slots r.blocks) in
     given ok ((if has_room r i.blocks then yes else no) ∷ Routes (answer_id id) ∷ []) ps (says_if_ok ok (has_room r i.blocks) yes no tt tt, (tt, tt)) e
 
 kernel_ok : (ok : MsgId → Type 0) (b : Boot) (pt : Point) (m : ℕ) (id : MsgId) (w : PlainWhat) (ps : List Part) → kernel_handles b pt m id w ≡ Some ps → AllOk ok ps
-kernel_ok ok b pt m id (what.Create image links) ps e = creates_ok ok pt m id (free_room b pt m) (slice_get b.images image) ps e
-kernel_ok ok b pt m id (what.User code channel body links) ps e = cc
-kernel_ok ok b pt m id what.Stop ps e = cc
-kernel_ok ok b pt m id what.Resume ps e = cc
-kernel_ok ok b pt m id what.Kill ps e = cc
-kernel_ok ok b pt m id (what.Read base len) ps e = cc
-kernel_ok ok b pt m id (what.Write base bytes) ps e = cc
-kernel_ok ok b pt m id (what.Block bytes) ps e = cc
-kernel_ok ok b pt m id what.Written ps e = cc
-kernel_ok ok b pt m id what.Gone ps e = cc
-kernel_ok ok b pt m id (what.Created pid) ps e = cc
-kernel_ok ok b pt m id what.NoRoom ps e = cc
-kernel_ok ok b pt m id (what.Move machine) ps e = cc
-kernel_ok ok b pt m id (what.Moved outcome) ps e = cc
+kernel_ok ok b pt m id (PlainWhat.Create image links) ps e = creates_ok ok pt m id (free_room b pt m) (slice_get b.images image) ps e
+kernel_ok ok b pt m id _ ps e = cc
 
 routes_ok : (ok : MsgId → Type 0) (o : Option PlainMessage) → AllOk ok (routes o)
 routes_ok ok None = tt
@@ -120,65 +82,54 @@ routes_ok ok (Some m) = (tt, tt)
 
 board_ok : (ok : MsgId → Type 0) (id : MsgId) (o : Option board.Took) (ps : List Part) → board_took id o ≡ Some ps → AllOk ok ps
 board_ok ok id None ps e = cc
-board_ok ok id (Some t) ps e = given ok (says (label.Took id) ∷ routes t.answer) ps (tt, routes_ok ok t.answer) e
+board_ok ok id (Some t) ps e = given ok (says (Label.Took id) ∷ routes t.answer) ps (tt, routes_ok ok t.answer) e
 
 manager_ok : (ok : MsgId → Type 0) (id : MsgId) (o : Option manage.Took) (ps : List Part) → manager_took id o ≡ Some ps → AllOk ok ps
 manager_ok ok id None ps e = cc
-manager_ok ok id (Some t) ps e = given ok (says (label.Took id) ∷ routes t.message) ps (tt, routes_ok ok t.message) e
+manager_ok ok id (Some t) ps e = given ok (says (Label.Took id) ∷ routes t.message) ps (tt, routes_ok ok t.message) e
 
 lands_ok : (ok : MsgId → Type 0) (id : MsgId) (o : Option pieces.Landed) (ps : List Part) → lands id o ≡ Some ps → AllOk ok ps
 lands_ok ok id None ps e = cc
-lands_ok ok id (Some (pieces.Next request x)) ps e = given ok (says (label.Served id) ∷ Routes request.id ∷ []) ps (tt, (tt, tt)) e
-lands_ok ok id (Some (pieces.Done reply x)) ps e = given ok (says (label.Served id) ∷ []) ps (tt, tt) e
+lands_ok ok id (Some (pieces.Next request x)) ps e = given ok (says (Label.Served id) ∷ Routes request.id ∷ []) ps (tt, (tt, tt)) e
+lands_ok ok id (Some (pieces.Done reply x)) ps e = given ok (says (Label.Served id) ∷ []) ps (tt, tt) e
 
 here_ok : (ok : MsgId → Type 0) (pt : Point) (m : ℕ) (id : MsgId) (msg : PlainMessage) (x : PlainProcess) (w : PlainWhat) (ps : List Part) → ok id → here_handles pt m id msg x w ≡ Some ps → AllOk ok ps
-here_ok ok pt m id msg x (what.User code channel body links) ps need e = given ok (Says (line.Queued id) ∷ []) ps (need, tt) e
-here_ok ok pt m id msg x what.Stop ps need e = given ok (says (label.Served id) ∷ []) ps (tt, tt) e
-here_ok ok pt m id msg x what.Resume ps need e = given ok (says (label.Served id) ∷ []) ps (tt, tt) e
-here_ok ok pt m id msg x what.Kill ps need e = given ok (says (label.Served id) ∷ drops (pt.view.queue m msg.to)) ps (tt, drops_ok ok (pt.view.queue m msg.to)) e
-here_ok ok pt m id msg x (what.Read base len) ps need e = given ok (says (label.Served id) ∷ Routes (answer_id id) ∷ []) ps (tt, (tt, tt)) e
-here_ok ok pt m id msg x (what.Write base bytes) ps need e = given ok (says (label.Served id) ∷ Routes (answer_id id) ∷ []) ps (tt, (tt, tt)) e
-here_ok ok pt m id msg x (what.Block bytes) ps need e = lands_ok ok id (pieces.lands msg.to x msg x.status) ps e
-here_ok ok pt m id msg x what.Written ps need e = lands_ok ok id (pieces.lands msg.to x msg x.status) ps e
-here_ok ok pt m id msg x what.Gone ps need e = lands_ok ok id (pieces.lands msg.to x msg x.status) ps e
-here_ok ok pt m id msg x (what.Create image links) ps need e = cc
-here_ok ok pt m id msg x (what.Created pid) ps need e = cc
-here_ok ok pt m id msg x what.NoRoom ps need e = cc
-here_ok ok pt m id msg x (what.Move machine) ps need e = cc
-here_ok ok pt m id msg x (what.Moved outcome) ps need e = cc
+here_ok ok pt m id msg x (PlainWhat.User code channel body links) ps need e = given ok (Says (Line.Queued id) ∷ []) ps (need, tt) e
+here_ok ok pt m id msg x PlainWhat.Stop ps need e = given ok (says (Label.Served id) ∷ []) ps (tt, tt) e
+here_ok ok pt m id msg x PlainWhat.Resume ps need e = given ok (says (Label.Served id) ∷ []) ps (tt, tt) e
+here_ok ok pt m id msg x PlainWhat.Kill ps need e = given ok (says (Label.Served id) ∷ drops (pt.view.queue m msg.to)) ps (tt, drops_ok ok (pt.view.queue m msg.to)) e
+here_ok ok pt m id msg x (PlainWhat.Read base len) ps need e = given ok (says (Label.Served id) ∷ Routes (answer_id id) ∷ []) ps (tt, (tt, tt)) e
+here_ok ok pt m id msg x (PlainWhat.Write base bytes) ps need e = given ok (says (Label.Served id) ∷ Routes (answer_id id) ∷ []) ps (tt, (tt, tt)) e
+here_ok ok pt m id msg x (PlainWhat.Block bytes) ps need e = lands_ok ok id (pieces.lands msg.to x msg x.status) ps e
+here_ok ok pt m id msg x PlainWhat.Written ps need e = lands_ok ok id (pieces.lands msg.to x msg x.status) ps e
+here_ok ok pt m id msg x PlainWhat.Gone ps need e = lands_ok ok id (pieces.lands msg.to x msg x.status) ps e
+here_ok ok pt m id msg x _ ps need e = cc
 
-gone_ok : (ok : MsgId → Type 0) (id : MsgId) (ps : List Part) → Some (says (label.Gone id) ∷ Routes (answer_id id) ∷ []) ≡ Some ps → AllOk ok ps
-gone_ok ok id ps e = given ok (says (label.Gone id) ∷ Routes (answer_id id) ∷ []) ps (tt, (tt, tt)) e
+gone_ok : (ok : MsgId → Type 0) (id : MsgId) (ps : List Part) → Some (says (Label.Gone id) ∷ Routes (answer_id id) ∷ []) ≡ Some ps → AllOk ok ps
+gone_ok ok id ps e = given ok (says (Label.Gone id) ∷ Routes (answer_id id) ∷ []) ps (tt, (tt, tt)) e
 
-dropped_ok : (ok : MsgId → Type 0) (id : MsgId) (ps : List Part) → Some (says (label.Dropped id) ∷ []) ≡ Some ps → AllOk ok ps
-dropped_ok ok id ps e = given ok (says (label.Dropped id) ∷ []) ps (tt, tt) e
+dropped_ok : (ok : MsgId → Type 0) (id : MsgId) (ps : List Part) → Some (says (Label.Dropped id) ∷ []) ≡ Some ps → AllOk ok ps
+dropped_ok ok id ps e = given ok (says (Label.Dropped id) ∷ []) ps (tt, tt) e
 
 ended_ok : (ok : MsgId → Type 0) (id : MsgId) (w : PlainWhat) (ps : List Part) → ended_handles id w ≡ Some ps → AllOk ok ps
-ended_ok ok id (what.Read base len) ps e = gone_ok ok id ps e
-ended_ok ok id (what.Write base bytes) ps e = gone_ok ok id ps e
-ended_ok ok id (what.User code channel body links) ps e = dropped_ok ok id ps e
-ended_ok ok id what.Stop ps e = dropped_ok ok id ps e
-ended_ok ok id what.Resume ps e = dropped_ok ok id ps e
-ended_ok ok id what.Kill ps e = dropped_ok ok id ps e
-ended_ok ok id (what.Block bytes) ps e = dropped_ok ok id ps e
-ended_ok ok id what.Written ps e = dropped_ok ok id ps e
-ended_ok ok id what.Gone ps e = dropped_ok ok id ps e
-ended_ok ok id (what.Create image links) ps e = cc
-ended_ok ok id (what.Created pid) ps e = cc
-ended_ok ok id what.NoRoom ps e = cc
-ended_ok ok id (what.Move machine) ps e = cc
-ended_ok ok id (what.Moved outcome) ps e = cc
+ended_ok ok id (PlainWhat.Read base len) ps e = gone_ok ok id ps e
+ended_ok ok id (PlainWhat.Write base bytes) ps e = gone_ok ok id ps e
+ended_ok ok id (PlainWhat.Create image links) ps e = cc
+ended_ok ok id (PlainWhat.Created pid) ps e = cc
+ended_ok ok id PlainWhat.NoRoom ps e = cc
+ended_ok ok id (PlainWhat.Move machine) ps e = cc
+ended_ok ok id (PlainWhat.Moved outcome) ps e = cc
+ended_ok ok id _ ps e = dropped_ok ok id ps e
 
 process_ok : (ok : MsgId → Type 0) (pt : Point) (m : ℕ) (id : MsgId) (msg : PlainMessage) (k : Known) (ps : List Part) → ok id → process_handles pt m id msg k ≡ Some ps → AllOk ok ps
 process_ok ok pt m id msg Unknown ps need e = cc
 process_ok ok pt m id msg Here ps need e =
     let (x, there, is) = bind-is (kernel.alive (pt.kernel.processes msg.to)) (λ x. here_handles pt m id msg x msg.what) ps e in
     here_ok ok pt m id msg x msg.what ps need is
-process_ok ok pt m id msg (Frozen to) ps need e = given ok (Says (line.Held id) ∷ []) ps (tt, tt) e
-process_ok ok pt m id msg (Incoming from) ps need e = given ok (Says (line.Held id) ∷ []) ps (tt, tt) e
 process_ok ok pt m id msg (Forward at moves) ps need e =
     given ok (forwards_on pt.addresses id (plain_kind msg.what) msg.sender at) ps (forwards_ok ok pt.addresses id (plain_kind msg.what) msg.sender at) e
 process_ok ok pt m id msg Ended ps need e = ended_ok ok id msg.what ps e
+process_ok ok pt m id msg _ ps need e = given ok (Says (Line.Held id) ∷ []) ps (tt, tt) e
 
 handles_by : (ok : MsgId → Type 0) (b : Boot) (pt : Point) (m : ℕ) (id : MsgId) (msg : PlainMessage) (c d g : Bool) (ps : List Part) → pid_eq msg.to switchboard ≡ d → pid_eq msg.to manager ≡ g → (is_server msg.to ≡ false → ok id)
     → (if c then kernel_handles b pt m id msg.what

@@ -1,40 +1,10 @@
 -- Wherever the rule leads, each living process that moves data has the message that its status says.
-use Rattle.std.proofs.Common.{◌≡◌, ℕ, ◌+◌, ◌==◌, true, false, List, [], ◌∷◌, length, refl, ap, ◌∙◌, sym, subst, inl, inr, arith}
-use Rattle.std.specs.declared.option.Option.{Option}
-use Rattle.std.specs.declared.option.Option.TheVariants.{None, Some}
-use Rattle.std.proofs.lemmas.Bool.Decides.{nat_tests}
-use Rattle.dm_link.specs.declared.Pid.{Pid}
-use Rattle.dm_message.specs.declared.MsgId.{MsgId}
-use Rattle.dm_message.specs.Ids.{id_of}
-use Rattle.dm_message.specs.Kinds.{plain_kind}
-use Rattle.dm_message.specs.Plain as what
-use Rattle.dm_message.specs.Plain.{PlainMessage, PlainWhat}
-use Rattle.dm_process.specs.declared.process.Direction.{Direction}
-use Rattle.dm_process.specs.declared.process.Direction.TheVariants as direction
-use Rattle.dm_onekernel.specs.declared.boot.Boot.{Boot}
-use Rattle.dm_onekernel.specs.declared.label.Label.{Label}
-use Rattle.dm_onekernel.specs.PlainProcess.{PlainProcess, PlainStatus, Ready, Waiting, Moving}
-use Rattle.dm_onekernel.specs.Kernel.{Life, Alive, OneKernel}
-use Rattle.dm_onekernel.specs.Pieces.{piece_of, answer_id}
-use Rattle.dm_onekernel.specs.Service.{is_of_memory}
+use Rattle.dm_movelaws.proofs.Names.{◌≡◌, ℕ, ◌+◌, ◌==◌, true, false, List, [], ◌∷◌, length, refl, ap, ◌∙◌, sym, subst, inl, inr, arith, Option, None, Some, nat_tests, Pid, MsgId, id_of, plain_kind, PlainMessage, PlainWhat, Direction, Boot}
+use Rattle.dm_movelaws.proofs.Names.{Label, PlainProcess, PlainStatus, Ready, Waiting, Moving, Life, Alive, OneKernel, piece_of, answer_id, is_of_memory, replay, Step, Leads, Point, first_point, labels, entry, reception, in_bag, is_piece}
+use Rattle.dm_movelaws.proofs.Names.{pending_of, One, after_step, Sound, bind-is, piece_fits, status_awaits, awaits, WhatFits, KernelFits, based_start, based_group, based_always, both, fits_step, group_replay, Based, asks_piece}
+use Rattle.dm_movelaws.proofs.Names.{answers_piece, AsksFor, AnswersFor, HasEnded, HasPiece, MoversHavePieces}
 use Rattle.dm_onekernel.specs.Step as kernel
-use Rattle.dm_onekernel.specs.Step.{replay}
-use Rattle.dm_schedule.specs.declared.Step.{Step}
-use Rattle.dm_rule.specs.Laws.{Leads}
-use Rattle.dm_rule.specs.Point.{Point, first_point, labels}
-use Rattle.dm_laws.specs.Laws.{entry, reception, in_bag}
-use Rattle.dm_laws.proofs.Counted.{is_piece, pending_of}
-use Rattle.dm_laws.proofs.Movers.{One}
-use Rattle.dm_laws.proofs.Runs.{after_step}
-use Rattle.dm_laws.proofs.Sound.{Sound}
-use Rattle.dm_laws.proofs.Steps.{bind-is}
-use Rattle.dm_rulelaws.specs.Fits.{piece_fits, status_awaits, awaits, WhatFits, KernelFits}
-use Rattle.dm_rulelaws.proofs.Based.Always.{based_start, based_group, based_always}
-use Rattle.dm_rulelaws.proofs.Fits.Rises.{both}
-use Rattle.dm_rulelaws.proofs.Fits.Start.{fits_step}
-use Rattle.dm_rulelaws.proofs.RunLabels.{group_replay}
-use Rattle.dm_rulelaws.proofs.Runs.{Based}
-use Rattle.dm_movelaws.specs.Movers.{asks_piece, answers_piece, AsksFor, AnswersFor, HasEnded, HasPiece, Moves, MoversHavePieces}
+use Rattle.dm_movelaws.specs.Movers.{Moves}
 use Rattle.dm_movelaws.proofs.Movers.Says.{other_end, Begins, StatusSays, Says, AllSay}
 use Rattle.dm_movelaws.proofs.Movers.Gone.{GoneEnded, step_gone}
 use Rattle.dm_movelaws.proofs.Movers.Rows.{memory_end, step_says}
@@ -74,20 +44,20 @@ pair_answer (Some j) None m h e = cc
 
 -- what fits is awaited
 memory_awaits : (s : OneKernel) (i : MsgId) (m : PlainMessage) (w : PlainWhat) → is_of_memory w ≡ true → WhatFits s i m w → awaits (s.processes i.from) i.n w ≡ true
-memory_awaits s i m (what.Read base len) e h = h.1
-memory_awaits s i m (what.Write base bytes) e h = h.1
+memory_awaits s i m (PlainWhat.Read base len) e h = h.1
+memory_awaits s i m (PlainWhat.Write base bytes) e h = h.1
 memory_awaits s i m w e h = cc
 
 piece_awaits : (s : OneKernel) (i : MsgId) (m : PlainMessage) (w : PlainWhat) → is_piece w ≡ true → WhatFits s i m w → awaits (s.processes i.from) i.n w ≡ true
-piece_awaits s i m (what.Block bytes) e h = h.1
-piece_awaits s i m what.Written e h = h.1
-piece_awaits s i m what.Gone e h = h.1
+piece_awaits s i m (PlainWhat.Block bytes) e h = h.1
+piece_awaits s i m PlainWhat.Written e h = h.1
+piece_awaits s i m PlainWhat.Gone e h = h.1
 piece_awaits s i m w e h = cc
 
 piece_end : (m : PlainMessage) (w : PlainWhat) → is_piece w ≡ true → other_end m w ≡ Some m.sender
-piece_end m (what.Block bytes) e = refl
-piece_end m what.Written e = refl
-piece_end m what.Gone e = refl
+piece_end m (PlainWhat.Block bytes) e = refl
+piece_end m PlainWhat.Written e = refl
+piece_end m PlainWhat.Gone e = refl
 piece_end m w e = cc
 
 -- what a mover's status says of what it waits for
@@ -98,18 +68,18 @@ says_is : (st : PlainStatus) (dir : Direction) (owner : Pid) (base own left pend
 says_is st dir owner base own left pending q w is h = subst (λ (v : PlainStatus). StatusSays v pending q w) is h refl
 
 asks_for : (dir : Direction) (base left : ℕ) (w : PlainWhat) → is_of_memory w ≡ true → piece_fits dir left w ≡ true → Begins base left w → AsksFor dir base left w
-asks_for direction.FromArea base left (what.Read from len) m f h = let size : len ≡ piece_of left = grind (arith, nat_tests) in λ i. what.Read (h i) (size i)
-asks_for direction.IntoArea base left (what.Write from bytes) m f h = record { bytes = bytes; is = ap (λ (n : ℕ). what.Write n bytes) h.0; size = h.1 }
-asks_for direction.FromArea base left w m f h = cc
-asks_for direction.IntoArea base left w m f h = cc
+asks_for Direction.FromArea base left (PlainWhat.Read from len) m f h = let size : len ≡ piece_of left = grind (arith, nat_tests) in λ i. PlainWhat.Read (h i) (size i)
+asks_for Direction.IntoArea base left (PlainWhat.Write from bytes) m f h = record { bytes = bytes; is = ap (λ (n : ℕ). PlainWhat.Write n bytes) h.0; size = h.1 }
+asks_for Direction.FromArea base left w m f h = cc
+asks_for Direction.IntoArea base left w m f h = cc
 
 answers_for : (dir : Direction) (left : ℕ) (w : PlainWhat) → is_piece w ≡ true → piece_fits dir left w ≡ true → AnswersFor dir left w
-answers_for direction.FromArea left (what.Block bytes) m f = inl (record { bytes = bytes; is = refl; size = (let size : length bytes ≡ piece_of left = grind (arith, nat_tests) in size) })
-answers_for direction.FromArea left what.Gone m f = inr refl
-answers_for direction.IntoArea left what.Written m f = inl refl
-answers_for direction.IntoArea left what.Gone m f = inr refl
-answers_for direction.FromArea left w m f = cc
-answers_for direction.IntoArea left w m f = cc
+answers_for Direction.FromArea left (PlainWhat.Block bytes) m f = inl (record { bytes = bytes; is = refl; size = (let size : length bytes ≡ piece_of left = grind (arith, nat_tests) in size) })
+answers_for Direction.FromArea left PlainWhat.Gone m f = inr refl
+answers_for Direction.IntoArea left PlainWhat.Written m f = inl refl
+answers_for Direction.IntoArea left PlainWhat.Gone m f = inr refl
+answers_for Direction.FromArea left w m f = cc
+answers_for Direction.IntoArea left w m f = cc
 
 has_piece : (r e : MsgId → ℕ) (s : OneKernel) (p : Pid) (x : PlainProcess) (dir : Direction) (owner : Pid) (base own left pending : ℕ) → s.processes p ≡ Some (Alive x) → x.status ≡ Moving dir owner base own left pending → Sound r e s → KernelFits s → AllSay s → GoneEnded s
     → HasPiece s p dir owner base left pending
@@ -144,14 +114,14 @@ has_piece r e s p x dir owner base own left pending alive status sound fits says
 
 -- messages of kinds
 kind_memory : (w : PlainWhat) → asks_piece (plain_kind w) ≡ true → is_of_memory w ≡ true
-kind_memory (what.Read base len) e = refl
-kind_memory (what.Write base bytes) e = refl
+kind_memory (PlainWhat.Read base len) e = refl
+kind_memory (PlainWhat.Write base bytes) e = refl
 kind_memory w e = cc
 
 kind_piece : (w : PlainWhat) → answers_piece (plain_kind w) ≡ true → is_piece w ≡ true
-kind_piece (what.Block bytes) e = refl
-kind_piece what.Written e = refl
-kind_piece what.Gone e = refl
+kind_piece (PlainWhat.Block bytes) e = refl
+kind_piece PlainWhat.Written e = refl
+kind_piece PlainWhat.Gone e = refl
 kind_piece w e = cc
 
 moves_by : (p : Pid) (x : PlainProcess) (i : MsgId) (st : PlainStatus) (w : PlainWhat) → x.status ≡ st → status_awaits st i.n w ≡ true → Moves p x (id_of p i.n)

@@ -1,62 +1,24 @@
 -- What a message of a data move says of the mover's status: the ways in which that stays.
-use Rattle.std.proofs.Common.{◌≡◌, ℕ, ◌+◌, ◌≤◌, true, false, length, take, drop, refl, ap, ◌∙◌, sym, subst, inl, inr, nat_le, nat_lt, arith}
-use Rattle.std.specs.Prelude.{⊤}
-use Rattle.std.specs.declared.option.Option.{Option}
-use Rattle.std.specs.declared.option.Option.TheVariants.{None, Some}
-use Rattle.std.proofs.lemmas.Bool.Decides.{nat_tests}
-use Rattle.std.proofs.lemmas.List.{length-take, length-drop}
-use Rattle.dm_link.specs.declared.Pid.{Pid}
-use Rattle.dm_message.specs.declared.MsgId.{MsgId}
-use Rattle.dm_message.specs.Plain as what
-use Rattle.dm_message.specs.Plain.{PlainMessage, PlainWhat}
-use Rattle.dm_process.specs.declared.process.Direction.{Direction}
-use Rattle.dm_process.specs.declared.process.Direction.TheVariants as direction
-use Rattle.dm_onekernel.specs.declared.label.Why.{Why}
-use Rattle.dm_onekernel.specs.PlainProcess.{PlainProcess, PlainStatus, Ready, Waiting, Moving}
-use Rattle.dm_onekernel.specs.Kernel.{Life, Alive, Ended, OneKernel, with_process, with_sent}
+use Rattle.dm_movelaws.proofs.Names.{◌≡◌, ℕ, ◌+◌, ◌≤◌, true, false, length, take, drop, refl, ap, ◌∙◌, sym, subst, inl, inr, nat_le, nat_lt, arith, ⊤, Option, None, Some, nat_tests, length-take, length-drop, Pid, MsgId, PlainMessage}
+use Rattle.dm_movelaws.proofs.Names.{PlainWhat, Direction, Why, PlainProcess, PlainStatus, Ready, Waiting, Moving, Life, Alive, OneKernel, with_process, with_sent, piece_of, answer_to, without_message, is_of_memory, is_piece, pending_of}
+use Rattle.dm_movelaws.proofs.Names.{counts, is_counted, stayed, came, Sound, not_server, counts_process, not_counted, Lives, has_bytes, move_fits, KernelFits, both, set_if, set_at}
+use Rattle.dm_onekernel.specs.Kernel.{Ended}
 use Rattle.dm_onekernel.specs.Pieces as pieces
-use Rattle.dm_onekernel.specs.Pieces.{piece_of, answer_to}
-use Rattle.dm_onekernel.specs.Service.{without_message, is_of_memory}
-use Rattle.dm_laws.proofs.Counted.{is_piece, pending_of}
-use Rattle.dm_laws.proofs.Entered.{counts, is_counted}
-use Rattle.dm_laws.proofs.Movers.{stayed, came}
-use Rattle.dm_laws.proofs.Sound.{Sound, not_server, counts_process, not_counted}
-use Rattle.dm_rulelaws.specs.Fits.{Lives, has_bytes, move_fits, KernelFits}
-use Rattle.dm_rulelaws.proofs.Fits.Rises.{both, set_if, set_at}
 
 -- whom a message of a data move names as the area's owner
 abbrev pub other_end : PlainMessage → PlainWhat → Option Pid
-other_end m (what.Read base len) = Some m.to
-other_end m (what.Write base bytes) = Some m.to
-other_end m (what.Block bytes) = Some m.sender
-other_end m what.Written = Some m.sender
-other_end m what.Gone = Some m.sender
-other_end m (what.User code channel body links) = None
-other_end m what.Stop = None
-other_end m what.Resume = None
-other_end m what.Kill = None
-other_end m (what.Create image links) = None
-other_end m (what.Created child) = None
-other_end m what.NoRoom = None
-other_end m (what.Move machine) = None
-other_end m (what.Moved outcome) = None
+other_end m (PlainWhat.Read base len) = Some m.to
+other_end m (PlainWhat.Write base bytes) = Some m.to
+other_end m (PlainWhat.Block bytes) = Some m.sender
+other_end m PlainWhat.Written = Some m.sender
+other_end m PlainWhat.Gone = Some m.sender
+other_end m _ = None
 
 -- where a piece begins that is asked for, and how many bytes are to be written
 abbrev pub Begins : ℕ → ℕ → PlainWhat → Type 0
-Begins base left (what.Read from len) = from ≡ base
-Begins base left (what.Write from bytes) = (from ≡ base) × (length bytes ≡ piece_of left)
-Begins base left (what.Block bytes) = ⊤
-Begins base left what.Written = ⊤
-Begins base left what.Gone = ⊤
-Begins base left (what.User code channel body links) = ⊤
-Begins base left what.Stop = ⊤
-Begins base left what.Resume = ⊤
-Begins base left what.Kill = ⊤
-Begins base left (what.Create image links) = ⊤
-Begins base left (what.Created child) = ⊤
-Begins base left what.NoRoom = ⊤
-Begins base left (what.Move machine) = ⊤
-Begins base left (what.Moved outcome) = ⊤
+Begins base left (PlainWhat.Read from len) = from ≡ base
+Begins base left (PlainWhat.Write from bytes) = (from ≡ base) × (length bytes ≡ piece_of left)
+Begins base left _ = ⊤
 
 -- of a mover that waits for this number: the owner of its area, and the next piece
 abbrev pub StatusSays : PlainStatus → ℕ → Pid → PlainWhat → Type 0
@@ -123,11 +85,11 @@ pub other_says : (u : OneKernel) (x : PlainMessage) → other_end x x.what ≡ N
 other_says u x none h = put_says u x (λ q e. absurd (let f : None ≡ Some q = sym none ∙ e in cc)) h
 
 pub no_end : (m : PlainMessage) (w : PlainWhat) → is_of_memory w ≡ false → is_piece w ≡ false → other_end m w ≡ None
-no_end m (what.Read base len) a b = cc
-no_end m (what.Write base bytes) a b = cc
-no_end m (what.Block bytes) a b = cc
-no_end m what.Written a b = cc
-no_end m what.Gone a b = cc
+no_end m (PlainWhat.Read base len) a b = cc
+no_end m (PlainWhat.Write base bytes) a b = cc
+no_end m (PlainWhat.Block bytes) a b = cc
+no_end m PlainWhat.Written a b = cc
+no_end m PlainWhat.Gone a b = cc
 no_end m w a b = refl
 
 -- an answer says what its request said
@@ -169,8 +131,8 @@ abbrev Asked : Lives → PlainMessage → PlainProcess → Type 0
 Asked ps m y = move_fits ps y y.status ≡ true → (q : Pid) → other_end m m.what ≡ Some q → Says (Some (Alive y)) m.id.n q m.what
 
 asked : (ps : Lives) (p : Pid) (z : PlainProcess) (dir : Direction) (owner : Pid) (base own left : ℕ) → Asked ps (pieces.requests p z dir owner base own left).message (pieces.requests p z dir owner base own left).process
-asked ps p z direction.FromArea owner base own left fits q e = λ n. let f : q ≡ owner = cc in (f, refl)
-asked ps p z direction.IntoArea owner base own left fits q e = λ n.
+asked ps p z Direction.FromArea owner base own left fits q e = λ n. let f : q ≡ owner = cc in (f, refl)
+asked ps p z Direction.IntoArea owner base own left fits q e = λ n.
     let f : q ≡ owner = cc in
     let within = piece_size own left (length z.memory) (both (has_bytes (base + left) (ps owner)) (nat_le (own + left) (length z.memory)) fits).1 in
     let a = length-take (piece_of left) (drop own z.memory) in

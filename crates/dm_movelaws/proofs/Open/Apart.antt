@@ -1,53 +1,17 @@
 -- Each line of a group leaves a process that moves alone, where it stands.
-use Rattle.std.proofs.Common.{◌≡◌, ◌≢◌, ℕ, ◌+◌, ◌==◌, ◌&&◌, ◌||◌, Bool, true, false, List, [], ◌∷◌, ◌++◌, length, refl, ap, ◌∙◌, sym, subst}
-use Rattle.std.specs.Prelude.{⊤, if◌then◌else◌, slice_get}
-use Rattle.std.specs.declared.option.Option.{Option}
-use Rattle.std.specs.declared.option.Option.TheVariants.{None, Some}
-use Rattle.std.proofs.lemmas.Bool.{false≢true}
-use Rattle.dm_link.specs.declared.Pid.{Pid}
-use Rattle.dm_link.specs.Names.{pid_of, pid_eq}
-use Rattle.dm_message.specs.declared.MsgId.{MsgId}
-use Rattle.dm_message.specs.declared.kind.MessageKind.{MessageKind}
-use Rattle.dm_message.specs.Kinds.{plain_kind}
-use Rattle.dm_message.specs.Plain as what
-use Rattle.dm_message.specs.Plain.{PlainMessage, PlainWhat}
-use Rattle.dm_onekernel.specs.declared.boot.Boot.{Boot}
-use Rattle.dm_onekernel.specs.declared.label.Label.{Label}
-use Rattle.dm_onekernel.specs.declared.label.Label.TheVariants as label
-use Rattle.dm_onekernel.specs.declared.label.Why.{Why}
-use Rattle.dm_onekernel.specs.Boot.{first_number, switchboard, manager}
-use Rattle.dm_onekernel.specs.Kernel.{Life, Alive, Ended, OneKernel}
+use Rattle.dm_movelaws.proofs.Names.{◌≡◌, ◌≢◌, ℕ, ◌+◌, ◌==◌, ◌&&◌, ◌||◌, Bool, true, false, List, [], ◌∷◌, ◌++◌, length, refl, ap, ◌∙◌, sym, subst, ⊤, if◌then◌else◌, slice_get, Option, None, Some, false≢true, Pid, pid_of, pid_eq, MsgId}
+use Rattle.dm_movelaws.proofs.Names.{MessageKind, plain_kind, Load, PlainMessage, PlainWhat, Boot, Label, Why, first_number, switchboard, manager, Life, Alive, OneKernel, bind, bind-is, when-is, Step, Line, Receiver, IsOthers, Spares}
+use Rattle.dm_movelaws.proofs.Names.{migrates, Part, Says, Routes, Again, Owns, Transmits, Spelled, lines_of, puts, goes_out, packet_line, behind, spelled, Moves, knows, IsIn, Point, label_of, kernel_after, moved, after_line, after}
+use Rattle.dm_movelaws.proofs.Names.{group_of, Here, own_id, SparesPart, FirstApart, ApartOf, apart_first, turns_apart, net_apart, migrates_apart, arrives_net, resends_net, Rooted, nowhere_known, moves_away, is_server, is_fixed, IsAnothers}
+use Rattle.dm_movelaws.proofs.Names.{IsAnothersIf, moves_known}
+use Rattle.dm_onekernel.specs.Kernel.{Ended}
 use Rattle.dm_onekernel.specs.Manager as manage
-use Rattle.dm_onekernel.specs.Options.{bind}
 use Rattle.dm_onekernel.specs.Service as service
 use Rattle.dm_onekernel.specs.Step as kernel
 use Rattle.dm_onekernel.specs.Switchboard as board
-use Rattle.dm_laws.proofs.Steps.{bind-is, when-is}
-use Rattle.dm_schedule.specs.declared.Step.{Step}
-use Rattle.dm_schedule.specs.declared.Step.TheVariants as step
-use Rattle.dm_line.specs.declared.line.Line.{Line}
-use Rattle.dm_line.specs.declared.line.Line.TheVariants as line
-use Rattle.dm_line.specs.declared.line.Load.TheVariants as load
-use Rattle.dm_rule.specs.Addresses.{Receiver}
-use Rattle.dm_rule.specs.Apart.{IsOthers, Spares}
-use Rattle.dm_rule.specs.Migrating.{migrates}
-use Rattle.dm_rule.specs.Parts.{Part, Says, Routes, Again, Owns, Transmits, Spelled, lines_of, puts, goes_out, packet_line, behind, spelled}
-use Rattle.dm_rule.specs.Phases.{Nowhere, Moves, knows, IsIn}
-use Rattle.dm_rule.specs.Point.{Point, label_of, kernel_after, moved, after_line, after}
 use Rattle.dm_rule.specs.Rule as rule
-use Rattle.dm_rule.specs.Rule.{group_of}
-use Rattle.dm_rule.specs.View.{Here, own_id}
-use Rattle.dm_rule.proofs.Apart.Rows.{SparesPart, FirstApart, ApartOf, apart_first}
-use Rattle.dm_rule.proofs.Apart.Steps.{Keeps, keeps_step}
-use Rattle.dm_rule.proofs.Apart.Turns.{turns_apart, net_apart, migrates_apart}
-use Rattle.dm_rule.proofs.Groups.{arrives_net, resends_net}
-use Rattle.dm_rule.proofs.Phases.Groups.{Rooted}
-use Rattle.dm_rule.proofs.Phases.Lives.{nowhere_known}
-use Rattle.dm_rule.proofs.Rooted.Groups.{moves_away}
-use Rattle.dm_rulelaws.specs.Fits.{is_server}
-use Rattle.dm_rulelaws.specs.Found.{is_fixed}
-use Rattle.dm_movelaws.specs.Open.{IsAnothers, IsAnothersIf}
 use Rattle.dm_movelaws.proofs.Open.Spares.{dropped_over}
+pub use Rattle.dm_rule.proofs.Apart.Groups.{kernel_same}
 
 -- each of these lines spares the process where it stands
 abbrev pub AllAlone : Pid → Point → List Line → Type 0
@@ -68,7 +32,7 @@ puts_alone : (y : Pid) (pt : Point) (b : ℕ) (i : MsgId) (k : MessageKind) (q :
 puts_alone y pt b i k q ls is =
     let f : puts pt.view b i k q ≡ ls = cc in
     subst (AllAlone y pt) f
-    (tt, λ next e. packet_alone y next (packet_line pt.view pt.view.acting b (load.Data (length (pt.view.pair pt.view.acting b).ids))) (pt.view.acting == b) (goes_out (pt.view.pair pt.view.acting b)) refl)
+    (tt, λ next e. packet_alone y next (packet_line pt.view pt.view.acting b (Load.Data (length (pt.view.pair pt.view.acting b).ids))) (pt.view.acting == b) (goes_out (pt.view.pair pt.view.acting b)) refl)
 
 part_alone : (y : Pid) (pt : Point) (p : Part) (ls : List Line) → SparesPart pt.kernel y p → lines_of pt p ≡ Some ls → AllAlone y pt ls
 part_alone y pt (Says l) ls h is = let f : l ∷ [] ≡ ls = cc in subst (AllAlone y pt) f (h, λ next e. tt)
@@ -98,26 +62,23 @@ apart_some z y o ps e h = subst (ApartOf z y) e h
 
 group_alone : (b : Boot) (pt : Point) (d : Step) (w : Spelled) (y : Pid) → ApartOf pt.kernel y (rule.outcome b pt d) → group_of b pt d ≡ Some w → AllAlone y pt w.lines
 group_alone b pt d w y h e =
-    let (parts, is, more) = bind-is (rule.outcome b pt d) (λ parts. bind (after_line pt (line.Head d)) (λ begun. bind (spelled begun parts) (λ w. Some (rule.headed (line.Head d) w)))) w e in
-    let (start, head, last) = bind-is (after_line pt (line.Head d)) (λ begun. bind (spelled begun parts) (λ w. Some (rule.headed (line.Head d) w))) w more in
-    let (rest, told, end) = bind-is (spelled start parts) (λ w. Some (rule.headed (line.Head d) w)) w last in
-    let f : moved pt (line.Head d) pt.kernel ≡ start = cc in
-    let g : rule.headed (line.Head d) rest ≡ w = cc in
-    let begun = moved pt (line.Head d) pt.kernel in
+    let (parts, is, more) = bind-is (rule.outcome b pt d) (λ parts. bind (after_line pt (Line.Head d)) (λ begun. bind (spelled begun parts) (λ w. Some (rule.headed (Line.Head d) w)))) w e in
+    let (start, head, last) = bind-is (after_line pt (Line.Head d)) (λ begun. bind (spelled begun parts) (λ w. Some (rule.headed (Line.Head d) w))) w more in
+    let (rest, told, end) = bind-is (spelled start parts) (λ w. Some (rule.headed (Line.Head d) w)) w last in
+    let f : moved pt (Line.Head d) pt.kernel ≡ start = cc in
+    let g : rule.headed (Line.Head d) rest ≡ w = cc in
+    let begun = moved pt (Line.Head d) pt.kernel in
     let k : AllAlone y begun rest.lines = parts_alone y parts begun rest (apart_some pt.kernel y (rule.outcome b pt d) parts is h) (ap (λ p. spelled p parts) f ∙ told) in
     subst (λ (x : Spelled). AllAlone y pt x.lines) g (tt, λ next n. let m : begun ≡ next = cc in subst (λ (q : Point). AllAlone y q rest.lines) m k)
 
 outcome_apart : (b : Boot) (pt : Point) (d : Step) (y : Pid) → Rooted pt → ((m : ℕ) → pid_of m (first_number + pt.kernel.made m) ≢ y) → ((m : ℕ) (p : Pid) → pt.view.known m p ≡ Here → p ≢ y) → ApartOf pt.kernel y (rule.outcome b pt d)
-outcome_apart b pt (step.Turn m) y h child off = turns_apart y b pt m (pt.view.inbox m) (child m) (off m) (h.served m)
-outcome_apart b pt (step.Tick m) y h child off = (tt, net_apart y (rule.resends pt.view m pt.kernel.machines) (resends_net pt.view m pt.kernel.machines))
-outcome_apart b pt (step.Deliver a c k) y h child off =
+outcome_apart b pt (Step.Turn m) y h child off = turns_apart y b pt m (pt.view.inbox m) (child m) (off m) (h.served m)
+outcome_apart b pt (Step.Tick m) y h child off = (tt, net_apart y (rule.resends pt.view m pt.kernel.machines) (resends_net pt.view m pt.kernel.machines))
+outcome_apart b pt (Step.Deliver a c k) y h child off =
     let s = slice_get (pt.view.pair a c).wire k in
     let qs = rule.arrives a c (pt.view.pair a c) (pt.view.pair c a) s in
     apart_first pt.kernel y qs (net_apart y qs (arrives_net a c (pt.view.pair a c) (pt.view.pair c a) s))
-outcome_apart b pt (step.Migrate p m) y h child off = apart_first pt.kernel y (migrates pt p) (migrates_apart y pt p)
-
-moves_known : (k : MessageKind) (s d : ℕ) (o : Option MsgId) → Moves k s d o ≡ Nowhere → ⊥
-moves_known k s d o e = cc
+outcome_apart b pt (Step.Migrate p m) y h child off = apart_first pt.kernel y (migrates pt p) (migrates_apart y pt p)
 
 pub moving_alone : (b : Boot) (pt : Point) (d : Step) (w : Spelled) (y : Pid) (k : MessageKind) (s t : ℕ) (o : Option MsgId) → Rooted pt → IsIn pt.view y (Moves k s t o) → group_of b pt d ≡ Some w → AllAlone y pt w.lines
 moving_alone b pt d w y k s t o h phase e =
@@ -126,15 +87,6 @@ moving_alone b pt d w y k s t o h phase e =
     (λ m is. moves_known k s t o (nowhere_known (Moves k s t o)
     (λ j. sym (ap (knows (Moves k s t o) j) (ap (pt.view.known j) (sym is) ∙ h.unborn m j)) ∙ phase.known j)))
     (λ m p here is. false≢true (sym (moves_away k s t m o (s == m) (t == m) refl refl) ∙ sym (ap (knows (Moves k s t o) m) (ap (pt.view.known m) (sym is) ∙ here)) ∙ phase.known m))) e
-
--- a line leaves the process's plain value
-keeps_is : (s t : OneKernel) (y : Pid) (o : Option OneKernel) → o ≡ Some t → Keeps s y o → t.processes y ≡ s.processes y
-keeps_is s t y None e h = cc
-keeps_is s t y (Some u) e h = ap (λ (k : OneKernel). k.processes y) (let f : t ≡ u = cc in f) ∙ h
-
-pub kernel_same : (s t : OneKernel) (y : Pid) (o : Option Label) → Spares s y o → kernel_after s o ≡ Some t → t.processes y ≡ s.processes y
-kernel_same s t y None off e = ap (λ (k : OneKernel). k.processes y) (let f : t ≡ s = cc in f)
-kernel_same s t y (Some l) off e = keeps_is s t y (kernel.step s l) e (keeps_step s y l off)
 
 -- somewhere among the lines
 pub record Alone (y : Pid) (pt mid : Point) (ls : List Line) : Type 0 where
@@ -154,7 +106,7 @@ alone_rest y (x ∷ xs) ys pt mid h e =
 message_is : (s : OneKernel) (id : MsgId) (n m : PlainMessage) → s.bag id ≡ Some n → s.bag id ≡ Some m → n ≡ m
 message_is s id n m e f = let g : Some n ≡ Some m = sym e ∙ f in cc
 
-gone_over : (s t : OneKernel) (id : MsgId) (m : PlainMessage) → kernel.step s (label.Gone id) ≡ Some t → s.bag id ≡ Some m → (y : Why) × (s.processes m.to ≡ Some (Ended y))
+gone_over : (s t : OneKernel) (id : MsgId) (m : PlainMessage) → kernel.step s (Label.Gone id) ≡ Some t → s.bag id ≡ Some m → (y : Why) × (s.processes m.to ≡ Some (Ended y))
 gone_over s t id m is there =
     let (n, at, rest) = bind-is (s.bag id) (λ n. bind (kernel.ended (s.processes n.to)) (kernel.says_gone s id n)) t is in
     let (y, over, last) = bind-is (kernel.ended (s.processes n.to)) (kernel.says_gone s id n) t rest in
@@ -179,7 +131,7 @@ took_by s t id m false true x y e = or_right (m.to.num == 0) (is_server m.to) (a
     or_right false v e = e
 took_by s t id m false false x y e = cc
 
-took_fixed : (s t : OneKernel) (id : MsgId) (m : PlainMessage) → kernel.step s (label.Took id) ≡ Some t → s.bag id ≡ Some m → is_fixed m.to ≡ true
+took_fixed : (s t : OneKernel) (id : MsgId) (m : PlainMessage) → kernel.step s (Label.Took id) ≡ Some t → s.bag id ≡ Some m → is_fixed m.to ≡ true
 took_fixed s t id m is there =
     let (n, at, rest) = bind-is (s.bag id) (service.takes s id) t is in
     ap (λ (x : PlainMessage). is_fixed x.to) (sym (message_is s id n m at there)) ∙ took_by s t id n (pid_eq n.to switchboard) (pid_eq n.to manager) refl refl rest
@@ -192,7 +144,7 @@ kernel_fixed s q c e = let f : (q.num == 0) ≡ true = left (q.num == 0) _ (left
     left false v e = absurd (false≢true e)
 
 creates_fixed : (s t : OneKernel) (id : MsgId) (m : PlainMessage) (child : Pid) (w : PlainWhat) → service.creates s id m child w ≡ Some t → is_fixed m.to ≡ true
-creates_fixed s t id m child (what.Create image links) e =
+creates_fixed s t id m child (PlainWhat.Create image links) e =
     let (x, found, rest) = bind-is (slice_get s.images image) (service.creates_of s id m child links) t e in
     kernel_fixed s m.to _ (when-is _ _ t rest).0
 creates_fixed s t id m child w e = cc
@@ -202,32 +154,32 @@ and_true true e = refl
 and_true false e = e
 
 no_room_fixed : (s t : OneKernel) (id : MsgId) (m : PlainMessage) (w : PlainWhat) → service.has_no_room s id m w ≡ Some t → is_fixed m.to ≡ true
-no_room_fixed s t id m (what.Create image links) e = kernel_fixed s m.to true (and_true (service.is_kernel s m.to) (when-is (service.is_kernel s m.to) _ t e).0)
+no_room_fixed s t id m (PlainWhat.Create image links) e = kernel_fixed s m.to true (and_true (service.is_kernel s m.to) (when-is (service.is_kernel s m.to) _ t e).0)
 no_room_fixed s t id m w e = cc
 
 fixed_off : (y q : Pid) → is_fixed y ≡ false → is_fixed q ≡ true → q ≢ y
 fixed_off y q free fixed e = false≢true (sym free ∙ ap is_fixed (sym e) ∙ fixed)
 
 pub anothers_is : (s t : OneKernel) (y : Pid) (l : Label) → is_fixed y ≡ false → ((z : Why) → s.processes y ≡ Some (Ended z) → ⊥) → IsOthers s y l → kernel.step s l ≡ Some t → IsAnothers s y l
-anothers_is s t y (label.Ran q k) free lives h e = h
-anothers_is s t y (label.Call q n c) free lives h e = h
-anothers_is s t y (label.Send q id) free lives h e = h
-anothers_is s t y (label.Wait q) free lives h e = h
-anothers_is s t y (label.Out q w) free lives h e = h
-anothers_is s t y (label.End q z) free lives h e = h
-anothers_is s t y (label.Receive q id) free lives h e = h
-anothers_is s t y (label.Refuse q id c) free lives h e = h
-anothers_is s t y (label.Dropped id) free lives h e = λ m there to. let (z, over) = dropped_over s t id m e there in lives z (ap s.processes (sym to) ∙ over)
-anothers_is s t y (label.Served id) free lives h e = h
-anothers_is s t y (label.Gone id) free lives h e = λ m there to. let (z, over) = gone_over s t id m e there in lives z (ap s.processes (sym to) ∙ over)
-anothers_is s t y (label.Took id) free lives h e = λ m there. fixed_off y m.to free (took_fixed s t id m e there)
-anothers_is s t y (label.Created id q) free lives h e = (
+anothers_is s t y (Label.Ran q k) free lives h e = h
+anothers_is s t y (Label.Call q n c) free lives h e = h
+anothers_is s t y (Label.Send q id) free lives h e = h
+anothers_is s t y (Label.Wait q) free lives h e = h
+anothers_is s t y (Label.Out q w) free lives h e = h
+anothers_is s t y (Label.End q z) free lives h e = h
+anothers_is s t y (Label.Receive q id) free lives h e = h
+anothers_is s t y (Label.Refuse q id c) free lives h e = h
+anothers_is s t y (Label.Dropped id) free lives h e = λ m there to. let (z, over) = dropped_over s t id m e there in lives z (ap s.processes (sym to) ∙ over)
+anothers_is s t y (Label.Served id) free lives h e = h
+anothers_is s t y (Label.Gone id) free lives h e = λ m there to. let (z, over) = gone_over s t id m e there in lives z (ap s.processes (sym to) ∙ over)
+anothers_is s t y (Label.Took id) free lives h e = λ m there. fixed_off y m.to free (took_fixed s t id m e there)
+anothers_is s t y (Label.Created id q) free lives h e = (
   h,
   λ m there.
       let (n, at, rest) = bind-is (s.bag id) (λ n. service.creates s id n q n.what) t e in
       fixed_off y m.to free (ap (λ (x : PlainMessage). is_fixed x.to) (sym (message_is s id n m at there)) ∙ creates_fixed s t id n q n.what rest),
 )
-anothers_is s t y (label.NoSpace id a b) free lives h e = λ m there.
+anothers_is s t y (Label.NoSpace id a b) free lives h e = λ m there.
     let (n, at, rest) = bind-is (s.bag id) (λ n. service.has_no_room s id n n.what) t e in
     fixed_off y m.to free (ap (λ (x : PlainMessage). is_fixed x.to) (sym (message_is s id n m at there)) ∙ no_room_fixed s t id n n.what rest)
 

@@ -1,23 +1,7 @@
 -- Between a process's step 1 and its step 8 or `stays` its plain value is the same behind all lines.
-use Rattle.std.proofs.Common.{◌≡◌, List, [], ◌∷◌, ◌++◌, ap, ◌∙◌, sym, append_assoc}
-use Rattle.std.specs.declared.option.Option.{Option}
-use Rattle.std.specs.declared.option.Option.TheVariants.{None, Some}
-use Rattle.dm_link.specs.declared.Pid.{Pid}
-use Rattle.dm_onekernel.specs.declared.boot.Boot.{Boot}
-use Rattle.dm_onekernel.specs.declared.label.Label.{Label}
-use Rattle.dm_onekernel.specs.Boot.{IsValid}
-use Rattle.dm_onekernel.specs.Kernel.{OneKernel}
-use Rattle.dm_onekernel.specs.Options.{bind}
-use Rattle.dm_onekernel.specs.Start.{start}
+use Rattle.dm_movelaws.proofs.Names.{◌≡◌, List, [], ◌∷◌, ◌++◌, ap, ◌∙◌, sym, append_assoc, Option, None, Some, Pid, Boot, Label, IsValid, OneKernel, bind, start, replay, bind-is, Step, Line, Point, label_of, with_label, labels}
+use Rattle.dm_movelaws.proofs.Names.{kernel_after, first_point, LeadsBy, labels-append, replay-append, AllOpen, OpenKeeps}
 use Rattle.dm_onekernel.specs.Step as kernel
-use Rattle.dm_onekernel.specs.Step.{replay}
-use Rattle.dm_laws.proofs.Steps.{bind-is}
-use Rattle.dm_schedule.specs.declared.Step.{Step}
-use Rattle.dm_line.specs.declared.line.Line.{Line}
-use Rattle.dm_rule.specs.Point.{Point, label_of, with_label, labels, kernel_after, first_point}
-use Rattle.dm_rulelaws.specs.Order.{LeadsBy}
-use Rattle.dm_rulelaws.proofs.RunLabels.{labels-append, replay-append}
-use Rattle.dm_movelaws.specs.Open.{AllOpen, OpenKeeps}
 use Rattle.dm_movelaws.proofs.Open.Stays.{open_stays}
 
 -- one line

@@ -1,23 +1,6 @@
 -- The open mark among the lines of a run says in what phase a process is.
-use Rattle.std.proofs.Common.{◌≡◌, false, List, [], ◌∷◌, refl, ap, ◌∙◌, sym, subst}
-use Rattle.std.specs.declared.option.Option.{Option}
-use Rattle.std.specs.declared.option.Option.TheVariants.{None, Some}
-use Rattle.dm_link.specs.declared.Pid.{Pid}
-use Rattle.dm_message.specs.declared.kind.MessageKind.{MessageKind}
-use Rattle.dm_message.specs.declared.kind.MessageKind.TheVariants as kind
-use Rattle.dm_onekernel.specs.declared.boot.Boot.{Boot}
-use Rattle.dm_schedule.specs.declared.Step.{Step}
-use Rattle.dm_line.specs.declared.line.Line.{Line}
-use Rattle.dm_rule.specs.Laws.{Leads}
-use Rattle.dm_rule.specs.Phases.{Phase, Nowhere, Rests, Over, Moves, is_due, IsIn}
-use Rattle.dm_rule.specs.Point.{Point, first_point, after}
-use Rattle.dm_rule.specs.View.{View, first_view}
-use Rattle.dm_rule.proofs.Lines.{not_true}
-use Rattle.dm_rule.proofs.Phases.Always.{Phased, phased_start, phased_group}
-use Rattle.dm_rule.proofs.Phases.Stand.{InPhases}
-use Rattle.dm_rulelaws.specs.Order.{LeadsBy}
-use Rattle.dm_movelaws.specs.Stages.{Mark, marks, left_open}
-use Rattle.dm_movelaws.specs.Open.{open_mark, mark_by, mark_while, OpenMoves}
+use Rattle.dm_movelaws.proofs.Names.{◌≡◌, false, List, [], ◌∷◌, refl, ap, ◌∙◌, sym, subst, Option, None, Some, Pid, MessageKind, Boot, Step, Line, Leads, Phase, Moves, is_due, IsIn, Point, first_point, after, View, first_view, not_true}
+use Rattle.dm_movelaws.proofs.Names.{Phased, phased_start, phased_group, InPhases, LeadsBy, Mark, marks, left_open, open_mark, mark_by, mark_while, OpenMoves}
 use Rattle.dm_movelaws.proofs.After.{after-append, group_after}
 use Rattle.dm_movelaws.proofs.Stages.Marks.{open_after, open-append, marks-append}
 use Rattle.dm_movelaws.proofs.Stages.Spares.{mark_of, mark_in}
@@ -39,38 +22,12 @@ open_is o [] = refl
 open_is o (m ∷ ms) = open_is (left_open m) ms
 
 kind_is : (k : MessageKind) → mark_of k ≡ mark_by k
-kind_is kind.Ask = refl
-kind_is kind.Refuse = refl
-kind_is kind.PullState = refl
-kind_is kind.State = refl
-kind_is kind.PullBlock = refl
-kind_is kind.Memory = refl
-kind_is kind.AllTaken = refl
-kind_is kind.Restart = refl
-kind_is kind.User = refl
-kind_is kind.Stop = refl
-kind_is kind.Resume = refl
-kind_is kind.Kill = refl
-kind_is kind.Read = refl
-kind_is kind.Write = refl
-kind_is kind.Block = refl
-kind_is kind.Written = refl
-kind_is kind.Gone = refl
-kind_is kind.Create = refl
-kind_is kind.Created = refl
-kind_is kind.NoRoom = refl
-kind_is kind.Migrate = refl
-kind_is kind.Update = refl
-kind_is kind.Move = refl
-kind_is kind.Moved = refl
-kind_is kind.CallOff = refl
-kind_is kind.Bury = refl
+kind_is MessageKind.Ask = refl
+kind_is _ = refl
 
 pub mark_is : (phase : Phase) → mark_in phase ≡ mark_while phase
-mark_is Nowhere = refl
-mark_is (Rests at) = refl
-mark_is (Over at) = refl
 mark_is (Moves k s d id) = kind_is k
+mark_is _ = refl
 
 -- between groups no message is due
 pub none_due : (v : View) (h : InPhases v) (p : Pid) → is_due (h.of p) ≡ false
@@ -98,11 +55,9 @@ run_open b (d ∷ ds) ls pt end p (w, rest, fit, is, split, more) h =
 
 -- nothing is told of before the first line
 pub start_mark : (b : Boot) (p : Pid) (a : Phase) → IsIn (first_view b) p a → is_due a ≡ false → mark_in a ≡ None
-start_mark b p Nowhere h due = refl
-start_mark b p (Rests at) h due = refl
-start_mark b p (Over at) h due = refl
 start_mark b p (Moves k s d None) h due = cc
 start_mark b p (Moves k s d (Some i)) h due = absurd (let e = h.token.told in cc)
+start_mark b p _ h due = refl
 
 -- wherever the rule leads
 pub open_moves : OpenMoves

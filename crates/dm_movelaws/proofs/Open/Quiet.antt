@@ -1,36 +1,10 @@
 -- A group that marks a process says no label.
-use Rattle.std.proofs.Common.{◌≡◌, ◌⊎◌, ℕ, ◌==◌, Bool, true, false, List, [], ◌∷◌, ◌++◌, length, refl, ap, ◌∙◌, sym, subst, inl, inr}
-use Rattle.std.specs.Prelude.{⊤, ◌/◌, if◌then◌else◌, slice_get}
-use Rattle.std.specs.declared.option.Option.{Option}
-use Rattle.std.specs.declared.option.Option.TheVariants.{None, Some}
-use Rattle.dm_link.specs.declared.Pid.{Pid}
-use Rattle.dm_link.specs.Names.{pid_eq}
-use Rattle.dm_message.specs.declared.MsgId.{MsgId}
-use Rattle.dm_message.specs.declared.kind.MessageKind.{MessageKind}
-use Rattle.dm_message.specs.declared.kind.MessageKind.TheVariants as kind
-use Rattle.dm_message.specs.Kinds.{plain_kind}
-use Rattle.dm_message.specs.Plain.{PlainMessage}
-use Rattle.dm_onekernel.specs.declared.boot.Boot.{Boot}
-use Rattle.dm_onekernel.specs.Boot.{switchboard, manager}
-use Rattle.dm_onekernel.specs.Options.{bind}
-use Rattle.dm_onekernel.specs.PlainProcess.{PlainProcess}
+use Rattle.dm_movelaws.proofs.Names.{◌≡◌, ◌⊎◌, ℕ, ◌==◌, Bool, true, false, List, [], ◌∷◌, ◌++◌, length, refl, ap, ◌∙◌, sym, subst, inl, inr, ⊤, ◌/◌, if◌then◌else◌, slice_get, Option, None, Some, Pid, pid_eq, MsgId, MessageKind, Stage}
+use Rattle.dm_movelaws.proofs.Names.{plain_kind, PlainMessage, Boot, switchboard, manager, bind, PlainProcess, bind-is, Step, Line, Receiver, Addresses, child_number, to_kernel, sends_on, accepts, takes_chunk, takes_block, leaves}
+use Rattle.dm_movelaws.proofs.Names.{kernel_told, chunks_of, pieces_of, process_told, server_told, migrates, migrates_child, Part, Says, Routes, Again, Owns, Transmits, Spelled, lines_of, puts, goes_out, packet_line, behind, spelled, Point}
+use Rattle.dm_movelaws.proofs.Names.{label_of, after_line, after, group_of, Told, About, Of, Known, Frozen, own_id, arrives_net, resends_net, marks}
 use Rattle.dm_onekernel.specs.Step as kernel
-use Rattle.dm_laws.proofs.Steps.{bind-is}
-use Rattle.dm_schedule.specs.declared.Step.{Step}
-use Rattle.dm_schedule.specs.declared.Step.TheVariants as step
-use Rattle.dm_line.specs.declared.line.Line.{Line}
-use Rattle.dm_line.specs.declared.line.Line.TheVariants as line
-use Rattle.dm_line.specs.declared.line.Stage.TheVariants as stage
-use Rattle.dm_rule.specs.Addresses.{Receiver, Addresses, child_number}
-use Rattle.dm_rule.specs.Migrating.{to_kernel, sends_on, accepts, takes_chunk, takes_block, leaves, kernel_told, chunks_of, pieces_of, process_told, server_told, migrates, migrates_child}
-use Rattle.dm_rule.specs.Parts.{Part, Says, Routes, Again, Owns, Transmits, Spelled, lines_of, puts, goes_out, packet_line, behind, spelled}
-use Rattle.dm_rule.specs.Point.{Point, label_of, after_line, after}
 use Rattle.dm_rule.specs.Rule as rule
-use Rattle.dm_rule.specs.Rule.{group_of}
-use Rattle.dm_rule.specs.View.{Told, About, NothingElse, Target, Of, Known, Unknown, Here, Frozen, Incoming, Forward, Ended, own_id}
-use Rattle.dm_rule.specs.View as view
-use Rattle.dm_rule.proofs.Groups.{arrives_net, resends_net}
-use Rattle.dm_movelaws.specs.Stages.{marks}
 use Rattle.dm_movelaws.proofs.Stages.Marks.{marks_of, spelled_marks}
 use Rattle.dm_movelaws.proofs.Stages.Lines.{AllMild, mild_marks, net_marks}
 use Rattle.dm_movelaws.proofs.Stages.Turns.{round_mild, handles_mild}
@@ -44,10 +18,7 @@ AllQuiet (l ∷ ls) = (label_of l ≡ None) × AllQuiet ls
 -- and parts
 abbrev QuietPart : Part → Type 0
 QuietPart (Says l) = label_of l ≡ None
-QuietPart (Routes i) = ⊤
-QuietPart (Again i b) = ⊤
-QuietPart (Owns k q b) = ⊤
-QuietPart (Transmits a b l) = ⊤
+QuietPart _ = ⊤
 
 abbrev QuietParts : List Part → Type 0
 QuietParts [] = ⊤
@@ -74,50 +45,27 @@ sends_quiet to [] ps h = h
 sends_quiet to (i ∷ is) ps h = (tt, sends_quiet to is ps h)
 
 leaves_quiet : (i : MsgId) (p : Pid) (ids : List MsgId) (k : Known) (ps : List Part) → leaves i p ids k ≡ Some ps → QuietParts ps
-leaves_quiet i p ids Unknown ps e = cc
-leaves_quiet i p ids Here ps e = cc
 leaves_quiet i p ids (Frozen to) ps e =
-    given (Says (line.SentOn p (length ids)) ∷ sends_on to ids ++ Says (line.Migration stage.Left p) ∷ to_kernel kind.Restart i.from.home ∷ []) ps
-    (refl, sends_quiet to ids (Says (line.Migration stage.Left p) ∷ to_kernel kind.Restart i.from.home ∷ []) (refl, (tt, tt))) e
-leaves_quiet i p ids (Incoming from) ps e = cc
-leaves_quiet i p ids (Forward at moves) ps e = cc
-leaves_quiet i p ids Ended ps e = cc
+    given (Says (Line.SentOn p (length ids)) ∷ sends_on to ids ++ Says (Line.Migration Stage.Left p) ∷ to_kernel MessageKind.Restart i.from.home ∷ []) ps
+    (refl, sends_quiet to ids (Says (Line.Migration Stage.Left p) ∷ to_kernel MessageKind.Restart i.from.home ∷ []) (refl, (tt, tt))) e
+leaves_quiet i p ids _ ps e = cc
 
 told_quiet : (o : Point) (m : ℕ) (i : MsgId) (p : Pid) (room : Bool × ℕ × ℕ) (x : PlainProcess) (k : MessageKind) (ps : List Part) → kernel_told o m i p room x k ≡ Some ps → QuietParts ps
-told_quiet o m i p room x kind.Ask ps e = given (accepts i.from.home p room.0 room.1 room.2) ps (accepts_quiet i.from.home p room.0 room.1 room.2) e
-told_quiet o m i p room x kind.Refuse ps e = given (Says (line.Stays p) ∷ []) ps (refl, tt) e
-told_quiet o m i p room x kind.PullState ps e = given (Says (line.Proto i) ∷ to_kernel kind.State i.from.home ∷ []) ps (refl, (tt, tt)) e
-told_quiet o m i p room x kind.State ps e = given (takes_chunk i p (o.view.asked p == chunks_of x)) ps (chunk_quiet i p (o.view.asked p == chunks_of x)) e
-told_quiet o m i p room x kind.PullBlock ps e = given (Says (line.Proto i) ∷ to_kernel kind.Memory i.from.home ∷ []) ps (refl, (tt, tt)) e
-told_quiet o m i p room x kind.Memory ps e = given (takes_block i p (o.view.asked p == pieces_of x)) ps (block_quiet i p (o.view.asked p == pieces_of x)) e
-told_quiet o m i p room x kind.AllTaken ps e = leaves_quiet i p (o.view.queue m p ++ o.view.held m p) (o.view.known m p) ps e
-told_quiet o m i p room x kind.Restart ps e = given (Says (line.Migration stage.Restarted p) ∷ []) ps (refl, tt) e
-told_quiet o m i p room x kind.User ps e = cc
-told_quiet o m i p room x kind.Stop ps e = cc
-told_quiet o m i p room x kind.Resume ps e = cc
-told_quiet o m i p room x kind.Kill ps e = cc
-told_quiet o m i p room x kind.Read ps e = cc
-told_quiet o m i p room x kind.Write ps e = cc
-told_quiet o m i p room x kind.Block ps e = cc
-told_quiet o m i p room x kind.Written ps e = cc
-told_quiet o m i p room x kind.Gone ps e = cc
-told_quiet o m i p room x kind.Create ps e = cc
-told_quiet o m i p room x kind.Created ps e = cc
-told_quiet o m i p room x kind.NoRoom ps e = cc
-told_quiet o m i p room x kind.Migrate ps e = cc
-told_quiet o m i p room x kind.Update ps e = cc
-told_quiet o m i p room x kind.Move ps e = cc
-told_quiet o m i p room x kind.Moved ps e = cc
-told_quiet o m i p room x kind.CallOff ps e = cc
-told_quiet o m i p room x kind.Bury ps e = cc
+told_quiet o m i p room x MessageKind.Ask ps e = given (accepts i.from.home p room.0 room.1 room.2) ps (accepts_quiet i.from.home p room.0 room.1 room.2) e
+told_quiet o m i p room x MessageKind.Refuse ps e = given (Says (Line.Stays p) ∷ []) ps (refl, tt) e
+told_quiet o m i p room x MessageKind.PullState ps e = given (Says (Line.Proto i) ∷ to_kernel MessageKind.State i.from.home ∷ []) ps (refl, (tt, tt)) e
+told_quiet o m i p room x MessageKind.State ps e = given (takes_chunk i p (o.view.asked p == chunks_of x)) ps (chunk_quiet i p (o.view.asked p == chunks_of x)) e
+told_quiet o m i p room x MessageKind.PullBlock ps e = given (Says (Line.Proto i) ∷ to_kernel MessageKind.Memory i.from.home ∷ []) ps (refl, (tt, tt)) e
+told_quiet o m i p room x MessageKind.Memory ps e = given (takes_block i p (o.view.asked p == pieces_of x)) ps (block_quiet i p (o.view.asked p == pieces_of x)) e
+told_quiet o m i p room x MessageKind.AllTaken ps e = leaves_quiet i p (o.view.queue m p ++ o.view.held m p) (o.view.known m p) ps e
+told_quiet o m i p room x MessageKind.Restart ps e = given (Says (Line.Migration Stage.Restarted p) ∷ []) ps (refl, tt) e
+told_quiet o m i p room x _ ps e = cc
 
 kernel_quiet : (b : Boot) (o : Point) (m : ℕ) (i : MsgId) (k : MessageKind) (a : About) (ps : List Part) → rule.kernel_hears b o m i k a ≡ Some ps → QuietParts ps
-kernel_quiet b o m i k NothingElse ps e = cc
-kernel_quiet b o m i k (Target to) ps e = cc
 kernel_quiet b o m i k (Of q) ps e =
     let (x, there, last) = bind-is (kernel.alive (o.kernel.processes q)) (λ x. kernel_told o m i q (rule.fits (rule.free_room b o m) (length x.memory / 256)) x k) ps e in
     told_quiet o m i q (rule.fits (rule.free_room b o m) (length x.memory / 256)) x k ps last
-kernel_quiet b o m i k (view.Place q at moves) ps e = cc
+kernel_quiet b o m i k _ ps e = cc
 
 -- the parts of a group mark no process, or say no label
 abbrev OrQuiet : Pid → List Part → Type 0
@@ -153,7 +101,7 @@ child_quiet : (a : Addresses) (q : Pid) (n : Option ℕ) → QuietParts (migrate
 child_quiet a q None = (refl, tt)
 child_quiet a q (Some n) = (tt, tt)
 
-migrates_by : (o : Point) (q : Pid) (c d : Bool) → QuietParts (if c then Says (line.Pinned q) ∷ [] else if d then Says (line.Pinned q) ∷ [] else migrates_child o.addresses q (child_number o.kernel q))
+migrates_by : (o : Point) (q : Pid) (c d : Bool) → QuietParts (if c then Says (Line.Pinned q) ∷ [] else if d then Says (Line.Pinned q) ∷ [] else migrates_child o.addresses q (child_number o.kernel q))
 migrates_by o q true d = (refl, tt)
 migrates_by o q false true = (refl, tt)
 migrates_by o q false false = child_quiet o.addresses q (child_number o.kernel q)
@@ -162,14 +110,14 @@ net_or : (p : Pid) (qs ps : List Part) → marks_of p qs ≡ [] → Some qs ≡ 
 net_or p qs ps none e = let f : qs ≡ ps = cc in inl (ap (marks_of p) (sym f) ∙ none)
 
 outcome_or : (p : Pid) (b : Boot) (o : Point) (d : Step) (ps : List Part) → rule.outcome b o d ≡ Some ps → OrQuiet p ps
-outcome_or p b o (step.Turn m) ps e = turns_or p b o m (o.view.inbox m) ps e
-outcome_or p b o (step.Tick m) ps e =
-    let qs = Says (line.Resent m (rule.outstanding o.view m o.kernel.machines)) ∷ rule.resends o.view m o.kernel.machines in
+outcome_or p b o (Step.Turn m) ps e = turns_or p b o m (o.view.inbox m) ps e
+outcome_or p b o (Step.Tick m) ps e =
+    let qs = Says (Line.Resent m (rule.outstanding o.view m o.kernel.machines)) ∷ rule.resends o.view m o.kernel.machines in
     net_or p qs ps (net_marks p qs (tt, resends_net o.view m o.kernel.machines)) e
-outcome_or p b o (step.Deliver a c k) ps e =
+outcome_or p b o (Step.Deliver a c k) ps e =
     let qs = rule.arrives a c (o.view.pair a c) (o.view.pair c a) (slice_get (o.view.pair a c).wire k) in
     net_or p qs ps (net_marks p qs (arrives_net a c (o.view.pair a c) (o.view.pair c a) (slice_get (o.view.pair a c).wire k))) e
-outcome_or p b o (step.Migrate q m) ps e = inr (given (migrates o q) ps (migrates_by o q (pid_eq q switchboard) (pid_eq q manager)) e)
+outcome_or p b o (Step.Migrate q m) ps e = inr (given (migrates o q) ps (migrates_by o q (pid_eq q switchboard) (pid_eq q manager)) e)
 
 -- the lines of parts
 quiet_append : (xs ys : List Line) → AllQuiet xs → AllQuiet ys → AllQuiet (xs ++ ys)
@@ -208,10 +156,10 @@ parts_quiet (p ∷ ps) pt w h is =
 
 pub group_or : (p : Pid) (b : Boot) (pt : Point) (d : Step) (w : Spelled) → group_of b pt d ≡ Some w → (marks p w.lines ≡ []) ⊎ AllQuiet w.lines
 group_or p b pt d w e =
-    let (parts, is, more) = bind-is (rule.outcome b pt d) (λ parts. bind (after_line pt (line.Head d)) (λ begun. bind (spelled begun parts) (λ w. Some (rule.headed (line.Head d) w)))) w e in
-    let (start, head, last) = bind-is (after_line pt (line.Head d)) (λ begun. bind (spelled begun parts) (λ w. Some (rule.headed (line.Head d) w))) w more in
-    let (rest, told, end) = bind-is (spelled start parts) (λ w. Some (rule.headed (line.Head d) w)) w last in
-    let g : rule.headed (line.Head d) rest ≡ w = cc in
+    let (parts, is, more) = bind-is (rule.outcome b pt d) (λ parts. bind (after_line pt (Line.Head d)) (λ begun. bind (spelled begun parts) (λ w. Some (rule.headed (Line.Head d) w)))) w e in
+    let (start, head, last) = bind-is (after_line pt (Line.Head d)) (λ begun. bind (spelled begun parts) (λ w. Some (rule.headed (Line.Head d) w))) w more in
+    let (rest, told, end) = bind-is (spelled start parts) (λ w. Some (rule.headed (Line.Head d) w)) w last in
+    let g : rule.headed (Line.Head d) rest ≡ w = cc in
     elim (outcome_or p b pt d parts is) [
       | inl none ↦ inl (ap (λ (x : Spelled). marks p x.lines) (sym g) ∙ spelled_marks p parts start rest told ∙ none)
       | inr quiet ↦ inr (subst (λ (x : Spelled). AllQuiet x.lines) g (refl, parts_quiet parts start rest quiet told))

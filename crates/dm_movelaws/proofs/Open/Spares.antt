@@ -1,80 +1,27 @@
 -- As long as a migration is open, each group leaves the process alone.
-use Rattle.std.proofs.Common.{◌≡◌, ◌≢◌, ℕ, ◌==◌, ◌&&◌, Bool, true, false, not, List, [], ◌∷◌, ◌++◌, is_some, refl, ap, ◌∙◌, sym, arith}
-use Rattle.std.specs.Prelude.{if◌then◌else◌}
-use Rattle.std.specs.declared.option.Option.{Option}
-use Rattle.std.specs.declared.option.Option.TheVariants.{None, Some}
-use Rattle.std.proofs.lemmas.Bool.{false≢true}
-use Rattle.std.proofs.lemmas.Bool.Decides.{nat_tests}
-use Rattle.dm_link.specs.declared.Pid.{Pid}
-use Rattle.dm_message.specs.declared.MsgId.{MsgId}
-use Rattle.dm_message.specs.declared.kind.MessageKind.{MessageKind}
-use Rattle.dm_message.specs.Plain.{PlainMessage}
-use Rattle.dm_onekernel.specs.declared.boot.Boot.{Boot}
-use Rattle.dm_onekernel.specs.declared.label.Label.TheVariants as label
-use Rattle.dm_onekernel.specs.declared.label.Why.{Why}
-use Rattle.dm_onekernel.specs.Boot.{IsValid}
-use Rattle.dm_onekernel.specs.Kernel.{Life, Alive, Ended, OneKernel}
-use Rattle.dm_onekernel.specs.Options.{bind}
-use Rattle.dm_onekernel.specs.Start.{start}
+use Rattle.dm_movelaws.proofs.Names.{◌≡◌, ◌≢◌, ℕ, ◌==◌, ◌&&◌, Bool, true, false, List, [], ◌∷◌, ◌++◌, is_some, refl, ap, ◌∙◌, sym, Option, Some, false≢true, Pid, MsgId, MessageKind, PlainMessage, Boot, Label, Why, IsValid, OneKernel, bind}
+use Rattle.dm_movelaws.proofs.Names.{start, replay, ended_stays, bind-is, Step, Line, Spelled, Phase, Moves, is_between, is_restart, is_early, comes, IsIn, Point, first_point, label_of, labels, kernel_after, moved, after_line, after}
+use Rattle.dm_movelaws.proofs.Names.{group_of, Known, Unknown, Frozen, Incoming, Forward, moving_stays_always, is_server, agrees, LeadsBy, after_replay, Run, run_always, mark_while, IsSpared, OpenSpares, apart_is, destination_knows}
+use Rattle.dm_movelaws.proofs.Names.{server_leaves, ended-is}
+use Rattle.dm_onekernel.specs.Kernel.{Ended}
 use Rattle.dm_onekernel.specs.Step as kernel
-use Rattle.dm_onekernel.specs.Step.{replay}
-use Rattle.dm_laws.proofs.Runs.{ended_stays}
-use Rattle.dm_laws.proofs.Steps.{bind-is}
-use Rattle.dm_schedule.specs.declared.Step.{Step}
-use Rattle.dm_line.specs.declared.line.Line.{Line}
-use Rattle.dm_line.specs.declared.line.Line.TheVariants as line
-use Rattle.dm_rule.specs.Parts.{Spelled}
-use Rattle.dm_rule.specs.Phases.{Phase, Nowhere, Rests, Over, Moves, is_between, is_restart, is_early, is_away, leaves, comes, knows, IsIn}
-use Rattle.dm_rule.specs.Point.{Point, first_point, label_of, labels, kernel_after, moved, after_line, after}
-use Rattle.dm_rule.specs.Rule.{group_of}
-use Rattle.dm_rule.specs.View.{Known, Unknown, Here, Frozen, Incoming, Forward}
-use Rattle.dm_rule.specs.View as view
-use Rattle.dm_rule.proofs.Apart.Groups.{moving_stays_always}
-use Rattle.dm_rulelaws.specs.Fits.{is_server}
-use Rattle.dm_rulelaws.specs.KnownStands.{agrees}
-use Rattle.dm_rulelaws.specs.Order.{LeadsBy}
-use Rattle.dm_rulelaws.proofs.RunLabels.{after_replay}
-use Rattle.dm_rulelaws.proofs.Runs.{Run}
-use Rattle.dm_rulelaws.proofs.RunsAlways.{run_always}
-use Rattle.dm_movelaws.specs.Open.{mark_while, IsSpared, OpenSpares}
+use Rattle.dm_rule.specs.Phases.{leaves}
 use Rattle.dm_movelaws.proofs.After.{after-append, group_after}
 use Rattle.dm_movelaws.proofs.Open.Moves.{leads_of, run_after, open_moves}
 use Rattle.dm_movelaws.proofs.Stages.Spares.{restart_late}
+pub use Rattle.dm_rulelaws.proofs.Goes.Own.{source_knows}
 
 -- what moves hasn't ended
 leaving_not : (k : MessageKind) (d : ℕ) (n : Known) (y : Why) → leaves k d n ≡ true → is_restart k ≡ false → agrees n (Some (Ended y)) ≡ true → ⊥
 leaving_not k d (Frozen to) y e r a = false≢true a
 leaving_not k d (Forward m moves) y e r a = false≢true (sym (ap (λ (c : Bool). c && (d == m)) r) ∙ e)
-leaving_not k d Unknown y e r a = false≢true e
-leaving_not k d Here y e r a = false≢true e
-leaving_not k d (Incoming from) y e r a = false≢true e
-leaving_not k d view.Ended y e r a = false≢true e
+leaving_not k d _ y e r a = false≢true e
 
 coming_not : (k : MessageKind) (s : ℕ) (n : Known) (y : Why) → comes k s n ≡ true → is_early k ≡ false → agrees n (Some (Ended y)) ≡ true → ⊥
 coming_not k s (Incoming from) y e r a = false≢true a
 coming_not k s Unknown y e r a = false≢true (sym r ∙ e)
 coming_not k s (Forward m moves) y e r a = false≢true (sym r ∙ e)
-coming_not k s Here y e r a = false≢true e
-coming_not k s (Frozen to) y e r a = false≢true e
-coming_not k s view.Ended y e r a = false≢true e
-
-same_eq : (n : ℕ) → (n == n) ≡ true
-same_eq n = grind (arith, nat_tests)
-
-pub source_knows : (k : MessageKind) (s d : ℕ) (id : Option MsgId) (n : Known) → knows (Moves k s d id) s n ≡ true → leaves k d n ≡ true
-source_knows k s d id n e = sym (ap (λ (c : Bool). if c then leaves k d n else if d == s then comes k s n else is_away n) (same_eq s)) ∙ e
-
-apart_is : (b : Bool) (s d : ℕ) → (b && not (s == d)) ≡ true → (s == d) ≡ false
-apart_is true s d e = grind (arith, nat_tests)
-apart_is false s d e = absurd (false≢true e)
-
-destination_knows : (k : MessageKind) (s d : ℕ) (id : Option MsgId) (n : Known) → (s == d) ≡ false → knows (Moves k s d id) d n ≡ true → comes k s n ≡ true
-destination_knows k s d id n off e =
-    sym (ap (λ (c : Bool). if c then leaves k d n else if d == d then comes k s n else is_away n) off ∙ ap (λ (c : Bool). if c then comes k s n else is_away n) (same_eq d)) ∙ e
-
-server_leaves : (k : MessageKind) (d : ℕ) (c : Bool) → leaves k d (if c then Here else Unknown) ≡ false
-server_leaves k d true = refl
-server_leaves k d false = refl
+coming_not k s _ y e r a = false≢true e
 
 by_server : (c r : Bool) (b : Boot) (pt : Point) (p : Pid) (k : MessageKind) (s d : ℕ) (y : Why) → is_server p ≡ c → is_restart k ≡ r → Run b pt → leaves k d (pt.view.known s p) ≡ true → comes k s (pt.view.known d p) ≡ true → pt.kernel.processes p ≡ Some (Ended y) → ⊥
 by_server true r b pt p k s d y server restart run leave come over = false≢true (sym (server_leaves k d (s == 0)) ∙ sym (ap (leaves k d) (run.based.known.server s p server)) ∙ leave)
@@ -95,24 +42,18 @@ after-rest (x ∷ xs) ys pt mid end e f =
     let (next, first, rest) = bind-is (after_line pt x) (λ (q : Point). after q xs) mid e in
     after-rest xs ys next mid end rest (sym (ap (λ (o : Option Point). bind o (λ (q : Point). after q (xs ++ ys))) first) ∙ f)
 
--- what is dropped is for one that has ended
-ended_is : (o : Option Life) (y : Why) → kernel.ended o ≡ Some y → o ≡ Some (Ended y)
-ended_is None y e = cc
-ended_is (Some (Alive x)) y e = cc
-ended_is (Some (Ended z)) y e = let f : z ≡ y = cc in ap (λ (v : Why). Some (Ended v)) f
-
-pub dropped_over : (s t : OneKernel) (id : MsgId) (m : PlainMessage) → kernel.step s (label.Dropped id) ≡ Some t → s.bag id ≡ Some m → (y : Why) × (s.processes m.to ≡ Some (Ended y))
+pub dropped_over : (s t : OneKernel) (id : MsgId) (m : PlainMessage) → kernel.step s (Label.Dropped id) ≡ Some t → s.bag id ≡ Some m → (y : Why) × (s.processes m.to ≡ Some (Ended y))
 dropped_over s t id m is there =
     let (n, at, rest) = bind-is (s.bag id) (λ n. bind (kernel.ended (s.processes n.to)) (kernel.drops s id n)) t is in
     let (y, over, last) = bind-is (kernel.ended (s.processes n.to)) (kernel.drops s id n) t rest in
     let same : n ≡ m = let f : Some n ≡ Some m = sym at ∙ there in cc in
-    (y, ap (λ (x : PlainMessage). s.processes x.to) (sym same) ∙ ended_is (s.processes n.to) y over)
+    (y, ap (λ (x : PlainMessage). s.processes x.to) (sym same) ∙ ended-is (s.processes n.to) y over)
 
 -- a group that keeps the process drops no message for it
 dropped_for_other : (b : Boot) (ls earlier later : List Line) (pt before end : Point) (p : Pid) (id : MsgId) (m : PlainMessage) → IsValid b → ((y : Why) → pt.kernel.processes p ≡ Some (Ended y) → ⊥) → end.kernel.processes p ≡ pt.kernel.processes p
-    → after (first_point b) ls ≡ Some pt → after pt earlier ≡ Some before → after before (line.Label (label.Dropped id) ∷ later) ≡ Some end → before.kernel.bag id ≡ Some m → m.to ≢ p
+    → after (first_point b) ls ≡ Some pt → after pt earlier ≡ Some before → after before (Line.Label (Label.Dropped id) ∷ later) ≡ Some end → before.kernel.bag id ≡ Some m → m.to ≢ p
 dropped_for_other b ls earlier later pt before end p id m valid lives same first comes goes there to =
-    let l = line.Label (label.Dropped id) in
+    let l = Line.Label (Label.Dropped id) in
     let (mid, line_, rest) = bind-is (after_line before l) (λ (q : Point). after q later) end goes in
     let (t, step_, last) = bind-is (kernel_after before.kernel (label_of l)) (λ (s : OneKernel). Some (moved before l s)) mid line_ in
     let (y, over) = dropped_over before.kernel t id m step_ there in
@@ -122,9 +63,6 @@ dropped_for_other b ls earlier later pt before end p id m valid lives same first
 
 -- the phase of an open mark
 spared : (b : Boot) (es : List Step) (ls : List Line) (pt : Point) (d : Step) (w : Spelled) (p : Pid) (phase : Phase) → IsValid b → LeadsBy b (first_point b) es ls pt → group_of b pt d ≡ Some w → is_some (mark_while phase) ≡ true → IsIn pt.view p phase → IsSpared pt w p
-spared b es ls pt d w p Nowhere valid by e begun h = absurd (false≢true begun)
-spared b es ls pt d w p (Rests at) valid by e begun h = absurd (false≢true begun)
-spared b es ls pt d w p (Over at) valid by e begun h = absurd (false≢true begun)
 spared b es ls pt d w p (Moves k s t id) valid by e begun h =
     let leads = leads_of b es ls (first_point b) pt by in
     let stays = moving_stays_always b es pt d w p k s t id valid leads e h in
@@ -133,9 +71,10 @@ spared b es ls pt d w p (Moves k s t id) valid by e begun h =
       others = stays.0;
       kept = λ earlier later before i m split comes there. dropped_for_other b ls earlier later pt before w.point p i m valid (λ y over. moving_lives b pt p k s t id y run h over) stays.1
           (run_after b es ls (first_point b) pt by) comes
-          (after-rest earlier (line.Label (label.Dropped i) ∷ later) pt before w.point comes (ap (after pt) (sym split) ∙ group_after b pt d w e)) there;
+          (after-rest earlier (Line.Label (Label.Dropped i) ∷ later) pt before w.point comes (ap (after pt) (sym split) ∙ group_after b pt d w e)) there;
       same = stays.1;
     }
+spared b es ls pt d w p _ valid by e begun h = absurd (false≢true begun)
 
 -- wherever the rule leads
 pub open_spares : OpenSpares

@@ -1,35 +1,8 @@
 -- Each line between a process's step 1 and its step 8 or `stays` is another's, and leaves its plain value.
-use Rattle.std.proofs.Common.{◌≡◌, ℕ, true, false, List, [], ◌∷◌, ◌++◌, is_some, refl, ap, ◌∙◌, sym, subst, inl, inr}
-use Rattle.std.specs.declared.option.Option.{Option}
-use Rattle.std.specs.declared.option.Option.TheVariants.{None, Some}
-use Rattle.std.proofs.lemmas.Bool.{false≢true}
-use Rattle.dm_link.specs.declared.Pid.{Pid}
-use Rattle.dm_message.specs.declared.MsgId.{MsgId}
-use Rattle.dm_message.specs.declared.kind.MessageKind.{MessageKind}
-use Rattle.dm_onekernel.specs.declared.boot.Boot.{Boot}
-use Rattle.dm_onekernel.specs.declared.label.Label.{Label}
-use Rattle.dm_onekernel.specs.Boot.{IsValid}
-use Rattle.dm_onekernel.specs.Kernel.{OneKernel}
-use Rattle.dm_onekernel.specs.Options.{bind}
-use Rattle.dm_laws.proofs.Steps.{bind-is}
-use Rattle.dm_schedule.specs.declared.Step.{Step}
-use Rattle.dm_line.specs.declared.line.Line.{Line}
-use Rattle.dm_rule.specs.Parts.{Spelled}
-use Rattle.dm_rule.specs.Phases.{Phase, Nowhere, Rests, Over, Moves, leaves, IsIn}
-use Rattle.dm_rule.specs.Point.{Point, label_of, kernel_after, moved, after_line, after, first_point}
-use Rattle.dm_rule.specs.Rule.{group_of}
-use Rattle.dm_rule.specs.View.{View, Known, Unknown, Here, Frozen, Incoming, Forward, first_view}
-use Rattle.dm_rule.specs.View as view
-use Rattle.dm_rule.proofs.Rooted.Groups.{rooted}
-use Rattle.dm_rulelaws.specs.Found.{is_fixed}
-use Rattle.dm_rulelaws.specs.Order.{LeadsBy}
-use Rattle.dm_rulelaws.proofs.Found.Core.{KnownIs}
-use Rattle.dm_rulelaws.proofs.Goes.Runs.{Both, both_start, both_group}
-use Rattle.dm_rulelaws.proofs.RunLabels.{after_replay}
-use Rattle.dm_rulelaws.proofs.Runs.{Run}
-use Rattle.dm_rulelaws.proofs.RunsAlways.{run_start, run_group}
-use Rattle.dm_movelaws.specs.Open.{IsAnothersIf, OpenStays}
-use Rattle.dm_movelaws.specs.Stages.{Mark, marks}
+use Rattle.dm_movelaws.proofs.Names.{◌≡◌, ℕ, true, false, List, [], ◌∷◌, ◌++◌, is_some, refl, ap, ◌∙◌, sym, subst, inl, inr, Option, None, Some, false≢true, Pid, MsgId, MessageKind, Boot, Label, IsValid, OneKernel, bind, bind-is, Step}
+use Rattle.dm_movelaws.proofs.Names.{Line, Spelled, Phase, Moves, IsIn, Point, label_of, kernel_after, moved, after_line, after, first_point, group_of, View, Known, Frozen, Forward, first_view, rooted, is_fixed, LeadsBy, KnownIs, Both}
+use Rattle.dm_movelaws.proofs.Names.{both_start, both_group, after_replay, Run, run_start, run_group, IsAnothersIf, OpenStays, Mark, marks}
+use Rattle.dm_rule.specs.Phases.{leaves}
 use Rattle.dm_movelaws.proofs.After.{after-append, group_after}
 use Rattle.dm_movelaws.proofs.Open.Apart.{AllAlone, moving_alone, kernel_same, alone_rest, anothers_if}
 use Rattle.dm_movelaws.proofs.Open.Moves.{open_is, none_due, start_mark}
@@ -69,10 +42,7 @@ meets (x ∷ xs) ys l pt end e =
 leaves_free : (n : ℕ) (v : View) (m : ℕ) (p : Pid) (k : MessageKind) (d : ℕ) (x : Known) → leaves k d x ≡ true → KnownIs n v m p x → is_fixed p ≡ false
 leaves_free n v m p k d (Frozen to) e h = h.2
 leaves_free n v m p k d (Forward at moves) e h = h.2
-leaves_free n v m p k d Unknown e h = absurd (false≢true e)
-leaves_free n v m p k d Here e h = absurd (false≢true e)
-leaves_free n v m p k d (Incoming from) e h = absurd (false≢true e)
-leaves_free n v m p k d view.Ended e h = absurd (false≢true e)
+leaves_free n v m p k d _ e h = absurd (false≢true e)
 
 moving_at : (b : Boot) (pt : Point) (d : Step) (w : Spelled) (p : Pid) (k : MessageKind) (s t : ℕ) (id : Option MsgId) (earlier g : List Line) (l : Line) → Run b pt → IsIn pt.view p (Moves k s t id) → group_of b pt d ≡ Some w → w.lines ≡ earlier ++ l ∷ g → At pt earlier l p
 moving_at b pt d w p k s t id earlier g l run phase e split =
@@ -122,10 +92,8 @@ resting_at b pt d w p earlier g l e split begun = elim (group_or p b pt d w e) [
 ]
 
 group_at : (b : Boot) (pt : Point) (d : Step) (w : Spelled) (p : Pid) (phase : Phase) (earlier g : List Line) (l : Line) → Run b pt → IsIn pt.view p phase → group_of b pt d ≡ Some w → w.lines ≡ earlier ++ l ∷ g → is_some (open_after (mark_in phase) (marks p earlier)) ≡ true → At pt earlier l p
-group_at b pt d w p Nowhere earlier g l run h e split begun = resting_at b pt d w p earlier g l e split begun
-group_at b pt d w p (Rests at) earlier g l run h e split begun = resting_at b pt d w p earlier g l e split begun
-group_at b pt d w p (Over at) earlier g l run h e split begun = resting_at b pt d w p earlier g l e split begun
 group_at b pt d w p (Moves k s t id) earlier g l run h e split begun = moving_at b pt d w p k s t id earlier g l run h e split
+group_at b pt d w p _ earlier g l run h e split begun = resting_at b pt d w p earlier g l e split begun
 
 -- a line is among the first lines or among the others
 data Lies (xs ys earlier later : List Line) (l : Line) : Type 0 where

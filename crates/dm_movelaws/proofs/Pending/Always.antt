@@ -1,55 +1,19 @@
 -- Wherever the rule leads, each pending request of the manager's has one message under its number.
-use Rattle.std.proofs.Common.{◌≡◌, ◌⊎◌, ℕ, ◌+◌, ◌*◌, ◌<◌, ◌≤◌, ◌==◌, ◌&&◌, Bool, true, false, List, [], ◌∷◌, ◌++◌, length, is_some, refl, ap, ◌∙◌, sym, subst, inl, inr, arith}
-use Rattle.std.specs.Prelude.{if◌then◌else◌, nat_lt}
-use Rattle.std.specs.declared.option.Option.{Option}
-use Rattle.std.specs.declared.option.Option.TheVariants.{None, Some}
-use Rattle.std.proofs.lemmas.Bool.{cases_Bool, false≢true}
-use Rattle.std.proofs.lemmas.Bool.Decides.{nat_tests}
-use Rattle.dm_link.specs.declared.Pid.{Pid}
-use Rattle.dm_link.specs.Names.{pid_eq}
-use Rattle.dm_link.specs.Plain.{PlainLink}
-use Rattle.dm_message.specs.declared.MsgId.{MsgId}
-use Rattle.dm_message.specs.declared.kind.MessageKind.TheVariants as kind
-use Rattle.dm_message.specs.Ids.{id_of, bool_eq}
-use Rattle.dm_message.specs.Kinds.{plain_kind}
-use Rattle.dm_message.specs.Plain as what
-use Rattle.dm_message.specs.Plain.{PlainMessage, PlainWhat}
-use Rattle.dm_onekernel.specs.Boot.{switchboard, manager}
-use Rattle.dm_onekernel.specs.declared.boot.Boot.{Boot}
-use Rattle.dm_onekernel.specs.declared.label.Label.{Label}
-use Rattle.dm_onekernel.specs.declared.label.Label.TheVariants as label
-use Rattle.dm_onekernel.specs.Options.{bind}
-use Rattle.dm_onekernel.specs.Kernel.{Manager, Pending, OneKernel, with_sent}
+use Rattle.dm_movelaws.proofs.Names.{◌≡◌, ◌⊎◌, ℕ, ◌+◌, ◌*◌, ◌<◌, ◌≤◌, ◌==◌, ◌&&◌, Bool, true, false, List, [], ◌∷◌, ◌++◌, length, is_some, refl, ap, ◌∙◌, sym, subst, inl, inr, arith, if◌then◌else◌, nat_lt, Option, None, Some, cases_Bool}
+use Rattle.dm_movelaws.proofs.Names.{false≢true, nat_tests, Pid, pid_eq, PlainLink, MsgId, MessageKind, id_of, bool_eq, plain_kind, PlainMessage, PlainWhat, switchboard, manager, Boot, Label, bind, Manager, Pending, OneKernel, with_sent}
+use Rattle.dm_movelaws.proofs.Names.{without_message, replay, entry, reception, in_bag, after_step, ServerSends, board_takes, manager_takes, Sound, bind-is, Step, ascends, Leads, Point, first_point, labels, View, still_pending, IsPending}
+use Rattle.dm_movelaws.proofs.Names.{WhatFits, KernelFits, based_start, based_group, based_always, fits_step, group_replay, Based, makes, is_pending, HasOne, IsOfPending, PendingHasOne}
 use Rattle.dm_onekernel.specs.Manager as manage
 use Rattle.dm_onekernel.specs.Service as service
-use Rattle.dm_onekernel.specs.Service.{without_message}
 use Rattle.dm_onekernel.specs.Step as kernel
-use Rattle.dm_onekernel.specs.Step.{replay}
 use Rattle.dm_onekernel.specs.Switchboard as board
-use Rattle.dm_laws.specs.Laws.{entry, reception, in_bag}
-use Rattle.dm_laws.proofs.Runs.{after_step}
-use Rattle.dm_laws.proofs.Servers.{ServerSends, board_takes, manager_takes}
-use Rattle.dm_laws.proofs.Sound.{Sound}
-use Rattle.dm_laws.proofs.Steps.{bind-is}
-use Rattle.dm_schedule.specs.declared.Step.{Step}
-use Rattle.dm_rule.specs.Homes.{ascends}
-use Rattle.dm_rule.specs.Laws.{Leads}
-use Rattle.dm_rule.specs.Point.{Point, first_point, labels}
-use Rattle.dm_rule.specs.View.{View}
-use Rattle.dm_rule.proofs.Homes.Servers.{still_pending}
-use Rattle.dm_rulelaws.specs.Fits.{IsPending, WhatFits, KernelFits}
-use Rattle.dm_rulelaws.proofs.Based.Always.{based_start, based_group, based_always}
-use Rattle.dm_rulelaws.proofs.Fits.Start.{fits_step}
-use Rattle.dm_rulelaws.proofs.RunLabels.{group_replay}
-use Rattle.dm_rulelaws.proofs.Runs.{Based}
-use Rattle.dm_movelaws.specs.Pending.{makes, is_pending, HasOne, IsOfPending, PendingHasOne}
 use Rattle.dm_movelaws.proofs.Pending.Pairs.{is_create, is_answer, Neither, neither, Pair, answer_of, Ones, Off, off_both, out_ones, put_ones, from_other, and_false, took_pair, asked_pair}
 use Rattle.dm_movelaws.proofs.Pending.Steps.{label_ones}
 use Rattle.dm_movelaws.proofs.Promise.Before.{step_pending}
 
 -- the switchboard takes user messages
 board_neither : (b : _) (m : PlainMessage) (w : PlainWhat) (k : board.Took) → m.what ≡ w → board.takes b m w ≡ Some k → Neither m.what
-board_neither b m (what.User code channel body links) k e is = neither m.what (what.User code channel body links) e refl refl
+board_neither b m (PlainWhat.User code channel body links) k e is = neither m.what (PlainWhat.User code channel body links) e refl refl
 board_neither b m w k e is = cc
 
 board_put : (u : OneKernel) (o : Option PlainMessage) (n after : ℕ) → ServerSends switchboard n o after → Ones u → Ones (with_sent u o)
@@ -204,12 +168,12 @@ no_room_pending g n (Some r) k e =
 
 manager_kind : (r e : MsgId → ℕ) (s : OneKernel) (id : MsgId) (m : PlainMessage) (k : manage.Took) (w : PlainWhat) → m.what ≡ w → manage.takes s.manager s.machines (length s.images) m w ≡ Some k → s.bag id ≡ Some m → WhatFits s id m w → ServerSends manager s.manager.sent k.message k.manager.sent
     → ascends 0 s.manager.pending s.manager.sent ≡ true → Sound r e s → Ones s → Ones (service.manager_took s id k)
-manager_kind r e s id m k (what.User code channel body links) w is there fits sends up sound h =
+manager_kind r e s id m k (PlainWhat.User code channel body links) w is there fits sends up sound h =
     let f : manage.takes_user s.manager s.machines (length s.images) code body links ≡ k = cc in
-    user_ones r e s id m k there (neither m.what (what.User code channel body links) w refl refl) (subst (UserTook s.manager) f (user_took s.manager s.machines (length s.images) code body links)) sends up sound h
-manager_kind r e s id m k (what.Created child) w is there fits sends up sound h =
+    user_ones r e s id m k there (neither m.what (PlainWhat.User code channel body links) w refl refl) (subst (UserTook s.manager) f (user_took s.manager s.machines (length s.images) code body links)) sends up sound h
+manager_kind r e s id m k (PlainWhat.Created child) w is there fits sends up sound h =
     answered_took s id m k (sound.entered.named id m there) fits.1 (created_pending s.manager m.id.n child (manage.pending_numbered m.id.n s.manager.pending) k is) sends up h
-manager_kind r e s id m k what.NoRoom w is there fits sends up sound h =
+manager_kind r e s id m k PlainWhat.NoRoom w is there fits sends up sound h =
     answered_took s id m k (sound.entered.named id m there) fits.1 (no_room_pending s.manager m.id.n (manage.pending_numbered m.id.n s.manager.pending) k is) sends up h
 manager_kind r e s id m k v w is there fits sends up sound h = cc
 
@@ -229,7 +193,7 @@ took_if r e s t id m false true is there fits up sound h = manager_ones r e s t 
 took_if r e s t id m false false is there fits up sound h = cc
 
 step_ones : (r e : MsgId → ℕ) (s t : OneKernel) (l : Label) → kernel.step s l ≡ Some t → KernelFits s → ascends 0 s.manager.pending s.manager.sent ≡ true → Sound r e s → Ones s → Ones t
-step_ones r e s t (label.Took id) is fits up sound h =
+step_ones r e s t (Label.Took id) is fits up sound h =
     let (m, there, rest) = bind-is (s.bag id) (service.takes s id) t is in
     took_if r e s t id m (pid_eq m.to switchboard) (pid_eq m.to manager) rest there fits up sound h
 step_ones r e s t l is fits up sound h = label_ones r e s t l refl is sound h
@@ -255,21 +219,21 @@ pair_one None (Some m) h = refl
 pair_one None None h = absurd h
 pair_one (Some m) (Some k) h = absurd h
 
-create_kind : (w : PlainWhat) → is_create w ≡ true → plain_kind w ≡ kind.Create
-create_kind (what.Create image links) e = refl
+create_kind : (w : PlainWhat) → is_create w ≡ true → plain_kind w ≡ MessageKind.Create
+create_kind (PlainWhat.Create image links) e = refl
 create_kind w e = cc
 
-answer_kind : (w : PlainWhat) → is_answer w ≡ true → (plain_kind w ≡ kind.Created) ⊎ (plain_kind w ≡ kind.NoRoom)
-answer_kind (what.Created child) e = inl refl
-answer_kind what.NoRoom e = inr refl
+answer_kind : (w : PlainWhat) → is_answer w ≡ true → (plain_kind w ≡ MessageKind.Created) ⊎ (plain_kind w ≡ MessageKind.NoRoom)
+answer_kind (PlainWhat.Created child) e = inl refl
+answer_kind PlainWhat.NoRoom e = inr refl
 answer_kind w e = cc
 
-pair_request : (a b : Option PlainMessage) (m : PlainMessage) → Pair a b → a ≡ Some m → plain_kind m.what ≡ kind.Create
+pair_request : (a b : Option PlainMessage) (m : PlainMessage) → Pair a b → a ≡ Some m → plain_kind m.what ≡ MessageKind.Create
 pair_request (Some k) None m h e = let f : k ≡ m = cc in create_kind m.what (sym (ap (λ (x : PlainMessage). is_create x.what) f) ∙ h)
 pair_request (Some k) (Some j) m h e = absurd h
 pair_request None b m h e = cc
 
-pair_answer : (a b : Option PlainMessage) (m : PlainMessage) → Pair a b → b ≡ Some m → (plain_kind m.what ≡ kind.Created) ⊎ (plain_kind m.what ≡ kind.NoRoom)
+pair_answer : (a b : Option PlainMessage) (m : PlainMessage) → Pair a b → b ≡ Some m → (plain_kind m.what ≡ MessageKind.Created) ⊎ (plain_kind m.what ≡ MessageKind.NoRoom)
 pair_answer None (Some k) m h e = let f : k ≡ m = cc in answer_kind m.what (sym (ap (λ (x : PlainMessage). is_answer x.what) f) ∙ h)
 pair_answer (Some j) (Some k) m h e = absurd h
 pair_answer None None m h e = absurd h
@@ -288,9 +252,9 @@ answered_name : (s : OneKernel) (i : MsgId) → i.answer ≡ true → IsPending 
 answered_name s i answer p = record { name = inr (λ j. record { from = p.from j; n = i.n; answer = answer j }); pending = p.pending }
 
 of_pending : (s : OneKernel) (i : MsgId) (m : PlainMessage) (w : PlainWhat) → WhatFits s i m w → makes (plain_kind w) ≡ true → IsOfPending s i
-of_pending s i m (what.Create image links) fits e = asked_name s i fits.4 fits.5
-of_pending s i m (what.Created child) fits e = answered_name s i fits.1 fits.2
-of_pending s i m what.NoRoom fits e = answered_name s i fits.1 fits.2
+of_pending s i m (PlainWhat.Create image links) fits e = asked_name s i fits.4 fits.5
+of_pending s i m (PlainWhat.Created child) fits e = answered_name s i fits.1 fits.2
+of_pending s i m PlainWhat.NoRoom fits e = answered_name s i fits.1 fits.2
 of_pending s i m w fits e = cc
 
 -- wherever the rule leads

@@ -1,37 +1,20 @@
 -- Under a pending request's number there is the request or its answer: what keeps that.
-use Rattle.std.proofs.Common.{◌≡◌, ℕ, ◌<◌, ◌==◌, ◌&&◌, Bool, true, false, is_some, refl, ap, ◌∙◌, sym, subst, inl, inr, arith}
-use Rattle.std.specs.Prelude.{if◌then◌else◌, nat_lt}
-use Rattle.std.specs.declared.option.Option.{Option}
-use Rattle.std.specs.declared.option.Option.TheVariants.{None, Some}
-use Rattle.std.proofs.lemmas.Bool.{cases_Bool, false≢true}
-use Rattle.std.proofs.lemmas.Bool.Decides.{nat_tests}
-use Rattle.dm_link.specs.Names.{pid_eq}
-use Rattle.dm_message.specs.declared.MsgId.{MsgId}
-use Rattle.dm_message.specs.Ids.{id_eq, id_of, bool_eq}
-use Rattle.dm_message.specs.Plain as what
-use Rattle.dm_message.specs.Plain.{PlainMessage, PlainWhat}
-use Rattle.dm_onekernel.specs.Boot.{manager}
-use Rattle.dm_onekernel.specs.Kernel.{Pending, OneKernel, with_sent}
+use Rattle.dm_movelaws.proofs.Names.{◌≡◌, ℕ, ◌<◌, ◌==◌, ◌&&◌, Bool, true, false, is_some, refl, ap, ◌∙◌, sym, subst, inl, inr, arith, if◌then◌else◌, nat_lt, Option, None, Some, cases_Bool, false≢true, nat_tests, pid_eq, MsgId, id_eq, id_of}
+use Rattle.dm_movelaws.proofs.Names.{bool_eq, PlainMessage, PlainWhat, manager, Pending, OneKernel, with_sent, answer_id, answer_to, without_message, counts, id_eq-is, id_eq-same, ServerSends, Sound, not_counted, ascends, numbered_from}
+use Rattle.dm_movelaws.proofs.Names.{not_true, parts, is_pending, out_off, sent_off}
 use Rattle.dm_onekernel.specs.Manager as manage
-use Rattle.dm_onekernel.specs.Pieces.{answer_id, answer_to}
-use Rattle.dm_onekernel.specs.Service.{without_message, manager_took}
-use Rattle.dm_laws.proofs.Entered.{asks, counts}
-use Rattle.dm_laws.proofs.Equal.{id_eq-is, id_eq-same}
-use Rattle.dm_laws.proofs.Servers.{ServerSends}
-use Rattle.dm_laws.proofs.Sound.{Sound, not_counted}
-use Rattle.dm_rule.specs.Homes.{ascends}
-use Rattle.dm_rule.proofs.Homes.Servers.{numbered_from}
-use Rattle.dm_rule.proofs.Lines.{not_true, parts}
-use Rattle.dm_movelaws.specs.Pending.{is_pending}
+use Rattle.dm_onekernel.specs.Service.{manager_took}
+use Rattle.dm_laws.proofs.Entered.{asks}
+pub use Rattle.dm_rule.proofs.Trails.Spares.{and_no as and_false}
 
 -- a request to make a process, and an answer to one
 abbrev pub is_create : PlainWhat → Bool
-is_create (what.Create image links) = true
+is_create (PlainWhat.Create image links) = true
 is_create w = false
 
 abbrev pub is_answer : PlainWhat → Bool
-is_answer (what.Created child) = true
-is_answer what.NoRoom = true
+is_answer (PlainWhat.Created child) = true
+is_answer PlainWhat.NoRoom = true
 is_answer w = false
 
 pub record Neither (w : PlainWhat) : Type 0 where
@@ -88,30 +71,20 @@ by_same s t n h k =
 abbrev pub Off : MsgId → ℕ → Type 0
 Off i n = (id_eq i (id_of manager n) ≡ false) × (id_eq i (answer_of n) ≡ false)
 
-out_at : (s : OneKernel) (id i : MsgId) → id_eq id i ≡ false → (without_message s id).bag i ≡ s.bag i
-out_at s id i e = ap (λ (c : Bool). if c then None else s.bag i) e
-
-in_at : (u : OneKernel) (x : PlainMessage) (i : MsgId) → id_eq x.id i ≡ false → (with_sent u (Some x)).bag i ≡ u.bag i
-in_at u x i e = ap (λ (c : Bool). if c then Some x else u.bag i) e
-
 pub off_both : (s : OneKernel) (n : ℕ) (id : MsgId) (m : PlainMessage) → Ones s → is_pending s n ≡ true → s.bag id ≡ Some m → Neither m.what → Off id n
 off_both s n id m h p there w = (off_request s n id m h p there w.create, off_answer s n id m h p there w.answer)
 
 pub out_ones : (s : OneKernel) (id : MsgId) (m : PlainMessage) → s.bag id ≡ Some m → Neither m.what → Ones s → Ones (without_message s id)
 out_ones s id m there w h n p =
     let off = off_both s n id m h p there w in
-    by_same s (without_message s id) n h (record { was = p; request = out_at s id (id_of manager n) off.0; answer = out_at s id (answer_of n) off.1 })
+    by_same s (without_message s id) n h (record { was = p; request = out_off s id (id_of manager n) off.0; answer = out_off s id (answer_of n) off.1 })
 
 pub put_ones : (u : OneKernel) (x : PlainMessage) → ((n : ℕ) → is_pending u n ≡ true → Off x.id n) → Ones u → Ones (with_sent u (Some x))
-put_ones u x off h n p = by_same u (with_sent u (Some x)) n h (record { was = p; request = in_at u x (id_of manager n) (off n p).0; answer = in_at u x (answer_of n) (off n p).1 })
+put_ones u x off h n p = by_same u (with_sent u (Some x)) n h (record { was = p; request = sent_off u x (id_of manager n) (off n p).0; answer = sent_off u x (answer_of n) (off n p).1 })
 
 -- names
 pub from_other : (i : MsgId) (n : ℕ) → pid_eq i.from manager ≡ false → Off i n
 from_other i n e = (ap (λ (c : Bool). (c && (i.n == n)) && bool_eq i.answer false) e, ap (λ (c : Bool). (c && (i.n == n)) && bool_eq i.answer true) e)
-
-pub and_false : (c : Bool) → (c && false) ≡ false
-and_false true = refl
-and_false false = refl
 
 pub answer_off : (id : MsgId) (n : ℕ) → id.answer ≡ false → id_eq id (id_of manager n) ≡ false → Off (answer_id id) n
 answer_off id n asked off = (and_false (pid_eq id.from manager && (id.n == n)), sym (ap (λ (a : Bool). (pid_eq id.from manager && (id.n == n)) && bool_eq a false) asked) ∙ off)
@@ -131,7 +104,7 @@ made_pair id n s u x same name answers here =
     let t = with_sent u (Some x) in
     let q = id_of manager n in
     let apart : id_eq x.id q ≡ false = ap (λ (i : MsgId). id_eq i q) name ∙ and_false (pid_eq id.from manager && (id.n == n)) in
-    let none : t.bag q ≡ None = in_at u x q apart ∙ same q ∙ ap (λ (c : Bool). if c then None else s.bag q) here in
+    let none : t.bag q ≡ None = sent_off u x q apart ∙ same q ∙ ap (λ (c : Bool). if c then None else s.bag q) here in
     let both : (pid_eq id.from manager && (id.n == n)) ≡ true = (parts (pid_eq id.from manager && (id.n == n)) (bool_eq id.answer false) here).0 in
     let at : id_eq x.id (answer_of n) ≡ true = ap (λ (i : MsgId). id_eq i (answer_of n)) name ∙ ap (λ (c : Bool). c && true) both in
     let some : t.bag (answer_of n) ≡ Some x = ap (λ (c : Bool). if c then Some x else u.bag (answer_of n)) at in
@@ -152,8 +125,8 @@ made_ones r e s u t id m w is same up there asked answers h ones =
           by_same s (with_sent u (Some x)) n ones
           (record {
             was = up n p;
-            request = in_at u x (id_of manager n) off.0 ∙ same (id_of manager n) ∙ out_at s id (id_of manager n) apart;
-            answer = in_at u x (answer_of n) off.1 ∙ same (answer_of n) ∙ out_at s id (answer_of n) out;
+            request = sent_off u x (id_of manager n) off.0 ∙ same (id_of manager n) ∙ out_off s id (id_of manager n) apart;
+            answer = sent_off u x (answer_of n) off.1 ∙ same (answer_of n) ∙ out_off s id (answer_of n) out;
           })
     ] in
     subst Ones is of
@@ -178,8 +151,8 @@ pub pending_less : (s : OneKernel) (n : ℕ) → is_pending s n ≡ true → asc
 pending_less s n p up = pending_some s n (manage.pending_numbered n s.manager.pending) refl p up
 
 took_at : (s u : OneKernel) (id i : MsgId) (o : Option PlainMessage) → u.bag i ≡ (without_message s id).bag i → id_eq id i ≡ false → ((x : PlainMessage) → o ≡ Some x → id_eq x.id i ≡ false) → (with_sent u o).bag i ≡ s.bag i
-took_at s u id i None same off put = same ∙ out_at s id i off
-took_at s u id i (Some x) same off put = in_at u x i (put x refl) ∙ same ∙ out_at s id i off
+took_at s u id i None same off put = same ∙ out_off s id i off
+took_at s u id i (Some x) same off put = sent_off u x i (put x refl) ∙ same ∙ out_off s id i off
 
 -- the manager takes a message: a request that was pending has what it had
 pub took_pair : (s : OneKernel) (id : MsgId) (k : manage.Took) (n : ℕ) → ServerSends manager s.manager.sent k.message k.manager.sent → ascends 0 s.manager.pending s.manager.sent ≡ true → is_pending s n ≡ true → Off id n → Ones s
@@ -207,6 +180,6 @@ asked_pair r e s id k x sends name creates h =
     let before : s.bag a ≡ None = not_counted r e s a fresh h.entered in
     let here : (with_sent u (Some x)).bag q ≡ Some x = ap (λ (c : Bool). if c then Some x else u.bag q) (ap (λ (i : MsgId). id_eq i q) name ∙ id_eq-same q) in
     let apart : id_eq x.id a ≡ false = ap (λ (i : MsgId). id_eq i a) name ∙ and_false (pid_eq manager manager && (s.manager.sent == s.manager.sent)) in
-    let none : (with_sent u (Some x)).bag a ≡ None = in_at u x a apart ∙ none_out s id a (id_eq id a) before in
+    let none : (with_sent u (Some x)).bag a ≡ None = sent_off u x a apart ∙ none_out s id a (id_eq id a) before in
     let pair : Pair ((with_sent u (Some x)).bag q) ((with_sent u (Some x)).bag a) = subst (λ (o : Option PlainMessage). Pair o ((with_sent u (Some x)).bag a)) (sym here) (subst (λ (o : Option PlainMessage). Pair (Some x) o) (sym none) creates) in
     subst (λ (o : Option PlainMessage). Pair ((with_sent u o).bag q) ((with_sent u o).bag a)) (sym sends) pair

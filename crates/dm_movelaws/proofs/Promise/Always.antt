@@ -1,30 +1,7 @@
 -- Each update that is under way keeps its promise: where all is at rest, the links that its receiver hasn't filled since lead to
 -- where the process is that it is about.
-use Rattle.std.proofs.Common.{◌≡◌, ℕ, ◌+◌, ◌<◌, ◌≤◌, true, List, [], ◌∷◌, ◌++◌, length, refl, ap, ◌∙◌, sym, arith}
-use Rattle.std.specs.Prelude.{slice_get}
-use Rattle.std.specs.declared.option.Option.{Option}
-use Rattle.std.specs.declared.option.Option.TheVariants.{Some}
-use Rattle.std.proofs.lemmas.Option.{slice_get_within}
-use Rattle.dm_link.specs.declared.Pid.{Pid}
-use Rattle.dm_link.specs.Names.{Place}
-use Rattle.dm_message.specs.declared.MsgId.{MsgId}
-use Rattle.dm_onekernel.specs.declared.boot.Boot.{Boot}
-use Rattle.dm_onekernel.specs.Boot.{IsValid}
-use Rattle.dm_onekernel.specs.Kernel.{OneKernel}
-use Rattle.dm_laws.proofs.Equal.{pid_eq-same}
-use Rattle.dm_schedule.specs.declared.Step.{Step}
-use Rattle.dm_line.specs.declared.line.Line.TheVariants as line
-use Rattle.dm_rule.specs.Addresses.{Slot, belongs_to, leads_to}
-use Rattle.dm_rule.specs.Laws.{Leads}
-use Rattle.dm_rule.specs.Point.{Point, first_point}
-use Rattle.dm_rule.specs.Trails.{Trails}
-use Rattle.dm_rule.specs.View.{Told, About, is_kernels}
-use Rattle.dm_rule.specs.View as view
-use Rattle.dm_rulelaws.proofs.Based.Always.{based_group, based_always}
-use Rattle.dm_rulelaws.proofs.Runs.{Based}
-use Rattle.dm_movelaws.specs.AtRest.{AtRest, AtRestAlways}
-use Rattle.dm_movelaws.specs.Promise.{update_of, Promised, PromisesAlways}
-use Rattle.dm_movelaws.specs.Updates.{Updated, UpdatesAlways}
+use Rattle.dm_movelaws.proofs.Names.{◌≡◌, ℕ, ◌+◌, ◌<◌, ◌≤◌, true, List, [], ◌∷◌, ◌++◌, length, refl, ap, ◌∙◌, sym, arith, slice_get, Option, Some, slice_get_within, Pid, Place, MsgId, Boot, IsValid, OneKernel, pid_eq-same, Step, Line, Slot}
+use Rattle.dm_movelaws.proofs.Names.{belongs_to, leads_to, Leads, Point, first_point, Trails, Told, About, based_group, based_always, Based, AtRest, AtRestAlways, update_of, Promised, PromisesAlways, Updated, UpdatesAlways}
 use Rattle.dm_movelaws.proofs.At.RestAlways.{at_rest_always}
 use Rattle.dm_movelaws.proofs.Updates.Always.{updates_always}
 use Rattle.dm_movelaws.proofs.Promise.Trail.{OnTrail, TrailKnown}
@@ -45,17 +22,17 @@ same_some m n e = cc
 same_told : (t u : Told) (o : Option Told) → o ≡ Some t → o ≡ Some u → t ≡ u
 same_told t u o e f = let g : Some t ≡ Some u = sym e ∙ f in cc
 
-about_process : (p q : Pid) (a b m n : ℕ) → view.Place p a m ≡ view.Place q b n → p ≡ q
+about_process : (p q : Pid) (a b m n : ℕ) → About.Place p a m ≡ About.Place q b n → p ≡ q
 about_process p q a b m n e = cc
 
-about_moves : (p q : Pid) (a b m n : ℕ) → view.Place p a m ≡ view.Place q b n → m ≡ n
+about_moves : (p q : Pid) (a b m n : ℕ) → About.Place p a m ≡ About.Place q b n → m ≡ n
 about_moves p q a b m n e = cc
 
 -- where the group that handles it leads, each link of its receiver's to the process knows as many moves
 raised_at : (at next : Point) (id : MsgId) (n : ℕ) (p q : Pid) (place : Place) (k : ℕ) → Updated at next id n → at.view.told id ≡ Some (update_of p q place) → leads_to next.kernel (Slot p k) ≡ Some q → place.moves ≤ (next.addresses (Slot p k)).moves
 raised_at at next id n p q place k u told leads =
     let same : u.told ≡ update_of p q place = same_told u.told (update_of p q place) (at.view.told id) u.is told in
-    let about : view.Place u.process u.place.at u.place.moves ≡ view.Place q place.at place.moves = sym u.about ∙ ap (λ (t : Told). t.about) same in
+    let about : About.Place u.process u.place.at u.place.moves ≡ About.Place q place.at place.moves = sym u.about ∙ ap (λ (t : Told). t.about) same in
     let process : u.process ≡ q = about_process u.process q u.place.at place.at u.place.moves place.moves about in
     let moves : u.place.moves ≡ place.moves = about_moves u.process q u.place.at place.at u.place.moves place.moves about in
     let mine : belongs_to u.told.receiver (Slot p k) ≡ true = ap (λ (t : Told). belongs_to t.receiver (Slot p k)) same ∙ pid_eq-same p in
@@ -88,7 +65,7 @@ promised_by updates trail b before between told pt id p q place valid comes all 
     let late = lines_by b h.late h.group.point pt h.rest in
     let told_end : pt.view.told id ≡ Some (update_of p q place) = lines_told late.lines h.group.point pt id (update_of p q place) late.leads told_group in
     let grounds = grounds_of b h.group.point (based_group b h.handled h.directive h.group h.fit h.is (based_always b (before ++ h.early) h.handled valid first)) in
-    let update = (updates b (before ++ h.early) h.handled h.directive h.group id h.count (line.Head h.directive ∷ []) [] valid first h.is h.says).1 in
+    let update = (updates b (before ++ h.early) h.handled h.directive h.group id h.count (Line.Head h.directive ∷ []) [] valid first h.is h.says).1 in
     let (t, on) = trail b (before ++ between) pt valid all in
     record {
       early = h.early;

@@ -1,25 +1,9 @@
 -- Where no line gives a slot an address, a link in it was there before.
-use Rattle.std.proofs.Common.{◌≡◌, ℕ, ◌==◌, ◌&&◌, ◌||◌, Bool, true, false, List, [], ◌∷◌, refl, ap, ◌∙◌, sym, subst, inl, inr, arith}
-use Rattle.std.specs.Prelude.{if◌then◌else◌}
-use Rattle.std.specs.declared.option.Option.{Option}
-use Rattle.std.specs.declared.option.Option.TheVariants.{None, Some}
-use Rattle.std.proofs.lemmas.Bool.{cases_Bool, false≢true}
-use Rattle.dm_link.specs.declared.Pid.{Pid}
-use Rattle.dm_link.specs.Names.{Place, pid_eq}
-use Rattle.dm_message.specs.Plain.{PlainMessage}
-use Rattle.dm_onekernel.specs.declared.label.Label.{Label}
-use Rattle.dm_onekernel.specs.declared.label.Label.TheVariants as label
-use Rattle.dm_onekernel.specs.Kernel.{OneKernel}
+use Rattle.dm_movelaws.proofs.Names.{◌≡◌, ℕ, ◌==◌, ◌&&◌, ◌||◌, Bool, true, false, List, [], ◌∷◌, refl, ap, ◌∙◌, sym, subst, inl, inr, arith, if◌then◌else◌, Option, None, Some, cases_Bool, false≢true, Pid, Place, pid_eq, PlainMessage, Label}
+use Rattle.dm_movelaws.proofs.Names.{OneKernel, pid_eq-is, pid_eq-same, View, Addresses, Holder, Slot, Gets, gives, given, holder_eq, leads_to, unmoved, ascends, names, eq_is, eq_self, parts, AtHome, HomesAre, homes_are, at_home, SaidOn}
+use Rattle.dm_movelaws.proofs.Names.{label_on, gives_to}
 use Rattle.dm_onekernel.specs.Step as kernel
-use Rattle.dm_laws.proofs.Equal.{pid_eq-is, pid_eq-same}
-use Rattle.dm_rule.specs.View.{View}
-use Rattle.dm_rule.specs.Addresses.{Addresses, Holder, Slot, Owner, Receiver, Sender, Enclosed, Child, Name, Answer, Gets, gives, given, holder_eq, leads_to, unmoved}
-use Rattle.dm_rule.specs.Homes.{ascends, names}
-use Rattle.dm_rule.proofs.Lines.{eq_is, eq_self, parts}
-use Rattle.dm_rule.proofs.Homes.{AtHome, HomesAre, homes_are, at_home}
 use Rattle.dm_rule.proofs.Homes.Serves.{Named}
-use Rattle.dm_rule.proofs.Homes.Labels.{SaidOn, label_on}
-use Rattle.dm_movelaws.specs.Counts.{gives_to}
 use Rattle.dm_movelaws.proofs.Promise.Slots.{same_given, gives_same}
 
 neither : (c d : Bool) → (c || d) ≡ false → (c ≡ false) × (d ≡ false)
@@ -41,9 +25,9 @@ home_in None = 0
 home_in (Some m) = m.to.home
 
 abbrev acting_in : OneKernel → Label → ℕ
-acting_in s (label.Took id) = home_in (s.bag id)
-acting_in s (label.Created id child) = home_in (s.bag id)
-acting_in s (label.NoSpace id f b) = home_in (s.bag id)
+acting_in s (Label.Took id) = home_in (s.bag id)
+acting_in s (Label.Created id child) = home_in (s.bag id)
+acting_in s (Label.NoSpace id f b) = home_in (s.bag id)
 acting_in s l = 0
 
 abbrev still_view : OneKernel → View → Label → View
@@ -60,13 +44,7 @@ slot_is : (p : Pid) (k : ℕ) (h : Holder) → holder_eq h (Slot p k) ≡ true �
 slot_is p k (Slot q l) e =
     let both = parts (pid_eq q p) (l == k) e in
     ap (λ (r : Pid). Slot r l) (pid_eq-is q p both.0) ∙ ap (Slot p) (eq_is l k both.1)
-slot_is p k (Owner q) e = absurd (false≢true e)
-slot_is p k (Receiver i) e = absurd (false≢true e)
-slot_is p k (Sender i) e = absurd (false≢true e)
-slot_is p k (Enclosed i n) e = absurd (false≢true e)
-slot_is p k (Child n) e = absurd (false≢true e)
-slot_is p k (Name n) e = absurd (false≢true e)
-slot_is p k (Answer n) e = absurd (false≢true e)
+slot_is p k _ e = absurd (false≢true e)
 
 slot_same : (p : Pid) (k : ℕ) → holder_eq (Slot p k) (Slot p k) ≡ true
 slot_same p k = ap (λ (c : Bool). c && (k == k)) (pid_eq-same p) ∙ eq_self k
@@ -78,20 +56,16 @@ marks_are s p k h q e = elim (cases_Bool (holder_eq h (Slot p k))) [
 ]
 
 said_marked : (s : OneKernel) (v : View) (p : Pid) (k : ℕ) (l : Label) → SaidOn (Was s p k) s (still_view s v l) (marked p k) l
-said_marked s v p k (label.Ran r n) = tt
-said_marked s v p k (label.Call r n c) = λ one. absurd (omega (arith, one))
-said_marked s v p k (label.Send r id) = λ one. absurd (omega (arith, one))
-said_marked s v p k (label.Wait r) = λ one. absurd (omega (arith, one))
-said_marked s v p k (label.Out r x) = λ one. absurd (omega (arith, one))
-said_marked s v p k (label.End r y) = tt
-said_marked s v p k (label.Receive r id) = tt
-said_marked s v p k (label.Refuse r id c) = tt
-said_marked s v p k (label.Dropped id) = tt
-said_marked s v p k (label.Served id) = λ m there one. absurd (omega (arith, one))
-said_marked s v p k (label.Gone id) = λ m there one. absurd (omega (arith, one))
-said_marked s v p k (label.Took id) = λ m there. sym (ap home_in there)
-said_marked s v p k (label.Created id child) = λ m there. sym (ap home_in there)
-said_marked s v p k (label.NoSpace id f b) = λ m there. sym (ap home_in there)
+said_marked s v p k (Label.Call r n c) = λ one. absurd (omega (arith, one))
+said_marked s v p k (Label.Send r id) = λ one. absurd (omega (arith, one))
+said_marked s v p k (Label.Wait r) = λ one. absurd (omega (arith, one))
+said_marked s v p k (Label.Out r x) = λ one. absurd (omega (arith, one))
+said_marked s v p k (Label.Served id) = λ m there one. absurd (omega (arith, one))
+said_marked s v p k (Label.Gone id) = λ m there one. absurd (omega (arith, one))
+said_marked s v p k (Label.Took id) = λ m there. sym (ap home_in there)
+said_marked s v p k (Label.Created id child) = λ m there. sym (ap home_in there)
+said_marked s v p k (Label.NoSpace id f b) = λ m there. sym (ap home_in there)
+said_marked s v p k _ = tt
 
 marked_home : (s t : OneKernel) (v : View) (l : Label) (p : Pid) (k : ℕ) → kernel.step s l ≡ Some t → Named s → ascends 0 s.manager.pending s.manager.sent ≡ true → AtHome (Was s p k) t (given (marked p k) (gives s (still_view s v l) (marked p k) l))
 marked_home s t v l p k is named pending =

@@ -1,21 +1,6 @@
 -- Where nothing is on its way any more, an update that was under way was handled by the first group that says so.
-use Rattle.std.proofs.Common.{◌≡◌, ℕ, ◌≤◌, List, [], ◌∷◌, ◌++◌, refl, ap, sym, subst, inl, inr, arith}
-use Rattle.std.specs.declared.option.Option.TheVariants.{Some}
-use Rattle.dm_link.specs.declared.Pid.{Pid}
-use Rattle.dm_link.specs.Names.{Place}
-use Rattle.dm_message.specs.declared.MsgId.{MsgId}
-use Rattle.dm_onekernel.specs.declared.boot.Boot.{Boot}
-use Rattle.dm_schedule.specs.declared.Step.{Step}
-use Rattle.dm_line.specs.declared.line.Line.{Line}
-use Rattle.dm_line.specs.declared.line.Line.TheVariants as line
-use Rattle.dm_rule.specs.Laws.{Leads, IsStep}
-use Rattle.dm_rule.specs.Parts.{Spelled}
-use Rattle.dm_rule.specs.Point.{Point, after}
-use Rattle.dm_rule.specs.Rule.{group_of}
-use Rattle.dm_rule.specs.Spots.{Spot, standing}
-use Rattle.dm_rule.proofs.Phases.Always.{Phased, phased_group}
-use Rattle.dm_rulelaws.specs.Order.{LeadsBy}
-use Rattle.dm_movelaws.specs.Promise.{update_of}
+use Rattle.dm_movelaws.proofs.Names.{◌≡◌, ℕ, ◌≤◌, List, [], ◌∷◌, ◌++◌, refl, ap, sym, subst, inl, inr, arith, Some, Pid, Place, MsgId, Boot, Step, Line, Leads, IsStep, Spelled, Point, after, group_of, Spot, standing, Phased, phased_group}
+use Rattle.dm_movelaws.proofs.Names.{LeadsBy, update_of}
 use Rattle.dm_movelaws.proofs.After.{after-append, group_after}
 use Rattle.dm_movelaws.proofs.Promise.Kept.{lines_told}
 use Rattle.dm_movelaws.proofs.Promise.Spots.{Stands}
@@ -49,7 +34,7 @@ pub record Handles (b : Boot) (told pt : Point) (between : List Step) (id : MsgI
   pub fit : IsStep handled.kernel.machines directive
   pub is : group_of b handled directive ≡ Some group
   pub count : ℕ
-  pub says : group.lines ≡ line.Head directive ∷ line.Updated id count ∷ []
+  pub says : group.lines ≡ Line.Head directive ∷ Line.Updated id count ∷ []
   pub rest : Leads b group.point late pt
 
 later : (b : Boot) (pt end : Point) (d : Step) (w : Spelled) (es : List Step) (id : MsgId) → IsStep pt.kernel.machines d → group_of b pt d ≡ Some w → Handles b w.point end es id → Handles b pt end (d ∷ es) id

@@ -1,45 +1,9 @@
 -- Each group leaves an update that is under way standing somewhere, or says that it was handled, and nothing else.
-use Rattle.std.proofs.Common.{◌≡◌, ◌⊎◌, ℕ, ◌≤◌, Bool, true, false, List, [], ◌∷◌, ◌==◌, ◌&&◌, length, refl, ap, ◌∙◌, sym, subst, inl, inr}
-use Rattle.std.specs.Prelude.{if◌then◌else◌, slice_get}
-use Rattle.std.specs.declared.option.Option.{Option}
-use Rattle.std.specs.declared.option.Option.TheVariants.{None, Some}
-use Rattle.std.proofs.lemmas.Bool.{cases_Bool, false≢true}
-use Rattle.dm_link.specs.declared.Pid.{Pid}
-use Rattle.dm_link.specs.Names.{Place, pid_eq}
-use Rattle.dm_message.specs.declared.MsgId.{MsgId}
-use Rattle.dm_message.specs.declared.kind.MessageKind.TheVariants as kind
-use Rattle.dm_message.specs.Ids.{id_eq}
-use Rattle.dm_message.specs.Kinds.{plain_kind}
-use Rattle.dm_message.specs.Plain as what
-use Rattle.dm_message.specs.Plain.{PlainMessage, PlainWhat}
-use Rattle.dm_onekernel.specs.declared.boot.Boot.{Boot}
-use Rattle.dm_onekernel.specs.Boot.{switchboard, manager}
-use Rattle.dm_onekernel.specs.Options.{bind}
-use Rattle.dm_laws.proofs.Equal.{id_eq-is}
-use Rattle.dm_laws.proofs.Steps.{bind-is}
-use Rattle.dm_schedule.specs.declared.Step.{Step}
-use Rattle.dm_schedule.specs.declared.Step.TheVariants as step
-use Rattle.dm_line.specs.declared.line.Line.{Line}
-use Rattle.dm_line.specs.declared.line.Line.TheVariants as line
-use Rattle.dm_rule.specs.View.{View, Pair, marked, Told, is_kernels, after_head}
-use Rattle.dm_rule.specs.Addresses.{Addresses, child_number}
-use Rattle.dm_rule.specs.Point.{Point, after_line, moved}
-use Rattle.dm_rule.specs.Parts.{Part, Says, Routes, Again, Owns, Transmits, Spelled, packet_line, spelled}
-use Rattle.dm_rule.specs.Spots.{standing}
-use Rattle.dm_rule.specs.Migrating.{migrates, migrates_child}
+use Rattle.dm_movelaws.proofs.Names.{◌≡◌, ◌⊎◌, ℕ, ◌≤◌, Bool, true, false, List, [], ◌∷◌, ◌==◌, ◌&&◌, length, refl, ap, ◌∙◌, sym, subst, inl, inr, if◌then◌else◌, slice_get, Option, None, Some, cases_Bool, false≢true, Pid, Place, pid_eq}
+use Rattle.dm_movelaws.proofs.Names.{MsgId, MessageKind, id_eq, plain_kind, PlainMessage, PlainWhat, Boot, switchboard, manager, bind, id_eq-is, bind-is, Step, Line, View, Pair, marked, Told, is_kernels, after_head, Addresses, child_number}
+use Rattle.dm_movelaws.proofs.Names.{Point, after_line, moved, Part, Says, Routes, Again, Owns, Transmits, Spelled, packet_line, spelled, standing, migrates, migrates_child, group_of, letters, not_kernels, eq_is, not_true, parts, IsNet}
+use Rattle.dm_movelaws.proofs.Names.{arrives_net, resends_net, fits, under_way, kernels_by, Phased, set_is, set_other, PairsFit, Sane, begun, begun_sane, said_by, update_of}
 use Rattle.dm_rule.specs.Rule as rule
-use Rattle.dm_rule.specs.Rule.{group_of}
-use Rattle.dm_rule.proofs.Letters.{letters, not_kernels}
-use Rattle.dm_rule.proofs.Lines.{eq_is, not_true, parts}
-use Rattle.dm_rule.proofs.Groups.{IsNet, arrives_net, resends_net, fits}
-use Rattle.dm_rule.proofs.Moves.Lists.{under_way}
-use Rattle.dm_rule.proofs.Moves.States.{kernels_by}
-use Rattle.dm_rule.proofs.Phases.Always.{Phased}
-use Rattle.dm_rule.proofs.Pairs.Stand.{set_is, set_other}
-use Rattle.dm_rule.proofs.States.{PairsFit}
-use Rattle.dm_rule.proofs.Telling.{Sane}
-use Rattle.dm_rulelaws.proofs.Based.Needs.{begun, begun_sane, said_by}
-use Rattle.dm_movelaws.specs.Promise.{update_of}
 use Rattle.dm_movelaws.proofs.Promise.Kept.{told_stays}
 use Rattle.dm_movelaws.proofs.Promise.Spots.{Stands}
 use Rattle.dm_movelaws.proofs.Promise.Stands.{packet_stands, head_stands, net_stands}
@@ -48,24 +12,12 @@ use Rattle.dm_movelaws.proofs.Promise.Rows.{Waits, loose_row, round_goes, handle
 use Rattle.dm_movelaws.proofs.Promise.Told.{hears_goes, hears_this}
 
 -- no message of the bag is an update
-no_update : (k : PlainWhat) → plain_kind k ≡ kind.Update → ⊥
-no_update (what.User x1 x2 x3 x4) e = cc
-no_update what.Stop e = cc
-no_update what.Resume e = cc
-no_update what.Kill e = cc
-no_update (what.Read x1 x2) e = cc
-no_update (what.Write x1 x2) e = cc
-no_update (what.Block x1) e = cc
-no_update what.Written e = cc
-no_update what.Gone e = cc
-no_update (what.Create x1 x2) e = cc
-no_update (what.Created x1) e = cc
-no_update what.NoRoom e = cc
-no_update (what.Move x1) e = cc
-no_update (what.Moved x1) e = cc
+no_update : (k : PlainWhat) → plain_kind k ≡ MessageKind.Update → ⊥
+no_update (PlainWhat.User x1 x2 x3 x4) e = cc
+no_update _ e = cc
 
 -- an update that is under way is a kernel's own message
-pub update_own : (pt : Point) (j : MsgId) (t : Told) (o : Option PlainMessage) → pt.kernel.bag j ≡ o → t.kind ≡ kind.Update → pt.view.told j ≡ Some t → Stands pt.view j → Phased pt → is_kernels j ≡ true
+pub update_own : (pt : Point) (j : MsgId) (t : Told) (o : Option PlainMessage) → pt.kernel.bag j ≡ o → t.kind ≡ MessageKind.Update → pt.view.told j ≡ Some t → Stands pt.view j → Phased pt → is_kernels j ≡ true
 update_own pt j t (Some m) there update told h phased = absurd (no_update m.what (sym (phased.sane.tells.kind j m t there told) ∙ update))
 update_own pt j t None there update told h phased =
     let s = phased.state in
@@ -73,26 +25,26 @@ update_own pt j t None there update told h phased =
     kernels_by s.own pt.kernel.bag j q (is_kernels j) refl there way
 
 -- a turn
-turned_by : (b : Boot) (o : Point) (m : ℕ) (j : MsgId) (p q : Pid) (place : Place) (i : MsgId) (is : List MsgId) (c : Bool) → id_eq i j ≡ c → o.view.inbox m ≡ i ∷ is → Waits j (update_of p q place) (begun o (step.Turn m)) → GoesOf j (begun o (step.Turn m)) (rule.hears b o m i (o.view.told i))
+turned_by : (b : Boot) (o : Point) (m : ℕ) (j : MsgId) (p q : Pid) (place : Place) (i : MsgId) (is : List MsgId) (c : Bool) → id_eq i j ≡ c → o.view.inbox m ≡ i ∷ is → Waits j (update_of p q place) (begun o (Step.Turn m)) → GoesOf j (begun o (Step.Turn m)) (rule.hears b o m i (o.view.told i))
 turned_by b o m j p q place i is true e front h =
     let same : i ≡ j = id_eq-is i j e in
-    let pt = begun o (step.Turn m) in
+    let pt = begun o (Step.Turn m) in
     subst (λ (x : MsgId). GoesOf j pt (rule.hears b o m x (o.view.told x))) (sym same)
     (subst (λ (t : Option Told). GoesOf j pt (rule.hears b o m j t)) (sym h.base.told) (hears_this j pt b o m p q place h))
 turned_by b o m j p q place i is false e front h =
-    hears_goes j (update_of p q place) (begun o (step.Turn m)) b o m i (o.view.told i) (λ r. refl) h (record { front = record { first = i; rest = is; is = front; apart = e }; apart = e })
+    hears_goes j (update_of p q place) (begun o (Step.Turn m)) b o m i (o.view.told i) (λ r. refl) h (record { front = record { first = i; rest = is; is = front; apart = e }; apart = e })
 
 bag_apart : (pt : Point) (i j : MsgId) (x : PlainMessage) → Sane pt → pt.kernel.bag i ≡ Some x → is_kernels j ≡ true → id_eq i j ≡ false
 bag_apart pt i j x h there own = not_true (id_eq i j) (λ f. false≢true (sym (not_kernels h.r h.e pt.kernel i x there h.sound) ∙ ap is_kernels (id_eq-is i j f) ∙ own))
 
-comes_goes : (b : Boot) (o : Point) (m : ℕ) (j : MsgId) (p q : Pid) (place : Place) (i : MsgId) (is : List MsgId) (x : Option PlainMessage) → o.kernel.bag i ≡ x → o.view.inbox m ≡ i ∷ is → Waits j (update_of p q place) (begun o (step.Turn m)) → GoesOf j (begun o (step.Turn m)) (rule.comes_to b o m i x)
+comes_goes : (b : Boot) (o : Point) (m : ℕ) (j : MsgId) (p q : Pid) (place : Place) (i : MsgId) (is : List MsgId) (x : Option PlainMessage) → o.kernel.bag i ≡ x → o.view.inbox m ≡ i ∷ is → Waits j (update_of p q place) (begun o (Step.Turn m)) → GoesOf j (begun o (Step.Turn m)) (rule.comes_to b o m i x)
 comes_goes b o m j p q place i is None there front h = turned_by b o m j p q place i is (id_eq i j) refl front h
 comes_goes b o m j p q place i is (Some msg) there front h =
-    let pt = begun o (step.Turn m) in
+    let pt = begun o (Step.Turn m) in
     handles_goes j (update_of p q place) pt b o m i msg h (bag_apart pt i j msg h.base.sane there h.base.own)
 
-turns_goes : (b : Boot) (o : Point) (m : ℕ) (j : MsgId) (p q : Pid) (place : Place) (inbox : List MsgId) → o.view.inbox m ≡ inbox → Waits j (update_of p q place) (begun o (step.Turn m)) → GoesOf j (begun o (step.Turn m)) (rule.turns b o m inbox)
-turns_goes b o m j p q place [] front h = round_goes j (update_of p q place) (begun o (step.Turn m)) b o m (rule.first_runnable o.kernel (o.view.queue m) (o.view.ring m)) h
+turns_goes : (b : Boot) (o : Point) (m : ℕ) (j : MsgId) (p q : Pid) (place : Place) (inbox : List MsgId) → o.view.inbox m ≡ inbox → Waits j (update_of p q place) (begun o (Step.Turn m)) → GoesOf j (begun o (Step.Turn m)) (rule.turns b o m inbox)
+turns_goes b o m j p q place [] front h = round_goes j (update_of p q place) (begun o (Step.Turn m)) b o m (rule.first_runnable o.kernel (o.view.queue m) (o.view.ring m)) h
 turns_goes b o m j p q place (i ∷ is) front h = comes_goes b o m j p q place i is (o.kernel.bag i) refl front h
 
 -- packets and what they bring
@@ -115,21 +67,21 @@ child_loose : (a : Addresses) (p : Pid) (o : Option ℕ) → all_loose (migrates
 child_loose a p None = refl
 child_loose a p (Some n) = refl
 
-migrates_loose : (o : Point) (p : Pid) (c d : Bool) → all_loose (if c then Says (line.Pinned p) ∷ [] else if d then Says (line.Pinned p) ∷ [] else migrates_child o.addresses p (child_number o.kernel p)) ≡ true
+migrates_loose : (o : Point) (p : Pid) (c d : Bool) → all_loose (if c then Says (Line.Pinned p) ∷ [] else if d then Says (Line.Pinned p) ∷ [] else migrates_child o.addresses p (child_number o.kernel p)) ≡ true
 migrates_loose o p true d = refl
 migrates_loose o p false true = refl
 migrates_loose o p false false = child_loose o.addresses p (child_number o.kernel p)
 
 outcome_goes : (b : Boot) (o : Point) (d : Step) (j : MsgId) (p q : Pid) (place : Place) → Waits j (update_of p q place) (begun o d) → GoesOf j (begun o d) (rule.outcome b o d)
-outcome_goes b o (step.Turn m) j p q place h = turns_goes b o m j p q place (o.view.inbox m) refl h
-outcome_goes b o (step.Tick m) j p q place h = λ w is.
-    inl (net_goes (Says (line.Resent m (rule.outstanding o.view m o.kernel.machines)) ∷ rule.resends o.view m o.kernel.machines) j (begun o (step.Tick m)) w (tt, resends_net o.view m o.kernel.machines) h.stands is)
-outcome_goes b o (step.Deliver a c k) j p q place h = λ w is.
-    inl (net_goes (rule.arrives a c (o.view.pair a c) (o.view.pair c a) (slice_get (o.view.pair a c).wire k)) j (begun o (step.Deliver a c k)) w (arrives_net a c (o.view.pair a c) (o.view.pair c a) (slice_get (o.view.pair a c).wire k)) h.stands is)
-outcome_goes b o (step.Migrate r m) j p q place h = loose_row j (update_of p q place) (begun o (step.Migrate r m)) (migrates o r) h (migrates_loose o r (pid_eq r switchboard) (pid_eq r manager))
+outcome_goes b o (Step.Turn m) j p q place h = turns_goes b o m j p q place (o.view.inbox m) refl h
+outcome_goes b o (Step.Tick m) j p q place h = λ w is.
+    inl (net_goes (Says (Line.Resent m (rule.outstanding o.view m o.kernel.machines)) ∷ rule.resends o.view m o.kernel.machines) j (begun o (Step.Tick m)) w (tt, resends_net o.view m o.kernel.machines) h.stands is)
+outcome_goes b o (Step.Deliver a c k) j p q place h = λ w is.
+    inl (net_goes (rule.arrives a c (o.view.pair a c) (o.view.pair c a) (slice_get (o.view.pair a c).wire k)) j (begun o (Step.Deliver a c k)) w (arrives_net a c (o.view.pair a c) (o.view.pair c a) (slice_get (o.view.pair a c).wire k)) h.stands is)
+outcome_goes b o (Step.Migrate r m) j p q place h = loose_row j (update_of p q place) (begun o (Step.Migrate r m)) (migrates o r) h (migrates_loose o r (pid_eq r switchboard) (pid_eq r manager))
 
 -- a head leaves the streams as they are
-delivered_fits : (v : View) (a b k : ℕ) → PairsFit v → PairsFit (after_head v (step.Deliver a b k))
+delivered_fits : (v : View) (a b k : ℕ) → PairsFit v → PairsFit (after_head v (Step.Deliver a b k))
 delivered_fits v a b k h = record {
   within = λ c d. elim (cases_Bool ((a == c) && (b == d))) [
     | inl same ↦ subst (λ (p : Pair). p.taken ≤ length p.ids) (sym (set_is v.pair a b (marked (v.pair a b) k) c d same)) (h.within a b)
@@ -146,14 +98,12 @@ delivered_fits v a b k h = record {
 }
 
 head_fits : (o : Point) (d : Step) → PairsFit o.view → PairsFit (begun o d).view
-head_fits o (step.Turn m) h = record { within = h.within; home = h.home }
-head_fits o (step.Tick m) h = record { within = h.within; home = h.home }
-head_fits o (step.Deliver a b k) h = delivered_fits o.view a b k h
-head_fits o (step.Migrate p m) h = record { within = h.within; home = h.home }
+head_fits o (Step.Deliver a b k) h = delivered_fits o.view a b k h
+head_fits o _ h = record { within = h.within; home = h.home }
 
-waits_begun : (o : Point) (d : Step) (j : MsgId) (t : Told) → t.kind ≡ kind.Update → o.view.told j ≡ Some t → Stands o.view j → Phased o → Waits j t (begun o d)
+waits_begun : (o : Point) (d : Step) (j : MsgId) (t : Told) → t.kind ≡ MessageKind.Update → o.view.told j ≡ Some t → Stands o.view j → Phased o → Waits j t (begun o d)
 waits_begun o d j t update told h phased = record {
-  base = record { sane = begun_sane o d phased.sane; fits = head_fits o d (fits o.view phased.pairs); own = update_own o j t (o.kernel.bag j) refl update told h phased; told = told_stays o.view (line.Head d) j t told };
+  base = record { sane = begun_sane o d phased.sane; fits = head_fits o d (fits o.view phased.pairs); own = update_own o j t (o.kernel.bag j) refl update told h phased; told = told_stays o.view (Line.Head d) j t told };
   stands = head_stands o.view d j h;
 }
 
@@ -163,23 +113,23 @@ record Grouped (b : Boot) (o : Point) (d : Step) (w : Spelled) : Type 0 where
   is : rule.outcome b o d ≡ Some parts
   rest : Spelled
   said : spelled (begun o d) parts ≡ Some rest
-  lines : line.Head d ∷ rest.lines ≡ w.lines
+  lines : Line.Head d ∷ rest.lines ≡ w.lines
   point : rest.point ≡ w.point
 
 grouped : (b : Boot) (o : Point) (d : Step) (w : Spelled) → group_of b o d ≡ Some w → Grouped b o d w
 grouped b o d w e =
-    let (parts, is, more) = bind-is (rule.outcome b o d) (λ parts. bind (after_line o (line.Head d)) (λ begun. bind (spelled begun parts) (λ w. Some (rule.headed (line.Head d) w)))) w e in
-    let (start, head, last) = bind-is (after_line o (line.Head d)) (λ begun. bind (spelled begun parts) (λ w. Some (rule.headed (line.Head d) w))) w more in
-    let (rest, told, end) = bind-is (spelled start parts) (λ w. Some (rule.headed (line.Head d) w)) w last in
-    let f : moved o (line.Head d) o.kernel ≡ start = cc in
-    let g : rule.headed (line.Head d) rest ≡ w = cc in
+    let (parts, is, more) = bind-is (rule.outcome b o d) (λ parts. bind (after_line o (Line.Head d)) (λ begun. bind (spelled begun parts) (λ w. Some (rule.headed (Line.Head d) w)))) w e in
+    let (start, head, last) = bind-is (after_line o (Line.Head d)) (λ begun. bind (spelled begun parts) (λ w. Some (rule.headed (Line.Head d) w))) w more in
+    let (rest, told, end) = bind-is (spelled start parts) (λ w. Some (rule.headed (Line.Head d) w)) w last in
+    let f : moved o (Line.Head d) o.kernel ≡ start = cc in
+    let g : rule.headed (Line.Head d) rest ≡ w = cc in
     record { parts = parts; is = is; rest = rest; said = ap (λ (x : Point). spelled x parts) f ∙ told; lines = ap (λ (x : Spelled). x.lines) g; point = ap (λ (x : Spelled). x.point) g }
 
-pub group_ends : (b : Boot) (o : Point) (d : Step) (w : Spelled) (j : MsgId) (p q : Pid) (place : Place) → group_of b o d ≡ Some w → Phased o → o.view.told j ≡ Some (update_of p q place) → Stands o.view j → Stands w.point.view j ⊎ ((n : ℕ) × (w.lines ≡ line.Head d ∷ line.Updated j n ∷ []))
+pub group_ends : (b : Boot) (o : Point) (d : Step) (w : Spelled) (j : MsgId) (p q : Pid) (place : Place) → group_of b o d ≡ Some w → Phased o → o.view.told j ≡ Some (update_of p q place) → Stands o.view j → Stands w.point.view j ⊎ ((n : ℕ) × (w.lines ≡ Line.Head d ∷ Line.Updated j n ∷ []))
 group_ends b o d w j p q place e phased told h =
     let g = grouped b o d w e in
     let go : GoesOf j (begun o d) (Some g.parts) = subst (λ (x : Option (List Part)). GoesOf j (begun o d) x) g.is (outcome_goes b o d j p q place (waits_begun o d j (update_of p q place) refl told h phased)) in
     elim (go g.rest g.said) [
       | inl there ↦ inl (subst (λ (x : Point). Stands x.view j) g.point there)
-      | inr says ↦ let (n, is) = says in inr (n, sym g.lines ∙ ap (λ (ls : List Line). line.Head d ∷ ls) is)
+      | inr says ↦ let (n, is) = says in inr (n, sym g.lines ∙ ap (λ (ls : List Line). Line.Head d ∷ ls) is)
     ]

@@ -1,42 +1,10 @@
 -- As long as no line gives a slot an address, its address doesn't come to know fewer moves; and what was told stays.
-use Rattle.std.proofs.Common.{◌≡◌, ℕ, ◌+◌, ◌≤◌, ◌&&◌, nat_lt, Bool, true, false, List, [], ◌∷◌, ◌++◌, refl, ap, ◌∙◌, sym, subst, inl, inr, arith}
-use Rattle.std.specs.Prelude.{if◌then◌else◌}
-use Rattle.std.specs.declared.option.Option.{Option}
-use Rattle.std.specs.declared.option.Option.TheVariants.{None, Some}
-use Rattle.std.proofs.lemmas.Bool.{cases_Bool}
-use Rattle.std.proofs.lemmas.Bool.Decides.{nat_tests}
-use Rattle.dm_link.specs.declared.Pid.{Pid}
-use Rattle.dm_link.specs.Names.{Place}
-use Rattle.dm_message.specs.declared.MsgId.{MsgId}
-use Rattle.dm_message.specs.declared.kind.MessageKind.{MessageKind}
-use Rattle.dm_message.specs.declared.kind.MessageKind.TheVariants as kind
-use Rattle.dm_message.specs.Ids.{id_eq}
-use Rattle.dm_onekernel.specs.declared.label.Label.{Label}
-use Rattle.dm_onekernel.specs.Kernel.{OneKernel}
-use Rattle.dm_laws.specs.Laws.{entry, reception}
-use Rattle.dm_laws.proofs.Equal.{id_eq-is}
-use Rattle.dm_laws.proofs.Runs.{after_step}
-use Rattle.dm_laws.proofs.Sound.{Sound}
-use Rattle.dm_laws.proofs.Steps.{bind-is}
-use Rattle.dm_line.specs.declared.line.Line.{Line}
-use Rattle.dm_line.specs.declared.line.Line.TheVariants as line
-use Rattle.dm_rule.specs.View.{View, Told, view_after}
+use Rattle.dm_movelaws.proofs.Names.{◌≡◌, ℕ, ◌+◌, ◌≤◌, ◌&&◌, nat_lt, Bool, true, false, List, [], ◌∷◌, ◌++◌, refl, ap, ◌∙◌, sym, subst, inl, inr, arith, if◌then◌else◌, Option, None, Some, cases_Bool, nat_tests, Pid, Place, MsgId}
+use Rattle.dm_movelaws.proofs.Names.{MessageKind, id_eq, Label, OneKernel, entry, reception, id_eq-is, after_step, Sound, bind-is, Line, View, Told, view_after, Addresses, Holder, Slot, Gets, given, gives, forwards, tells_back, all_follow}
+use Rattle.dm_movelaws.proofs.Names.{first_gives, own_gives, is_told_back, is_behind, is_pid, belongs_to, leads_to, updated, updated_to, place_told, addresses_after, ascends, Point, label_of, kernel_after, after_line, after, moved, parts}
+use Rattle.dm_movelaws.proofs.Names.{hushed, put_at, put_told_off, gives_to, fills, Unfilled, first_kept}
 use Rattle.dm_rule.specs.View as view
-use Rattle.dm_rule.specs.Addresses.{Addresses, Holder, Slot, Gets, given, gives, forwards, tells_back, all_follow, first_gives, own_gives, is_told_back, is_behind, is_pid, belongs_to, leads_to, updated, updated_to, place_told, addresses_after}
-use Rattle.dm_rule.specs.Homes.{ascends}
-use Rattle.dm_rule.specs.Point.{Point, label_of, kernel_after, after_line, after, moved}
-use Rattle.dm_rule.proofs.Lines.{parts}
-use Rattle.dm_rule.proofs.Hushed.{hushed}
-use Rattle.dm_rule.proofs.Phases.Lines.{put_at}
-use Rattle.dm_rule.proofs.States.{put_told_off}
-use Rattle.dm_movelaws.specs.Counts.{gives_to}
-use Rattle.dm_movelaws.specs.Promise.{fills, Unfilled}
 use Rattle.dm_movelaws.proofs.Promise.Before.{not_given, step_pending, led_before}
-
--- what was told stays
-first_kept : (o : Option Told) (u t : Told) → o ≡ Some t → Some (view.first_told o u) ≡ Some t
-first_kept None u t e = cc
-first_kept (Some s) u t e = e
 
 put_told : (v : View) (a b : ℕ) (i j : MsgId) (k : MessageKind) (q : Pid) (t : Told) → v.told j ≡ Some t → (view.after_put v a b i k q).told j ≡ Some t
 put_told v a b i j k q t e = elim (cases_Bool (id_eq i j)) [
@@ -48,30 +16,9 @@ put_told v a b i j k q t e = elim (cases_Bool (id_eq i j)) [
 ]
 
 pub told_stays : (v : View) (l : Line) (j : MsgId) (t : Told) → v.told j ≡ Some t → (view_after v l).told j ≡ Some t
-told_stays v (line.Put a b i k q) j t e = put_told v a b i j k q t e
-told_stays v (line.Label x) j t e = ap (λ (f : MsgId → Option Told). f j) (hushed v (line.Label x) refl).told ∙ e
-told_stays v (line.Forwarded id m) j t e = ap (λ (f : MsgId → Option Told). f j) (hushed v (line.Forwarded id m) refl).told ∙ e
-told_stays v (line.SentOn r n) j t e = ap (λ (f : MsgId → Option Told). f j) (hushed v (line.SentOn r n) refl).told ∙ e
-told_stays v (line.Updated id n) j t e = ap (λ (f : MsgId → Option Told). f j) (hushed v (line.Updated id n) refl).told ∙ e
-told_stays v (line.Head d) j t e = ap (λ (f : MsgId → Option Told). f j) (hushed v (line.Head d) refl).told ∙ e
-told_stays v (line.Idle m) j t e = ap (λ (f : MsgId → Option Told). f j) (hushed v (line.Idle m) refl).told ∙ e
-told_stays v (line.Packet from to c y) j t e = ap (λ (f : MsgId → Option Told). f j) (hushed v (line.Packet from to c y) refl).told ∙ e
-told_stays v (line.Taken from to n) j t e = ap (λ (f : MsgId → Option Told). f j) (hushed v (line.Taken from to n) refl).told ∙ e
-told_stays v (line.Old from to n) j t e = ap (λ (f : MsgId → Option Told). f j) (hushed v (line.Old from to n) refl).told ∙ e
-told_stays v (line.Early from to n) j t e = ap (λ (f : MsgId → Option Told). f j) (hushed v (line.Early from to n) refl).told ∙ e
-told_stays v (line.Acked from to n) j t e = ap (λ (f : MsgId → Option Told). f j) (hushed v (line.Acked from to n) refl).told ∙ e
-told_stays v line.Nothing j t e = ap (λ (f : MsgId → Option Told). f j) (hushed v line.Nothing refl).told ∙ e
-told_stays v (line.Resent m n) j t e = ap (λ (f : MsgId → Option Told). f j) (hushed v (line.Resent m n) refl).told ∙ e
-told_stays v (line.Queued id) j t e = ap (λ (f : MsgId → Option Told). f j) (hushed v (line.Queued id) refl).told ∙ e
-told_stays v (line.Held id) j t e = ap (λ (f : MsgId → Option Told). f j) (hushed v (line.Held id) refl).told ∙ e
-told_stays v (line.Migration st r) j t e = ap (λ (f : MsgId → Option Told). f j) (hushed v (line.Migration st r) refl).told ∙ e
-told_stays v (line.Lacks r f c) j t e = ap (λ (f : MsgId → Option Told). f j) (hushed v (line.Lacks r f c) refl).told ∙ e
-told_stays v (line.Stays r) j t e = ap (λ (f : MsgId → Option Told). f j) (hushed v (line.Stays r) refl).told ∙ e
-told_stays v (line.Here id) j t e = ap (λ (f : MsgId → Option Told). f j) (hushed v (line.Here id) refl).told ∙ e
-told_stays v (line.NoMove id) j t e = ap (λ (f : MsgId → Option Told). f j) (hushed v (line.NoMove id) refl).told ∙ e
-told_stays v (line.Proto id) j t e = ap (λ (f : MsgId → Option Told). f j) (hushed v (line.Proto id) refl).told ∙ e
-told_stays v (line.NoChild r) j t e = ap (λ (f : MsgId → Option Told). f j) (hushed v (line.NoChild r) refl).told ∙ e
-told_stays v (line.Pinned r) j t e = ap (λ (f : MsgId → Option Told). f j) (hushed v (line.Pinned r) refl).told ∙ e
+told_stays v (Line.Put a b i k q) j t e = put_told v a b i j k q t e
+told_stays v (Line.Lacks r f c) j t e = ap (λ (f : MsgId → Option Told). f j) (hushed v (Line.Lacks r f c) refl).told ∙ e
+told_stays v any_ j t e = ap (λ (f : MsgId → Option Told). f j) (hushed v any_ refl).told ∙ e
 
 -- a slot's address
 same_address : (a : Addresses) (p : Pid) (k : ℕ) (gs : List Gets) → gives_to (Slot p k) gs ≡ false → (a (Slot p k)).moves ≤ (given a gs (Slot p k)).moves
@@ -90,32 +37,8 @@ follow_spares v a r [] p k = refl
 follow_spares v a r (i ∷ is) p k = follow_spares v a r is p k
 
 own_spares : (s : OneKernel) (v : View) (a : Addresses) (id : MsgId) (q : Pid) (c : MessageKind) (p : Pid) (k : ℕ) → gives_to (Slot p k) (own_gives s v a id q c) ≡ false
-own_spares s v a id q kind.Ask p k = refl
-own_spares s v a id q kind.Refuse p k = refl
-own_spares s v a id q kind.PullState p k = refl
-own_spares s v a id q kind.State p k = refl
-own_spares s v a id q kind.PullBlock p k = refl
-own_spares s v a id q kind.Memory p k = refl
-own_spares s v a id q kind.AllTaken p k = refl
-own_spares s v a id q kind.Restart p k = refl
-own_spares s v a id q kind.User p k = refl
-own_spares s v a id q kind.Stop p k = refl
-own_spares s v a id q kind.Resume p k = refl
-own_spares s v a id q kind.Kill p k = refl
-own_spares s v a id q kind.Read p k = refl
-own_spares s v a id q kind.Write p k = refl
-own_spares s v a id q kind.Block p k = refl
-own_spares s v a id q kind.Written p k = refl
-own_spares s v a id q kind.Gone p k = refl
-own_spares s v a id q kind.Create p k = refl
-own_spares s v a id q kind.Created p k = refl
-own_spares s v a id q kind.NoRoom p k = refl
-own_spares s v a id q kind.Migrate p k = refl
-own_spares s v a id q kind.Update p k = refl
-own_spares s v a id q kind.Move p k = refl
-own_spares s v a id q kind.Moved p k = refl
-own_spares s v a id q kind.CallOff p k = refl
-own_spares s v a id q kind.Bury p k = refl
+own_spares s v a id q MessageKind.Ask p k = refl
+own_spares s v a id q _ p k = refl
 
 first_spares : (o : Option Told) (gs : List Gets) (p : Pid) (k : ℕ) → gives_to (Slot p k) gs ≡ false → gives_to (Slot p k) (first_gives o gs) ≡ false
 first_spares None gs p k e = e
@@ -139,34 +62,16 @@ told_grows s v a None h = omega arith
 told_grows s v a (Some t) h = updated_grows s a t.receiver (place_told t.about) h
 
 moves_grow : (pt : Point) (l : Line) (p : Pid) (k : ℕ) → fills pt (Slot p k) l ≡ false → (pt.addresses (Slot p k)).moves ≤ (addresses_after pt.kernel pt.view pt.addresses l (Slot p k)).moves
-moves_grow pt (line.Label x) p k e = same_address pt.addresses p k (gives pt.kernel pt.view pt.addresses x) e
-moves_grow pt (line.Forwarded id m) p k e = same_address pt.addresses p k (forwards pt.view pt.addresses id (pt.view.told id)) (forwards_spare pt.view pt.addresses id (pt.view.told id) p k)
-moves_grow pt (line.SentOn r n) p k e =
+moves_grow pt (Line.Label x) p k e = same_address pt.addresses p k (gives pt.kernel pt.view pt.addresses x) e
+moves_grow pt (Line.Forwarded id m) p k e = same_address pt.addresses p k (forwards pt.view pt.addresses id (pt.view.told id)) (forwards_spare pt.view pt.addresses id (pt.view.told id) p k)
+moves_grow pt (Line.SentOn r n) p k e =
     let ids = pt.view.queue pt.view.acting r ++ pt.view.held pt.view.acting r in
     same_address pt.addresses p k (all_follow pt.view pt.addresses r ids) (follow_spares pt.view pt.addresses r ids p k)
-moves_grow pt (line.Updated id n) p k e = told_grows pt.kernel pt.view pt.addresses (pt.view.told id) (Slot p k)
-moves_grow pt (line.Put from to id c q) p k e =
+moves_grow pt (Line.Updated id n) p k e = told_grows pt.kernel pt.view pt.addresses (pt.view.told id) (Slot p k)
+moves_grow pt (Line.Put from to id c q) p k e =
     let gs = own_gives pt.kernel pt.view pt.addresses id q c in
     same_address pt.addresses p k (first_gives (pt.view.told id) gs) (first_spares (pt.view.told id) gs p k (own_spares pt.kernel pt.view pt.addresses id q c p k))
-moves_grow pt (line.Head d) p k e = omega arith
-moves_grow pt (line.Idle m) p k e = omega arith
-moves_grow pt (line.Packet from to c y) p k e = omega arith
-moves_grow pt (line.Taken from to n) p k e = omega arith
-moves_grow pt (line.Old from to n) p k e = omega arith
-moves_grow pt (line.Early from to n) p k e = omega arith
-moves_grow pt (line.Acked from to n) p k e = omega arith
-moves_grow pt line.Nothing p k e = omega arith
-moves_grow pt (line.Resent m n) p k e = omega arith
-moves_grow pt (line.Queued id) p k e = omega arith
-moves_grow pt (line.Held id) p k e = omega arith
-moves_grow pt (line.Migration st r) p k e = omega arith
-moves_grow pt (line.Lacks r f c) p k e = omega arith
-moves_grow pt (line.Stays r) p k e = omega arith
-moves_grow pt (line.Here id) p k e = omega arith
-moves_grow pt (line.NoMove id) p k e = omega arith
-moves_grow pt (line.Proto id) p k e = omega arith
-moves_grow pt (line.NoChild r) p k e = omega arith
-moves_grow pt (line.Pinned r) p k e = omega arith
+moves_grow pt _ p k e = omega arith
 
 -- what each line needs of the kernel, and keeps
 pub record Grounds (s : OneKernel) : Type 0 where
@@ -195,30 +100,8 @@ led_by pt t l None p q k of is h spared leads = let f : pt.kernel ≡ t = cc in 
 led_by pt t l (Some x) p q k of is h spared leads = led_before pt.kernel t pt.view pt.addresses x p q k is h.sound.entered.named h.pending (spared x refl) leads
 
 spared_by : (pt : Point) (l : Line) (p : Pid) (k : ℕ) (x : Label) → label_of l ≡ Some x → fills pt (Slot p k) l ≡ false → gives_to (Slot p k) (gives pt.kernel pt.view pt.addresses x) ≡ false
-spared_by pt (line.Label y) p k x of e = let f : y ≡ x = cc in ap (λ (z : Label). gives_to (Slot p k) (gives pt.kernel pt.view pt.addresses z)) (sym f) ∙ e
-spared_by pt (line.Forwarded id m) p k x of e = cc
-spared_by pt (line.SentOn r n) p k x of e = cc
-spared_by pt (line.Updated id n) p k x of e = cc
-spared_by pt (line.Put from to id c q) p k x of e = cc
-spared_by pt (line.Head d) p k x of e = cc
-spared_by pt (line.Idle m) p k x of e = cc
-spared_by pt (line.Packet from to c y) p k x of e = cc
-spared_by pt (line.Taken from to n) p k x of e = cc
-spared_by pt (line.Old from to n) p k x of e = cc
-spared_by pt (line.Early from to n) p k x of e = cc
-spared_by pt (line.Acked from to n) p k x of e = cc
-spared_by pt line.Nothing p k x of e = cc
-spared_by pt (line.Resent m n) p k x of e = cc
-spared_by pt (line.Queued id) p k x of e = cc
-spared_by pt (line.Held id) p k x of e = cc
-spared_by pt (line.Migration st r) p k x of e = cc
-spared_by pt (line.Lacks r f c) p k x of e = cc
-spared_by pt (line.Stays r) p k x of e = cc
-spared_by pt (line.Here id) p k x of e = cc
-spared_by pt (line.NoMove id) p k x of e = cc
-spared_by pt (line.Proto id) p k x of e = cc
-spared_by pt (line.NoChild r) p k x of e = cc
-spared_by pt (line.Pinned r) p k x of e = cc
+spared_by pt (Line.Label y) p k x of e = let f : y ≡ x = cc in ap (λ (z : Label). gives_to (Slot p k) (gives pt.kernel pt.view pt.addresses z)) (sym f) ∙ e
+spared_by pt _ p k x of e = cc
 
 line_before : (pt next : Point) (l : Line) (p q : Pid) (k moves : ℕ) → after_line pt l ≡ Some next → Grounds pt.kernel → fills pt (Slot p k) l ≡ false → Before next p q k moves → Before pt p q k moves
 line_before pt next l p q k moves is h e before =

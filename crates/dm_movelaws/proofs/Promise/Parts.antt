@@ -1,37 +1,8 @@
 -- A walk over the parts of a turn that leaves a kernel's own message standing somewhere.
-use Rattle.std.proofs.Common.{◌≡◌, ◌⊎◌, ℕ, ◌≤◌, ◌==◌, ◌&&◌, Bool, true, false, List, [], ◌∷◌, ◌++◌, length, refl, ap, ◌∙◌, sym, subst, inl, inr, arith}
-use Rattle.std.specs.Prelude.{⊤, if◌then◌else◌}
-use Rattle.std.specs.declared.option.Option.{Option}
-use Rattle.std.specs.declared.option.Option.TheVariants.{None, Some}
-use Rattle.std.proofs.lemmas.Bool.{cases_Bool, false≢true}
-use Rattle.dm_link.specs.declared.Pid.{Pid}
-use Rattle.dm_message.specs.declared.MsgId.{MsgId}
-use Rattle.dm_message.specs.declared.kind.MessageKind.{MessageKind}
-use Rattle.dm_message.specs.Kinds.{plain_kind}
-use Rattle.dm_message.specs.Ids.{id_eq}
-use Rattle.dm_onekernel.specs.Options.{bind}
-use Rattle.dm_laws.proofs.Equal.{id_eq-is, id_eq-same}
-use Rattle.dm_laws.proofs.Steps.{bind-is}
-use Rattle.dm_line.specs.declared.line.Line.{Line}
-use Rattle.dm_line.specs.declared.line.Line.TheVariants as line
-use Rattle.dm_line.specs.declared.line.Load.{Load}
-use Rattle.dm_line.specs.declared.line.Load.TheVariants as load
-use Rattle.dm_line.specs.declared.line.Stage.TheVariants as stage
-use Rattle.dm_rule.specs.View.{View, Told, is_kernels, own_id, view_after}
-use Rattle.dm_rule.specs.Addresses.{Receiver}
-use Rattle.dm_rule.specs.Point.{Point, label_of, kernel_after, after, moved}
-use Rattle.dm_rule.specs.Parts.{Part, Says, Routes, Again, Owns, Transmits, Spelled, lines_of, puts, goes_out, packet_line, behind, spelled}
-use Rattle.dm_rule.specs.Spots.{times}
-use Rattle.dm_rule.specs.Migrating.{sends_on}
-use Rattle.dm_rule.proofs.Hushed.{is_put}
-use Rattle.dm_rule.proofs.Lines.{not_true, parts}
-use Rattle.dm_rule.proofs.Once.{one_of}
-use Rattle.dm_rule.proofs.Pairs.Lines.{touches, pair_same}
-use Rattle.dm_rule.proofs.Said.{fits_as}
-use Rattle.dm_rule.proofs.States.{PairsFit}
-use Rattle.dm_rule.proofs.Moves.Sent.{fits_put, fits_packet}
-use Rattle.dm_rule.proofs.Telling.{Sane, Sayable, part_sane}
-use Rattle.dm_rulelaws.proofs.Based.Needs.{Steps, said_by}
+use Rattle.dm_movelaws.proofs.Names.{◌≡◌, ◌⊎◌, ℕ, ◌≤◌, ◌==◌, ◌&&◌, Bool, true, false, List, [], ◌∷◌, ◌++◌, length, refl, ap, ◌∙◌, sym, subst, inl, inr, arith, ⊤, if◌then◌else◌, Option, None, Some, cases_Bool, false≢true, Pid, MsgId}
+use Rattle.dm_movelaws.proofs.Names.{MessageKind, plain_kind, id_eq, bind, id_eq-is, id_eq-same, bind-is, Line, Stage, Load, View, Told, is_kernels, own_id, view_after, Receiver, Point, label_of, kernel_after, after, moved, Part, Says}
+use Rattle.dm_movelaws.proofs.Names.{Routes, Again, Owns, Transmits, Spelled, lines_of, puts, goes_out, packet_line, behind, spelled, times, sends_on, is_put, not_true, parts, one_of, touches, pair_same, fits_as, PairsFit, fits_put}
+use Rattle.dm_movelaws.proofs.Names.{fits_packet, Sane, Sayable, part_sane, Steps, said_by}
 use Rattle.dm_movelaws.proofs.Promise.Kept.{lines_told}
 use Rattle.dm_movelaws.proofs.Promise.Spots.{Stands, Spares, line_stands}
 use Rattle.dm_movelaws.proofs.Promise.Stands.{label_stands, put_this, put_stands, packet_stands}
@@ -45,139 +16,85 @@ pub record Base (j : MsgId) (t : Told) (pt : Point) : Type 0 where
 
 abbrev pub NeedsPart : MsgId → Point → Part → Type 0
 NeedsPart j pt (Says l) = Spares j pt.view l
-NeedsPart j pt (Routes i) = ⊤
-NeedsPart j pt (Again i b) = ⊤
-NeedsPart j pt (Owns k q b) = ⊤
-NeedsPart j pt (Transmits a b l) = ⊤
+NeedsPart j pt _ = ⊤
 
 -- parts that need nothing
 abbrev pub is_loose_line : Line → Bool
-is_loose_line (line.Label l) = true
-is_loose_line (line.Idle m) = true
-is_loose_line (line.Old a b n) = true
-is_loose_line line.Nothing = true
-is_loose_line (line.Resent m n) = true
-is_loose_line (line.NoChild p) = true
-is_loose_line (line.Pinned p) = true
-is_loose_line (line.Migration stage.Asked p) = true
-is_loose_line (line.Migration stage.Left p) = true
-is_loose_line (line.Queued i) = false
-is_loose_line (line.Held i) = false
-is_loose_line (line.Forwarded i m) = false
-is_loose_line (line.Updated i n) = false
-is_loose_line (line.Here i) = false
-is_loose_line (line.NoMove i) = false
-is_loose_line (line.Proto i) = false
-is_loose_line (line.Migration stage.Frozen p) = false
-is_loose_line (line.Migration stage.Accepted p) = false
-is_loose_line (line.Migration stage.StateTaken p) = false
-is_loose_line (line.Migration stage.MemoryTaken p) = false
-is_loose_line (line.Migration stage.Restarted p) = false
-is_loose_line (line.Lacks p a b) = false
-is_loose_line (line.Stays p) = false
-is_loose_line (line.Early a b n) = false
-is_loose_line (line.Acked a b n) = false
-is_loose_line (line.SentOn p n) = false
-is_loose_line (line.Head s) = false
-is_loose_line (line.Put a b i k q) = false
-is_loose_line (line.Packet a b k l) = false
-is_loose_line (line.Taken a b n) = false
+is_loose_line (Line.Label l) = true
+is_loose_line (Line.Idle m) = true
+is_loose_line (Line.Old a b n) = true
+is_loose_line Line.Nothing = true
+is_loose_line (Line.Resent m n) = true
+is_loose_line (Line.NoChild p) = true
+is_loose_line (Line.Pinned p) = true
+is_loose_line (Line.Migration Stage.Asked p) = true
+is_loose_line (Line.Migration Stage.Left p) = true
+is_loose_line (Line.Migration Stage.Frozen p) = false
+is_loose_line (Line.Migration Stage.Accepted p) = false
+is_loose_line (Line.Migration Stage.StateTaken p) = false
+is_loose_line (Line.Migration Stage.MemoryTaken p) = false
+is_loose_line (Line.Migration Stage.Restarted p) = false
+is_loose_line _ = false
 
 abbrev pub is_loose : Part → Bool
 is_loose (Says l) = is_loose_line l
-is_loose (Routes i) = true
-is_loose (Again i b) = true
-is_loose (Owns k q b) = true
-is_loose (Transmits a b l) = true
+is_loose _ = true
 
 abbrev pub all_loose : List Part → Bool
 all_loose [] = true
 all_loose (p ∷ ps) = is_loose p && all_loose ps
 
 line_loose : (j : MsgId) (v : View) (l : Line) → is_loose_line l ≡ true → Spares j v l
-line_loose j v (line.Label l) e = tt
-line_loose j v (line.Idle m) e = tt
-line_loose j v (line.Old a b n) e = tt
-line_loose j v line.Nothing e = tt
-line_loose j v (line.Resent m n) e = tt
-line_loose j v (line.NoChild p) e = tt
-line_loose j v (line.Pinned p) e = tt
-line_loose j v (line.Migration stage.Asked p) e = tt
-line_loose j v (line.Migration stage.Left p) e = tt
-line_loose j v (line.Queued i) e = absurd (false≢true e)
-line_loose j v (line.Held i) e = absurd (false≢true e)
-line_loose j v (line.Forwarded i m) e = absurd (false≢true e)
-line_loose j v (line.Updated i n) e = absurd (false≢true e)
-line_loose j v (line.Here i) e = absurd (false≢true e)
-line_loose j v (line.NoMove i) e = absurd (false≢true e)
-line_loose j v (line.Proto i) e = absurd (false≢true e)
-line_loose j v (line.Migration stage.Frozen p) e = absurd (false≢true e)
-line_loose j v (line.Migration stage.Accepted p) e = absurd (false≢true e)
-line_loose j v (line.Migration stage.StateTaken p) e = absurd (false≢true e)
-line_loose j v (line.Migration stage.MemoryTaken p) e = absurd (false≢true e)
-line_loose j v (line.Migration stage.Restarted p) e = absurd (false≢true e)
-line_loose j v (line.Lacks p a b) e = absurd (false≢true e)
-line_loose j v (line.Stays p) e = absurd (false≢true e)
-line_loose j v (line.Early a b n) e = absurd (false≢true e)
-line_loose j v (line.Acked a b n) e = absurd (false≢true e)
-line_loose j v (line.SentOn p n) e = absurd (false≢true e)
-line_loose j v (line.Head s) e = absurd (false≢true e)
-line_loose j v (line.Put a b i k q) e = absurd (false≢true e)
-line_loose j v (line.Packet a b k l) e = absurd (false≢true e)
-line_loose j v (line.Taken a b n) e = absurd (false≢true e)
+line_loose j v (Line.Label l) e = tt
+line_loose j v (Line.Idle m) e = tt
+line_loose j v (Line.Old a b n) e = tt
+line_loose j v Line.Nothing e = tt
+line_loose j v (Line.Resent m n) e = tt
+line_loose j v (Line.NoChild p) e = tt
+line_loose j v (Line.Pinned p) e = tt
+line_loose j v (Line.Migration Stage.Asked p) e = tt
+line_loose j v (Line.Migration Stage.Left p) e = tt
+line_loose j v (Line.Migration Stage.Frozen p) e = absurd (false≢true e)
+line_loose j v (Line.Migration Stage.Accepted p) e = absurd (false≢true e)
+line_loose j v (Line.Migration Stage.StateTaken p) e = absurd (false≢true e)
+line_loose j v (Line.Migration Stage.MemoryTaken p) e = absurd (false≢true e)
+line_loose j v (Line.Migration Stage.Restarted p) e = absurd (false≢true e)
+line_loose j v _ e = absurd (false≢true e)
 
 part_loose : (j : MsgId) (pt : Point) (p : Part) → is_loose p ≡ true → NeedsPart j pt p
 part_loose j pt (Says l) e = line_loose j pt.view l e
-part_loose j pt (Routes i) e = tt
-part_loose j pt (Again i b) e = tt
-part_loose j pt (Owns k q b) e = tt
-part_loose j pt (Transmits a b l) e = tt
+part_loose j pt _ e = tt
 
 spares_quiet : (j : MsgId) (v : View) (l : Line) → Spares j v l → (touches l ≡ false) × (is_put l ≡ false)
-spares_quiet j v (line.Label l) e = (refl, refl)
-spares_quiet j v (line.Idle m) e = (refl, refl)
-spares_quiet j v (line.Old a b n) e = (refl, refl)
-spares_quiet j v line.Nothing e = (refl, refl)
-spares_quiet j v (line.Resent m n) e = (refl, refl)
-spares_quiet j v (line.NoChild p) e = (refl, refl)
-spares_quiet j v (line.Pinned p) e = (refl, refl)
-spares_quiet j v (line.Migration stage.Asked p) e = (refl, refl)
-spares_quiet j v (line.Migration stage.Left p) e = (refl, refl)
-spares_quiet j v (line.Queued i) e = (refl, refl)
-spares_quiet j v (line.Held i) e = (refl, refl)
-spares_quiet j v (line.Forwarded i m) e = (refl, refl)
-spares_quiet j v (line.Updated i n) e = (refl, refl)
-spares_quiet j v (line.Here i) e = (refl, refl)
-spares_quiet j v (line.NoMove i) e = (refl, refl)
-spares_quiet j v (line.Proto i) e = (refl, refl)
-spares_quiet j v (line.Migration stage.Frozen p) e = (refl, refl)
-spares_quiet j v (line.Migration stage.Accepted p) e = (refl, refl)
-spares_quiet j v (line.Migration stage.StateTaken p) e = (refl, refl)
-spares_quiet j v (line.Migration stage.MemoryTaken p) e = (refl, refl)
-spares_quiet j v (line.Migration stage.Restarted p) e = (refl, refl)
-spares_quiet j v (line.Lacks p a b) e = (refl, refl)
-spares_quiet j v (line.Stays p) e = (refl, refl)
-spares_quiet j v (line.Early a b n) e = absurd e
-spares_quiet j v (line.Acked a b n) e = absurd e
-spares_quiet j v (line.SentOn p n) e = absurd e
-spares_quiet j v (line.Head s) e = absurd e
-spares_quiet j v (line.Put a b i k q) e = absurd e
-spares_quiet j v (line.Packet a b k l) e = absurd e
-spares_quiet j v (line.Taken a b n) e = absurd e
+spares_quiet j v (Line.Migration Stage.Asked p) e = (refl, refl)
+spares_quiet j v (Line.Migration Stage.Left p) e = (refl, refl)
+spares_quiet j v (Line.Migration Stage.Frozen p) e = (refl, refl)
+spares_quiet j v (Line.Migration Stage.Accepted p) e = (refl, refl)
+spares_quiet j v (Line.Migration Stage.StateTaken p) e = (refl, refl)
+spares_quiet j v (Line.Migration Stage.MemoryTaken p) e = (refl, refl)
+spares_quiet j v (Line.Migration Stage.Restarted p) e = (refl, refl)
+spares_quiet j v (Line.Early a b n) e = absurd e
+spares_quiet j v (Line.Acked a b n) e = absurd e
+spares_quiet j v (Line.SentOn p n) e = absurd e
+spares_quiet j v (Line.Head s) e = absurd e
+spares_quiet j v (Line.Put a b i k q) e = absurd e
+spares_quiet j v (Line.Packet a b k l) e = absurd e
+spares_quiet j v (Line.Taken a b n) e = absurd e
+spares_quiet j v _ e = (refl, refl)
 
 -- a put and its packet
-puts_by : (Q : Point → Type 0) → ((x : Point) (a b n : ℕ) (l : Load) → Q x → Q (moved x (line.Packet a b n l) x.kernel)) → (pt next : Point) (b : ℕ) (i : MsgId) (k : MessageKind) (q : Pid) (c d : Bool) → Q (moved pt (line.Put pt.view.acting b i k q) pt.kernel)
-    → after pt (line.Put pt.view.acting b i k q ∷ (if c then [] else if d then packet_line pt.view pt.view.acting b (load.Data (length (pt.view.pair pt.view.acting b).ids)) ∷ [] else [])) ≡ Some next → Q next
-puts_by Q keep pt next b i k q true d h is = let f : moved pt (line.Put pt.view.acting b i k q) pt.kernel ≡ next = cc in subst Q f h
-puts_by Q keep pt next b i k q false false h is = let f : moved pt (line.Put pt.view.acting b i k q) pt.kernel ≡ next = cc in subst Q f h
+puts_by : (Q : Point → Type 0) → ((x : Point) (a b n : ℕ) (l : Load) → Q x → Q (moved x (Line.Packet a b n l) x.kernel)) → (pt next : Point) (b : ℕ) (i : MsgId) (k : MessageKind) (q : Pid) (c d : Bool) → Q (moved pt (Line.Put pt.view.acting b i k q) pt.kernel)
+    → after pt (Line.Put pt.view.acting b i k q ∷ (if c then [] else if d then packet_line pt.view pt.view.acting b (Load.Data (length (pt.view.pair pt.view.acting b).ids)) ∷ [] else [])) ≡ Some next → Q next
+puts_by Q keep pt next b i k q true d h is = let f : moved pt (Line.Put pt.view.acting b i k q) pt.kernel ≡ next = cc in subst Q f h
+puts_by Q keep pt next b i k q false false h is = let f : moved pt (Line.Put pt.view.acting b i k q) pt.kernel ≡ next = cc in subst Q f h
 puts_by Q keep pt next b i k q false true h is =
     let n = length (pt.view.pair pt.view.acting b).wire in
-    let l = load.Data (length (pt.view.pair pt.view.acting b).ids) in
-    let mid = moved pt (line.Put pt.view.acting b i k q) pt.kernel in
-    let f : moved mid (line.Packet pt.view.acting b n l) mid.kernel ≡ next = cc in
+    let l = Load.Data (length (pt.view.pair pt.view.acting b).ids) in
+    let mid = moved pt (Line.Put pt.view.acting b i k q) pt.kernel in
+    let f : moved mid (Line.Packet pt.view.acting b n l) mid.kernel ≡ next = cc in
     subst Q f (keep mid pt.view.acting b n l h)
 
-puts_keep : (Q : Point → Type 0) → ((x : Point) (a b n : ℕ) (l : Load) → Q x → Q (moved x (line.Packet a b n l) x.kernel)) → (pt next : Point) (b : ℕ) (i : MsgId) (k : MessageKind) (q : Pid) (ls : List Line) → Q (moved pt (line.Put pt.view.acting b i k q) pt.kernel)
+puts_keep : (Q : Point → Type 0) → ((x : Point) (a b n : ℕ) (l : Load) → Q x → Q (moved x (Line.Packet a b n l) x.kernel)) → (pt next : Point) (b : ℕ) (i : MsgId) (k : MessageKind) (q : Pid) (ls : List Line) → Q (moved pt (Line.Put pt.view.acting b i k q) pt.kernel)
     → Some (puts pt.view b i k q) ≡ Some ls → after pt ls ≡ Some next → Q next
 puts_keep Q keep pt next b i k q ls h is leads =
     let f : puts pt.view b i k q ≡ ls = cc in
@@ -210,10 +127,7 @@ part_fits j pt next (Transmits a b l) need h s = sent_fit pt next a b l h s
 
 part_says : (j : MsgId) (pt : Point) (p : Part) → NeedsPart j pt p → Sayable p
 part_says j pt (Says l) need = (spares_quiet j pt.view l need).1
-part_says j pt (Routes i) need = tt
-part_says j pt (Again i b) need = tt
-part_says j pt (Owns k q b) need = tt
-part_says j pt (Transmits a b l) need = tt
+part_says j pt _ need = tt
 
 base_on : (j : MsgId) (t : Told) (pt next : Point) (p : Part) → Sayable p → PairsFit next.view → Base j t pt → Steps pt p next → Base j t next
 base_on j t pt next p ok fits h s = record {
@@ -281,7 +195,7 @@ next_of pt p ps w is =
 
 -- it stands somewhere behind the parts, or they say that it was handled, and nothing else
 abbrev pub Ends : MsgId → Spelled → Type 0
-Ends j w = Stands w.point.view j ⊎ ((n : ℕ) × (w.lines ≡ line.Updated j n ∷ []))
+Ends j w = Stands w.point.view j ⊎ ((n : ℕ) × (w.lines ≡ Line.Updated j n ∷ []))
 
 abbrev pub Goes : MsgId → Point → List Part → Type 0
 Goes j pt ps = (w : Spelled) → spelled pt ps ≡ Some w → Ends j w

@@ -1,38 +1,13 @@
 -- A turn that serves a process, or handles a message of the bag, leaves a kernel's own message standing.
-use Rattle.std.proofs.Common.{◌≡◌, ℕ, ◌+◌, ◌==◌, Bool, true, false, List, [], ◌∷◌, length, refl}
-use Rattle.std.specs.Prelude.{if◌then◌else◌, slice_get}
-use Rattle.std.specs.declared.option.Option.{Option}
-use Rattle.std.specs.declared.option.Option.TheVariants.{None, Some}
-use Rattle.dm_link.specs.declared.Pid.{Pid}
-use Rattle.dm_link.specs.Names.{pid_of, pid_eq}
-use Rattle.dm_message.specs.declared.MsgId.{MsgId}
-use Rattle.dm_message.specs.declared.kind.MessageKind.{MessageKind}
-use Rattle.dm_message.specs.declared.kind.MessageKind.TheVariants as kind
-use Rattle.dm_message.specs.Ids.{id_eq}
-use Rattle.dm_message.specs.Kinds.{plain_kind}
-use Rattle.dm_message.specs.Plain as what
-use Rattle.dm_message.specs.Plain.{PlainMessage, PlainWhat}
-use Rattle.dm_processor.specs.Instructions.{instruction}
-use Rattle.dm_onekernel.specs.declared.boot.BootImage.{BootImage}
-use Rattle.dm_onekernel.specs.declared.boot.Boot.{Boot}
-use Rattle.dm_onekernel.specs.declared.label.Label.TheVariants as label
-use Rattle.dm_onekernel.specs.Boot.{first_number, switchboard, manager}
-use Rattle.dm_onekernel.specs.Options.{bind}
-use Rattle.dm_onekernel.specs.PlainProcess.{PlainProcess, PlainStatus, Ready, Waiting, Moving}
-use Rattle.dm_onekernel.specs.Kernel.{OneKernel}
+use Rattle.dm_movelaws.proofs.Names.{◌≡◌, ℕ, ◌+◌, ◌==◌, Bool, true, false, List, [], ◌∷◌, length, refl, if◌then◌else◌, slice_get, Option, None, Some, Pid, pid_of, pid_eq, MsgId, MessageKind, Label, Line, id_eq, plain_kind, PlainMessage}
+use Rattle.dm_movelaws.proofs.Names.{PlainWhat, instruction, BootImage, Boot, first_number, switchboard, manager, bind, PlainProcess, PlainStatus, Ready, Waiting, Moving, OneKernel, machine_of, with_machine, Told, Known, Unknown, Here}
+use Rattle.dm_movelaws.proofs.Names.{Forward, Ended, Addresses, Sender, is_told_back, Point, Part, Says, Routes, Again, Owns, forwards_on}
 use Rattle.dm_onekernel.specs.Calls as calls
 use Rattle.dm_onekernel.specs.Pieces as pieces
 use Rattle.dm_onekernel.specs.Receiving as receiving
 use Rattle.dm_onekernel.specs.Switchboard as board
 use Rattle.dm_onekernel.specs.Manager as manage
 use Rattle.dm_onekernel.specs.Step as kernel
-use Rattle.dm_onekernel.specs.Step.{machine_of, with_machine}
-use Rattle.dm_line.specs.declared.line.Line.TheVariants as line
-use Rattle.dm_rule.specs.View.{Told, Known, Unknown, Here, Frozen, Incoming, Forward, Ended}
-use Rattle.dm_rule.specs.Addresses.{Addresses, Sender, is_told_back}
-use Rattle.dm_rule.specs.Point.{Point}
-use Rattle.dm_rule.specs.Parts.{Part, Says, Routes, Again, Owns}
-use Rattle.dm_rule.specs.Migrating.{forwards_on}
 use Rattle.dm_rule.specs.Rule as rule
 use Rattle.dm_movelaws.proofs.Promise.Spots.{Stands}
 use Rattle.dm_movelaws.proofs.Promise.Parts.{Base, NeedsPart, all_loose, Goes, GoesOf, first_goes, loose_goes}
@@ -62,11 +37,8 @@ drops_loose [] = refl
 drops_loose (i ∷ is) = drops_loose is
 
 called_loose : (p : Pid) (n : ℕ) (queue : List MsgId) (c : calls.Called) → all_loose (rule.called p n queue c) ≡ true
-called_loose p n queue (calls.Replies reply x) = refl
-called_loose p n queue (calls.Sends m x) = refl
-called_loose p n queue (calls.Waits x) = refl
-called_loose p n queue (calls.Outputs word x) = refl
 called_loose p n queue (calls.Ends because) = drops_loose queue
+called_loose p n queue _ = refl
 
 stops_loose : (p : Pid) (queue : List MsgId) (o : Option kernel.Next) → all_loose (rule.stops p queue o) ≡ true
 stops_loose p queue None = refl
@@ -98,7 +70,7 @@ serves_goes j t pt quantum s p queue x (Waiting mask base size) h = receives_goe
 serves_goes j t pt quantum s p queue x (Moving dir owner base own left pending) h = tt
 
 pub round_goes : (j : MsgId) (t : Told) (pt : Point) (b : Boot) (o : Point) (m : ℕ) (q : Option Pid) → Waits j t pt → GoesOf j pt (rule.goes_round b o m q)
-round_goes j t pt b o m None h = loose_row j t pt (Says (line.Idle m) ∷ []) h refl
+round_goes j t pt b o m None h = loose_row j t pt (Says (Line.Idle m) ∷ []) h refl
 round_goes j t pt b o m (Some p) h =
     of_bind j pt (kernel.alive (o.kernel.processes p)) (λ x. rule.serves_status b.quantum o.kernel p (o.view.queue m p) x x.status)
     (λ x. serves_goes j t pt b.quantum o.kernel p (o.view.queue m p) x x.status h)
@@ -106,40 +78,30 @@ round_goes j t pt b o m (Some p) h =
 -- another message is handled
 lands_goes : (j : MsgId) (t : Told) (pt : Point) (id : MsgId) (o : Option pieces.Landed) → Waits j t pt → GoesOf j pt (rule.lands id o)
 lands_goes j t pt id None h = tt
-lands_goes j t pt id (Some (pieces.Next request x)) h = loose_row j t pt (rule.says (label.Served id) ∷ Routes request.id ∷ []) h refl
-lands_goes j t pt id (Some (pieces.Done reply x)) h = loose_row j t pt (rule.says (label.Served id) ∷ []) h refl
+lands_goes j t pt id (Some (pieces.Next request x)) h = loose_row j t pt (rule.says (Label.Served id) ∷ Routes request.id ∷ []) h refl
+lands_goes j t pt id (Some (pieces.Done reply x)) h = loose_row j t pt (rule.says (Label.Served id) ∷ []) h refl
 
 here_goes : (j : MsgId) (t : Told) (pt o : Point) (m : ℕ) (id : MsgId) (msg : PlainMessage) (x : PlainProcess) (k : PlainWhat) → Waits j t pt → id_eq id j ≡ false → GoesOf j pt (rule.here_handles o m id msg x k)
-here_goes j t pt o m id msg x (what.User x1 x2 x3 x4) h off = first_row j t pt (Says (line.Queued id)) [] h off refl
-here_goes j t pt o m id msg x what.Stop h off = loose_row j t pt (rule.says (label.Served id) ∷ []) h refl
-here_goes j t pt o m id msg x what.Resume h off = loose_row j t pt (rule.says (label.Served id) ∷ []) h refl
-here_goes j t pt o m id msg x what.Kill h off = loose_row j t pt (rule.says (label.Served id) ∷ rule.drops (o.view.queue m msg.to)) h (drops_loose (o.view.queue m msg.to))
-here_goes j t pt o m id msg x (what.Read x1 x2) h off = loose_row j t pt (rule.says (label.Served id) ∷ Routes (pieces.answer_id id) ∷ []) h refl
-here_goes j t pt o m id msg x (what.Write x1 x2) h off = loose_row j t pt (rule.says (label.Served id) ∷ Routes (pieces.answer_id id) ∷ []) h refl
-here_goes j t pt o m id msg x (what.Block x1) h off = lands_goes j t pt id (pieces.lands msg.to x msg x.status) h
-here_goes j t pt o m id msg x what.Written h off = lands_goes j t pt id (pieces.lands msg.to x msg x.status) h
-here_goes j t pt o m id msg x what.Gone h off = lands_goes j t pt id (pieces.lands msg.to x msg x.status) h
-here_goes j t pt o m id msg x (what.Create x1 x2) h off = tt
-here_goes j t pt o m id msg x (what.Created x1) h off = tt
-here_goes j t pt o m id msg x what.NoRoom h off = tt
-here_goes j t pt o m id msg x (what.Move x1) h off = tt
-here_goes j t pt o m id msg x (what.Moved x1) h off = tt
+here_goes j t pt o m id msg x (PlainWhat.User x1 x2 x3 x4) h off = first_row j t pt (Says (Line.Queued id)) [] h off refl
+here_goes j t pt o m id msg x PlainWhat.Stop h off = loose_row j t pt (rule.says (Label.Served id) ∷ []) h refl
+here_goes j t pt o m id msg x PlainWhat.Resume h off = loose_row j t pt (rule.says (Label.Served id) ∷ []) h refl
+here_goes j t pt o m id msg x PlainWhat.Kill h off = loose_row j t pt (rule.says (Label.Served id) ∷ rule.drops (o.view.queue m msg.to)) h (drops_loose (o.view.queue m msg.to))
+here_goes j t pt o m id msg x (PlainWhat.Read x1 x2) h off = loose_row j t pt (rule.says (Label.Served id) ∷ Routes (pieces.answer_id id) ∷ []) h refl
+here_goes j t pt o m id msg x (PlainWhat.Write x1 x2) h off = loose_row j t pt (rule.says (Label.Served id) ∷ Routes (pieces.answer_id id) ∷ []) h refl
+here_goes j t pt o m id msg x (PlainWhat.Block x1) h off = lands_goes j t pt id (pieces.lands msg.to x msg x.status) h
+here_goes j t pt o m id msg x PlainWhat.Written h off = lands_goes j t pt id (pieces.lands msg.to x msg x.status) h
+here_goes j t pt o m id msg x PlainWhat.Gone h off = lands_goes j t pt id (pieces.lands msg.to x msg x.status) h
+here_goes j t pt o m id msg x _ h off = tt
 
 ended_goes : (j : MsgId) (t : Told) (pt : Point) (id : MsgId) (k : PlainWhat) → Waits j t pt → GoesOf j pt (rule.ended_handles id k)
-ended_goes j t pt id (what.User x1 x2 x3 x4) h = loose_row j t pt (rule.says (label.Dropped id) ∷ []) h refl
-ended_goes j t pt id what.Stop h = loose_row j t pt (rule.says (label.Dropped id) ∷ []) h refl
-ended_goes j t pt id what.Resume h = loose_row j t pt (rule.says (label.Dropped id) ∷ []) h refl
-ended_goes j t pt id what.Kill h = loose_row j t pt (rule.says (label.Dropped id) ∷ []) h refl
-ended_goes j t pt id (what.Read x1 x2) h = loose_row j t pt (rule.says (label.Gone id) ∷ Routes (pieces.answer_id id) ∷ []) h refl
-ended_goes j t pt id (what.Write x1 x2) h = loose_row j t pt (rule.says (label.Gone id) ∷ Routes (pieces.answer_id id) ∷ []) h refl
-ended_goes j t pt id (what.Block x1) h = loose_row j t pt (rule.says (label.Dropped id) ∷ []) h refl
-ended_goes j t pt id what.Written h = loose_row j t pt (rule.says (label.Dropped id) ∷ []) h refl
-ended_goes j t pt id what.Gone h = loose_row j t pt (rule.says (label.Dropped id) ∷ []) h refl
-ended_goes j t pt id (what.Create x1 x2) h = tt
-ended_goes j t pt id (what.Created x1) h = tt
-ended_goes j t pt id what.NoRoom h = tt
-ended_goes j t pt id (what.Move x1) h = tt
-ended_goes j t pt id (what.Moved x1) h = tt
+ended_goes j t pt id (PlainWhat.Read x1 x2) h = loose_row j t pt (rule.says (Label.Gone id) ∷ Routes (pieces.answer_id id) ∷ []) h refl
+ended_goes j t pt id (PlainWhat.Write x1 x2) h = loose_row j t pt (rule.says (Label.Gone id) ∷ Routes (pieces.answer_id id) ∷ []) h refl
+ended_goes j t pt id (PlainWhat.Create x1 x2) h = tt
+ended_goes j t pt id (PlainWhat.Created x1) h = tt
+ended_goes j t pt id PlainWhat.NoRoom h = tt
+ended_goes j t pt id (PlainWhat.Move x1) h = tt
+ended_goes j t pt id (PlainWhat.Moved x1) h = tt
+ended_goes j t pt id _ h = loose_row j t pt (rule.says (Label.Dropped id) ∷ []) h refl
 
 tells_loose : (c : Bool) (ps : List Part) → all_loose ps ≡ true → all_loose (if c then ps else []) ≡ true
 tells_loose true ps e = e
@@ -147,17 +109,16 @@ tells_loose false ps e = refl
 
 pub forwards_goes : (j : MsgId) (t : Told) (pt : Point) (a : Addresses) (id : MsgId) (k : MessageKind) (sender : Pid) (to : ℕ) → Waits j t pt → id_eq id j ≡ false → Goes j pt (forwards_on a id k sender to)
 forwards_goes j t pt a id k sender to h off =
-    let back = if is_told_back k then Owns kind.Update sender (a (Sender id)).at ∷ [] else [] in
-    first_row j t pt (Says (line.Forwarded id to)) (Again id to ∷ back) h off (tells_loose (is_told_back k) (Owns kind.Update sender (a (Sender id)).at ∷ []) refl)
+    let back = if is_told_back k then Owns MessageKind.Update sender (a (Sender id)).at ∷ [] else [] in
+    first_row j t pt (Says (Line.Forwarded id to)) (Again id to ∷ back) h off (tells_loose (is_told_back k) (Owns MessageKind.Update sender (a (Sender id)).at ∷ []) refl)
 
 process_goes : (j : MsgId) (t : Told) (pt o : Point) (m : ℕ) (id : MsgId) (msg : PlainMessage) (k : Known) → Waits j t pt → id_eq id j ≡ false → GoesOf j pt (rule.process_handles o m id msg k)
 process_goes j t pt o m id msg Unknown h off = tt
 process_goes j t pt o m id msg Here h off =
     of_bind j pt (kernel.alive (o.kernel.processes msg.to)) (λ x. rule.here_handles o m id msg x msg.what) (λ x. here_goes j t pt o m id msg x msg.what h off)
-process_goes j t pt o m id msg (Frozen to) h off = first_row j t pt (Says (line.Held id)) [] h off refl
-process_goes j t pt o m id msg (Incoming from) h off = first_row j t pt (Says (line.Held id)) [] h off refl
 process_goes j t pt o m id msg (Forward at moves) h off = forwards_goes j t pt o.addresses id (plain_kind msg.what) msg.sender at h off
 process_goes j t pt o m id msg Ended h off = ended_goes j t pt id msg.what h
+process_goes j t pt o m id msg _ h off = first_row j t pt (Says (Line.Held id)) [] h off refl
 
 routes_loose : (o : Option PlainMessage) → all_loose (rule.routes o) ≡ true
 routes_loose None = refl
@@ -165,13 +126,13 @@ routes_loose (Some m) = refl
 
 board_goes : (j : MsgId) (t : Told) (pt : Point) (id : MsgId) (o : Option board.Took) → Waits j t pt → GoesOf j pt (rule.board_took id o)
 board_goes j t pt id None h = tt
-board_goes j t pt id (Some k) h = loose_row j t pt (rule.says (label.Took id) ∷ rule.routes k.answer) h (routes_loose k.answer)
+board_goes j t pt id (Some k) h = loose_row j t pt (rule.says (Label.Took id) ∷ rule.routes k.answer) h (routes_loose k.answer)
 
 manager_goes : (j : MsgId) (t : Told) (pt : Point) (id : MsgId) (o : Option manage.Took) → Waits j t pt → GoesOf j pt (rule.manager_took id o)
 manager_goes j t pt id None h = tt
-manager_goes j t pt id (Some k) h = loose_row j t pt (rule.says (label.Took id) ∷ rule.routes k.message) h (routes_loose k.message)
+manager_goes j t pt id (Some k) h = loose_row j t pt (rule.says (Label.Took id) ∷ rule.routes k.message) h (routes_loose k.message)
 
-created_loose : (c : Bool) (id : MsgId) (p : Pid) (a b : ℕ) → all_loose ((if c then rule.says (label.Created id p) else rule.says (label.NoSpace id a b)) ∷ Routes (pieces.answer_id id) ∷ []) ≡ true
+created_loose : (c : Bool) (id : MsgId) (p : Pid) (a b : ℕ) → all_loose ((if c then rule.says (Label.Created id p) else rule.says (Label.NoSpace id a b)) ∷ Routes (pieces.answer_id id) ∷ []) ≡ true
 created_loose true id p a b = refl
 created_loose false id p a b = refl
 
@@ -179,23 +140,11 @@ creates_goes : (j : MsgId) (t : Told) (pt o : Point) (m : ℕ) (id : MsgId) (r :
 creates_goes j t pt o m id r None h = tt
 creates_goes j t pt o m id r (Some i) h =
     let child = pid_of m (first_number + o.kernel.made m) in
-    loose_row j t pt ((if rule.has_room r i.blocks then rule.says (label.Created id child) else rule.says (label.NoSpace id r.slots r.blocks)) ∷ Routes (pieces.answer_id id) ∷ []) h (created_loose (rule.has_room r i.blocks) id child r.slots r.blocks)
+    loose_row j t pt ((if rule.has_room r i.blocks then rule.says (Label.Created id child) else rule.says (Label.NoSpace id r.slots r.blocks)) ∷ Routes (pieces.answer_id id) ∷ []) h (created_loose (rule.has_room r i.blocks) id child r.slots r.blocks)
 
 kernel_goes : (j : MsgId) (t : Told) (pt : Point) (b : Boot) (o : Point) (m : ℕ) (id : MsgId) (k : PlainWhat) → Waits j t pt → GoesOf j pt (rule.kernel_handles b o m id k)
-kernel_goes j t pt b o m id (what.User x1 x2 x3 x4) h = tt
-kernel_goes j t pt b o m id what.Stop h = tt
-kernel_goes j t pt b o m id what.Resume h = tt
-kernel_goes j t pt b o m id what.Kill h = tt
-kernel_goes j t pt b o m id (what.Read x1 x2) h = tt
-kernel_goes j t pt b o m id (what.Write x1 x2) h = tt
-kernel_goes j t pt b o m id (what.Block x1) h = tt
-kernel_goes j t pt b o m id what.Written h = tt
-kernel_goes j t pt b o m id what.Gone h = tt
-kernel_goes j t pt b o m id (what.Create x1 x2) h = creates_goes j t pt o m id (rule.free_room b o m) (slice_get b.images x1) h
-kernel_goes j t pt b o m id (what.Created x1) h = tt
-kernel_goes j t pt b o m id what.NoRoom h = tt
-kernel_goes j t pt b o m id (what.Move x1) h = tt
-kernel_goes j t pt b o m id (what.Moved x1) h = tt
+kernel_goes j t pt b o m id (PlainWhat.Create x1 x2) h = creates_goes j t pt o m id (rule.free_room b o m) (slice_get b.images x1) h
+kernel_goes j t pt b o m id _ h = tt
 
 pub handles_goes : (j : MsgId) (t : Told) (pt : Point) (b : Boot) (o : Point) (m : ℕ) (id : MsgId) (msg : PlainMessage) → Waits j t pt → id_eq id j ≡ false → GoesOf j pt (rule.handles b o m id msg)
 handles_goes j t pt b o m id msg h off =

@@ -1,33 +1,15 @@
 -- Which holders a label gives an address to doesn't rest on the addresses that there are.
-use Rattle.std.proofs.Common.{◌≡◌, ℕ, ◌+◌, Bool, true, false, List, [], ◌∷◌, ◌++◌, length, map, refl, ap, ◌∙◌, sym}
-use Rattle.std.specs.Prelude.{◌||◌, if◌then◌else◌}
-use Rattle.std.specs.declared.option.Option.{Option}
-use Rattle.std.specs.declared.option.Option.TheVariants.{None, Some}
-use Rattle.dm_link.specs.declared.Pid.{Pid}
-use Rattle.dm_link.specs.Names.{Place, pid_eq}
-use Rattle.dm_link.specs.Plain.{PlainLink}
-use Rattle.dm_linktable.specs.Slots.{first_empty}
-use Rattle.dm_message.specs.declared.MsgId.{MsgId}
-use Rattle.dm_message.specs.Ids.{id_of}
-use Rattle.dm_message.specs.Plain as what
-use Rattle.dm_message.specs.Plain.{PlainMessage, PlainWhat}
-use Rattle.dm_onekernel.specs.declared.label.Label.{Label}
-use Rattle.dm_onekernel.specs.declared.label.Label.TheVariants as label
-use Rattle.dm_onekernel.specs.declared.label.Reply.{Reply}
-use Rattle.dm_onekernel.specs.declared.label.Reply.TheVariants as reply
-use Rattle.dm_onekernel.specs.Boot.{switchboard}
-use Rattle.dm_onekernel.specs.PlainProcess.{PlainProcess, reg}
-use Rattle.dm_onekernel.specs.Kernel.{NamedLink, OneKernel}
+use Rattle.dm_movelaws.proofs.Names.{◌≡◌, ℕ, ◌+◌, Bool, true, false, List, [], ◌∷◌, ◌++◌, length, map, refl, ap, ◌∙◌, sym, ◌||◌, if◌then◌else◌, Option, None, Some, Pid, Place, pid_eq, PlainLink, first_empty, MsgId, id_of, PlainMessage}
+use Rattle.dm_movelaws.proofs.Names.{PlainWhat, Label, Reply, switchboard, PlainProcess, reg, NamedLink, OneKernel, answer_id, View, Addresses, Holder, Slot, Receiver, Sender, Enclosed, Child, Answer, Gets, gives, holder_eq, here, encloses}
+use Rattle.dm_movelaws.proofs.Names.{enclosed_from, sends_what, fills_by, made, receives_links, receives_what, slot_after, serves_what, child_links, creates_what, board_finds, board_keeps, manager_tells, manager_sends, manager_answers}
+use Rattle.dm_movelaws.proofs.Names.{gives_to}
 use Rattle.dm_onekernel.specs.Calls as calls
 use Rattle.dm_onekernel.specs.Pieces as pieces
-use Rattle.dm_onekernel.specs.Pieces.{answer_id}
 use Rattle.dm_onekernel.specs.Switchboard as board
 use Rattle.dm_onekernel.specs.Manager as manage
 use Rattle.dm_onekernel.specs.Step as kernel
-use Rattle.dm_rule.specs.View.{View}
 use Rattle.dm_rule.specs.Addresses as addresses
-use Rattle.dm_rule.specs.Addresses.{Addresses, Holder, Slot, Owner, Receiver, Sender, Enclosed, Child, Name, Answer, Gets, gets, gives, holder_eq, here, unmoved, encloses, enclosed_from, sends_what, fills_by, made, receives_links, receives_what, slot_after, lands, serves_what, answers, child_links, creates_what, board_finds, board_keeps, board_takes, manager_tells, manager_sends, manager_answers, manager_takes}
-use Rattle.dm_movelaws.specs.Counts.{gives_to}
+use Rattle.dm_rule.specs.Addresses.{lands, board_takes, manager_takes}
 
 abbrev pub holders : List Gets → List Holder
 holders [] = []
@@ -59,20 +41,8 @@ enclosed_same a b id from n k [] = refl
 enclosed_same a b id from n k (l ∷ ls) = ap (λ (hs : List Holder). Enclosed id n ∷ hs) (enclosed_same a b id from (n + 1) (k + 1) ls)
 
 sends_what_same : (v w : View) (a b : Addresses) (p : Pid) (x : PlainProcess) (id : MsgId) (u : PlainWhat) → holders (sends_what v a p x id u) ≡ holders (sends_what w b p x id u)
-sends_what_same v w a b p x id (what.User c h d e) = ap (λ (hs : List Holder). Receiver id ∷ Sender id ∷ hs) (encloses_same id 0 (λ (n : ℕ). a (Slot p n)) (λ (n : ℕ). b (Slot p n)) (calls.listed x))
-sends_what_same v w a b p x id what.Stop = refl
-sends_what_same v w a b p x id what.Resume = refl
-sends_what_same v w a b p x id what.Kill = refl
-sends_what_same v w a b p x id (what.Read c d) = refl
-sends_what_same v w a b p x id (what.Write c d) = refl
-sends_what_same v w a b p x id (what.Block c) = refl
-sends_what_same v w a b p x id what.Written = refl
-sends_what_same v w a b p x id what.Gone = refl
-sends_what_same v w a b p x id (what.Create c d) = refl
-sends_what_same v w a b p x id (what.Created c) = refl
-sends_what_same v w a b p x id what.NoRoom = refl
-sends_what_same v w a b p x id (what.Move c) = refl
-sends_what_same v w a b p x id (what.Moved c) = refl
+sends_what_same v w a b p x id (PlainWhat.User c h d e) = ap (λ (hs : List Holder). Receiver id ∷ Sender id ∷ hs) (encloses_same id 0 (λ (n : ℕ). a (Slot p n)) (λ (n : ℕ). b (Slot p n)) (calls.listed x))
+sends_what_same v w a b p x id _ = refl
 
 sends_next_same : (v w : View) (a b : Addresses) (p : Pid) (x : PlainProcess) (id : MsgId) (o : Option kernel.Next) → holders (addresses.sends_next v a p x id o) ≡ holders (addresses.sends_next w b p x id o)
 sends_next_same v w a b p x id (Some (kernel.Calls number (calls.Sends m y))) = sends_what_same v w a b p x id m.what
@@ -95,25 +65,12 @@ fills_same p (Some slot) x y = refl
 fills_by_same : (v w : View) (a b : Addresses) (p : Pid) (x : PlainProcess) (n : calls.CallNumber) → holders (fills_by v a p x n) ≡ holders (fills_by w b p x n)
 fills_by_same v w a b p x calls.Make = fills_same p (first_empty x.links) (here v p) (here w p)
 fills_by_same v w a b p x calls.Copy = fills_same p (first_empty x.links) (a (Slot p (reg x.regs 1))) (b (Slot p (reg x.regs 1)))
-fills_by_same v w a b p x calls.Exit = refl
-fills_by_same v w a b p x calls.Out = refl
-fills_by_same v w a b p x calls.Drop = refl
-fills_by_same v w a b p x calls.Send = refl
-fills_by_same v w a b p x calls.Receive = refl
-fills_by_same v w a b p x calls.Move = refl
-fills_by_same v w a b p x calls.Unknown = refl
+fills_by_same v w a b p x _ = refl
 
 made_same : (v w : View) (a b : Addresses) (p : Pid) (n : ℕ) (c : Reply) (o : Option PlainProcess) → holders (made v a p n c o) ≡ holders (made w b p n c o)
-made_same v w a b p n reply.Done (Some x) = fills_by_same v w a b p x (calls.call_number n)
-made_same v w a b p n reply.Done None = refl
-made_same v w a b p n reply.NoLink o = refl
-made_same v w a b p n reply.TableFull o = refl
-made_same v w a b p n reply.BadKind o = refl
-made_same v w a b p n reply.BadRange o = refl
-made_same v w a b p n reply.NoRight o = refl
-made_same v w a b p n reply.TooLong o = refl
-made_same v w a b p n reply.Gone o = refl
-made_same v w a b p n reply.NotCopyable o = refl
+made_same v w a b p n Reply.Done (Some x) = fills_by_same v w a b p x (calls.call_number n)
+made_same v w a b p n Reply.Done None = refl
+made_same v w a b p n _ o = refl
 
 -- links that are received
 links_same : (a b : Addresses) (p : Pid) (id : MsgId) (n : ℕ) (slots : List (Option PlainLink)) (ls : List PlainLink) → holders (receives_links a p id n slots ls) ≡ holders (receives_links b p id n slots ls)
@@ -124,20 +81,8 @@ links_same a b p id n slots (l ∷ ls) =
     (fills_same p (first_empty slots) (a (Enclosed id n)) (b (Enclosed id n))) (links_same a b p id (n + 1) (slot_after slots l (first_empty slots)) ls)
 
 receives_what_same : (a b : Addresses) (p : Pid) (id : MsgId) (x : PlainProcess) (u : PlainWhat) → holders (receives_what a p id x u) ≡ holders (receives_what b p id x u)
-receives_what_same a b p id x (what.User c h d e) = links_same a b p id 0 x.links e
-receives_what_same a b p id x what.Stop = refl
-receives_what_same a b p id x what.Resume = refl
-receives_what_same a b p id x what.Kill = refl
-receives_what_same a b p id x (what.Read c d) = refl
-receives_what_same a b p id x (what.Write c d) = refl
-receives_what_same a b p id x (what.Block c) = refl
-receives_what_same a b p id x what.Written = refl
-receives_what_same a b p id x what.Gone = refl
-receives_what_same a b p id x (what.Create c d) = refl
-receives_what_same a b p id x (what.Created c) = refl
-receives_what_same a b p id x what.NoRoom = refl
-receives_what_same a b p id x (what.Move c) = refl
-receives_what_same a b p id x (what.Moved c) = refl
+receives_what_same a b p id x (PlainWhat.User c h d e) = links_same a b p id 0 x.links e
+receives_what_same a b p id x _ = refl
 
 receives_same : (a b : Addresses) (p : Pid) (id : MsgId) (o : Option PlainProcess) (m : Option PlainMessage) → holders (addresses.receives a p id o m) ≡ holders (addresses.receives b p id o m)
 receives_same a b p id None m = refl
@@ -151,20 +96,9 @@ lands_same v w a b p (Some (pieces.Done c x)) = refl
 lands_same v w a b p (Some (pieces.Next request x)) = refl
 
 serves_what_same : (v w : View) (a b : Addresses) (id : MsgId) (m : PlainMessage) (x : PlainProcess) (u : PlainWhat) → holders (serves_what v a id m x u) ≡ holders (serves_what w b id m x u)
-serves_what_same v w a b id m x (what.User c h d e) = refl
-serves_what_same v w a b id m x what.Stop = refl
-serves_what_same v w a b id m x what.Resume = refl
-serves_what_same v w a b id m x what.Kill = refl
-serves_what_same v w a b id m x (what.Read c d) = refl
-serves_what_same v w a b id m x (what.Write c d) = refl
-serves_what_same v w a b id m x (what.Block c) = lands_same v w a b m.to (pieces.lands m.to x m x.status)
-serves_what_same v w a b id m x what.Written = lands_same v w a b m.to (pieces.lands m.to x m x.status)
-serves_what_same v w a b id m x what.Gone = refl
-serves_what_same v w a b id m x (what.Create c d) = refl
-serves_what_same v w a b id m x (what.Created c) = refl
-serves_what_same v w a b id m x what.NoRoom = refl
-serves_what_same v w a b id m x (what.Move c) = refl
-serves_what_same v w a b id m x (what.Moved c) = refl
+serves_what_same v w a b id m x (PlainWhat.Block c) = lands_same v w a b m.to (pieces.lands m.to x m x.status)
+serves_what_same v w a b id m x PlainWhat.Written = lands_same v w a b m.to (pieces.lands m.to x m x.status)
+serves_what_same v w a b id m x _ = refl
 
 serves_alive_same : (v w : View) (a b : Addresses) (id : MsgId) (m : PlainMessage) (o : Option PlainProcess) → holders (addresses.serves_alive v a id m o) ≡ holders (addresses.serves_alive w b id m o)
 serves_alive_same v w a b id m None = refl
@@ -180,20 +114,8 @@ child_same a b child id n [] = refl
 child_same a b child id n (l ∷ ls) = ap (λ (hs : List Holder). Slot child n ∷ hs) (child_same a b child id (n + 1) ls)
 
 creates_what_same : (a b : Addresses) (id : MsgId) (child : Pid) (u : PlainWhat) → holders (creates_what a id child u) ≡ holders (creates_what b id child u)
-creates_what_same a b id child (what.User c h d e) = refl
-creates_what_same a b id child what.Stop = refl
-creates_what_same a b id child what.Resume = refl
-creates_what_same a b id child what.Kill = refl
-creates_what_same a b id child (what.Read c d) = refl
-creates_what_same a b id child (what.Write c d) = refl
-creates_what_same a b id child (what.Block c) = refl
-creates_what_same a b id child what.Written = refl
-creates_what_same a b id child what.Gone = refl
-creates_what_same a b id child (what.Create c d) = child_same a b child id 0 d
-creates_what_same a b id child (what.Created c) = refl
-creates_what_same a b id child what.NoRoom = refl
-creates_what_same a b id child (what.Move c) = refl
-creates_what_same a b id child (what.Moved c) = refl
+creates_what_same a b id child (PlainWhat.Create c d) = child_same a b child id 0 d
+creates_what_same a b id child _ = refl
 
 creates_same : (v w : View) (a b : Addresses) (id : MsgId) (child : Pid) (o : Option PlainMessage) → holders (addresses.creates v a id child o) ≡ holders (addresses.creates w b id child o)
 creates_same v w a b id child None = refl
@@ -211,49 +133,21 @@ finds_same a b sent names (operation ∷ name) board.BadRequest = refl
 
 keeps_same : (a b : Addresses) (id : MsgId) (names : List NamedLink) (k : board.Answer) → holders (board_keeps a id names k) ≡ holders (board_keeps b id names k)
 keeps_same a b id names board.Registered = refl
-keeps_same a b id names (board.Found link) = refl
-keeps_same a b id names board.Unknown = refl
-keeps_same a b id names board.Taken = refl
-keeps_same a b id names board.BadLink = refl
-keeps_same a b id names board.BadRequest = refl
+keeps_same a b id names _ = refl
 
 board_takes_same : (s : OneKernel) (v w : View) (a b : Addresses) (id : MsgId) (u : PlainWhat) → holders (board_takes s v a id u) ≡ holders (board_takes s w b id u)
-board_takes_same s v w a b id (what.User code channel body []) = refl
-board_takes_same s v w a b id (what.User code channel body (l ∷ ls)) =
+board_takes_same s v w a b id (PlainWhat.User code channel body []) = refl
+board_takes_same s v w a b id (PlainWhat.User code channel body (l ∷ ls)) =
     let sent = id_of switchboard s.switchboard.sent in
     let asked = board.asks s.switchboard.names body ls in
     ap (λ (hs : List Holder). Receiver sent ∷ Sender sent ∷ hs)
     (both_same (board_finds a sent s.switchboard.names body asked.answer) (board_finds b sent s.switchboard.names body asked.answer) (board_keeps a id s.switchboard.names asked.answer) (board_keeps b id s.switchboard.names asked.answer)
     (finds_same a b sent s.switchboard.names body asked.answer) (keeps_same a b id s.switchboard.names asked.answer))
-board_takes_same s v w a b id what.Stop = refl
-board_takes_same s v w a b id what.Resume = refl
-board_takes_same s v w a b id what.Kill = refl
-board_takes_same s v w a b id (what.Read c d) = refl
-board_takes_same s v w a b id (what.Write c d) = refl
-board_takes_same s v w a b id (what.Block c) = refl
-board_takes_same s v w a b id what.Written = refl
-board_takes_same s v w a b id what.Gone = refl
-board_takes_same s v w a b id (what.Create c d) = refl
-board_takes_same s v w a b id (what.Created c) = refl
-board_takes_same s v w a b id what.NoRoom = refl
-board_takes_same s v w a b id (what.Move c) = refl
-board_takes_same s v w a b id (what.Moved c) = refl
+board_takes_same s v w a b id _ = refl
 
 tells_same : (v w : View) (a b : Addresses) (id : MsgId) (code : ℕ) (sent : PlainMessage) (u : PlainWhat) → holders (manager_tells v a id code sent u) ≡ holders (manager_tells w b id code sent u)
-tells_same v w a b id code sent (what.User c h d e) = refl
-tells_same v w a b id code sent what.Stop = refl
-tells_same v w a b id code sent what.Resume = refl
-tells_same v w a b id code sent what.Kill = refl
-tells_same v w a b id code sent (what.Read c d) = refl
-tells_same v w a b id code sent (what.Write c d) = refl
-tells_same v w a b id code sent (what.Block c) = refl
-tells_same v w a b id code sent what.Written = refl
-tells_same v w a b id code sent what.Gone = refl
-tells_same v w a b id code sent (what.Create c d) = ap (λ (hs : List Holder). Receiver sent.id ∷ Sender sent.id ∷ Answer sent.id.n ∷ hs) (enclosed_same a b sent.id id 0 1 d)
-tells_same v w a b id code sent (what.Created c) = refl
-tells_same v w a b id code sent what.NoRoom = refl
-tells_same v w a b id code sent (what.Move c) = refl
-tells_same v w a b id code sent (what.Moved c) = refl
+tells_same v w a b id code sent (PlainWhat.Create c d) = ap (λ (hs : List Holder). Receiver sent.id ∷ Sender sent.id ∷ Answer sent.id.n ∷ hs) (enclosed_same a b sent.id id 0 1 d)
+tells_same v w a b id code sent _ = refl
 
 manager_sends_same : (v w : View) (a b : Addresses) (id : MsgId) (code : ℕ) (o : Option PlainMessage) → holders (manager_sends v a id code o) ≡ holders (manager_sends w b id code o)
 manager_sends_same v w a b id code None = refl
@@ -264,34 +158,34 @@ manager_answers_same v w a b n None = refl
 manager_answers_same v w a b n (Some sent) = refl
 
 manager_takes_same : (s : OneKernel) (v w : View) (a b : Addresses) (m : PlainMessage) (u : PlainWhat) (o : Option manage.Took) → holders (manager_takes s v a m u o) ≡ holders (manager_takes s w b m u o)
-manager_takes_same s v w a b m (what.User c h d e) None = refl
-manager_takes_same s v w a b m what.Stop None = refl
-manager_takes_same s v w a b m what.Resume None = refl
-manager_takes_same s v w a b m what.Kill None = refl
-manager_takes_same s v w a b m (what.Read c d) None = refl
-manager_takes_same s v w a b m (what.Write c d) None = refl
-manager_takes_same s v w a b m (what.Block c) None = refl
-manager_takes_same s v w a b m what.Written None = refl
-manager_takes_same s v w a b m what.Gone None = refl
-manager_takes_same s v w a b m (what.Create c d) None = refl
-manager_takes_same s v w a b m (what.Created c) None = refl
-manager_takes_same s v w a b m what.NoRoom None = refl
-manager_takes_same s v w a b m (what.Move c) None = refl
-manager_takes_same s v w a b m (what.Moved c) None = refl
-manager_takes_same s v w a b m (what.User c h d e) (Some t) = manager_sends_same v w a b m.id c t.message
-manager_takes_same s v w a b m what.Stop (Some t) = manager_answers_same v w a b m.id.n t.message
-manager_takes_same s v w a b m what.Resume (Some t) = manager_answers_same v w a b m.id.n t.message
-manager_takes_same s v w a b m what.Kill (Some t) = manager_answers_same v w a b m.id.n t.message
-manager_takes_same s v w a b m (what.Read c d) (Some t) = manager_answers_same v w a b m.id.n t.message
-manager_takes_same s v w a b m (what.Write c d) (Some t) = manager_answers_same v w a b m.id.n t.message
-manager_takes_same s v w a b m (what.Block c) (Some t) = manager_answers_same v w a b m.id.n t.message
-manager_takes_same s v w a b m what.Written (Some t) = manager_answers_same v w a b m.id.n t.message
-manager_takes_same s v w a b m what.Gone (Some t) = manager_answers_same v w a b m.id.n t.message
-manager_takes_same s v w a b m (what.Create c d) (Some t) = manager_answers_same v w a b m.id.n t.message
-manager_takes_same s v w a b m (what.Created c) (Some t) = ap (λ (hs : List Holder). Child (length s.manager.children + 1) ∷ hs) (manager_answers_same v w a b m.id.n t.message)
-manager_takes_same s v w a b m what.NoRoom (Some t) = manager_answers_same v w a b m.id.n t.message
-manager_takes_same s v w a b m (what.Move c) (Some t) = manager_answers_same v w a b m.id.n t.message
-manager_takes_same s v w a b m (what.Moved c) (Some t) = manager_answers_same v w a b m.id.n t.message
+manager_takes_same s v w a b m (PlainWhat.User c h d e) None = refl
+manager_takes_same s v w a b m PlainWhat.Stop None = refl
+manager_takes_same s v w a b m PlainWhat.Resume None = refl
+manager_takes_same s v w a b m PlainWhat.Kill None = refl
+manager_takes_same s v w a b m (PlainWhat.Read c d) None = refl
+manager_takes_same s v w a b m (PlainWhat.Write c d) None = refl
+manager_takes_same s v w a b m (PlainWhat.Block c) None = refl
+manager_takes_same s v w a b m PlainWhat.Written None = refl
+manager_takes_same s v w a b m PlainWhat.Gone None = refl
+manager_takes_same s v w a b m (PlainWhat.Create c d) None = refl
+manager_takes_same s v w a b m (PlainWhat.Created c) None = refl
+manager_takes_same s v w a b m PlainWhat.NoRoom None = refl
+manager_takes_same s v w a b m (PlainWhat.Move c) None = refl
+manager_takes_same s v w a b m (PlainWhat.Moved c) None = refl
+manager_takes_same s v w a b m (PlainWhat.User c h d e) (Some t) = manager_sends_same v w a b m.id c t.message
+manager_takes_same s v w a b m PlainWhat.Stop (Some t) = manager_answers_same v w a b m.id.n t.message
+manager_takes_same s v w a b m PlainWhat.Resume (Some t) = manager_answers_same v w a b m.id.n t.message
+manager_takes_same s v w a b m PlainWhat.Kill (Some t) = manager_answers_same v w a b m.id.n t.message
+manager_takes_same s v w a b m (PlainWhat.Read c d) (Some t) = manager_answers_same v w a b m.id.n t.message
+manager_takes_same s v w a b m (PlainWhat.Write c d) (Some t) = manager_answers_same v w a b m.id.n t.message
+manager_takes_same s v w a b m (PlainWhat.Block c) (Some t) = manager_answers_same v w a b m.id.n t.message
+manager_takes_same s v w a b m PlainWhat.Written (Some t) = manager_answers_same v w a b m.id.n t.message
+manager_takes_same s v w a b m PlainWhat.Gone (Some t) = manager_answers_same v w a b m.id.n t.message
+manager_takes_same s v w a b m (PlainWhat.Create c d) (Some t) = manager_answers_same v w a b m.id.n t.message
+manager_takes_same s v w a b m (PlainWhat.Created c) (Some t) = ap (λ (hs : List Holder). Child (length s.manager.children + 1) ∷ hs) (manager_answers_same v w a b m.id.n t.message)
+manager_takes_same s v w a b m PlainWhat.NoRoom (Some t) = manager_answers_same v w a b m.id.n t.message
+manager_takes_same s v w a b m (PlainWhat.Move c) (Some t) = manager_answers_same v w a b m.id.n t.message
+manager_takes_same s v w a b m (PlainWhat.Moved c) (Some t) = manager_answers_same v w a b m.id.n t.message
 
 either_same : (c : Bool) (xs ys zs ws : List Gets) → holders xs ≡ holders ys → holders zs ≡ holders ws → holders (if c then xs else zs) ≡ holders (if c then ys else ws)
 either_same true xs ys zs ws e f = e
@@ -305,17 +199,10 @@ takes_same s v w a b id (Some m) =
 
 -- a row a label
 pub gives_same : (s : OneKernel) (v w : View) (a b : Addresses) (l : Label) → holders (gives s v a l) ≡ holders (gives s w b l)
-gives_same s v w a b (label.Ran p k) = refl
-gives_same s v w a b (label.Call p n c) = made_same v w a b p n c (kernel.running s p)
-gives_same s v w a b (label.Send p id) = sends_same s v w a b p id (kernel.running s p)
-gives_same s v w a b (label.Wait p) = refl
-gives_same s v w a b (label.Out p x) = refl
-gives_same s v w a b (label.End p y) = refl
-gives_same s v w a b (label.Receive p id) = receives_same a b p id (kernel.alive (s.processes p)) (s.bag id)
-gives_same s v w a b (label.Refuse p id c) = refl
-gives_same s v w a b (label.Dropped id) = refl
-gives_same s v w a b (label.Served id) = serves_same s v w a b id (s.bag id)
-gives_same s v w a b (label.Gone id) = refl
-gives_same s v w a b (label.Took id) = takes_same s v w a b id (s.bag id)
-gives_same s v w a b (label.Created id child) = creates_same v w a b id child (s.bag id)
-gives_same s v w a b (label.NoSpace id f g) = refl
+gives_same s v w a b (Label.Call p n c) = made_same v w a b p n c (kernel.running s p)
+gives_same s v w a b (Label.Send p id) = sends_same s v w a b p id (kernel.running s p)
+gives_same s v w a b (Label.Receive p id) = receives_same a b p id (kernel.alive (s.processes p)) (s.bag id)
+gives_same s v w a b (Label.Served id) = serves_same s v w a b id (s.bag id)
+gives_same s v w a b (Label.Took id) = takes_same s v w a b id (s.bag id)
+gives_same s v w a b (Label.Created id child) = creates_same v w a b id child (s.bag id)
+gives_same s v w a b _ = refl

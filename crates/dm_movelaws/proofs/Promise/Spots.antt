@@ -1,23 +1,7 @@
 -- A message that stands somewhere is left standing by each line that is no label, unless it is the one that the line takes.
-use Rattle.std.proofs.Common.{◌≡◌, ℕ, ◌+◌, ◌≤◌, ◌==◌, ◌&&◌, false, List, [], ◌∷◌, ◌++◌, refl, ap, ◌∙◌, sym, subst, inl, inr, arith}
-use Rattle.std.specs.Prelude.{⊤}
-use Rattle.std.proofs.lemmas.Bool.{cases_Bool}
-use Rattle.dm_link.specs.declared.Pid.{Pid}
-use Rattle.dm_link.specs.Names.{pid_eq}
-use Rattle.dm_message.specs.declared.MsgId.{MsgId}
-use Rattle.dm_message.specs.Ids.{id_eq}
-use Rattle.dm_onekernel.specs.declared.label.Label.{Label}
-use Rattle.dm_laws.proofs.Equal.{pid_eq-is}
-use Rattle.dm_line.specs.declared.line.Line.{Line}
-use Rattle.dm_line.specs.declared.line.Line.TheVariants as line
-use Rattle.dm_line.specs.declared.line.Stage.TheVariants as stage
-use Rattle.dm_rule.specs.View.{View, view_after, handled, handled_first, released, receiver_of}
-use Rattle.dm_rule.specs.Spots.{Spot, Queue, Held, Inbox, Untaken, times, ids_at, standing}
-use Rattle.dm_rule.proofs.Lines.{at_machine_at, at_machine_off, at_record_off, eq_is, parts}
-use Rattle.dm_rule.proofs.Standing.{times-append}
-use Rattle.dm_rule.proofs.Moves.Lists.{first_off}
-use Rattle.dm_rule.proofs.Moves.Rows.{home_again, home_off, proto_off, frozen_off, accepted_off, state_off, memory_off, lacks_off, left_off, restarted_off}
-use Rattle.dm_rule.proofs.Phases.Lines.{handled_spots, queued_spots, held_spots, forwarded_spots}
+use Rattle.dm_movelaws.proofs.Names.{◌≡◌, ℕ, ◌+◌, ◌≤◌, ◌==◌, ◌&&◌, false, List, [], ◌∷◌, ◌++◌, refl, ap, ◌∙◌, sym, subst, inl, inr, arith, ⊤, cases_Bool, Pid, pid_eq, MsgId, id_eq, Label, pid_eq-is, Line, Stage, View, view_after, handled}
+use Rattle.dm_movelaws.proofs.Names.{handled_first, released, receiver_of, Spot, Queue, Held, Inbox, Untaken, times, ids_at, standing, at_machine_at, at_machine_off, at_record_off, eq_is, parts, times-append, first_off, home_again}
+use Rattle.dm_movelaws.proofs.Names.{home_off, proto_off, frozen_off, accepted_off, state_off, memory_off, lacks_off, left_off, restarted_off, handled_spots, queued_spots, held_spots, forwarded_spots}
 
 pub record Stands (v : View) (j : MsgId) : Type 0 where
   pub spot : Spot
@@ -44,36 +28,30 @@ handled_stands v i j e h = stands_as v (handled v i) j (λ z. handled_spots v i 
 
 -- what a line takes, where it takes something, is another message
 abbrev pub Spares : MsgId → View → Line → Type 0
-Spares j v (line.Label l) = ⊤
-Spares j v (line.Idle m) = ⊤
-Spares j v (line.Old a b n) = ⊤
-Spares j v line.Nothing = ⊤
-Spares j v (line.Resent m n) = ⊤
-Spares j v (line.NoChild p) = ⊤
-Spares j v (line.Pinned p) = ⊤
-Spares j v (line.Migration stage.Asked p) = ⊤
-Spares j v (line.Migration stage.Left p) = ⊤
-Spares j v (line.Queued i) = id_eq i j ≡ false
-Spares j v (line.Held i) = id_eq i j ≡ false
-Spares j v (line.Forwarded i m) = id_eq i j ≡ false
-Spares j v (line.Updated i n) = id_eq i j ≡ false
-Spares j v (line.Here i) = id_eq i j ≡ false
-Spares j v (line.NoMove i) = id_eq i j ≡ false
-Spares j v (line.Proto i) = id_eq i j ≡ false
-Spares j v (line.Migration stage.Frozen p) = Front v j
-Spares j v (line.Migration stage.Accepted p) = Front v j
-Spares j v (line.Migration stage.StateTaken p) = Front v j
-Spares j v (line.Migration stage.MemoryTaken p) = Front v j
-Spares j v (line.Migration stage.Restarted p) = Front v j
-Spares j v (line.Lacks p a b) = Front v j
-Spares j v (line.Stays p) = Front v j
-Spares j v (line.Early a b n) = ⊥
-Spares j v (line.Acked a b n) = ⊥
-Spares j v (line.SentOn p n) = ⊥
-Spares j v (line.Head s) = ⊥
-Spares j v (line.Put a b i k q) = ⊥
-Spares j v (line.Packet a b k l) = ⊥
-Spares j v (line.Taken a b n) = ⊥
+Spares j v (Line.Migration Stage.Asked p) = ⊤
+Spares j v (Line.Migration Stage.Left p) = ⊤
+Spares j v (Line.Queued i) = id_eq i j ≡ false
+Spares j v (Line.Held i) = id_eq i j ≡ false
+Spares j v (Line.Forwarded i m) = id_eq i j ≡ false
+Spares j v (Line.Updated i n) = id_eq i j ≡ false
+Spares j v (Line.Here i) = id_eq i j ≡ false
+Spares j v (Line.NoMove i) = id_eq i j ≡ false
+Spares j v (Line.Proto i) = id_eq i j ≡ false
+Spares j v (Line.Migration Stage.Frozen p) = Front v j
+Spares j v (Line.Migration Stage.Accepted p) = Front v j
+Spares j v (Line.Migration Stage.StateTaken p) = Front v j
+Spares j v (Line.Migration Stage.MemoryTaken p) = Front v j
+Spares j v (Line.Migration Stage.Restarted p) = Front v j
+Spares j v (Line.Lacks p a b) = Front v j
+Spares j v (Line.Stays p) = Front v j
+Spares j v (Line.Early a b n) = ⊥
+Spares j v (Line.Acked a b n) = ⊥
+Spares j v (Line.SentOn p n) = ⊥
+Spares j v (Line.Head s) = ⊥
+Spares j v (Line.Put a b i k q) = ⊥
+Spares j v (Line.Packet a b k l) = ⊥
+Spares j v (Line.Taken a b n) = ⊥
+Spares j v _ = ⊤
 
 -- held messages come to the front of the inbox
 both_there : (j : MsgId) (xs ys : List MsgId) → 1 ≤ times j xs + times j ys → 1 ≤ times j (xs ++ ys)
@@ -119,34 +97,28 @@ back_stands v p j f h =
     released_at u p j k.spot k.least
 
 -- lines that are no steps
-pub line_stands : (v : View) (j : MsgId) (l : Line) → Spares j v l → ((x : Label) → l ≡ line.Label x → Stands (view_after v l) j) → Stands v j → Stands (view_after v l) j
-line_stands v j (line.Label x) e step_ h = step_ x refl
-line_stands v j (line.Idle m) e step_ h = h
-line_stands v j (line.Old a b n) e step_ h = h
-line_stands v j line.Nothing e step_ h = h
-line_stands v j (line.Resent m n) e step_ h = h
-line_stands v j (line.NoChild p) e step_ h = h
-line_stands v j (line.Pinned p) e step_ h = h
-line_stands v j (line.Migration stage.Asked p) e step_ h = h
-line_stands v j (line.Migration stage.Left p) e step_ h = stands_off v (view_after v (line.Migration stage.Left p)) j (λ z. left_off v p z) h
-line_stands v j (line.Queued i) e step_ h = stands_as (handled v i) (view_after v (line.Queued i)) j (λ z. queued_spots (handled v i) i j (receiver_of (v.told i)) e z) (handled_stands v i j e h)
-line_stands v j (line.Held i) e step_ h = stands_as (handled v i) (view_after v (line.Held i)) j (λ z. held_spots (handled v i) i j (receiver_of (v.told i)) e z) (handled_stands v i j e h)
-line_stands v j (line.Forwarded i m) e step_ h = stands_as (handled v i) (view_after v (line.Forwarded i m)) j (λ z. forwarded_spots (handled v i) j (receiver_of (v.told i)) z) (handled_stands v i j e h)
-line_stands v j (line.Updated i n) e step_ h = handled_stands v i j e h
-line_stands v j (line.Here i) e step_ h = handled_stands v i j e h
-line_stands v j (line.NoMove i) e step_ h = handled_stands v i j e h
-line_stands v j (line.Proto i) e step_ h = stands_off (handled v i) (view_after v (line.Proto i)) j (λ z. proto_off (handled v i) (v.told i) z) (handled_stands v i j e h)
-line_stands v j (line.Migration stage.Frozen p) e step_ h = stands_off (handled_first v) (view_after v (line.Migration stage.Frozen p)) j (λ z. frozen_off v p z) (first_stands v j e h)
-line_stands v j (line.Migration stage.Accepted p) e step_ h = stands_off (handled_first v) (view_after v (line.Migration stage.Accepted p)) j (λ z. accepted_off v p z) (first_stands v j e h)
-line_stands v j (line.Migration stage.StateTaken p) e step_ h = stands_off (handled_first v) (view_after v (line.Migration stage.StateTaken p)) j (λ z. state_off v p z) (first_stands v j e h)
-line_stands v j (line.Migration stage.MemoryTaken p) e step_ h = stands_off (handled_first v) (view_after v (line.Migration stage.MemoryTaken p)) j (λ z. memory_off v p z) (first_stands v j e h)
-line_stands v j (line.Migration stage.Restarted p) e step_ h = stands_off (released (home_again (handled_first v) p) p) (view_after v (line.Migration stage.Restarted p)) j (λ z. restarted_off v p z) (back_stands v p j e h)
-line_stands v j (line.Lacks p a b) e step_ h = stands_off (handled_first v) (view_after v (line.Lacks p a b)) j (λ z. lacks_off v p a b z) (first_stands v j e h)
-line_stands v j (line.Stays p) e step_ h = back_stands v p j e h
-line_stands v j (line.Early a b n) e step_ h = absurd e
-line_stands v j (line.Acked a b n) e step_ h = absurd e
-line_stands v j (line.SentOn p n) e step_ h = absurd e
-line_stands v j (line.Head s) e step_ h = absurd e
-line_stands v j (line.Put a b i k q) e step_ h = absurd e
-line_stands v j (line.Packet a b k l) e step_ h = absurd e
-line_stands v j (line.Taken a b n) e step_ h = absurd e
+pub line_stands : (v : View) (j : MsgId) (l : Line) → Spares j v l → ((x : Label) → l ≡ Line.Label x → Stands (view_after v l) j) → Stands v j → Stands (view_after v l) j
+line_stands v j (Line.Label x) e step_ h = step_ x refl
+line_stands v j (Line.Idle m) e step_ h = h
+line_stands v j (Line.Old a b n) e step_ h = h
+line_stands v j Line.Nothing e step_ h = h
+line_stands v j (Line.Resent m n) e step_ h = h
+line_stands v j (Line.NoChild p) e step_ h = h
+line_stands v j (Line.Pinned p) e step_ h = h
+line_stands v j (Line.Migration Stage.Asked p) e step_ h = h
+line_stands v j (Line.Migration Stage.Left p) e step_ h = stands_off v (view_after v (Line.Migration Stage.Left p)) j (λ z. left_off v p z) h
+line_stands v j (Line.Queued i) e step_ h = stands_as (handled v i) (view_after v (Line.Queued i)) j (λ z. queued_spots (handled v i) i j (receiver_of (v.told i)) e z) (handled_stands v i j e h)
+line_stands v j (Line.Held i) e step_ h = stands_as (handled v i) (view_after v (Line.Held i)) j (λ z. held_spots (handled v i) i j (receiver_of (v.told i)) e z) (handled_stands v i j e h)
+line_stands v j (Line.Forwarded i m) e step_ h = stands_as (handled v i) (view_after v (Line.Forwarded i m)) j (λ z. forwarded_spots (handled v i) j (receiver_of (v.told i)) z) (handled_stands v i j e h)
+line_stands v j (Line.Updated i n) e step_ h = handled_stands v i j e h
+line_stands v j (Line.Here i) e step_ h = handled_stands v i j e h
+line_stands v j (Line.NoMove i) e step_ h = handled_stands v i j e h
+line_stands v j (Line.Proto i) e step_ h = stands_off (handled v i) (view_after v (Line.Proto i)) j (λ z. proto_off (handled v i) (v.told i) z) (handled_stands v i j e h)
+line_stands v j (Line.Migration Stage.Frozen p) e step_ h = stands_off (handled_first v) (view_after v (Line.Migration Stage.Frozen p)) j (λ z. frozen_off v p z) (first_stands v j e h)
+line_stands v j (Line.Migration Stage.Accepted p) e step_ h = stands_off (handled_first v) (view_after v (Line.Migration Stage.Accepted p)) j (λ z. accepted_off v p z) (first_stands v j e h)
+line_stands v j (Line.Migration Stage.StateTaken p) e step_ h = stands_off (handled_first v) (view_after v (Line.Migration Stage.StateTaken p)) j (λ z. state_off v p z) (first_stands v j e h)
+line_stands v j (Line.Migration Stage.MemoryTaken p) e step_ h = stands_off (handled_first v) (view_after v (Line.Migration Stage.MemoryTaken p)) j (λ z. memory_off v p z) (first_stands v j e h)
+line_stands v j (Line.Migration Stage.Restarted p) e step_ h = stands_off (released (home_again (handled_first v) p) p) (view_after v (Line.Migration Stage.Restarted p)) j (λ z. restarted_off v p z) (back_stands v p j e h)
+line_stands v j (Line.Lacks p a b) e step_ h = stands_off (handled_first v) (view_after v (Line.Lacks p a b)) j (λ z. lacks_off v p a b z) (first_stands v j e h)
+line_stands v j (Line.Stays p) e step_ h = back_stands v p j e h
+line_stands v j _ e step_ h = absurd e

@@ -1,45 +1,13 @@
 -- A message that stands somewhere is left there by labels, puts and packets; what a process leaves behind goes on; and what is taken
 -- comes to an inbox.
-use Rattle.std.proofs.Common.{◌≡◌, ◌⊎◌, ℕ, ◌+◌, ◌≤◌, ◌==◌, ◌&&◌, Bool, true, false, not, filter, List, [], ◌∷◌, ◌++◌, refl, ap, ◌∙◌, sym, subst, inl, inr, arith}
-use Rattle.std.specs.Prelude.{if◌then◌else◌}
-use Rattle.std.specs.declared.option.Option.{Option}
-use Rattle.std.specs.declared.option.Option.TheVariants.{None, Some}
-use Rattle.std.proofs.lemmas.Bool.{cases_Bool, false≢true}
-use Rattle.dm_link.specs.declared.Pid.{Pid}
-use Rattle.dm_link.specs.Names.{pid_eq}
-use Rattle.dm_message.specs.declared.MsgId.{MsgId}
-use Rattle.dm_message.specs.declared.kind.MessageKind.{MessageKind}
-use Rattle.dm_message.specs.declared.kind.MessageKind.TheVariants as kind
-use Rattle.dm_message.specs.Ids.{id_eq}
-use Rattle.dm_onekernel.specs.declared.label.Label.{Label}
-use Rattle.dm_onekernel.specs.declared.label.Label.TheVariants as label
-use Rattle.dm_onekernel.specs.Kernel.{OneKernel}
-use Rattle.dm_onekernel.specs.Step as kernel
-use Rattle.dm_laws.proofs.Equal.{pid_eq-is, id_eq-is, id_eq-same}
-use Rattle.dm_schedule.specs.declared.Step.{Step}
-use Rattle.dm_schedule.specs.declared.Step.TheVariants as step
-use Rattle.dm_line.specs.declared.line.Line.{Line}
-use Rattle.dm_line.specs.declared.line.Line.TheVariants as line
-use Rattle.dm_line.specs.declared.line.Load.{Load}
-use Rattle.dm_line.specs.Sets.{at_record, without_id}
-use Rattle.dm_rule.specs.View.{View, Told, NothingElse, is_kernels, view_after, after_head, handled, handled_first, taken_id, receiver_of, held_for}
-use Rattle.dm_rule.specs.View as view
-use Rattle.dm_rule.specs.Point.{Point}
-use Rattle.dm_rule.specs.Spots.{Spot, Queue, Held, Inbox, Untaken, times, ids_at, standing}
-use Rattle.dm_rule.proofs.Bags.{out_of}
-use Rattle.dm_rule.proofs.Letters.{not_kernels, gone_in}
-use Rattle.dm_rule.proofs.Lines.{at_record_at, at_record_off, eq_is, not_true, pair_keeps, parts}
-use Rattle.dm_rule.proofs.Once.{one_of}
-use Rattle.dm_rule.proofs.Standing.{times-append}
-use Rattle.dm_rule.proofs.States.{PairsFit}
-use Rattle.dm_rule.proofs.Turns.{served_keeps, serving_off, created_off}
-use Rattle.dm_rule.proofs.Groups.{IsNetLine, early_off, acked_off, turn_off, tick_off, deliver_off, migrate_off}
-use Rattle.dm_rule.proofs.Moves.Lists.{emptied, both_lists, both_times}
+use Rattle.dm_movelaws.proofs.Names.{◌≡◌, ◌⊎◌, ℕ, ◌+◌, ◌≤◌, ◌==◌, ◌&&◌, Bool, true, false, not, filter, List, [], ◌∷◌, ◌++◌, refl, ap, ◌∙◌, sym, subst, inl, inr, arith, if◌then◌else◌, Option, None, Some, cases_Bool, false≢true, Pid, pid_eq}
+use Rattle.dm_movelaws.proofs.Names.{MsgId, MessageKind, id_eq, Label, OneKernel, pid_eq-is, id_eq-is, id_eq-same, Step, Line, Load, View, Told, NothingElse, is_kernels, view_after, after_head, handled, handled_first, taken_id, receiver_of}
+use Rattle.dm_movelaws.proofs.Names.{held_for, Point, Spot, Queue, Held, Inbox, Untaken, times, ids_at, standing, out_of, not_kernels, gone_in, at_record_at, at_record_off, eq_is, not_true, parts, one_of, times-append, PairsFit}
+use Rattle.dm_movelaws.proofs.Names.{served_keeps, serving_off, created_off, IsNetLine, early_off, acked_off, turn_off, tick_off, deliver_off, migrate_off, emptied, both_lists, both_times, handled_spots, dropped_spots, put_spots}
+use Rattle.dm_movelaws.proofs.Names.{taken_calm, put_spot, put_there, Sane, packet_off, received_spots, ended_off}
 use Rattle.dm_rule.proofs.Moves.Sent.{sent_off}
-use Rattle.dm_rule.proofs.Phases.Lines.{handled_spots, dropped_spots, record_times, without_times, put_spots}
-use Rattle.dm_rule.proofs.Phases.Net.{taken_calm}
-use Rattle.dm_rule.proofs.Phases.Put.{put_spot, put_there}
-use Rattle.dm_rule.proofs.Telling.{Sane}
+use Rattle.dm_onekernel.specs.Step as kernel
+use Rattle.dm_rule.specs.View as view
 use Rattle.dm_movelaws.proofs.Promise.Spots.{Stands, stands_as, stands_off, Front, first_stands}
 
 -- a label takes a message of the bag, which is no kernel's own
@@ -49,39 +17,24 @@ own_apart i j other own = not_true (id_eq i j) (λ f. false≢true (sym other �
 bag_apart : (pt : Point) (t : OneKernel) (l : Label) (i j : MsgId) → Sane pt → kernel.step pt.kernel l ≡ Some t → out_of l ≡ Some i → is_kernels j ≡ true → id_eq i j ≡ false
 bag_apart pt t l i j h is goes own = (let g = gone_in pt.kernel t l i is goes in own_apart i j (not_kernels h.r h.e pt.kernel i g.message g.there h.sound) own)
 
-ended_off : (v : View) (p : Pid) (z : Spot) → ids_at (view.ended v p) z ≡ ids_at v z
-ended_off v p (Queue m q) = refl
-ended_off v p (Held m q) = refl
-ended_off v p (Inbox m) = refl
-ended_off v p (Untaken a b) = refl
-
-received_spots : (v : View) (p : Pid) (i j : MsgId) → id_eq i j ≡ false → (z : Spot) → standing (record (view.serving v p) { queue = at_record v.queue v.acting p (without_id i (v.queue v.acting p)) }) j z ≡ standing v j z
-received_spots v p i j e (Queue m q) = record_times v.queue v.acting p (without_id i (v.queue v.acting p)) j (without_times i j (v.queue v.acting p) e) m q
-received_spots v p i j e (Held m q) = refl
-received_spots v p i j e (Inbox m) = refl
-received_spots v p i j e (Untaken a b) = refl
-
-label_spots : (pt : Point) (t : OneKernel) (l : Label) (j : MsgId) → Sane pt → kernel.step pt.kernel l ≡ Some t → is_kernels j ≡ true → (z : Spot) → standing (view_after pt.view (line.Label l)) j z ≡ standing pt.view j z
-label_spots pt t (label.Ran p k) j h is own z = ap (times j) (serving_off pt.view p z)
-label_spots pt t (label.Call p n c) j h is own z = refl
-label_spots pt t (label.Send p id) j h is own z = refl
-label_spots pt t (label.Wait p) j h is own z = refl
-label_spots pt t (label.Out p w) j h is own z = refl
-label_spots pt t (label.End p y) j h is own z = ap (times j) (ended_off pt.view p z)
-label_spots pt t (label.Receive p id) j h is own z = received_spots pt.view p id j (bag_apart pt t (label.Receive p id) id j h is refl own) z
-label_spots pt t (label.Refuse p id c) j h is own z = ap (times j) (serving_off pt.view p z)
-label_spots pt t (label.Dropped id) j h is own z =
-    let e = bag_apart pt t (label.Dropped id) id j h is refl own in
+label_spots : (pt : Point) (t : OneKernel) (l : Label) (j : MsgId) → Sane pt → kernel.step pt.kernel l ≡ Some t → is_kernels j ≡ true → (z : Spot) → standing (view_after pt.view (Line.Label l)) j z ≡ standing pt.view j z
+label_spots pt t (Label.Ran p k) j h is own z = ap (times j) (serving_off pt.view p z)
+label_spots pt t (Label.End p y) j h is own z = ap (times j) (ended_off pt.view p z)
+label_spots pt t (Label.Receive p id) j h is own z = received_spots pt.view p id j (bag_apart pt t (Label.Receive p id) id j h is refl own) z
+label_spots pt t (Label.Refuse p id c) j h is own z = ap (times j) (serving_off pt.view p z)
+label_spots pt t (Label.Dropped id) j h is own z =
+    let e = bag_apart pt t (Label.Dropped id) id j h is refl own in
     dropped_spots (handled pt.view id) id j (receiver_of (pt.view.told id)) e z ∙ handled_spots pt.view id j e z
-label_spots pt t (label.Served id) j h is own z =
-    ap (times j) ((served_keeps (handled pt.view id) (pt.view.told id)).0 z) ∙ handled_spots pt.view id j (bag_apart pt t (label.Served id) id j h is refl own) z
-label_spots pt t (label.Gone id) j h is own z = handled_spots pt.view id j (bag_apart pt t (label.Gone id) id j h is refl own) z
-label_spots pt t (label.Took id) j h is own z = handled_spots pt.view id j (bag_apart pt t (label.Took id) id j h is refl own) z
-label_spots pt t (label.Created id p) j h is own z = ap (times j) (created_off pt.view id p z) ∙ handled_spots pt.view id j (bag_apart pt t (label.Created id p) id j h is refl own) z
-label_spots pt t (label.NoSpace id a b) j h is own z = handled_spots pt.view id j (bag_apart pt t (label.NoSpace id a b) id j h is refl own) z
+label_spots pt t (Label.Served id) j h is own z =
+    ap (times j) ((served_keeps (handled pt.view id) (pt.view.told id)).0 z) ∙ handled_spots pt.view id j (bag_apart pt t (Label.Served id) id j h is refl own) z
+label_spots pt t (Label.Gone id) j h is own z = handled_spots pt.view id j (bag_apart pt t (Label.Gone id) id j h is refl own) z
+label_spots pt t (Label.Took id) j h is own z = handled_spots pt.view id j (bag_apart pt t (Label.Took id) id j h is refl own) z
+label_spots pt t (Label.Created id p) j h is own z = ap (times j) (created_off pt.view id p z) ∙ handled_spots pt.view id j (bag_apart pt t (Label.Created id p) id j h is refl own) z
+label_spots pt t (Label.NoSpace id a b) j h is own z = handled_spots pt.view id j (bag_apart pt t (Label.NoSpace id a b) id j h is refl own) z
+label_spots pt t _ j h is own z = refl
 
-pub label_stands : (pt : Point) (t : OneKernel) (l : Label) (j : MsgId) → Sane pt → kernel.step pt.kernel l ≡ Some t → is_kernels j ≡ true → Stands pt.view j → Stands (view_after pt.view (line.Label l)) j
-label_stands pt t l j h is own s = stands_as pt.view (view_after pt.view (line.Label l)) j (label_spots pt t l j h is own) s
+pub label_stands : (pt : Point) (t : OneKernel) (l : Label) (j : MsgId) → Sane pt → kernel.step pt.kernel l ≡ Some t → is_kernels j ≡ true → Stands pt.view j → Stands (view_after pt.view (Line.Label l)) j
+label_stands pt t l j h is own s = stands_as pt.view (view_after pt.view (Line.Label l)) j (label_spots pt t l j h is own) s
 
 -- puts and packets
 pub put_this : (v : View) (a b : ℕ) (i : MsgId) (k : MessageKind) (q : Pid) → PairsFit v → Stands (view.after_put v a b i k q) i
@@ -93,14 +46,8 @@ put_stands v a b i k q j fits h = elim (cases_Bool (id_eq i j)) [
   | inr apart ↦ stands_as v (view.after_put v a b i k q) j (λ z. put_spots v a b i j k q fits apart z) h
 ]
 
-packet_off : (v : View) (a b k : ℕ) (l : Load) (z : Spot) → ids_at (view_after v (line.Packet a b k l)) z ≡ ids_at v z
-packet_off v a b k l (Queue m p) = refl
-packet_off v a b k l (Held m p) = refl
-packet_off v a b k l (Inbox m) = refl
-packet_off v a b k l (Untaken c d) = pair_keeps v.pair a b _ refl c d
-
-pub packet_stands : (v : View) (a b k : ℕ) (l : Load) (j : MsgId) → Stands v j → Stands (view_after v (line.Packet a b k l)) j
-packet_stands v a b k l j h = stands_off v (view_after v (line.Packet a b k l)) j (packet_off v a b k l) h
+pub packet_stands : (v : View) (a b k : ℕ) (l : Load) (j : MsgId) → Stands v j → Stands (view_after v (Line.Packet a b k l)) j
+packet_stands v a b k l j h = stands_off v (view_after v (Line.Packet a b k l)) j (packet_off v a b k l) h
 
 -- what a process leaves behind: the message still stands somewhere, or goes on
 either_list : (v : View) (p : Pid) (j : MsgId) → 1 ≤ standing v j (Queue v.acting p) + standing v j (Held v.acting p) → 1 ≤ times j (both_lists v p)
@@ -124,11 +71,11 @@ emptied_at v p j (Held m q) e = elim (cases_Bool ((v.acting == m) && pid_eq p q)
 emptied_at v p j (Inbox m) e = inl (record { spot = Inbox m; least = e })
 emptied_at v p j (Untaken a b) e = inl (record { spot = Untaken a b; least = e })
 
-pub sent_stands : (v : View) (p : Pid) (n : ℕ) (j : MsgId) → Front v j → Stands v j → Stands (view_after v (line.SentOn p n)) j ⊎ (1 ≤ times j (both_lists v p))
+pub sent_stands : (v : View) (p : Pid) (n : ℕ) (j : MsgId) → Front v j → Stands v j → Stands (view_after v (Line.SentOn p n)) j ⊎ (1 ≤ times j (both_lists v p))
 sent_stands v p n j f h =
     let k = first_stands v j f h in
     elim (emptied_at (handled_first v) p j k.spot k.least) [
-      | inl there ↦ inl (stands_off (emptied (handled_first v) p) (view_after v (line.SentOn p n)) j (sent_off v p n) there)
+      | inl there ↦ inl (stands_off (emptied (handled_first v) p) (view_after v (Line.SentOn p n)) j (sent_off v p n) there)
       | inr on ↦ inr on
     ]
 
@@ -141,19 +88,19 @@ held_by v i (Some q) p e =
     let one : one_of i i ≡ 1 = ap (λ (c : Bool). if c then 1 else 0) (id_eq-same i) in
     record { spot = Held v.acting q; least = omega (arith, f, g, one) }
 
-pub held_this : (v : View) (i : MsgId) (t : Told) → v.told i ≡ Some t → Stands (view_after v (line.Held i)) i
+pub held_this : (v : View) (i : MsgId) (t : Told) → v.told i ≡ Some t → Stands (view_after v (Line.Held i)) i
 held_this v i t e = held_by (handled v i) i (receiver_of (v.told i)) t.receiver (ap receiver_of e)
 
 -- heads
 pub head_stands : (v : View) (d : Step) (j : MsgId) → Stands v j → Stands (after_head v d) j
-head_stands v (step.Turn m) j h = stands_off v (after_head v (step.Turn m)) j (λ z. turn_off v m z) h
-head_stands v (step.Tick m) j h = stands_off v (after_head v (step.Tick m)) j (λ z. tick_off v m z) h
-head_stands v (step.Deliver a b k) j h = stands_off v (after_head v (step.Deliver a b k)) j (λ z. deliver_off v a b k z) h
-head_stands v (step.Migrate p m) j h = stands_off v (after_head v (step.Migrate p m)) j (λ z. migrate_off v p m z) h
+head_stands v (Step.Turn m) j h = stands_off v (after_head v (Step.Turn m)) j (λ z. turn_off v m z) h
+head_stands v (Step.Tick m) j h = stands_off v (after_head v (Step.Tick m)) j (λ z. tick_off v m z) h
+head_stands v (Step.Deliver a b k) j h = stands_off v (after_head v (Step.Deliver a b k)) j (λ z. deliver_off v a b k z) h
+head_stands v (Step.Migrate p m) j h = stands_off v (after_head v (Step.Migrate p m)) j (λ z. migrate_off v p m z) h
 
 -- what a packet brings: where messages come to doesn't rest on what is told of them
 abbrev all_asks : View → View
-all_asks v = record v { told = λ i. Some (record { kind = kind.Ask; receiver = record { home = 0; num = 0 }; about = NothingElse }) }
+all_asks v = record v { told = λ i. Some (record { kind = MessageKind.Ask; receiver = record { home = 0; num = 0 }; about = NothingElse }) }
 
 taken_same : (v : View) (b : ℕ) (o : Option MsgId) (z : Spot) → ids_at (taken_id v b o) z ≡ ids_at (taken_id (all_asks v) b o) z
 taken_same v b None (Queue m p) = refl
@@ -167,40 +114,21 @@ taken_same v b (Some i) (Untaken c d) = refl
 
 same_at : (v : View) (j : MsgId) (z : Spot) → 1 ≤ standing v j z → 1 ≤ standing (all_asks v) j z
 same_at v j (Queue m p) e = e
-same_at v j (Held m p) e = e
-same_at v j (Inbox m) e = e
-same_at v j (Untaken a b) e = e
+same_at v j _ e = e
 
 abbrev taking : View → ℕ → ℕ → ℕ → View
 taking v a b n = let p = v.pair a b in view.with_pair v a b (record p { taken = p.taken + 1; kept = filter (λ k. not (k == n)) p.kept })
 
-taken_stands : (v : View) (a b n : ℕ) (j : MsgId) → Stands v j → Stands (view_after v (line.Taken a b n)) j
+taken_stands : (v : View) (a b n : ℕ) (j : MsgId) → Stands v j → Stands (view_after v (Line.Taken a b n)) j
 taken_stands v a b n j h =
-    let (y, least) = (taken_calm (all_asks v) a b n).on j (record { kind = kind.Ask; receiver = record { home = 0; num = 0 }; about = NothingElse }) refl refl h.spot (same_at v j h.spot h.least) in
+    let (y, least) = (taken_calm (all_asks v) a b n).on j (record { kind = MessageKind.Ask; receiver = record { home = 0; num = 0 }; about = NothingElse }) refl refl h.spot (same_at v j h.spot h.least) in
     record { spot = y; least = subst (λ (ids : List MsgId). 1 ≤ times j ids) (sym (taken_same (taking v a b n) b (view.oldest (v.pair a b)) y)) least }
 
 pub net_stands : (v : View) (l : Line) (j : MsgId) → IsNetLine l → Stands v j → Stands (view_after v l) j
-net_stands v (line.Taken a b n) j is h = taken_stands v a b n j h
-net_stands v (line.Old a b n) j is h = h
-net_stands v (line.Early a b n) j is h = stands_off v (view_after v (line.Early a b n)) j (λ z. early_off v a b n z) h
-net_stands v (line.Acked a b n) j is h = stands_off v (view_after v (line.Acked a b n)) j (λ z. acked_off v a b n z) h
-net_stands v line.Nothing j is h = h
-net_stands v (line.Resent m n) j is h = h
-net_stands v (line.Head d) j is h = absurd is
-net_stands v (line.Idle m) j is h = absurd is
-net_stands v (line.Label x) j is h = absurd is
-net_stands v (line.Put a b i c q) j is h = absurd is
-net_stands v (line.Packet a b c l) j is h = absurd is
-net_stands v (line.Queued i) j is h = absurd is
-net_stands v (line.Held i) j is h = absurd is
-net_stands v (line.Forwarded i m) j is h = absurd is
-net_stands v (line.Updated i n) j is h = absurd is
-net_stands v (line.Migration st p) j is h = absurd is
-net_stands v (line.SentOn p n) j is h = absurd is
-net_stands v (line.Lacks p a b) j is h = absurd is
-net_stands v (line.Stays p) j is h = absurd is
-net_stands v (line.Here i) j is h = absurd is
-net_stands v (line.NoMove i) j is h = absurd is
-net_stands v (line.Proto i) j is h = absurd is
-net_stands v (line.NoChild p) j is h = absurd is
-net_stands v (line.Pinned p) j is h = absurd is
+net_stands v (Line.Taken a b n) j is h = taken_stands v a b n j h
+net_stands v (Line.Old a b n) j is h = h
+net_stands v (Line.Early a b n) j is h = stands_off v (view_after v (Line.Early a b n)) j (λ z. early_off v a b n z) h
+net_stands v (Line.Acked a b n) j is h = stands_off v (view_after v (Line.Acked a b n)) j (λ z. acked_off v a b n z) h
+net_stands v Line.Nothing j is h = h
+net_stands v (Line.Resent m n) j is h = h
+net_stands v _ j is h = absurd is

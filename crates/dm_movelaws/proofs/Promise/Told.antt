@@ -1,31 +1,9 @@
 -- A turn that handles a kernel's own message leaves another standing; an update that it handles goes on, or that is said alone.
-use Rattle.std.proofs.Common.{◌≡◌, ◌⊎◌, ℕ, ◌≤◌, ◌==◌, Bool, true, false, List, [], ◌∷◌, ◌++◌, length, refl, ap, ◌∙◌, sym, subst, inl, inr}
-use Rattle.std.specs.Prelude.{◌/◌, if◌then◌else◌}
-use Rattle.std.specs.declared.option.Option.{Option}
-use Rattle.std.specs.declared.option.Option.TheVariants.{None, Some}
-use Rattle.dm_link.specs.declared.Pid.{Pid}
-use Rattle.dm_link.specs.Names.{Place, pid_eq}
-use Rattle.dm_message.specs.declared.MsgId.{MsgId}
-use Rattle.dm_message.specs.declared.kind.MessageKind.{MessageKind}
-use Rattle.dm_message.specs.declared.kind.MessageKind.TheVariants as kind
-use Rattle.dm_message.specs.Ids.{id_eq}
-use Rattle.dm_onekernel.specs.declared.boot.Boot.{Boot}
-use Rattle.dm_onekernel.specs.Boot.{switchboard, manager}
-use Rattle.dm_onekernel.specs.PlainProcess.{PlainProcess}
+use Rattle.dm_movelaws.proofs.Names.{◌≡◌, ◌⊎◌, ℕ, ◌≤◌, ◌==◌, Bool, true, false, List, [], ◌∷◌, ◌++◌, length, refl, ap, ◌∙◌, sym, subst, inl, inr, ◌/◌, if◌then◌else◌, Option, None, Some, Pid, Place, pid_eq, MsgId, MessageKind, Stage, id_eq}
+use Rattle.dm_movelaws.proofs.Names.{Boot, switchboard, manager, PlainProcess, Line, Told, About, Of, Known, Unknown, Here, Frozen, Forward, Ended, target_of, Point, Says, Again, Spelled, spelled, times, to_kernel, sends_on, accepts}
+use Rattle.dm_movelaws.proofs.Names.{takes_chunk, takes_block, gives_piece, leaves, kernel_told, chunks_of, pieces_of, here_told, ended_told, process_told, server_told, both_lists, said_by, update_of, last_point}
 use Rattle.dm_onekernel.specs.Step as kernel
-use Rattle.dm_line.specs.declared.line.Line.{Line}
-use Rattle.dm_line.specs.declared.line.Line.TheVariants as line
-use Rattle.dm_line.specs.declared.line.Stage.TheVariants as stage
-use Rattle.dm_rule.specs.View.{View, Told, About, NothingElse, Target, Of, Known, Unknown, Here, Frozen, Incoming, Forward, Ended, target_of, view_after}
-use Rattle.dm_rule.specs.View as view
-use Rattle.dm_rule.specs.Point.{Point}
-use Rattle.dm_rule.specs.Parts.{Says, Again, Spelled, spelled}
-use Rattle.dm_rule.specs.Spots.{times}
-use Rattle.dm_rule.specs.Migrating.{to_kernel, sends_on, accepts, takes_chunk, takes_block, gives_piece, leaves, kernel_told, chunks_of, pieces_of, here_told, ended_told, process_told, server_told}
 use Rattle.dm_rule.specs.Rule as rule
-use Rattle.dm_rule.proofs.Moves.Lists.{both_lists}
-use Rattle.dm_rulelaws.proofs.Based.Needs.{said_by}
-use Rattle.dm_movelaws.specs.Promise.{update_of}
 use Rattle.dm_movelaws.proofs.Promise.Spots.{Stands, Front}
 use Rattle.dm_movelaws.proofs.Promise.Stands.{sent_stands, held_this}
 use Rattle.dm_movelaws.proofs.Promise.Parts.{Goes, GoesOf, base_says, again_this, next_of, loose_stands, sends_stand}
@@ -37,25 +15,25 @@ pub record Other (j : MsgId) (pt : Point) (i : MsgId) : Type 0 where
   pub apart : id_eq i j ≡ false
 
 accepts_goes : (j : MsgId) (t : Told) (pt : Point) (i : MsgId) (from : ℕ) (p : Pid) (c : Bool) (slots blocks : ℕ) → Waits j t pt → Other j pt i → Goes j pt (accepts from p c slots blocks)
-accepts_goes j t pt i from p true slots blocks h k = first_row j t pt (Says (line.Migration stage.Accepted p)) (to_kernel kind.PullState from ∷ []) h k.front refl
-accepts_goes j t pt i from p false slots blocks h k = first_row j t pt (Says (line.Lacks p slots blocks)) (to_kernel kind.Refuse from ∷ []) h k.front refl
+accepts_goes j t pt i from p true slots blocks h k = first_row j t pt (Says (Line.Migration Stage.Accepted p)) (to_kernel MessageKind.PullState from ∷ []) h k.front refl
+accepts_goes j t pt i from p false slots blocks h k = first_row j t pt (Says (Line.Lacks p slots blocks)) (to_kernel MessageKind.Refuse from ∷ []) h k.front refl
 
 chunk_goes : (j : MsgId) (t : Told) (pt : Point) (i : MsgId) (p : Pid) (c : Bool) → Waits j t pt → Other j pt i → Goes j pt (takes_chunk i p c)
-chunk_goes j t pt i p true h k = first_row j t pt (Says (line.Migration stage.StateTaken p)) (to_kernel kind.PullBlock i.from.home ∷ []) h k.front refl
-chunk_goes j t pt i p false h k = first_row j t pt (Says (line.Proto i)) (to_kernel kind.PullState i.from.home ∷ []) h k.apart refl
+chunk_goes j t pt i p true h k = first_row j t pt (Says (Line.Migration Stage.StateTaken p)) (to_kernel MessageKind.PullBlock i.from.home ∷ []) h k.front refl
+chunk_goes j t pt i p false h k = first_row j t pt (Says (Line.Proto i)) (to_kernel MessageKind.PullState i.from.home ∷ []) h k.apart refl
 
 block_goes : (j : MsgId) (t : Told) (pt : Point) (i : MsgId) (p : Pid) (c : Bool) → Waits j t pt → Other j pt i → Goes j pt (takes_block i p c)
-block_goes j t pt i p true h k = first_row j t pt (Says (line.Migration stage.MemoryTaken p)) (to_kernel kind.AllTaken i.from.home ∷ []) h k.front refl
-block_goes j t pt i p false h k = first_row j t pt (Says (line.Proto i)) (to_kernel kind.PullBlock i.from.home ∷ []) h k.apart refl
+block_goes j t pt i p true h k = first_row j t pt (Says (Line.Migration Stage.MemoryTaken p)) (to_kernel MessageKind.AllTaken i.from.home ∷ []) h k.front refl
+block_goes j t pt i p false h k = first_row j t pt (Says (Line.Proto i)) (to_kernel MessageKind.PullBlock i.from.home ∷ []) h k.apart refl
 
 piece_goes : (j : MsgId) (t : Told) (pt : Point) (i : MsgId) (c : MessageKind) → Waits j t pt → Other j pt i → Goes j pt (gives_piece i c)
-piece_goes j t pt i c h k = first_row j t pt (Says (line.Proto i)) (to_kernel c i.from.home ∷ []) h k.apart refl
+piece_goes j t pt i c h k = first_row j t pt (Says (Line.Proto i)) (to_kernel c i.from.home ∷ []) h k.apart refl
 
 -- a process leaves
-sent_goes : (j : MsgId) (t : Told) (pt : Point) (i : MsgId) (p : Pid) (ids : List MsgId) (to : ℕ) → both_lists pt.view p ≡ ids → Waits j t pt → Other j pt i → Goes j pt (Says (line.SentOn p (length ids)) ∷ sends_on to ids ++ Says (line.Migration stage.Left p) ∷ to_kernel kind.Restart i.from.home ∷ [])
+sent_goes : (j : MsgId) (t : Told) (pt : Point) (i : MsgId) (p : Pid) (ids : List MsgId) (to : ℕ) → both_lists pt.view p ≡ ids → Waits j t pt → Other j pt i → Goes j pt (Says (Line.SentOn p (length ids)) ∷ sends_on to ids ++ Says (Line.Migration Stage.Left p) ∷ to_kernel MessageKind.Restart i.from.home ∷ [])
 sent_goes j t pt i p ids to are h k w is =
-    let l = line.SentOn p (length ids) in
-    let last = Says (line.Migration stage.Left p) ∷ to_kernel kind.Restart i.from.home ∷ [] in
+    let l = Line.SentOn p (length ids) in
+    let last = Says (Line.Migration Stage.Left p) ∷ to_kernel MessageKind.Restart i.from.home ∷ [] in
     let n = next_of pt (Says l) (sends_on to ids ++ last) w is in
     let s = said_by pt n.next l n.steps in
     let on : Stands n.next.view j ⊎ (1 ≤ times j ids) = elim (sent_stands pt.view p (length ids) j k.front h.stands) [
@@ -65,149 +43,55 @@ sent_goes j t pt i p ids to are h k w is =
     inl (subst (λ (x : Point). Stands x.view j) n.point (sends_stand ids j t to last n.next n.rest refl (base_says j t pt n.next l refl refl h.base n.steps) on n.more))
 
 leaves_goes : (j : MsgId) (t : Told) (pt : Point) (i : MsgId) (p : Pid) (ids : List MsgId) (c : Known) → both_lists pt.view p ≡ ids → Waits j t pt → Other j pt i → GoesOf j pt (leaves i p ids c)
-leaves_goes j t pt i p ids Unknown are h k = tt
-leaves_goes j t pt i p ids Here are h k = tt
 leaves_goes j t pt i p ids (Frozen to) are h k = sent_goes j t pt i p ids to are h k
-leaves_goes j t pt i p ids (Incoming from) are h k = tt
-leaves_goes j t pt i p ids (Forward at moves) are h k = tt
-leaves_goes j t pt i p ids Ended are h k = tt
+leaves_goes j t pt i p ids _ are h k = tt
 
 kernel_told_goes : (j : MsgId) (t : Told) (pt o : Point) (m : ℕ) (i : MsgId) (p : Pid) (room : Bool × ℕ × ℕ) (x : PlainProcess) (c : MessageKind) → both_lists pt.view p ≡ o.view.queue m p ++ o.view.held m p → Waits j t pt → Other j pt i → GoesOf j pt (kernel_told o m i p room x c)
-kernel_told_goes j t pt o m i p room x kind.Ask are h k = accepts_goes j t pt i i.from.home p room.0 room.1 room.2 h k
-kernel_told_goes j t pt o m i p room x kind.Refuse are h k = first_row j t pt (Says (line.Stays p)) [] h k.front refl
-kernel_told_goes j t pt o m i p room x kind.PullState are h k = piece_goes j t pt i kind.State h k
-kernel_told_goes j t pt o m i p room x kind.State are h k = chunk_goes j t pt i p (o.view.asked p == chunks_of x) h k
-kernel_told_goes j t pt o m i p room x kind.PullBlock are h k = piece_goes j t pt i kind.Memory h k
-kernel_told_goes j t pt o m i p room x kind.Memory are h k = block_goes j t pt i p (o.view.asked p == pieces_of x) h k
-kernel_told_goes j t pt o m i p room x kind.AllTaken are h k = leaves_goes j t pt i p (o.view.queue m p ++ o.view.held m p) (o.view.known m p) are h k
-kernel_told_goes j t pt o m i p room x kind.Restart are h k = first_row j t pt (Says (line.Migration stage.Restarted p)) [] h k.front refl
-kernel_told_goes j t pt o m i p room x kind.User are h k = tt
-kernel_told_goes j t pt o m i p room x kind.Stop are h k = tt
-kernel_told_goes j t pt o m i p room x kind.Resume are h k = tt
-kernel_told_goes j t pt o m i p room x kind.Kill are h k = tt
-kernel_told_goes j t pt o m i p room x kind.Read are h k = tt
-kernel_told_goes j t pt o m i p room x kind.Write are h k = tt
-kernel_told_goes j t pt o m i p room x kind.Block are h k = tt
-kernel_told_goes j t pt o m i p room x kind.Written are h k = tt
-kernel_told_goes j t pt o m i p room x kind.Gone are h k = tt
-kernel_told_goes j t pt o m i p room x kind.Create are h k = tt
-kernel_told_goes j t pt o m i p room x kind.Created are h k = tt
-kernel_told_goes j t pt o m i p room x kind.NoRoom are h k = tt
-kernel_told_goes j t pt o m i p room x kind.Migrate are h k = tt
-kernel_told_goes j t pt o m i p room x kind.Update are h k = tt
-kernel_told_goes j t pt o m i p room x kind.Move are h k = tt
-kernel_told_goes j t pt o m i p room x kind.Moved are h k = tt
-kernel_told_goes j t pt o m i p room x kind.CallOff are h k = tt
-kernel_told_goes j t pt o m i p room x kind.Bury are h k = tt
+kernel_told_goes j t pt o m i p room x MessageKind.Ask are h k = accepts_goes j t pt i i.from.home p room.0 room.1 room.2 h k
+kernel_told_goes j t pt o m i p room x MessageKind.Refuse are h k = first_row j t pt (Says (Line.Stays p)) [] h k.front refl
+kernel_told_goes j t pt o m i p room x MessageKind.PullState are h k = piece_goes j t pt i MessageKind.State h k
+kernel_told_goes j t pt o m i p room x MessageKind.State are h k = chunk_goes j t pt i p (o.view.asked p == chunks_of x) h k
+kernel_told_goes j t pt o m i p room x MessageKind.PullBlock are h k = piece_goes j t pt i MessageKind.Memory h k
+kernel_told_goes j t pt o m i p room x MessageKind.Memory are h k = block_goes j t pt i p (o.view.asked p == pieces_of x) h k
+kernel_told_goes j t pt o m i p room x MessageKind.AllTaken are h k = leaves_goes j t pt i p (o.view.queue m p ++ o.view.held m p) (o.view.known m p) are h k
+kernel_told_goes j t pt o m i p room x MessageKind.Restart are h k = first_row j t pt (Says (Line.Migration Stage.Restarted p)) [] h k.front refl
+kernel_told_goes j t pt o m i p room x _ are h k = tt
 
 -- at a process or a server
 moves_goes : (j : MsgId) (t : Told) (pt : Point) (i : MsgId) (p : Pid) (to : ℕ) (c : Bool) → Waits j t pt → Other j pt i
-    → Goes j pt (if c then Says (line.Here i) ∷ [] else Says (line.Migration stage.Frozen p) ∷ Says (line.Migration stage.Asked p) ∷ to_kernel kind.Ask to ∷ [])
-moves_goes j t pt i p to true h k = first_row j t pt (Says (line.Here i)) [] h k.apart refl
-moves_goes j t pt i p to false h k = first_row j t pt (Says (line.Migration stage.Frozen p)) (Says (line.Migration stage.Asked p) ∷ to_kernel kind.Ask to ∷ []) h k.front refl
+    → Goes j pt (if c then Says (Line.Here i) ∷ [] else Says (Line.Migration Stage.Frozen p) ∷ Says (Line.Migration Stage.Asked p) ∷ to_kernel MessageKind.Ask to ∷ [])
+moves_goes j t pt i p to true h k = first_row j t pt (Says (Line.Here i)) [] h k.apart refl
+moves_goes j t pt i p to false h k = first_row j t pt (Says (Line.Migration Stage.Frozen p)) (Says (Line.Migration Stage.Asked p) ∷ to_kernel MessageKind.Ask to ∷ []) h k.front refl
 
-updates_goes : (j : MsgId) (t : Told) (pt : Point) (i : MsgId) (n : ℕ) → Waits j t pt → Other j pt i → Goes j pt (Says (line.Updated i n) ∷ [])
-updates_goes j t pt i n h k = first_row j t pt (Says (line.Updated i n)) [] h k.apart refl
+updates_goes : (j : MsgId) (t : Told) (pt : Point) (i : MsgId) (n : ℕ) → Waits j t pt → Other j pt i → Goes j pt (Says (Line.Updated i n) ∷ [])
+updates_goes j t pt i n h k = first_row j t pt (Says (Line.Updated i n)) [] h k.apart refl
 
 here_told_goes : (j : MsgId) (t : Told) (pt o : Point) (m : ℕ) (i : MsgId) (u : Told) (c : MessageKind) → Waits j t pt → Other j pt i → GoesOf j pt (here_told o m i u c)
-here_told_goes j t pt o m i u kind.Ask h k = tt
-here_told_goes j t pt o m i u kind.Refuse h k = tt
-here_told_goes j t pt o m i u kind.PullState h k = tt
-here_told_goes j t pt o m i u kind.State h k = tt
-here_told_goes j t pt o m i u kind.PullBlock h k = tt
-here_told_goes j t pt o m i u kind.Memory h k = tt
-here_told_goes j t pt o m i u kind.AllTaken h k = tt
-here_told_goes j t pt o m i u kind.Restart h k = tt
-here_told_goes j t pt o m i u kind.User h k = tt
-here_told_goes j t pt o m i u kind.Stop h k = tt
-here_told_goes j t pt o m i u kind.Resume h k = tt
-here_told_goes j t pt o m i u kind.Kill h k = tt
-here_told_goes j t pt o m i u kind.Read h k = tt
-here_told_goes j t pt o m i u kind.Write h k = tt
-here_told_goes j t pt o m i u kind.Block h k = tt
-here_told_goes j t pt o m i u kind.Written h k = tt
-here_told_goes j t pt o m i u kind.Gone h k = tt
-here_told_goes j t pt o m i u kind.Create h k = tt
-here_told_goes j t pt o m i u kind.Created h k = tt
-here_told_goes j t pt o m i u kind.NoRoom h k = tt
-here_told_goes j t pt o m i u kind.Migrate h k = moves_goes j t pt i u.receiver (target_of (Some u)) (m == target_of (Some u)) h k
-here_told_goes j t pt o m i u kind.Update h k = updates_goes j t pt i _ h k
-here_told_goes j t pt o m i u kind.Move h k = tt
-here_told_goes j t pt o m i u kind.Moved h k = tt
-here_told_goes j t pt o m i u kind.CallOff h k = tt
-here_told_goes j t pt o m i u kind.Bury h k = tt
+here_told_goes j t pt o m i u MessageKind.Migrate h k = moves_goes j t pt i u.receiver (target_of (Some u)) (m == target_of (Some u)) h k
+here_told_goes j t pt o m i u MessageKind.Update h k = updates_goes j t pt i _ h k
+here_told_goes j t pt o m i u _ h k = tt
 
 ended_told_goes : (j : MsgId) (t : Told) (pt : Point) (i : MsgId) (c : MessageKind) → Waits j t pt → Other j pt i → GoesOf j pt (ended_told i c)
-ended_told_goes j t pt i kind.Ask h k = tt
-ended_told_goes j t pt i kind.Refuse h k = tt
-ended_told_goes j t pt i kind.PullState h k = tt
-ended_told_goes j t pt i kind.State h k = tt
-ended_told_goes j t pt i kind.PullBlock h k = tt
-ended_told_goes j t pt i kind.Memory h k = tt
-ended_told_goes j t pt i kind.AllTaken h k = tt
-ended_told_goes j t pt i kind.Restart h k = tt
-ended_told_goes j t pt i kind.User h k = tt
-ended_told_goes j t pt i kind.Stop h k = tt
-ended_told_goes j t pt i kind.Resume h k = tt
-ended_told_goes j t pt i kind.Kill h k = tt
-ended_told_goes j t pt i kind.Read h k = tt
-ended_told_goes j t pt i kind.Write h k = tt
-ended_told_goes j t pt i kind.Block h k = tt
-ended_told_goes j t pt i kind.Written h k = tt
-ended_told_goes j t pt i kind.Gone h k = tt
-ended_told_goes j t pt i kind.Create h k = tt
-ended_told_goes j t pt i kind.Created h k = tt
-ended_told_goes j t pt i kind.NoRoom h k = tt
-ended_told_goes j t pt i kind.Migrate h k = first_row j t pt (Says (line.NoMove i)) [] h k.apart refl
-ended_told_goes j t pt i kind.Update h k = updates_goes j t pt i 0 h k
-ended_told_goes j t pt i kind.Move h k = tt
-ended_told_goes j t pt i kind.Moved h k = tt
-ended_told_goes j t pt i kind.CallOff h k = tt
-ended_told_goes j t pt i kind.Bury h k = tt
+ended_told_goes j t pt i MessageKind.Migrate h k = first_row j t pt (Says (Line.NoMove i)) [] h k.apart refl
+ended_told_goes j t pt i MessageKind.Update h k = updates_goes j t pt i 0 h k
+ended_told_goes j t pt i _ h k = tt
 
 server_told_goes : (j : MsgId) (t : Told) (pt o : Point) (i : MsgId) (u : Told) (c : MessageKind) → Waits j t pt → Other j pt i → GoesOf j pt (server_told o i u c)
-server_told_goes j t pt o i u kind.Ask h k = tt
-server_told_goes j t pt o i u kind.Refuse h k = tt
-server_told_goes j t pt o i u kind.PullState h k = tt
-server_told_goes j t pt o i u kind.State h k = tt
-server_told_goes j t pt o i u kind.PullBlock h k = tt
-server_told_goes j t pt o i u kind.Memory h k = tt
-server_told_goes j t pt o i u kind.AllTaken h k = tt
-server_told_goes j t pt o i u kind.Restart h k = tt
-server_told_goes j t pt o i u kind.User h k = tt
-server_told_goes j t pt o i u kind.Stop h k = tt
-server_told_goes j t pt o i u kind.Resume h k = tt
-server_told_goes j t pt o i u kind.Kill h k = tt
-server_told_goes j t pt o i u kind.Read h k = tt
-server_told_goes j t pt o i u kind.Write h k = tt
-server_told_goes j t pt o i u kind.Block h k = tt
-server_told_goes j t pt o i u kind.Written h k = tt
-server_told_goes j t pt o i u kind.Gone h k = tt
-server_told_goes j t pt o i u kind.Create h k = tt
-server_told_goes j t pt o i u kind.Created h k = tt
-server_told_goes j t pt o i u kind.NoRoom h k = tt
-server_told_goes j t pt o i u kind.Migrate h k = tt
-server_told_goes j t pt o i u kind.Update h k = updates_goes j t pt i _ h k
-server_told_goes j t pt o i u kind.Move h k = tt
-server_told_goes j t pt o i u kind.Moved h k = tt
-server_told_goes j t pt o i u kind.CallOff h k = tt
-server_told_goes j t pt o i u kind.Bury h k = tt
+server_told_goes j t pt o i u MessageKind.Update h k = updates_goes j t pt i _ h k
+server_told_goes j t pt o i u _ h k = tt
 
 process_told_goes : (j : MsgId) (t : Told) (pt o : Point) (m : ℕ) (i : MsgId) (u : Told) (c : Known) → Waits j t pt → Other j pt i → GoesOf j pt (process_told o m i u c)
 process_told_goes j t pt o m i u Unknown h k = tt
 process_told_goes j t pt o m i u Here h k = here_told_goes j t pt o m i u u.kind h k
-process_told_goes j t pt o m i u (Frozen to) h k = first_row j t pt (Says (line.Held i)) [] h k.apart refl
-process_told_goes j t pt o m i u (Incoming from) h k = first_row j t pt (Says (line.Held i)) [] h k.apart refl
 process_told_goes j t pt o m i u (Forward at moves) h k = forwards_goes j t pt o.addresses i u.kind manager at h k.apart
 process_told_goes j t pt o m i u Ended h k = ended_told_goes j t pt i u.kind h k
+process_told_goes j t pt o m i u _ h k = first_row j t pt (Says (Line.Held i)) [] h k.apart refl
 
 kernel_hears_goes : (j : MsgId) (t : Told) (pt : Point) (b : Boot) (o : Point) (m : ℕ) (i : MsgId) (c : MessageKind) (a : About) → ((p : Pid) → both_lists pt.view p ≡ o.view.queue m p ++ o.view.held m p) → Waits j t pt → Other j pt i → GoesOf j pt (rule.kernel_hears b o m i c a)
-kernel_hears_goes j t pt b o m i c NothingElse are h k = tt
-kernel_hears_goes j t pt b o m i c (Target to) are h k = tt
 kernel_hears_goes j t pt b o m i c (Of p) are h k =
     of_bind j pt (kernel.alive (o.kernel.processes p)) (λ x. kernel_told o m i p (rule.fits (rule.free_room b o m) (length x.memory / 256)) x c)
     (λ x. kernel_told_goes j t pt o m i p (rule.fits (rule.free_room b o m) (length x.memory / 256)) x c (are p) h k)
-kernel_hears_goes j t pt b o m i c (view.Place p at moves) are h k = tt
+kernel_hears_goes j t pt b o m i c _ are h k = tt
 
 pub hears_goes : (j : MsgId) (t : Told) (pt : Point) (b : Boot) (o : Point) (m : ℕ) (i : MsgId) (q : Option Told) → ((p : Pid) → both_lists pt.view p ≡ o.view.queue m p ++ o.view.held m p) → Waits j t pt → Other j pt i → GoesOf j pt (rule.hears b o m i q)
 hears_goes j t pt b o m i None are h k = tt
@@ -225,25 +109,22 @@ one_line xs ys zs l is none all = let f : l ∷ [] ≡ xs = cc in sym (ap (λ (u
 no_lines : (pt : Point) (w : Spelled) → spelled pt [] ≡ Some w → w.lines ≡ []
 no_lines pt w is = let f : record { lines = []; point = pt } ≡ w = cc in sym (ap (λ (x : Spelled). x.lines) f)
 
-last_point : (pt : Point) (w : Spelled) → spelled pt [] ≡ Some w → pt ≡ w.point
-last_point pt w is = let f : record { lines = []; point = pt } ≡ w = cc in ap (λ (x : Spelled). x.point) f
-
-updates_this : (j : MsgId) (pt : Point) (n : ℕ) → Goes j pt (Says (line.Updated j n) ∷ [])
+updates_this : (j : MsgId) (pt : Point) (n : ℕ) → Goes j pt (Says (Line.Updated j n) ∷ [])
 updates_this j pt n w is =
-    let k = next_of pt (Says (line.Updated j n)) [] w is in
-    inr (n, one_line k.steps.lines k.rest.lines w.lines (line.Updated j n) k.steps.are (no_lines k.next k.rest k.more) k.lines)
+    let k = next_of pt (Says (Line.Updated j n)) [] w is in
+    inr (n, one_line k.steps.lines k.rest.lines w.lines (Line.Updated j n) k.steps.are (no_lines k.next k.rest k.more) k.lines)
 
-held_goes : (j : MsgId) (t : Told) (pt : Point) → Waits j t pt → Goes j pt (Says (line.Held j) ∷ [])
+held_goes : (j : MsgId) (t : Told) (pt : Point) → Waits j t pt → Goes j pt (Says (Line.Held j) ∷ [])
 held_goes j t pt h w is =
-    let n = next_of pt (Says (line.Held j)) [] w is in
-    let s = said_by pt n.next (line.Held j) n.steps in
+    let n = next_of pt (Says (Line.Held j)) [] w is in
+    let s = said_by pt n.next (Line.Held j) n.steps in
     let there : Stands n.next.view j = subst (λ (x : Point). Stands x.view j) s.is (held_this pt.view j t h.base.told) in
-    inl (subst (λ (x : Point). Stands x.view j) n.point (loose_stands [] j t n.next n.rest refl (base_says j t pt n.next (line.Held j) refl refl h.base n.steps) there n.more))
+    inl (subst (λ (x : Point). Stands x.view j) n.point (loose_stands [] j t n.next n.rest refl (base_says j t pt n.next (Line.Held j) refl refl h.base n.steps) there n.more))
 
-forwarded_goes : (j : MsgId) (t : Told) (pt : Point) (to : ℕ) → Waits j t pt → Goes j pt (Says (line.Forwarded j to) ∷ Again j to ∷ [])
+forwarded_goes : (j : MsgId) (t : Told) (pt : Point) (to : ℕ) → Waits j t pt → Goes j pt (Says (Line.Forwarded j to) ∷ Again j to ∷ [])
 forwarded_goes j t pt to h w is =
-    let n = next_of pt (Says (line.Forwarded j to)) (Again j to ∷ []) w is in
-    let base = base_says j t pt n.next (line.Forwarded j to) refl refl h.base n.steps in
+    let n = next_of pt (Says (Line.Forwarded j to)) (Again j to ∷ []) w is in
+    let base = base_says j t pt n.next (Line.Forwarded j to) refl refl h.base n.steps in
     let k = next_of n.next (Again j to) [] n.rest n.more in
     let there = again_this j t n.next k.next to base k.steps in
     let end : k.rest.point ≡ w.point = k.point ∙ n.point in
@@ -253,15 +134,14 @@ forwarded_goes j t pt to h w is =
 process_this : (j : MsgId) (pt o : Point) (m : ℕ) (p q : Pid) (place : Place) (c : Known) → Waits j (update_of p q place) pt → GoesOf j pt (process_told o m j (update_of p q place) c)
 process_this j pt o m p q place Unknown h = tt
 process_this j pt o m p q place Here h = updates_this j pt _
-process_this j pt o m p q place (Frozen to) h = held_goes j (update_of p q place) pt h
-process_this j pt o m p q place (Incoming from) h = held_goes j (update_of p q place) pt h
 process_this j pt o m p q place (Forward at moves) h = forwarded_goes j (update_of p q place) pt at h
 process_this j pt o m p q place Ended h = updates_this j pt 0
+process_this j pt o m p q place _ h = held_goes j (update_of p q place) pt h
 
 pub hears_this : (j : MsgId) (pt : Point) (b : Boot) (o : Point) (m : ℕ) (p q : Pid) (place : Place) → Waits j (update_of p q place) pt → GoesOf j pt (rule.hears b o m j (Some (update_of p q place)))
 hears_this j pt b o m p q place h =
     let u = update_of p q place in
-    let to_server = server_told o j u kind.Update in
+    let to_server = server_told o j u MessageKind.Update in
     let to_process = process_told o m j u (o.view.known m p) in
     of_if j pt (p.num == 0) None (if pid_eq p switchboard then to_server else if pid_eq p manager then to_server else to_process) tt
     (of_if j pt (pid_eq p switchboard) to_server (if pid_eq p manager then to_server else to_process) (updates_this j pt _)

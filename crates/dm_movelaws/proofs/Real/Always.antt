@@ -1,42 +1,9 @@
 -- Wherever the rule leads, whoever is named is a kernel of a machine that there is, a server, or a process that was made.
-use Rattle.std.proofs.Common.{◌≡◌, ◌≢◌, ◌⊎◌, ℕ, ◌<◌, ◌≤◌, ◌==◌, ◌||◌, Bool, true, false, List, [], ◌∷◌, is_some, nat_lt, refl, ap, ◌∙◌, sym, subst, inl, inr, arith}
-use Rattle.std.specs.Prelude.{if◌then◌else◌}
-use Rattle.std.specs.declared.option.Option.{Option}
-use Rattle.std.specs.declared.option.Option.TheVariants.{None, Some}
-use Rattle.std.proofs.lemmas.Bool.{cases_Bool, false≢true}
-use Rattle.std.proofs.lemmas.Bool.Decides.{nat_tests}
-use Rattle.dm_link.specs.declared.Pid.{Pid}
-use Rattle.dm_link.specs.Names.{pid_eq}
-use Rattle.dm_message.specs.declared.MsgId.{MsgId}
-use Rattle.dm_message.specs.Plain as what
-use Rattle.dm_message.specs.Plain.{PlainMessage, PlainWhat}
-use Rattle.dm_onekernel.specs.declared.boot.Boot.{Boot}
-use Rattle.dm_onekernel.specs.Boot.{IsValid, switchboard, manager}
-use Rattle.dm_onekernel.specs.Kernel.{Life, OneKernel}
-use Rattle.dm_laws.proofs.Entered.{is_counted, counts}
-use Rattle.dm_schedule.specs.declared.Step.{Step}
-use Rattle.dm_schedule.specs.declared.Step.TheVariants as step
-use Rattle.dm_line.specs.declared.line.Line.TheVariants as line
-use Rattle.dm_rule.specs.Laws.{IsStep, Leads}
-use Rattle.dm_rule.specs.Parts.{Spelled}
-use Rattle.dm_rule.specs.Point.{Point, first_point}
-use Rattle.dm_rule.specs.Rule.{group_of}
-use Rattle.dm_rule.specs.Spots.{Inbox, times}
-use Rattle.dm_rule.specs.View.{View, Told, Known, Unknown, Here, Frozen, Incoming, Forward, after_head, is_kernels, actor}
-use Rattle.dm_rule.specs.View as view
-use Rattle.dm_rule.proofs.Groups.{group_is}
-use Rattle.dm_rule.proofs.Telling.{outcome_sayable}
-use Rattle.dm_rule.proofs.Trails.Within.{line_within}
-use Rattle.dm_rulelaws.specs.Fits.{has_bytes, is_server, WhatFits}
-use Rattle.dm_rulelaws.specs.KnownStands.{agrees}
-use Rattle.dm_rulelaws.proofs.Based.Needs.{begun, begun_sane}
+use Rattle.dm_movelaws.proofs.Names.{◌≡◌, ◌≢◌, ℕ, ◌<◌, ◌≤◌, ◌==◌, ◌||◌, Bool, true, false, List, [], ◌∷◌, is_some, nat_lt, refl, ap, ◌∙◌, sym, subst, inl, inr, arith, if◌then◌else◌, Option, None, Some, cases_Bool, false≢true, nat_tests}
+use Rattle.dm_movelaws.proofs.Names.{Pid, pid_eq, MsgId, Line, PlainMessage, PlainWhat, Boot, IsValid, switchboard, manager, Life, OneKernel, is_counted, counts, Step, IsStep, Leads, Spelled, Point, first_point, group_of, Inbox, times}
+use Rattle.dm_movelaws.proofs.Names.{View, Told, Known, Unknown, Here, Frozen, Incoming, Forward, after_head, is_kernels, actor, group_is, outcome_sayable, line_within, has_bytes, is_server, WhatFits, agrees, begun, begun_sane, named_real}
+use Rattle.dm_movelaws.proofs.Names.{Both, both_start, both_group, times_self, Run, run_start, run_group, IsReal, Kernel, Server, Made, IsAboutReal, RealAlways, or_cases, from_kernel}
 use Rattle.dm_rulelaws.proofs.Found.Core as core
-use Rattle.dm_rulelaws.proofs.Found.Real.{named_real}
-use Rattle.dm_rulelaws.proofs.Goes.Runs.{Both, both_start, both_group}
-use Rattle.dm_rulelaws.proofs.Goes.Turns.{times_self}
-use Rattle.dm_rulelaws.proofs.Runs.{Run}
-use Rattle.dm_rulelaws.proofs.RunsAlways.{run_start, run_group}
-use Rattle.dm_movelaws.specs.Real.{IsReal, Kernel, Server, Made, IsAboutReal, RealAlways}
 use Rattle.dm_movelaws.proofs.Ends.Smooth.{told_by}
 use Rattle.dm_movelaws.proofs.NumbersAlways.{bag_counted, told_counted}
 use Rattle.dm_movelaws.proofs.Real.Rows.{HereReal, InboxTold, outcome_real}
@@ -50,17 +17,13 @@ agrees_made Here None some e = absurd (false≢true e)
 agrees_made (Frozen to) None some e = absurd (false≢true e)
 agrees_made (Incoming from) None some e = absurd (false≢true e)
 agrees_made (Forward at moves) None some e = absurd (false≢true e)
-agrees_made view.Ended None some e = absurd (false≢true e)
+agrees_made Known.Ended None some e = absurd (false≢true e)
 
 known_real : (b : Boot) (pt : Point) (n : ℕ) (p : Pid) → Run b pt → pt.view.known n p ≢ Unknown → IsReal pt.kernel p
 known_real b pt n p run some = elim (cases_Bool (is_server p)) [
   | inl server ↦ Server server
   | inr other ↦ Made (agrees_made (pt.view.known n p) (pt.kernel.processes p) some (run.based.known.agree n p other))
 ]
-
-or_cases : (c d : Bool) → (c || d) ≡ true → (c ≡ true) ⊎ (d ≡ true)
-or_cases true d e = inl refl
-or_cases false d e = inr e
 
 zero_num : (n : ℕ) → (n == 0) ≡ true → n ≡ 0
 zero_num n e = grind (arith, nat_tests)
@@ -107,23 +70,20 @@ inbox_told : (b : Boot) (pt : Point) → Run b pt → InboxTold pt
 inbox_told b pt run m i is at =
     run.found.told i (Inbox m) (let a : times i (pt.view.inbox m) ≡ times i (i ∷ is) = ap (times i) at in let c = times_self i is in subst (λ (n : ℕ). 1 ≤ n) (sym a) c)
 
-head_less : (n : ℕ) (d : Step) → IsStep n d → actor d < n
-head_less n (step.Turn m) h = h
-head_less n (step.Tick m) h = h
-head_less n (step.Deliver a b k) h = h.1
-head_less n (step.Migrate p m) h = omega (arith, h)
+pub head_less : (n : ℕ) (d : Step) → IsStep n d → actor d < n
+head_less n (Step.Deliver a b k) h = h.1
+head_less n (Step.Migrate p m) h = omega (arith, h)
+head_less n _ h = h
 
 head_topic : (s : OneKernel) (v : View) (d : Step) → IsAboutReal s (after_head v d).topic
-head_topic s v (step.Turn m) = tt
-head_topic s v (step.Tick m) = tt
-head_topic s v (step.Deliver a b k) = tt
-head_topic s v (step.Migrate p m) = tt
+head_topic s v (Step.Turn m) = tt
+head_topic s v _ = tt
 
 begins_real : (b : Boot) (pt : Point) (d : Step) → IsStep pt.kernel.machines d → Run b pt → RealAt pt → Reals pt (begun pt d)
 begins_real b pt d fit run h =
-    let same : (i : MsgId) → (after_head pt.view d).told i ≡ pt.view.told i = told_by pt.view (line.Head d) refl in
+    let same : (i : MsgId) → (after_head pt.view d).told i ≡ pt.view.told i = told_by pt.view (Line.Head d) refl in
     record {
-      within = line_within pt.kernel.machines pt.view (line.Head d) (head_less pt.kernel.machines d fit) (record { known = λ m q some. run.found.known_within m q some; acting = run.kept.acting });
+      within = line_within pt.kernel.machines pt.view (Line.Head d) (head_less pt.kernel.machines d fit) (record { known = λ m q some. run.found.known_within m q some; acting = run.kept.acting });
       fits = run.based.fits;
       rises = rises_same pt.kernel;
       kept = λ i t e. same i ∙ e;
@@ -157,15 +117,12 @@ start_real b = record {
 }
 
 -- a child that is named was made
-child_made : (s : OneKernel) (i : MsgId) (m : PlainMessage) (w : PlainWhat) (p : Pid) → w ≡ what.Created p → WhatFits s i m w → IsReal s p
+child_made : (s : OneKernel) (i : MsgId) (m : PlainMessage) (w : PlainWhat) (p : Pid) → w ≡ PlainWhat.Created p → WhatFits s i m w → IsReal s p
 child_made s i m w p is fits = made (s.processes p) refl (subst (WhatFits s i m) is fits).3
   where
     made : (l : Option Life) → s.processes p ≡ l → has_bytes 0 l ≡ true → IsReal s p
     made (Some l) at e = Made (ap is_some at)
     made None at e = absurd (false≢true e)
-
-own_num : (i : MsgId) → is_kernels i ≡ true → i.from.num ≡ 0
-own_num i e = grind (arith, nat_tests)
 
 -- wherever the rule leads
 pub real_always : RealAlways
@@ -177,7 +134,7 @@ real_always b es pt valid leads =
       named = λ h q e. core_real b pt q run (named_real pt pt.kernel.machines h q run.kept e);
       bag = λ i m there. counted_real pt.kernel i (bag_counted sane.r sane.e pt.kernel i m sane.sound there);
       told = λ i t told. elim (cases_Bool (is_kernels i)) [
-        | inl own ↦ Kernel (own_num i own) (ran.real.own i t told own)
+        | inl own ↦ Kernel (from_kernel i own) (ran.real.own i t told own)
         | inr other ↦ counted_real pt.kernel i (told_counted pt i t sane told other)
       ];
       receiver = receivers b pt run ran.real;

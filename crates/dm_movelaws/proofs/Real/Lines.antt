@@ -1,46 +1,10 @@
 -- Each line keeps that whoever is told of is somebody.
-use Rattle.std.proofs.Common.{◌≡◌, ◌⊎◌, ℕ, ◌<◌, ◌||◌, Bool, true, false, List, [], ◌∷◌, is_some, refl, ap, ◌∙◌, sym, subst, inl, inr, arith}
-use Rattle.std.specs.declared.option.Option.{Option}
-use Rattle.std.specs.declared.option.Option.TheVariants.{None, Some}
-use Rattle.std.proofs.lemmas.Bool.{cases_Bool, false≢true}
-use Rattle.std.proofs.lemmas.Bool.Decides.{nat_tests}
-use Rattle.dm_link.specs.declared.Pid.{Pid}
-use Rattle.dm_message.specs.declared.MsgId.{MsgId}
-use Rattle.dm_message.specs.declared.kind.MessageKind.{MessageKind}
-use Rattle.dm_message.specs.Ids.{id_eq}
-use Rattle.dm_message.specs.Kinds.{plain_kind}
-use Rattle.dm_message.specs.Plain as what
-use Rattle.dm_message.specs.Plain.{PlainMessage, PlainWhat}
-use Rattle.dm_onekernel.specs.declared.label.Label.{Label}
-use Rattle.dm_onekernel.specs.Kernel.{Life, OneKernel}
-use Rattle.dm_onekernel.specs.Options.{bind}
-use Rattle.dm_laws.proofs.Equal.{id_eq-is}
-use Rattle.dm_laws.proofs.Grown.{LifeGrows}
-use Rattle.dm_laws.proofs.Runs.{after_step}
-use Rattle.dm_laws.proofs.Sound.{Sound}
-use Rattle.dm_laws.proofs.Steps.{bind-is}
-use Rattle.dm_line.specs.declared.line.Line.{Line}
-use Rattle.dm_line.specs.declared.line.Line.TheVariants as line
-use Rattle.dm_line.specs.declared.line.Stage.TheVariants as stage
-use Rattle.dm_rule.specs.Addresses.{Receiver}
-use Rattle.dm_rule.specs.Parts.{Part, Says, Routes, Again, Owns, Transmits, Spelled, lines_of, puts, packet_line, behind, spelled}
-use Rattle.dm_rule.specs.Point.{Point, label_of, kernel_after, moved, after}
-use Rattle.dm_rule.specs.View.{View, Told, About, NothingElse, Target, Of, Known, Unknown, Here, Frozen, Incoming, Forward, view_after, after_put, handled, receiver_of, own_id, is_kernels}
+use Rattle.dm_movelaws.proofs.Names.{◌≡◌, ◌⊎◌, ℕ, ◌<◌, true, false, List, [], ◌∷◌, is_some, refl, ap, ◌∙◌, sym, subst, inl, inr, arith, Option, None, Some, cases_Bool, false≢true, nat_tests, Pid, MsgId, MessageKind, id_eq, plain_kind}
+use Rattle.dm_movelaws.proofs.Names.{Stage, PlainMessage, PlainWhat, Label, Life, OneKernel, bind, id_eq-is, LifeGrows, after_step, Sound, bind-is, Line, Receiver, Part, Says, Routes, Again, Owns, Transmits, Spelled, lines_of, puts}
+use Rattle.dm_movelaws.proofs.Names.{packet_line, behind, spelled, Point, label_of, kernel_after, moved, after, View, Told, About, Of, Known, Frozen, Forward, view_after, after_put, handled, receiver_of, own_id, is_kernels, is_put}
+use Rattle.dm_movelaws.proofs.Names.{not_kernels, grown_none, put_at, PacketsKeep, put_told_off, Sane, AllSayable, part_sane, label_topic, Within, HeadIn, line_within, has_bytes, is_server, awaits, WhatFits, KernelFits, step_constant}
+use Rattle.dm_movelaws.proofs.Names.{said_by, fits_step, IsReal, Kernel, Server, Made, IsAboutReal, or_cases, queued_topic, held_topic, taken_topic, told_kept}
 use Rattle.dm_rule.specs.View as view
-use Rattle.dm_rule.proofs.Hushed.{is_put}
-use Rattle.dm_rule.proofs.Letters.{not_kernels}
-use Rattle.dm_rule.proofs.Lives.{grown_none}
-use Rattle.dm_rule.proofs.Phases.Lines.{put_at}
-use Rattle.dm_rule.proofs.States.{PacketsKeep, put_told_off}
-use Rattle.dm_rule.proofs.Telling.{Sane, AllSayable, part_sane}
-use Rattle.dm_rule.proofs.Trails.Labels.{label_topic}
-use Rattle.dm_rule.proofs.Trails.Within.{Within, HeadIn, line_within}
-use Rattle.dm_rulelaws.specs.Fits.{has_bytes, is_server, awaits, WhatFits, KernelFits}
-use Rattle.dm_rulelaws.proofs.Based.Constants.{step_constant}
-use Rattle.dm_rulelaws.proofs.Based.Needs.{said_by}
-use Rattle.dm_rulelaws.proofs.Fits.Start.{fits_step}
-use Rattle.dm_movelaws.specs.Real.{IsReal, Kernel, Server, Made, IsAboutReal}
-use Rattle.dm_movelaws.proofs.Ends.Parts.{first_kept}
 use Rattle.dm_movelaws.proofs.Ends.Sends.{puts_lead}
 use Rattle.dm_movelaws.proofs.Ends.Smooth.{told_by}
 use Rattle.dm_movelaws.proofs.Real.Rows.{LineReal, AllReal, PartReal}
@@ -62,10 +26,9 @@ real_rises s t q h (Server e) = Server e
 real_rises s t q h (Made e) = Made (h.made q e)
 
 about_rises : (s t : OneKernel) (a : About) → Rises s t → IsAboutReal s a → IsAboutReal t a
-about_rises s t NothingElse h e = tt
-about_rises s t (Target m) h e = tt
 about_rises s t (Of p) h e = real_rises s t p h e
 about_rises s t (view.Place p at moves) h e = real_rises s t p h e
+about_rises s t _ h e = tt
 
 made_by : (a b : Option Life) → LifeGrows a b → is_some a ≡ true → is_some b ≡ true
 made_by a (Some l) g e = refl
@@ -76,11 +39,6 @@ step_rises r e s t None is h fits = let f : s ≡ t = cc in subst (λ (u : OneKe
 step_rises r e s t (Some l) is h fits =
     (record { machines = (step_constant s t l is).machines; made = λ q some. made_by (s.processes q) (t.processes q) ((after_step r e s t l is h).grown.lives q) some }, fits_step r e s t l is h fits)
 
--- whom a message of the bag is for
-or_cases : (c d : Bool) → (c || d) ≡ true → (c ≡ true) ⊎ (d ≡ true)
-or_cases true d e = inl refl
-or_cases false d e = inr e
-
 has_made : (s : OneKernel) (q : Pid) (n : ℕ) (l : Option Life) → s.processes q ≡ l → has_bytes n l ≡ true → IsReal s q
 has_made s q n (Some l) is e = Made (ap is_some is)
 has_made s q n None is e = absurd (false≢true e)
@@ -90,23 +48,23 @@ waits_made s q n w (Some l) is e = Made (ap is_some is)
 waits_made s q n w None is e = absurd (false≢true e)
 
 pub receiver_real : (s : OneKernel) (i : MsgId) (m : PlainMessage) (w : PlainWhat) → WhatFits s i m w → IsReal s m.to
-receiver_real s i m (what.User z1 z2 z3 z4) e = elim (or_cases (is_server m.to) (has_bytes 0 (s.processes m.to)) e.0) [
+receiver_real s i m (PlainWhat.User z1 z2 z3 z4) e = elim (or_cases (is_server m.to) (has_bytes 0 (s.processes m.to)) e.0) [
   | inl server ↦ Server server
   | inr has ↦ has_made s m.to 0 (s.processes m.to) refl has
 ]
-receiver_real s i m what.Stop e = has_made s m.to 0 (s.processes m.to) refl e
-receiver_real s i m what.Resume e = has_made s m.to 0 (s.processes m.to) refl e
-receiver_real s i m what.Kill e = has_made s m.to 0 (s.processes m.to) refl e
-receiver_real s i m (what.Read base len) e = has_made s m.to _ (s.processes m.to) refl e.0
-receiver_real s i m (what.Write base bytes) e = has_made s m.to _ (s.processes m.to) refl e.0
-receiver_real s i m (what.Block bytes) e = subst (IsReal s) (sym e.0) (waits_made s i.from i.n (what.Block bytes) (s.processes i.from) refl e.1)
-receiver_real s i m what.Written e = subst (IsReal s) (sym e.0) (waits_made s i.from i.n what.Written (s.processes i.from) refl e.1)
-receiver_real s i m what.Gone e = subst (IsReal s) (sym e.0) (waits_made s i.from i.n what.Gone (s.processes i.from) refl e.1)
-receiver_real s i m (what.Create image links) e = let num = e.0 in let home = e.1 in Kernel num (grind (arith, nat_tests))
-receiver_real s i m (what.Created child) e = subst (IsReal s) (sym e.0) (Server refl)
-receiver_real s i m what.NoRoom e = subst (IsReal s) (sym e.0) (Server refl)
-receiver_real s i m (what.Move machine) e = absurd e
-receiver_real s i m (what.Moved outcome) e = absurd e
+receiver_real s i m PlainWhat.Stop e = has_made s m.to 0 (s.processes m.to) refl e
+receiver_real s i m PlainWhat.Resume e = has_made s m.to 0 (s.processes m.to) refl e
+receiver_real s i m PlainWhat.Kill e = has_made s m.to 0 (s.processes m.to) refl e
+receiver_real s i m (PlainWhat.Read base len) e = has_made s m.to _ (s.processes m.to) refl e.0
+receiver_real s i m (PlainWhat.Write base bytes) e = has_made s m.to _ (s.processes m.to) refl e.0
+receiver_real s i m (PlainWhat.Block bytes) e = subst (IsReal s) (sym e.0) (waits_made s i.from i.n (PlainWhat.Block bytes) (s.processes i.from) refl e.1)
+receiver_real s i m PlainWhat.Written e = subst (IsReal s) (sym e.0) (waits_made s i.from i.n PlainWhat.Written (s.processes i.from) refl e.1)
+receiver_real s i m PlainWhat.Gone e = subst (IsReal s) (sym e.0) (waits_made s i.from i.n PlainWhat.Gone (s.processes i.from) refl e.1)
+receiver_real s i m (PlainWhat.Create image links) e = let num = e.0 in let home = e.1 in Kernel num (grind (arith, nat_tests))
+receiver_real s i m (PlainWhat.Created child) e = subst (IsReal s) (sym e.0) (Server refl)
+receiver_real s i m PlainWhat.NoRoom e = subst (IsReal s) (sym e.0) (Server refl)
+receiver_real s i m (PlainWhat.Move machine) e = absurd e
+receiver_real s i m (PlainWhat.Moved outcome) e = absurd e
 
 -- what stands between the lines of a group that begins at o
 pub record Reals (o pt : Point) : Type 0 where
@@ -123,26 +81,9 @@ pub record Reals (o pt : Point) : Type 0 where
 abbrev pub Receivers : Point → Type 0
 Receivers o = (i : MsgId) (t : Told) → o.view.told i ≡ Some t → IsReal o.kernel t.receiver
 
--- what a line leaves the group to be about
-queued_topic : (v : View) (i : MsgId) (q : Option Pid) → (view.queued_for v i q).topic ≡ v.topic
-queued_topic v i None = refl
-queued_topic v i (Some p) = refl
-
-held_topic : (v : View) (i : MsgId) (q : Option Pid) → (view.held_for v i q).topic ≡ v.topic
-held_topic v i None = refl
-held_topic v i (Some p) = refl
-
-taken_topic : (v : View) (b : ℕ) (q : Option MsgId) → (view.taken_id v b q).topic ≡ v.topic
-taken_topic v b None = refl
-taken_topic v b (Some i) = refl
-
 forward_real : (s : OneKernel) (p : Pid) (k : Known) → IsReal s p → IsAboutReal s (view.forward_about p k)
-forward_real s p Unknown h = tt
-forward_real s p Here h = tt
-forward_real s p (Frozen to) h = tt
-forward_real s p (Incoming from) h = tt
 forward_real s p (Forward at moves) h = h
-forward_real s p view.Ended h = tt
+forward_real s p _ h = tt
 
 forwarded_real : (s : OneKernel) (v : View) (q : Option Told) → ((t : Told) → q ≡ Some t → IsReal s t.receiver) → IsAboutReal s v.topic → IsAboutReal s (view.forwarded_for v (receiver_of q)).topic
 forwarded_real s v None h e = e
@@ -157,44 +98,32 @@ told_at o pt i None t is some h e = absurd (false≢true some)
 told_at o pt i (Some u) t is some h e = let f : Some u ≡ Some t = sym (h.kept i u is) ∙ e in is ∙ f
 
 line_topic : (o pt : Point) (l : Line) → Receivers o → LineReal o l → Reals o pt → IsAboutReal pt.kernel (view_after pt.view l).topic
-line_topic o pt (line.Migration stage.Frozen p) known need h = real_rises o.kernel pt.kernel p h.rises need
-line_topic o pt (line.Migration stage.Asked p) known need h = h.topic
-line_topic o pt (line.Migration stage.Accepted p) known need h = real_rises o.kernel pt.kernel p h.rises need
-line_topic o pt (line.Migration stage.StateTaken p) known need h = real_rises o.kernel pt.kernel p h.rises need
-line_topic o pt (line.Migration stage.MemoryTaken p) known need h = real_rises o.kernel pt.kernel p h.rises need
-line_topic o pt (line.Migration stage.Left p) known need h = real_rises o.kernel pt.kernel p h.rises need
-line_topic o pt (line.Migration stage.Restarted p) known need h = h.topic
-line_topic o pt (line.SentOn p n) known need h = real_rises o.kernel pt.kernel p h.rises need
-line_topic o pt (line.Lacks p a b) known need h = real_rises o.kernel pt.kernel p h.rises need
-line_topic o pt (line.Forwarded i m) known need h =
+line_topic o pt (Line.Migration Stage.Frozen p) known need h = real_rises o.kernel pt.kernel p h.rises need
+line_topic o pt (Line.Migration Stage.Asked p) known need h = h.topic
+line_topic o pt (Line.Migration Stage.Accepted p) known need h = real_rises o.kernel pt.kernel p h.rises need
+line_topic o pt (Line.Migration Stage.StateTaken p) known need h = real_rises o.kernel pt.kernel p h.rises need
+line_topic o pt (Line.Migration Stage.MemoryTaken p) known need h = real_rises o.kernel pt.kernel p h.rises need
+line_topic o pt (Line.Migration Stage.Left p) known need h = real_rises o.kernel pt.kernel p h.rises need
+line_topic o pt (Line.Migration Stage.Restarted p) known need h = h.topic
+line_topic o pt (Line.SentOn p n) known need h = real_rises o.kernel pt.kernel p h.rises need
+line_topic o pt (Line.Lacks p a b) known need h = real_rises o.kernel pt.kernel p h.rises need
+line_topic o pt (Line.Forwarded i m) known need h =
     forwarded_real pt.kernel (handled pt.view i) (pt.view.told i) (λ t e. real_rises o.kernel pt.kernel t.receiver h.rises (known i t (told_at o pt i (o.view.told i) t refl need h e))) h.topic
-line_topic o pt (line.Proto i) known need h = proto_real pt.kernel (handled pt.view i) (pt.view.told i) (λ t e. h.about i t e)
-line_topic o pt (line.Label l) known need h = subst (IsAboutReal pt.kernel) (sym (label_topic pt.view l)) h.topic
-line_topic o pt (line.Queued i) known need h = subst (IsAboutReal pt.kernel) (sym (queued_topic (handled pt.view i) i (receiver_of (pt.view.told i)))) h.topic
-line_topic o pt (line.Held i) known need h = subst (IsAboutReal pt.kernel) (sym (held_topic (handled pt.view i) i (receiver_of (pt.view.told i)))) h.topic
-line_topic o pt (line.Taken a b n) known need h = subst (IsAboutReal pt.kernel) (sym (taken_topic (view.with_pair pt.view a b _) b (view.oldest (pt.view.pair a b)))) h.topic
-line_topic o pt (line.Head d) known need h = absurd need
-line_topic o pt (line.Put a b i k q) known need h = absurd need
-line_topic o pt (line.Idle m) known need h = h.topic
-line_topic o pt (line.Packet a b k l) known need h = h.topic
-line_topic o pt (line.Old a b n) known need h = h.topic
-line_topic o pt (line.Early a b n) known need h = h.topic
-line_topic o pt (line.Acked a b n) known need h = h.topic
-line_topic o pt line.Nothing known need h = h.topic
-line_topic o pt (line.Resent m n) known need h = h.topic
-line_topic o pt (line.Updated i n) known need h = h.topic
-line_topic o pt (line.Stays p) known need h = h.topic
-line_topic o pt (line.Here i) known need h = h.topic
-line_topic o pt (line.NoMove i) known need h = h.topic
-line_topic o pt (line.NoChild p) known need h = h.topic
-line_topic o pt (line.Pinned p) known need h = h.topic
+line_topic o pt (Line.Proto i) known need h = proto_real pt.kernel (handled pt.view i) (pt.view.told i) (λ t e. h.about i t e)
+line_topic o pt (Line.Label l) known need h = subst (IsAboutReal pt.kernel) (sym (label_topic pt.view l)) h.topic
+line_topic o pt (Line.Queued i) known need h = subst (IsAboutReal pt.kernel) (sym (queued_topic (handled pt.view i) i (receiver_of (pt.view.told i)))) h.topic
+line_topic o pt (Line.Held i) known need h = subst (IsAboutReal pt.kernel) (sym (held_topic (handled pt.view i) i (receiver_of (pt.view.told i)))) h.topic
+line_topic o pt (Line.Taken a b n) known need h = subst (IsAboutReal pt.kernel) (sym (taken_topic (view.with_pair pt.view a b _) b (view.oldest (pt.view.pair a b)))) h.topic
+line_topic o pt (Line.Head d) known need h = absurd need
+line_topic o pt (Line.Put a b i k q) known need h = absurd need
+line_topic o pt _ known need h = h.topic
 
 no_put : (o : Point) (l : Line) → LineReal o l → is_put l ≡ false
-no_put o (line.Put a b i k q) h = absurd h
+no_put o (Line.Put a b i k q) h = absurd h
 no_put o l h = refl
 
 no_head : (o : Point) (n : ℕ) (l : Line) → LineReal o l → HeadIn n l
-no_head o n (line.Head d) h = absurd h
+no_head o n (Line.Head d) h = absurd h
 no_head o n l h = tt
 
 line_reals : (o pt : Point) (t : OneKernel) (l : Line) → Receivers o → LineReal o l → kernel_after pt.kernel (label_of l) ≡ Some t → Sane pt → Reals o pt → Reals o (moved pt l t)
@@ -233,28 +162,20 @@ put_or v a b i k q j t e = elim (cases_Bool (id_eq i j)) [
   | inr apart ↦ inl (sym (put_told_off v a b i j k q apart) ∙ e)
 ]
 
-put_keeps : (v : View) (a b : ℕ) (i : MsgId) (k : MessageKind) (q : Pid) (j : MsgId) (t : Told) → v.told j ≡ Some t → (after_put v a b i k q).told j ≡ Some t
-put_keeps v a b i k q j t e = elim (cases_Bool (id_eq i j)) [
-  | inl same ↦
-      let ij : i ≡ j = id_eq-is i j same in
-      subst (λ (x : MsgId). (after_put v a b i k q).told x ≡ Some t) ij (put_at v a b i k q ∙ first_kept (v.told i) (put_of v k q) t (ap v.told ij ∙ e))
-  | inr apart ↦ put_told_off v a b i j k q apart ∙ e
-]
-
 -- what is put for the first time is a kernel's own, or for somebody
 record Puts (pt : Point) (i : MsgId) (q : Pid) : Type 0 where
   mine : pt.view.told i ≡ None → is_kernels i ≡ true → i.from.home < pt.kernel.machines
   other : pt.view.told i ≡ None → is_kernels i ≡ false → IsReal pt.kernel q
 
-put_reals : (o pt : Point) (b : ℕ) (i : MsgId) (k : MessageKind) (q : Pid) → Puts pt i q → Reals o pt → Reals o (moved pt (line.Put pt.view.acting b i k q) pt.kernel)
+put_reals : (o pt : Point) (b : ℕ) (i : MsgId) (k : MessageKind) (q : Pid) → Puts pt i q → Reals o pt → Reals o (moved pt (Line.Put pt.view.acting b i k q) pt.kernel)
 put_reals o pt b i k q new h =
     let v = pt.view in
     let s = pt.kernel in
     record {
-      within = line_within s.machines v (line.Put v.acting b i k q) tt h.within;
+      within = line_within s.machines v (Line.Put v.acting b i k q) tt h.within;
       fits = h.fits;
       rises = h.rises;
-      kept = λ j t e. put_keeps v v.acting b i k q j t (h.kept j t e);
+      kept = λ j t e. told_kept v v.acting b i k q j t (h.kept j t e);
       own = λ j t e mine. elim (put_or v v.acting b i k q j t e) [
         | inl old ↦ h.own j t old mine
         | inr put ↦ subst (λ (x : MsgId). x.from.home < s.machines) put.0 (new.mine put.1 (ap is_kernels put.0 ∙ mine))
@@ -272,7 +193,7 @@ put_reals o pt b i k q new h =
 
 packet_reals : (o : Point) → PacketsKeep (Reals o)
 packet_reals o pt a b k l h = record {
-  within = line_within pt.kernel.machines pt.view (line.Packet a b k l) tt h.within;
+  within = line_within pt.kernel.machines pt.view (Line.Packet a b k l) tt h.within;
   fits = h.fits;
   rises = h.rises;
   kept = h.kept;

@@ -1,42 +1,9 @@
 -- Wherever the rule leads, each message that its sender counts was routed.
-use Rattle.std.proofs.Common.{◌≡◌, ◌⊎◌, ℕ, zero, suc, ◌<◌, ◌≤◌, Bool, true, false, is_some, nat_lt, List, [], ◌∷◌, ◌++◌, length, refl, ap, ◌∙◌, sym, subst, inl, inr, arith}
-use Rattle.std.specs.Prelude.{if◌then◌else◌, slice_get, option_map, map}
-use Rattle.std.specs.declared.option.Option.{Option}
-use Rattle.std.specs.declared.option.Option.TheVariants.{None, Some}
-use Rattle.std.proofs.lemmas.Bool.{cases_Bool, false≢true}
-use Rattle.std.proofs.lemmas.Bool.Decides.{nat_tests}
-use Rattle.dm_link.specs.declared.Pid.{Pid}
-use Rattle.dm_link.specs.Names.{pid_eq}
-use Rattle.dm_link.specs.Plain.{PlainLink, plain_link}
-use Rattle.dm_message.specs.declared.MsgId.{MsgId}
-use Rattle.dm_message.specs.Ids.{id_eq, id_of}
-use Rattle.dm_onekernel.specs.declared.boot.BootImage.{BootImage}
-use Rattle.dm_onekernel.specs.declared.boot.BootProcess.{BootProcess}
-use Rattle.dm_onekernel.specs.declared.boot.Boot.{Boot}
-use Rattle.dm_onekernel.specs.Boot.{IsValid, switchboard, manager}
-use Rattle.dm_onekernel.specs.Kernel.{Alive, OneKernel}
-use Rattle.dm_onekernel.specs.PlainProcess.{PlainProcess}
-use Rattle.dm_onekernel.specs.Start.{begun, first_life, life_at}
-use Rattle.dm_laws.proofs.Equal.{id_eq-is}
-use Rattle.dm_laws.proofs.Sound.{not_server}
-use Rattle.dm_laws.proofs.Steps.{bind-is}
-use Rattle.dm_schedule.specs.declared.Step.{Step}
-use Rattle.dm_line.specs.declared.line.Line.{Line}
-use Rattle.dm_line.specs.declared.line.Line.TheVariants as line
-use Rattle.dm_line.specs.Sets.{without_id}
-use Rattle.dm_rule.specs.Point.{Point, first_point, after, after_line}
-use Rattle.dm_rule.specs.Spots.{times}
-use Rattle.dm_rule.specs.View.{View, Told, view_after}
-use Rattle.dm_rule.proofs.Hushed.{hushed}
-use Rattle.dm_rule.proofs.Lines.{without_counts}
-use Rattle.dm_rule.proofs.Once.{one_of}
-use Rattle.dm_rule.proofs.Pairs.Lines.{line_view}
-use Rattle.dm_rule.proofs.States.{put_told_off}
-use Rattle.dm_rulelaws.specs.Order.{LeadsBy}
-use Rattle.dm_rulelaws.proofs.Goes.Runs.{Both, both_start, both_group}
-use Rattle.dm_rulelaws.proofs.Goes.Turns.{times_self, times_more}
-use Rattle.dm_rulelaws.proofs.RunsAlways.{run_start, run_group}
-use Rattle.dm_movelaws.specs.Routed.{with_put, routed, AreRouted, RoutedAlways}
+use Rattle.dm_movelaws.proofs.Names.{◌≡◌, ◌⊎◌, ℕ, zero, suc, ◌<◌, ◌≤◌, Bool, true, false, is_some, nat_lt, List, [], ◌∷◌, ◌++◌, length, refl, ap, ◌∙◌, sym, subst, inl, inr, arith, if◌then◌else◌, slice_get, option_map, map, Option, None}
+use Rattle.dm_movelaws.proofs.Names.{Some, cases_Bool, false≢true, nat_tests, Pid, pid_eq, PlainLink, plain_link, MsgId, id_eq, id_of, BootImage, BootProcess, Boot, IsValid, switchboard, manager, Alive, OneKernel, PlainProcess, first_life}
+use Rattle.dm_movelaws.proofs.Names.{life_at, id_eq-is, not_server, bind-is, Step, Line, without_id, Point, first_point, after, after_line, times, View, Told, view_after, hushed, without_counts, one_of, line_view, put_told_off, LeadsBy}
+use Rattle.dm_movelaws.proofs.Names.{Both, both_start, both_group, times_self, times_more, run_start, run_group, with_put, routed, AreRouted, RoutedAlways, less_test}
+use Rattle.dm_onekernel.specs.Start.{begun}
 use Rattle.dm_movelaws.proofs.After.{group_after}
 use Rattle.dm_movelaws.proofs.Routed.Groups.{IsTold, AllTold, told_group}
 use Rattle.dm_movelaws.proofs.Routed.Steps.{has_sent, is_sent}
@@ -67,18 +34,18 @@ start_told b i ask sent =
 
 -- what was told of was put
 put_at : (v : View) (l : Line) (i : MsgId) (ids : List MsgId) → IsTold (view_after v l) i → IsTold v i ⊎ (1 ≤ times i (with_put l ids))
-put_at v (line.Put a b id k q) i ids h = elim (cases_Bool (id_eq id i)) [
+put_at v (Line.Put a b id k q) i ids h = elim (cases_Bool (id_eq id i)) [
   | inl same ↦ inr (subst (λ (j : MsgId). 1 ≤ times j (id ∷ ids)) (id_eq-is id i same) (times_self id ids))
   | inr apart ↦ inl (ap is_some (sym (put_told_off v a b id i k q apart)) ∙ h)
 ]
 put_at v l i ids h = inl (ap (λ (f : MsgId → Option Told). is_some (f i)) (sym (hushed v l refl).told) ∙ h)
 
 put_more : (l : Line) (i : MsgId) (ids : List MsgId) → times i ids ≤ times i (with_put l ids)
-put_more (line.Put a b id k q) i ids = times_more i id ids
+put_more (Line.Put a b id k q) i ids = times_more i id ids
 put_more l i ids = omega arith
 
 put_on : (l : Line) (i : MsgId) (xs ys : List MsgId) → times i xs ≤ times i ys → times i (with_put l xs) ≤ times i (with_put l ys)
-put_on (line.Put a b id k q) i xs ys h = omega (arith, h)
+put_on (Line.Put a b id k q) i xs ys h = omega (arith, h)
 put_on l i xs ys h = h
 
 put_among : (ls : List Line) (pt q : Point) (i : MsgId) → after pt ls ≡ Some q → IsTold q.view i → IsTold pt.view i ⊎ (1 ≤ times i (routed ls))
@@ -151,9 +118,6 @@ few (suc n) p ids h =
 are_routed : (ls : List Line) (p : Pid) (n : ℕ) → ((k : ℕ) → k < n → 1 ≤ times (id_of p k) (routed ls)) → AreRouted ls p n
 are_routed ls p n h = record { each = h; count = few n p (routed ls) h }
 
-less_true : (k n : ℕ) → k < n → nat_lt k n ≡ true
-less_true k n h = grind (arith, nat_tests)
-
 process_sent : (s : OneKernel) (p : Pid) (x : PlainProcess) (k : ℕ) → (pid_eq p switchboard ≡ false) × (pid_eq p manager ≡ false) → s.processes p ≡ Some (Alive x) → nat_lt k x.sent ≡ true → is_sent s (id_of p k) ≡ true
 process_sent s p x k off is h =
     ap (λ (c : Bool). if c then nat_lt k s.switchboard.sent else if pid_eq p manager then nat_lt k s.manager.sent else has_sent k (s.processes p)) off.0
@@ -173,9 +137,9 @@ routed_always b es ls pt valid leads =
     ] in
     let made = (both_by b es ls (first_point b) pt valid leads both).run.based.phased.sane.sound.made in
     record {
-      process = λ p x alive. are_routed ls p x.sent (λ k less. put (id_of p k) refl (process_sent pt.kernel p x k (not_server pt.kernel p x alive made) alive (less_true k x.sent less)));
-      board = are_routed ls switchboard pt.kernel.switchboard.sent (λ k less. put (id_of switchboard k) refl (less_true k pt.kernel.switchboard.sent less));
-      manager_ = are_routed ls manager pt.kernel.manager.sent (λ k less. put (id_of manager k) refl (less_true k pt.kernel.manager.sent less));
+      process = λ p x alive. are_routed ls p x.sent (λ k less. put (id_of p k) refl (process_sent pt.kernel p x k (not_server pt.kernel p x alive made) alive (less_test k x.sent less)));
+      board = are_routed ls switchboard pt.kernel.switchboard.sent (λ k less. put (id_of switchboard k) refl (less_test k pt.kernel.switchboard.sent less));
+      manager_ = are_routed ls manager pt.kernel.manager.sent (λ k less. put (id_of manager k) refl (less_test k pt.kernel.manager.sent less));
     }
   where
     both_by : (b : Boot) (es : List Step) (ls : List Line) (pt end : Point) → IsValid b → LeadsBy b pt es ls end → Both b pt → Both b end

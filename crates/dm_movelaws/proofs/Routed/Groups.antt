@@ -1,43 +1,12 @@
 -- Wherever the rule leads, each message that its sender counts was put.
-use Rattle.std.proofs.Common.{◌≡◌, ◌⊎◌, ℕ, Bool, true, false, is_some, List, [], ◌∷◌, refl, ap, ◌∙◌, sym, subst, inl, inr, arith}
-use Rattle.std.specs.Prelude.{if◌then◌else◌}
-use Rattle.std.specs.declared.option.Option.{Option}
-use Rattle.std.specs.declared.option.Option.TheVariants.{None, Some}
-use Rattle.std.proofs.lemmas.Bool.{cases_Bool, false≢true}
-use Rattle.dm_link.specs.declared.Pid.{Pid}
-use Rattle.dm_message.specs.declared.MsgId.{MsgId}
-use Rattle.dm_message.specs.declared.kind.MessageKind.{MessageKind}
-use Rattle.dm_message.specs.Ids.{id_eq}
-use Rattle.dm_message.specs.Kinds.{plain_kind}
-use Rattle.dm_message.specs.Plain.{PlainMessage}
-use Rattle.dm_onekernel.specs.declared.boot.Boot.{Boot}
-use Rattle.dm_onekernel.specs.declared.label.Label.{Label}
-use Rattle.dm_onekernel.specs.declared.label.Label.TheVariants as label
-use Rattle.dm_onekernel.specs.Kernel.{OneKernel}
-use Rattle.dm_onekernel.specs.Options.{bind}
+use Rattle.dm_movelaws.proofs.Names.{◌≡◌, ◌⊎◌, ℕ, Bool, true, false, is_some, List, [], ◌∷◌, refl, ap, ◌∙◌, sym, subst, inl, inr, arith, if◌then◌else◌, Option, None, Some, cases_Bool, false≢true, Pid, MsgId, MessageKind, id_eq, plain_kind}
+use Rattle.dm_movelaws.proofs.Names.{PlainMessage, Boot, Label, OneKernel, bind, id_eq-is, Sound, bind-is, Step, Line, Receiver, Part, Says, Routes, Again, Owns, Transmits, Spelled, lines_of, puts, packet_line, behind, spelled, Point}
+use Rattle.dm_movelaws.proofs.Names.{label_of, kernel_after, moved, after, group_of, Inbox, Queue, StandsRight, standing, View, Told, view_after, own_id, BagStep, out_of, bag_sends, bag_ran, bag_call, bag_wait, bag_out, bag_end, bag_refuse}
+use Rattle.dm_movelaws.proofs.Names.{bag_receive, bag_dropped, bag_gone, bag_no_space, bag_created, bag_served, bag_took, group_is, stands_right, is_put, hushed, hidden, put_told_off, Sane, AllSayable, part_sane, outcome_sayable, Rides}
+use Rattle.dm_movelaws.proofs.Names.{Steps, said_by, again_rides, begun, begun_sane, Run}
 use Rattle.dm_onekernel.specs.Step as kernel
-use Rattle.dm_laws.proofs.Equal.{id_eq-is}
-use Rattle.dm_laws.proofs.Sound.{Sound}
-use Rattle.dm_laws.proofs.Steps.{bind-is}
-use Rattle.dm_schedule.specs.declared.Step.{Step}
-use Rattle.dm_line.specs.declared.line.Line.{Line}
-use Rattle.dm_line.specs.declared.line.Line.TheVariants as line
-use Rattle.dm_rule.specs.Addresses.{Receiver}
-use Rattle.dm_rule.specs.Parts.{Part, Says, Routes, Again, Owns, Transmits, Spelled, lines_of, puts, packet_line, behind, spelled}
-use Rattle.dm_rule.specs.Point.{Point, label_of, kernel_after, moved, after}
 use Rattle.dm_rule.specs.Rule as rule
-use Rattle.dm_rule.specs.Rule.{group_of}
-use Rattle.dm_rule.specs.Spots.{Inbox, Queue, StandsRight, standing}
-use Rattle.dm_rule.specs.View.{View, Told, view_after, own_id}
 use Rattle.dm_rule.specs.View as view
-use Rattle.dm_rule.proofs.Bags.{BagStep, out_of, bag_sends, bag_ran, bag_call, bag_wait, bag_out, bag_end, bag_refuse, bag_receive, bag_dropped, bag_gone, bag_no_space, bag_created, bag_served, bag_took}
-use Rattle.dm_rule.proofs.Groups.{group_is, stands_right}
-use Rattle.dm_rule.proofs.Hushed.{is_put, hushed}
-use Rattle.dm_rule.proofs.Lines.{hidden}
-use Rattle.dm_rule.proofs.States.{put_told_off}
-use Rattle.dm_rule.proofs.Telling.{Sane, AllSayable, part_sane, outcome_sayable}
-use Rattle.dm_rulelaws.proofs.Based.Needs.{Rides, Steps, said_by, again_rides, begun, begun_sane}
-use Rattle.dm_rulelaws.proofs.Runs.{Run}
 use Rattle.dm_movelaws.proofs.Ends.Sends.{puts_lead}
 use Rattle.dm_movelaws.proofs.Routed.Outs.{LineOuts, PartOuts, AllOuts, OutsOf, outcome_outs}
 use Rattle.dm_movelaws.proofs.Routed.Steps.{is_sent, step_counts}
@@ -73,28 +42,28 @@ stays_by e s t out put i b there = elim (hidden_some out s.bag i there) [
 ]
 
 stays_or_goes : (r e : MsgId → ℕ) (s t : OneKernel) (l : Label) (i : MsgId) → kernel.step s l ≡ Some t → Sound r e s → is_some (s.bag i) ≡ true → (is_some (t.bag i) ≡ true) ⊎ (out_of l ≡ Some i)
-stays_or_goes r e s t (label.Ran p k) i is h there = stays_by e s t None None i (bag_ran e s t p k is) there
-stays_or_goes r e s t (label.Call p n c) i is h there = stays_by e s t None None i (bag_call e s t p n c is) there
-stays_or_goes r e s t (label.Send p id) i is h there = stays_by e s t None (Some id) i (bag_sends r e s t p id is h) there
-stays_or_goes r e s t (label.Wait p) i is h there = stays_by e s t None None i (bag_wait e s t p is) there
-stays_or_goes r e s t (label.Out p w) i is h there = stays_by e s t None None i (bag_out e s t p w is) there
-stays_or_goes r e s t (label.End p y) i is h there = stays_by e s t None None i (bag_end e s t p y is) there
-stays_or_goes r e s t (label.Receive p id) i is h there = stays_by e s t (Some id) None i (bag_receive e s t p id is) there
-stays_or_goes r e s t (label.Refuse p id c) i is h there = stays_by e s t None None i (bag_refuse e s t p id c is) there
-stays_or_goes r e s t (label.Dropped id) i is h there = stays_by e s t (Some id) None i (bag_dropped e s t id is) there
-stays_or_goes r e s t (label.Served id) i is h there = stays_by e s t (Some id) _ i (bag_served r e s t id is h).is there
-stays_or_goes r e s t (label.Gone id) i is h there = stays_by e s t (Some id) _ i (bag_gone r e s t id is h) there
-stays_or_goes r e s t (label.Took id) i is h there = stays_by e s t (Some id) _ i (bag_took r e s t id is h).is there
-stays_or_goes r e s t (label.Created id p) i is h there = stays_by e s t (Some id) _ i (bag_created r e s t id p is h) there
-stays_or_goes r e s t (label.NoSpace id a b) i is h there = stays_by e s t (Some id) _ i (bag_no_space r e s t id a b is h) there
+stays_or_goes r e s t (Label.Ran p k) i is h there = stays_by e s t None None i (bag_ran e s t p k is) there
+stays_or_goes r e s t (Label.Call p n c) i is h there = stays_by e s t None None i (bag_call e s t p n c is) there
+stays_or_goes r e s t (Label.Send p id) i is h there = stays_by e s t None (Some id) i (bag_sends r e s t p id is h) there
+stays_or_goes r e s t (Label.Wait p) i is h there = stays_by e s t None None i (bag_wait e s t p is) there
+stays_or_goes r e s t (Label.Out p w) i is h there = stays_by e s t None None i (bag_out e s t p w is) there
+stays_or_goes r e s t (Label.End p y) i is h there = stays_by e s t None None i (bag_end e s t p y is) there
+stays_or_goes r e s t (Label.Receive p id) i is h there = stays_by e s t (Some id) None i (bag_receive e s t p id is) there
+stays_or_goes r e s t (Label.Refuse p id c) i is h there = stays_by e s t None None i (bag_refuse e s t p id c is) there
+stays_or_goes r e s t (Label.Dropped id) i is h there = stays_by e s t (Some id) None i (bag_dropped e s t id is) there
+stays_or_goes r e s t (Label.Served id) i is h there = stays_by e s t (Some id) _ i (bag_served r e s t id is h).is there
+stays_or_goes r e s t (Label.Gone id) i is h there = stays_by e s t (Some id) _ i (bag_gone r e s t id is h) there
+stays_or_goes r e s t (Label.Took id) i is h there = stays_by e s t (Some id) _ i (bag_took r e s t id is h).is there
+stays_or_goes r e s t (Label.Created id p) i is h there = stays_by e s t (Some id) _ i (bag_created r e s t id p is h) there
+stays_or_goes r e s t (Label.NoSpace id a b) i is h there = stays_by e s t (Some id) _ i (bag_no_space r e s t id a b is h) there
 
 -- a line that is no put
 same_told : (v : View) (l : Line) (i : MsgId) → is_put l ≡ false → IsTold v i → IsTold (view_after v l) i
 same_told v l i quiet h = ap (λ (f : MsgId → Option Told). is_some (f i)) (hushed v l quiet).told ∙ h
 
-counted_label : (v : View) (pt : Point) (l : Label) (t : OneKernel) → ((i : MsgId) → out_of l ≡ Some i → IsTold v i) → kernel.step pt.kernel l ≡ Some t → Sane pt → Counted v pt → Counted v (moved pt (line.Label l) t)
+counted_label : (v : View) (pt : Point) (l : Label) (t : OneKernel) → ((i : MsgId) → out_of l ≡ Some i → IsTold v i) → kernel.step pt.kernel l ≡ Some t → Sane pt → Counted v pt → Counted v (moved pt (Line.Label l) t)
 counted_label v pt l t outs is sane h =
-    let told : (i : MsgId) → IsTold pt.view i → IsTold (view_after pt.view (line.Label l)) i = λ i e. same_told pt.view (line.Label l) i refl e in
+    let told : (i : MsgId) → IsTold pt.view i → IsTold (view_after pt.view (Line.Label l)) i = λ i e. same_told pt.view (Line.Label l) i refl e in
     record {
       kept = λ i e. told i (h.kept i e);
       each = λ i ask sent. elim (step_counts pt.kernel t l is i ask sent) [
@@ -122,30 +91,9 @@ counted_quiet v pt l t quiet is h =
     })
 
 counted_line : (v : View) (pt : Point) (l : Line) (t : OneKernel) → is_put l ≡ false → LineOuts (IsTold v) l → kernel_after pt.kernel (label_of l) ≡ Some t → Sane pt → Counted v pt → Counted v (moved pt l t)
-counted_line v pt (line.Label l) t quiet outs is sane h = counted_label v pt l t outs is sane h
-counted_line v pt (line.Put a b i k q) t quiet outs is sane h = cc
-counted_line v pt (line.Head d) t quiet outs is sane h = counted_quiet v pt (line.Head d) t quiet is h
-counted_line v pt (line.Idle m) t quiet outs is sane h = counted_quiet v pt (line.Idle m) t quiet is h
-counted_line v pt (line.Packet a b k x) t quiet outs is sane h = counted_quiet v pt (line.Packet a b k x) t quiet is h
-counted_line v pt (line.Taken a b n) t quiet outs is sane h = counted_quiet v pt (line.Taken a b n) t quiet is h
-counted_line v pt (line.Old a b n) t quiet outs is sane h = counted_quiet v pt (line.Old a b n) t quiet is h
-counted_line v pt (line.Early a b n) t quiet outs is sane h = counted_quiet v pt (line.Early a b n) t quiet is h
-counted_line v pt (line.Acked a b n) t quiet outs is sane h = counted_quiet v pt (line.Acked a b n) t quiet is h
-counted_line v pt line.Nothing t quiet outs is sane h = counted_quiet v pt line.Nothing t quiet is h
-counted_line v pt (line.Resent m n) t quiet outs is sane h = counted_quiet v pt (line.Resent m n) t quiet is h
-counted_line v pt (line.Queued i) t quiet outs is sane h = counted_quiet v pt (line.Queued i) t quiet is h
-counted_line v pt (line.Held i) t quiet outs is sane h = counted_quiet v pt (line.Held i) t quiet is h
-counted_line v pt (line.Forwarded i m) t quiet outs is sane h = counted_quiet v pt (line.Forwarded i m) t quiet is h
-counted_line v pt (line.Updated i n) t quiet outs is sane h = counted_quiet v pt (line.Updated i n) t quiet is h
-counted_line v pt (line.Migration s p) t quiet outs is sane h = counted_quiet v pt (line.Migration s p) t quiet is h
-counted_line v pt (line.SentOn p n) t quiet outs is sane h = counted_quiet v pt (line.SentOn p n) t quiet is h
-counted_line v pt (line.Lacks p a b) t quiet outs is sane h = counted_quiet v pt (line.Lacks p a b) t quiet is h
-counted_line v pt (line.Stays p) t quiet outs is sane h = counted_quiet v pt (line.Stays p) t quiet is h
-counted_line v pt (line.Here i) t quiet outs is sane h = counted_quiet v pt (line.Here i) t quiet is h
-counted_line v pt (line.NoMove i) t quiet outs is sane h = counted_quiet v pt (line.NoMove i) t quiet is h
-counted_line v pt (line.Proto i) t quiet outs is sane h = counted_quiet v pt (line.Proto i) t quiet is h
-counted_line v pt (line.NoChild p) t quiet outs is sane h = counted_quiet v pt (line.NoChild p) t quiet is h
-counted_line v pt (line.Pinned p) t quiet outs is sane h = counted_quiet v pt (line.Pinned p) t quiet is h
+counted_line v pt (Line.Label l) t quiet outs is sane h = counted_label v pt l t outs is sane h
+counted_line v pt (Line.Put a b i k q) t quiet outs is sane h = cc
+counted_line v pt any_ t quiet outs is sane h = counted_quiet v pt any_ t quiet is h
 
 -- a put tells of its message
 put_told : (v : View) (a b : ℕ) (i j : MsgId) (k : MessageKind) (q : Pid) → IsTold v j → IsTold (view.after_put v a b i k q) j
@@ -163,7 +111,7 @@ counted_rides v = record {
       | inr there ↦ inr there
     ];
   };
-  packet = λ pt a b k l h. counted_quiet v pt (line.Packet a b k l) pt.kernel refl refl h;
+  packet = λ pt a b k l h. counted_quiet v pt (Line.Packet a b k l) pt.kernel refl refl h;
 }
 
 -- a part, and the parts of a group
@@ -207,7 +155,7 @@ pub told_group : (b : Boot) (pt : Point) (d : Step) (w : Spelled) → group_of b
 told_group b pt d w e run next h i ask sent =
     let g = group_is b pt d w e in
     let sane = run.based.phased.sane in
-    let first : Counted pt.view (begun pt d) = counted_quiet pt.view pt (line.Head d) pt.kernel refl refl (record { kept = λ j k. k; each = λ j a s. inl (h j a s) }) in
+    let first : Counted pt.view (begun pt d) = counted_quiet pt.view pt (Line.Head d) pt.kernel refl refl (record { kept = λ j k. k; each = λ j a s. inl (h j a s) }) in
     let outs : OutsOf (IsTold pt.view) (rule.outcome b pt d) = outcome_outs (IsTold pt.view) b pt d (λ m j least. run.found.told j (Inbox m) least) (λ m p j least. run.found.told j (Queue m p) least) in
     let last = counted_parts pt.view g.parts (begun pt d) g.rest (outcome_sayable b pt d g.parts g.is) (subst (OutsOf (IsTold pt.view)) g.is outs) (begun_sane pt d sane) g.said first in
     elim ((subst (Counted pt.view) g.point last).each i ask sent) [

@@ -1,59 +1,26 @@
 -- The messages that go by the labels of a group stood at the front of the inbox, or in a queue, as it began.
-use Rattle.std.proofs.Common.{◌≡◌, ℕ, ◌≤◌, ◌==◌, Bool, true, false, List, [], ◌∷◌, ◌++◌, length, refl, subst, arith}
-use Rattle.std.specs.Prelude.{⊤, ◌/◌, if◌then◌else◌, slice_get}
-use Rattle.std.specs.declared.option.Option.{Option}
-use Rattle.std.specs.declared.option.Option.TheVariants.{None, Some}
-use Rattle.dm_link.specs.declared.Pid.{Pid}
-use Rattle.dm_link.specs.Names.{pid_eq}
-use Rattle.dm_message.specs.declared.MsgId.{MsgId}
-use Rattle.dm_message.specs.declared.kind.MessageKind.{MessageKind}
-use Rattle.dm_message.specs.declared.kind.MessageKind.TheVariants as kind
-use Rattle.dm_message.specs.Plain as what
-use Rattle.dm_message.specs.Plain.{PlainMessage, PlainWhat}
-use Rattle.dm_processor.specs.Instructions.{instruction}
-use Rattle.dm_onekernel.specs.declared.boot.BootImage.{BootImage}
-use Rattle.dm_onekernel.specs.declared.boot.Boot.{Boot}
-use Rattle.dm_onekernel.specs.declared.label.Label.TheVariants as label
-use Rattle.dm_onekernel.specs.Boot.{switchboard, manager}
-use Rattle.dm_onekernel.specs.Options.{bind}
-use Rattle.dm_onekernel.specs.PlainProcess.{PlainProcess, PlainStatus, Ready, Waiting, Moving}
-use Rattle.dm_onekernel.specs.Kernel.{OneKernel}
+use Rattle.dm_movelaws.proofs.Names.{◌≡◌, ℕ, ◌≤◌, ◌==◌, Bool, true, false, List, [], ◌∷◌, ◌++◌, length, refl, subst, arith, ⊤, ◌/◌, if◌then◌else◌, slice_get, Option, None, Some, Pid, pid_eq, MsgId, MessageKind, Label, Stage, PlainMessage}
+use Rattle.dm_movelaws.proofs.Names.{PlainWhat, instruction, BootImage, Boot, switchboard, manager, bind, PlainProcess, PlainStatus, Ready, Waiting, Moving, OneKernel, machine_of, with_machine, Step, Line, Addresses, Sender, is_told_back}
+use Rattle.dm_movelaws.proofs.Names.{child_number, forwards_on, to_kernel, sends_on, accepts, takes_chunk, takes_block, leaves, kernel_told, chunks_of, pieces_of, here_told, ended_told, process_told, server_told, migrates, migrates_child}
+use Rattle.dm_movelaws.proofs.Names.{Part, Says, Routes, Again, Owns, Transmits, Point, times, Told, About, Of, Known, Unknown, Here, Frozen, Forward, Ended, out_of, IsNetLine, IsNet, arrives_net, resends_net, first_is, times_self}
+use Rattle.dm_movelaws.proofs.Names.{times_more}
 use Rattle.dm_onekernel.specs.Calls as calls
 use Rattle.dm_onekernel.specs.Pieces as pieces
 use Rattle.dm_onekernel.specs.Receiving as receiving
 use Rattle.dm_onekernel.specs.Switchboard as board
 use Rattle.dm_onekernel.specs.Manager as manage
 use Rattle.dm_onekernel.specs.Step as kernel
-use Rattle.dm_onekernel.specs.Step.{machine_of, with_machine}
-use Rattle.dm_schedule.specs.declared.Step.{Step}
-use Rattle.dm_schedule.specs.declared.Step.TheVariants as step
-use Rattle.dm_line.specs.declared.line.Line.{Line}
-use Rattle.dm_line.specs.declared.line.Line.TheVariants as line
-use Rattle.dm_line.specs.declared.line.Stage.TheVariants as stage
-use Rattle.dm_rule.specs.Addresses.{Addresses, Sender, is_told_back, child_number}
-use Rattle.dm_rule.specs.Migrating.{forwards_on, to_kernel, sends_on, accepts, takes_chunk, takes_block, leaves, kernel_told, chunks_of, pieces_of, here_told, ended_told, process_told, server_told, migrates, migrates_child}
-use Rattle.dm_rule.specs.Parts.{Part, Says, Routes, Again, Owns, Transmits}
-use Rattle.dm_rule.specs.Point.{Point}
 use Rattle.dm_rule.specs.Rule as rule
-use Rattle.dm_rule.specs.Spots.{times}
-use Rattle.dm_rule.specs.View.{Told, About, NothingElse, Target, Of, Known, Unknown, Here, Frozen, Incoming, Forward, Ended}
 use Rattle.dm_rule.specs.View as view
-use Rattle.dm_rule.proofs.Bags.{out_of}
-use Rattle.dm_rule.proofs.Groups.{IsNetLine, IsNet, arrives_net, resends_net}
-use Rattle.dm_rulelaws.proofs.Goes.Serves.{first_is}
-use Rattle.dm_rulelaws.proofs.Goes.Turns.{times_self, times_more}
 
 -- the message that goes by a label is one of these
 abbrev pub LineOuts : (MsgId → Type 0) → Line → Type 0
-LineOuts P (line.Label l) = (i : MsgId) → out_of l ≡ Some i → P i
+LineOuts P (Line.Label l) = (i : MsgId) → out_of l ≡ Some i → P i
 LineOuts P l = ⊤
 
 abbrev pub PartOuts : (MsgId → Type 0) → Part → Type 0
 PartOuts P (Says l) = LineOuts P l
-PartOuts P (Routes i) = ⊤
-PartOuts P (Again i b) = ⊤
-PartOuts P (Owns k q b) = ⊤
-PartOuts P (Transmits a b l) = ⊤
+PartOuts P _ = ⊤
 
 abbrev pub AllOuts : (MsgId → Type 0) → List Part → Type 0
 AllOuts P [] = ⊤
@@ -95,11 +62,9 @@ drops_outs P (j ∷ js) h = (just P j (h j (times_self j js)), drops_outs P js (
 
 -- a process is served
 called_outs : (P : MsgId → Type 0) (p : Pid) (n : ℕ) (queue : List MsgId) (c : calls.Called) → In P queue → AllOuts P (rule.called p n queue c)
-called_outs P p n queue (calls.Replies reply x) h = (nothing P, tt)
 called_outs P p n queue (calls.Sends m x) h = (nothing P, (tt, tt))
-called_outs P p n queue (calls.Waits x) h = (nothing P, tt)
-called_outs P p n queue (calls.Outputs word x) h = (nothing P, tt)
 called_outs P p n queue (calls.Ends because) h = (nothing P, drops_outs P queue h)
+called_outs P p n queue _ h = (nothing P, tt)
 
 stops_outs : (P : MsgId → Type 0) (p : Pid) (queue : List MsgId) (o : Option kernel.Next) → In P queue → AllOuts P (rule.stops p queue o)
 stops_outs P p queue None h = tt
@@ -143,47 +108,36 @@ lands_outs P id (Some (pieces.Next request x)) h = (just P id h, (tt, tt))
 lands_outs P id (Some (pieces.Done reply x)) h = (just P id h, tt)
 
 here_outs : (P : MsgId → Type 0) (o : Point) (m : ℕ) (id : MsgId) (msg : PlainMessage) (x : PlainProcess) (w : PlainWhat) → P id → Queues P o m → OutsOf P (rule.here_handles o m id msg x w)
-here_outs P o m id msg x (what.User a b c d) h q = (tt, tt)
-here_outs P o m id msg x what.Stop h q = (just P id h, tt)
-here_outs P o m id msg x what.Resume h q = (just P id h, tt)
-here_outs P o m id msg x what.Kill h q = (just P id h, drops_outs P (o.view.queue m msg.to) (q msg.to))
-here_outs P o m id msg x (what.Read base len) h q = (just P id h, (tt, tt))
-here_outs P o m id msg x (what.Write base bytes) h q = (just P id h, (tt, tt))
-here_outs P o m id msg x (what.Block bytes) h q = lands_outs P id (pieces.lands msg.to x msg x.status) h
-here_outs P o m id msg x what.Written h q = lands_outs P id (pieces.lands msg.to x msg x.status) h
-here_outs P o m id msg x what.Gone h q = lands_outs P id (pieces.lands msg.to x msg x.status) h
-here_outs P o m id msg x (what.Create image links) h q = tt
-here_outs P o m id msg x (what.Created p) h q = tt
-here_outs P o m id msg x what.NoRoom h q = tt
-here_outs P o m id msg x (what.Move machine) h q = tt
-here_outs P o m id msg x (what.Moved outcome) h q = tt
+here_outs P o m id msg x (PlainWhat.User a b c d) h q = (tt, tt)
+here_outs P o m id msg x PlainWhat.Stop h q = (just P id h, tt)
+here_outs P o m id msg x PlainWhat.Resume h q = (just P id h, tt)
+here_outs P o m id msg x PlainWhat.Kill h q = (just P id h, drops_outs P (o.view.queue m msg.to) (q msg.to))
+here_outs P o m id msg x (PlainWhat.Read base len) h q = (just P id h, (tt, tt))
+here_outs P o m id msg x (PlainWhat.Write base bytes) h q = (just P id h, (tt, tt))
+here_outs P o m id msg x (PlainWhat.Block bytes) h q = lands_outs P id (pieces.lands msg.to x msg x.status) h
+here_outs P o m id msg x PlainWhat.Written h q = lands_outs P id (pieces.lands msg.to x msg x.status) h
+here_outs P o m id msg x PlainWhat.Gone h q = lands_outs P id (pieces.lands msg.to x msg x.status) h
+here_outs P o m id msg x _ h q = tt
 
 ended_outs : (P : MsgId → Type 0) (id : MsgId) (w : PlainWhat) → P id → OutsOf P (rule.ended_handles id w)
-ended_outs P id (what.User a b c d) h = (just P id h, tt)
-ended_outs P id what.Stop h = (just P id h, tt)
-ended_outs P id what.Resume h = (just P id h, tt)
-ended_outs P id what.Kill h = (just P id h, tt)
-ended_outs P id (what.Read base len) h = (just P id h, (tt, tt))
-ended_outs P id (what.Write base bytes) h = (just P id h, (tt, tt))
-ended_outs P id (what.Block bytes) h = (just P id h, tt)
-ended_outs P id what.Written h = (just P id h, tt)
-ended_outs P id what.Gone h = (just P id h, tt)
-ended_outs P id (what.Create image links) h = tt
-ended_outs P id (what.Created p) h = tt
-ended_outs P id what.NoRoom h = tt
-ended_outs P id (what.Move machine) h = tt
-ended_outs P id (what.Moved outcome) h = tt
+ended_outs P id (PlainWhat.Read base len) h = (just P id h, (tt, tt))
+ended_outs P id (PlainWhat.Write base bytes) h = (just P id h, (tt, tt))
+ended_outs P id (PlainWhat.Create image links) h = tt
+ended_outs P id (PlainWhat.Created p) h = tt
+ended_outs P id PlainWhat.NoRoom h = tt
+ended_outs P id (PlainWhat.Move machine) h = tt
+ended_outs P id (PlainWhat.Moved outcome) h = tt
+ended_outs P id _ h = (just P id h, tt)
 
 forwards_outs : (P : MsgId → Type 0) (a : Addresses) (id : MsgId) (k : MessageKind) (sender : Pid) (to : ℕ) → AllOuts P (forwards_on a id k sender to)
-forwards_outs P a id k sender to = (tt, (tt, outs_if P (is_told_back k) (Owns kind.Update sender (a (Sender id)).at ∷ []) [] (tt, tt) tt))
+forwards_outs P a id k sender to = (tt, (tt, outs_if P (is_told_back k) (Owns MessageKind.Update sender (a (Sender id)).at ∷ []) [] (tt, tt) tt))
 
 process_outs : (P : MsgId → Type 0) (o : Point) (m : ℕ) (id : MsgId) (msg : PlainMessage) (k : Known) → P id → Queues P o m → OutsOf P (rule.process_handles o m id msg k)
 process_outs P o m id msg Unknown h q = tt
 process_outs P o m id msg Here h q = of_bind P (kernel.alive (o.kernel.processes msg.to)) (λ x. rule.here_handles o m id msg x msg.what) (λ x. here_outs P o m id msg x msg.what h q)
-process_outs P o m id msg (Frozen to) h q = (tt, tt)
-process_outs P o m id msg (Incoming from) h q = (tt, tt)
 process_outs P o m id msg (Forward at moves) h q = forwards_outs P o.addresses id _ msg.sender at
 process_outs P o m id msg Ended h q = ended_outs P id msg.what h
+process_outs P o m id msg _ h q = (tt, tt)
 
 routes_outs : (P : MsgId → Type 0) (o : Option PlainMessage) → AllOuts P (rule.routes o)
 routes_outs P None = tt
@@ -197,7 +151,7 @@ manager_outs : (P : MsgId → Type 0) (id : MsgId) (o : Option manage.Took) → 
 manager_outs P id None h = tt
 manager_outs P id (Some t) h = (just P id h, routes_outs P t.message)
 
-made_outs : (P : MsgId → Type 0) (c : Bool) (id : MsgId) (p : Pid) (a b : ℕ) → P id → PartOuts P (if c then rule.says (label.Created id p) else rule.says (label.NoSpace id a b))
+made_outs : (P : MsgId → Type 0) (c : Bool) (id : MsgId) (p : Pid) (a b : ℕ) → P id → PartOuts P (if c then rule.says (Label.Created id p) else rule.says (Label.NoSpace id a b))
 made_outs P true id p a b h = just P id h
 made_outs P false id p a b h = just P id h
 
@@ -206,7 +160,7 @@ creates_outs P o m id r None h = tt
 creates_outs P o m id r (Some i) h = (made_outs P (rule.has_room r i.blocks) id _ r.slots r.blocks h, (tt, tt))
 
 kernel_outs : (P : MsgId → Type 0) (b : Boot) (o : Point) (m : ℕ) (id : MsgId) (w : PlainWhat) → P id → OutsOf P (rule.kernel_handles b o m id w)
-kernel_outs P b o m id (what.Create image links) h = creates_outs P o m id (rule.free_room b o m) (slice_get b.images image) h
+kernel_outs P b o m id (PlainWhat.Create image links) h = creates_outs P o m id (rule.free_room b o m) (slice_get b.images image) h
 kernel_outs P b o m id w h = tt
 
 handles_outs : (P : MsgId → Type 0) (b : Boot) (o : Point) (m : ℕ) (id : MsgId) (msg : PlainMessage) → P id → Queues P o m → OutsOf P (rule.handles b o m id msg)
@@ -236,52 +190,49 @@ sends_outs P to [] = tt
 sends_outs P to (i ∷ is) = (tt, sends_outs P to is)
 
 leaves_outs : (P : MsgId → Type 0) (id : MsgId) (p : Pid) (ids : List MsgId) (k : Known) → OutsOf P (leaves id p ids k)
-leaves_outs P id p ids (Frozen to) = (tt, both P (sends_on to ids) (Says (line.Migration stage.Left p) ∷ to_kernel kind.Restart id.from.home ∷ []) (sends_outs P to ids) (tt, (tt, tt)))
+leaves_outs P id p ids (Frozen to) = (tt, both P (sends_on to ids) (Says (Line.Migration Stage.Left p) ∷ to_kernel MessageKind.Restart id.from.home ∷ []) (sends_outs P to ids) (tt, (tt, tt)))
 leaves_outs P id p ids k = tt
 
 told_outs : (P : MsgId → Type 0) (o : Point) (m : ℕ) (id : MsgId) (p : Pid) (room : Bool × ℕ × ℕ) (x : PlainProcess) (k : MessageKind) → OutsOf P (kernel_told o m id p room x k)
-told_outs P o m id p room x kind.Ask = accepts_outs P id.from.home p room.0 room.1 room.2
-told_outs P o m id p room x kind.Refuse = (tt, tt)
-told_outs P o m id p room x kind.PullState = (tt, (tt, tt))
-told_outs P o m id p room x kind.State = chunk_outs P id p (o.view.asked p == chunks_of x)
-told_outs P o m id p room x kind.PullBlock = (tt, (tt, tt))
-told_outs P o m id p room x kind.Memory = block_outs P id p (o.view.asked p == pieces_of x)
-told_outs P o m id p room x kind.AllTaken = leaves_outs P id p (o.view.queue m p ++ o.view.held m p) (o.view.known m p)
-told_outs P o m id p room x kind.Restart = (tt, tt)
+told_outs P o m id p room x MessageKind.Ask = accepts_outs P id.from.home p room.0 room.1 room.2
+told_outs P o m id p room x MessageKind.Refuse = (tt, tt)
+told_outs P o m id p room x MessageKind.PullState = (tt, (tt, tt))
+told_outs P o m id p room x MessageKind.State = chunk_outs P id p (o.view.asked p == chunks_of x)
+told_outs P o m id p room x MessageKind.PullBlock = (tt, (tt, tt))
+told_outs P o m id p room x MessageKind.Memory = block_outs P id p (o.view.asked p == pieces_of x)
+told_outs P o m id p room x MessageKind.AllTaken = leaves_outs P id p (o.view.queue m p ++ o.view.held m p) (o.view.known m p)
+told_outs P o m id p room x MessageKind.Restart = (tt, tt)
 told_outs P o m id p room x k = tt
 
 hears_kernel : (P : MsgId → Type 0) (b : Boot) (o : Point) (m : ℕ) (id : MsgId) (k : MessageKind) (a : About) → OutsOf P (rule.kernel_hears b o m id k a)
-hears_kernel P b o m id k NothingElse = tt
-hears_kernel P b o m id k (Target to) = tt
 hears_kernel P b o m id k (Of p) =
     of_bind P (kernel.alive (o.kernel.processes p)) (λ x. kernel_told o m id p (rule.fits (rule.free_room b o m) (length x.memory / 256)) x k)
     (λ x. told_outs P o m id p (rule.fits (rule.free_room b o m) (length x.memory / 256)) x k)
-hears_kernel P b o m id k (view.Place p at moves) = tt
+hears_kernel P b o m id k _ = tt
 
-moves_outs : (P : MsgId → Type 0) (id : MsgId) (p : Pid) (to : ℕ) (c : Bool) → AllOuts P (if c then Says (line.Here id) ∷ [] else Says (line.Migration stage.Frozen p) ∷ Says (line.Migration stage.Asked p) ∷ to_kernel kind.Ask to ∷ [])
+moves_outs : (P : MsgId → Type 0) (id : MsgId) (p : Pid) (to : ℕ) (c : Bool) → AllOuts P (if c then Says (Line.Here id) ∷ [] else Says (Line.Migration Stage.Frozen p) ∷ Says (Line.Migration Stage.Asked p) ∷ to_kernel MessageKind.Ask to ∷ [])
 moves_outs P id p to true = (tt, tt)
 moves_outs P id p to false = (tt, (tt, (tt, tt)))
 
 here_told_outs : (P : MsgId → Type 0) (o : Point) (m : ℕ) (id : MsgId) (t : Told) (k : MessageKind) → OutsOf P (here_told o m id t k)
-here_told_outs P o m id t kind.Migrate = moves_outs P id t.receiver (view.target_of (Some t)) (m == view.target_of (Some t))
-here_told_outs P o m id t kind.Update = (tt, tt)
+here_told_outs P o m id t MessageKind.Migrate = moves_outs P id t.receiver (view.target_of (Some t)) (m == view.target_of (Some t))
+here_told_outs P o m id t MessageKind.Update = (tt, tt)
 here_told_outs P o m id t k = tt
 
 ended_told_outs : (P : MsgId → Type 0) (id : MsgId) (k : MessageKind) → OutsOf P (ended_told id k)
-ended_told_outs P id kind.Migrate = (tt, tt)
-ended_told_outs P id kind.Update = (tt, tt)
+ended_told_outs P id MessageKind.Migrate = (tt, tt)
+ended_told_outs P id MessageKind.Update = (tt, tt)
 ended_told_outs P id k = tt
 
 process_told_outs : (P : MsgId → Type 0) (o : Point) (m : ℕ) (id : MsgId) (t : Told) (k : Known) → OutsOf P (process_told o m id t k)
 process_told_outs P o m id t Unknown = tt
 process_told_outs P o m id t Here = here_told_outs P o m id t t.kind
-process_told_outs P o m id t (Frozen to) = (tt, tt)
-process_told_outs P o m id t (Incoming from) = (tt, tt)
 process_told_outs P o m id t (Forward at moves) = forwards_outs P o.addresses id t.kind manager at
 process_told_outs P o m id t Ended = ended_told_outs P id t.kind
+process_told_outs P o m id t _ = (tt, tt)
 
 server_told_outs : (P : MsgId → Type 0) (o : Point) (id : MsgId) (t : Told) (k : MessageKind) → OutsOf P (server_told o id t k)
-server_told_outs P o id t kind.Update = (tt, tt)
+server_told_outs P o id t MessageKind.Update = (tt, tt)
 server_told_outs P o id t k = tt
 
 hears_outs : (P : MsgId → Type 0) (b : Boot) (o : Point) (m : ℕ) (id : MsgId) (q : Option Told) → OutsOf P (rule.hears b o m id q)
@@ -303,7 +254,7 @@ turns_outs P b o m (i ∷ is) h q = comes_outs P b o m i (o.kernel.bag i) (h i (
 
 -- deliveries, repeats and requests to move have none
 net_line : (P : MsgId → Type 0) (l : Line) → IsNetLine l → LineOuts P l
-net_line P (line.Label l) h = absurd h
+net_line P (Line.Label l) h = absurd h
 net_line P l h = tt
 
 net_outs : (P : MsgId → Type 0) (ps : List Part) → IsNet ps → AllOuts P ps
@@ -320,13 +271,13 @@ child_outs P a p (Some n) = (tt, tt)
 
 migrates_outs : (P : MsgId → Type 0) (o : Point) (p : Pid) → AllOuts P (migrates o p)
 migrates_outs P o p =
-    outs_if P (pid_eq p switchboard) (Says (line.Pinned p) ∷ []) (if pid_eq p manager then Says (line.Pinned p) ∷ [] else migrates_child o.addresses p (child_number o.kernel p)) (tt, tt)
-    (outs_if P (pid_eq p manager) (Says (line.Pinned p) ∷ []) (migrates_child o.addresses p (child_number o.kernel p)) (tt, tt) (child_outs P o.addresses p (child_number o.kernel p)))
+    outs_if P (pid_eq p switchboard) (Says (Line.Pinned p) ∷ []) (if pid_eq p manager then Says (Line.Pinned p) ∷ [] else migrates_child o.addresses p (child_number o.kernel p)) (tt, tt)
+    (outs_if P (pid_eq p manager) (Says (Line.Pinned p) ∷ []) (migrates_child o.addresses p (child_number o.kernel p)) (tt, tt) (child_outs P o.addresses p (child_number o.kernel p)))
 
 pub outcome_outs : (P : MsgId → Type 0) (b : Boot) (o : Point) (d : Step) → ((m : ℕ) → In P (o.view.inbox m)) → ((m : ℕ) → Queues P o m) → OutsOf P (rule.outcome b o d)
-outcome_outs P b o (step.Turn m) h q = turns_outs P b o m (o.view.inbox m) (h m) (q m)
-outcome_outs P b o (step.Tick m) h q = (tt, net_outs P (rule.resends o.view m o.kernel.machines) (resends_net o.view m o.kernel.machines))
-outcome_outs P b o (step.Deliver a c k) h q =
+outcome_outs P b o (Step.Turn m) h q = turns_outs P b o m (o.view.inbox m) (h m) (q m)
+outcome_outs P b o (Step.Tick m) h q = (tt, net_outs P (rule.resends o.view m o.kernel.machines) (resends_net o.view m o.kernel.machines))
+outcome_outs P b o (Step.Deliver a c k) h q =
     let s = slice_get (o.view.pair a c).wire k in
     net_outs P (rule.arrives a c (o.view.pair a c) (o.view.pair c a) s) (arrives_net a c (o.view.pair a c) (o.view.pair c a) s)
-outcome_outs P b o (step.Migrate p m) h q = migrates_outs P o p
+outcome_outs P b o (Step.Migrate p m) h q = migrates_outs P o p

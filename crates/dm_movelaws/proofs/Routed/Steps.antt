@@ -1,45 +1,17 @@
 -- A step of the kernel without machines counts no message as sent that it doesn't put into the bag.
-use Rattle.std.proofs.Common.{◌≡◌, ◌⊎◌, ℕ, ◌+◌, Bool, true, false, is_some, nat_lt, List, length, refl, ap, ◌∙◌, sym, subst, inl, inr, arith}
-use Rattle.std.specs.Prelude.{if◌then◌else◌, slice_get, take, drop}
-use Rattle.std.specs.declared.option.Option.{Option}
-use Rattle.std.specs.declared.option.Option.TheVariants.{None, Some}
-use Rattle.std.proofs.lemmas.Bool.{cases_Bool, false≢true}
-use Rattle.std.proofs.lemmas.Bool.Decides.{nat_tests}
-use Rattle.dm_link.specs.declared.Pid.{Pid}
-use Rattle.dm_link.specs.Names.{pid_eq}
-use Rattle.dm_link.specs.Plain.{PlainLink}
-use Rattle.dm_message.specs.declared.MsgId.{MsgId}
-use Rattle.dm_message.specs.Ids.{id_eq, id_of}
-use Rattle.dm_message.specs.Plain as what
-use Rattle.dm_message.specs.Plain.{PlainMessage, PlainWhat}
-use Rattle.dm_onekernel.specs.declared.boot.BootImage.{BootImage}
-use Rattle.dm_onekernel.specs.declared.label.Label.{Label}
-use Rattle.dm_onekernel.specs.declared.label.Label.TheVariants as label
-use Rattle.dm_onekernel.specs.declared.label.Reply.{Reply}
-use Rattle.dm_onekernel.specs.declared.label.Why.{Why}
-use Rattle.dm_onekernel.specs.declared.label.Why.TheVariants as why
-use Rattle.dm_onekernel.specs.Boot.{switchboard, manager}
-use Rattle.dm_onekernel.specs.Options.{bind}
-use Rattle.dm_onekernel.specs.PlainProcess.{PlainProcess}
-use Rattle.dm_onekernel.specs.Kernel.{Life, Alive, Ended, OneKernel, with_process, with_sent}
+use Rattle.dm_movelaws.proofs.Names.{◌≡◌, ◌⊎◌, ℕ, ◌+◌, Bool, true, false, is_some, nat_lt, List, length, refl, ap, ◌∙◌, sym, subst, inl, inr, arith, if◌then◌else◌, slice_get, take, drop, Option, None, Some, cases_Bool, false≢true}
+use Rattle.dm_movelaws.proofs.Names.{nat_tests, Pid, pid_eq, PlainLink, MsgId, id_eq, id_of, Called, PlainMessage, PlainWhat, BootImage, Label, Reply, Why, switchboard, manager, bind, PlainProcess, Life, Alive, OneKernel, with_process}
+use Rattle.dm_movelaws.proofs.Names.{with_sent, answer_to, without_message, pid_eq-is, id_eq-same, Sent, sent_at, ServerSends, board_takes, manager_takes, LandsSo, lands-is, bind-is, when-is, alive-is, Nexts, nexts, Completing, completing}
+use Rattle.dm_movelaws.proofs.Names.{Sent-from, running_is, if_some, name_is}
+use Rattle.dm_onekernel.specs.Kernel.{Ended}
 use Rattle.dm_onekernel.specs.Kernel as kernels
-use Rattle.dm_onekernel.specs.Calls as calls
 use Rattle.dm_onekernel.specs.Receiving as receiving
 use Rattle.dm_onekernel.specs.Pieces as pieces
-use Rattle.dm_onekernel.specs.Pieces.{answer_to}
 use Rattle.dm_onekernel.specs.Switchboard as board
 use Rattle.dm_onekernel.specs.Manager as manage
 use Rattle.dm_onekernel.specs.Service as service
-use Rattle.dm_onekernel.specs.Service.{without_message}
 use Rattle.dm_onekernel.specs.Start.{begun}
 use Rattle.dm_onekernel.specs.Step as step
-use Rattle.dm_laws.proofs.Equal.{pid_eq-is, id_eq-same}
-use Rattle.dm_laws.proofs.Counted.{Sent}
-use Rattle.dm_laws.proofs.Movers.{sent_at}
-use Rattle.dm_laws.proofs.Servers.{ServerSends, board_takes, manager_takes}
-use Rattle.dm_laws.proofs.Services.{LandsSo, lands-is}
-use Rattle.dm_laws.proofs.Steps.{bind-is, when-is, alive-is, Nexts, nexts, Completing, completing, Sent-from}
-use Rattle.dm_rulelaws.proofs.Fits.Receives.{running_is}
 
 -- the sender of a message counts it: a living process, or a server
 abbrev pub has_sent : ℕ → Option Life → Bool
@@ -113,10 +85,6 @@ alive_fewer x y e n h = less n x.sent y.sent (sym e) h
 ended_fewer : (x : PlainProcess) (y : Why) (n : ℕ) → has_sent n (Some (Ended y)) ≡ true → nat_lt n x.sent ≡ true
 ended_fewer x y n h = absurd (false≢true h)
 
--- a message enters under the next number of its sender
-named : (i : MsgId) (p : Pid) (n : ℕ) → i.from ≡ p → i.n ≡ n → i.answer ≡ false → i ≡ id_of p n
-named i p n a b c = λ k. record { from = a k; n = b k; answer = c k }
-
 next_or : (i n after : ℕ) → after ≡ n + 1 → nat_lt i after ≡ true → (nat_lt i n ≡ true) ⊎ (i ≡ n)
 next_or i n after e h = elim (cases_Bool (nat_lt i n)) [
   | inl less_ ↦ inl less_
@@ -127,7 +95,7 @@ next_sent : (u : OneKernel) (m : PlainMessage) (p : Pid) (n after : ℕ) (i : Ms
 next_sent u m p n after i id count ask from h = elim (next_or i.n n after count h) [
   | inl before ↦ inl before
   | inr now ↦
-      let is : m.id ≡ i = id ∙ sym (named i p n from now ask) in
+      let is : m.id ≡ i = id ∙ sym (name_is i p n from now ask) in
       inr (ap is_some (sent_at u m i (ap (λ (j : MsgId). id_eq m.id j) (sym is) ∙ id_eq-same m.id)))
 ]
 
@@ -170,51 +138,51 @@ goes_counts : (s t : OneKernel) (p : Pid) (x y : PlainProcess) → s.processes p
 goes_counts s t p x y is sent e = counts_to s (step.goes_on s p y) t e (counts_quiet s (step.goes_on s p y) (set_quiet s (step.goes_on s p y) p x (Alive y) is (alive_fewer x y sent) refl refl refl))
 
 -- the rows of processes
-ran_counts : (s t : OneKernel) (p : Pid) (k : ℕ) → step.step s (label.Ran p k) ≡ Some t → CountsSo s t
+ran_counts : (s t : OneKernel) (p : Pid) (k : ℕ) → step.step s (Label.Ran p k) ≡ Some t → CountsSo s t
 ran_counts s t p k is =
     let (x, running, rest) = bind-is (step.running s p) (λ v. bind (step.plain_steps k (step.machine_of v)) (λ m. Some (step.goes_on s p (step.with_machine v m)))) t is in
     let (m, plain, last) = bind-is (step.plain_steps k (step.machine_of x)) (λ m. Some (step.goes_on s p (step.with_machine x m))) t rest in
     goes_counts s t p x (step.with_machine x m) (running_is s p x running).alive refl (let f : step.goes_on s p (step.with_machine x m) ≡ t = cc in f)
 
 replies_counts : (s t : OneKernel) (p : Pid) (n : ℕ) (c : Reply) (next : step.Next) → Nexts s p next → step.replies s p n c next ≡ Some t → CountsSo s t
-replies_counts s t p n c (step.Calls number (calls.Replies reply y)) w is =
+replies_counts s t p n c (step.Calls number (Called.Replies reply y)) w is =
     let (z, sent, pending, counted) = w.counts in
     goes_counts s t p w.x y w.is.alive (counted.0 ∙ sent) (when-is _ (step.goes_on s p y) t is).1
-replies_counts s t p n c (step.Calls number (calls.Sends m y)) w is = cc
-replies_counts s t p n c (step.Calls number (calls.Waits y)) w is = cc
-replies_counts s t p n c (step.Calls number (calls.Outputs word y)) w is = cc
-replies_counts s t p n c (step.Calls number (calls.Ends because)) w is = cc
+replies_counts s t p n c (step.Calls number (Called.Sends m y)) w is = cc
+replies_counts s t p n c (step.Calls number (Called.Waits y)) w is = cc
+replies_counts s t p n c (step.Calls number (Called.Outputs word y)) w is = cc
+replies_counts s t p n c (step.Calls number (Called.Ends because)) w is = cc
 replies_counts s t p n c (step.Faults fault) w is = cc
 
 sends_counts : (s t : OneKernel) (p : Pid) (id : MsgId) (next : step.Next) → Nexts s p next → step.sends s p id next ≡ Some t → CountsSo s t
-sends_counts s t p id (step.Calls number (calls.Sends m y)) w is =
+sends_counts s t p id (step.Calls number (Called.Sends m y)) w is =
     let (z, sent, pending, counted) = w.counts in
     counts_to s (with_sent (step.goes_on s p y) (Some m)) t (when-is _ (with_sent (step.goes_on s p y) (Some m)) t is).1
     (counts_sends s (step.goes_on s p y) p w.x y m w.is.alive (Sent-from p w.x z m y sent pending counted) refl refl refl)
-sends_counts s t p id (step.Calls number (calls.Replies reply y)) w is = cc
-sends_counts s t p id (step.Calls number (calls.Waits y)) w is = cc
-sends_counts s t p id (step.Calls number (calls.Outputs word y)) w is = cc
-sends_counts s t p id (step.Calls number (calls.Ends because)) w is = cc
+sends_counts s t p id (step.Calls number (Called.Replies reply y)) w is = cc
+sends_counts s t p id (step.Calls number (Called.Waits y)) w is = cc
+sends_counts s t p id (step.Calls number (Called.Outputs word y)) w is = cc
+sends_counts s t p id (step.Calls number (Called.Ends because)) w is = cc
 sends_counts s t p id (step.Faults fault) w is = cc
 
 waits_counts : (s t : OneKernel) (p : Pid) (next : step.Next) → Nexts s p next → step.waits s p next ≡ Some t → CountsSo s t
-waits_counts s t p (step.Calls number (calls.Waits y)) w is =
+waits_counts s t p (step.Calls number (Called.Waits y)) w is =
     let (z, sent, pending, counted) = w.counts in
     goes_counts s t p w.x y w.is.alive (counted.0 ∙ sent) (let f : step.goes_on s p y ≡ t = cc in f)
-waits_counts s t p (step.Calls number (calls.Sends m y)) w is = cc
-waits_counts s t p (step.Calls number (calls.Replies reply y)) w is = cc
-waits_counts s t p (step.Calls number (calls.Outputs word y)) w is = cc
-waits_counts s t p (step.Calls number (calls.Ends because)) w is = cc
+waits_counts s t p (step.Calls number (Called.Sends m y)) w is = cc
+waits_counts s t p (step.Calls number (Called.Replies reply y)) w is = cc
+waits_counts s t p (step.Calls number (Called.Outputs word y)) w is = cc
+waits_counts s t p (step.Calls number (Called.Ends because)) w is = cc
 waits_counts s t p (step.Faults fault) w is = cc
 
 outputs_counts : (s t : OneKernel) (p : Pid) (word : ℕ) (next : step.Next) → Nexts s p next → step.outputs s p word next ≡ Some t → CountsSo s t
-outputs_counts s t p word (step.Calls number (calls.Outputs w y)) n is =
+outputs_counts s t p word (step.Calls number (Called.Outputs w y)) n is =
     let (z, sent, pending, counted) = n.counts in
     goes_counts s t p n.x y n.is.alive (counted.0 ∙ sent) (when-is _ (step.goes_on s p y) t is).1
-outputs_counts s t p word (step.Calls number (calls.Sends m y)) n is = cc
-outputs_counts s t p word (step.Calls number (calls.Replies reply y)) n is = cc
-outputs_counts s t p word (step.Calls number (calls.Waits y)) n is = cc
-outputs_counts s t p word (step.Calls number (calls.Ends because)) n is = cc
+outputs_counts s t p word (step.Calls number (Called.Sends m y)) n is = cc
+outputs_counts s t p word (step.Calls number (Called.Replies reply y)) n is = cc
+outputs_counts s t p word (step.Calls number (Called.Waits y)) n is = cc
+outputs_counts s t p word (step.Calls number (Called.Ends because)) n is = cc
 outputs_counts s t p word (step.Faults fault) n is = cc
 
 over_counts : (s t : OneKernel) (p : Pid) (x : PlainProcess) (y : Why) → s.processes p ≡ Some (Alive x) → with_process s p (Ended y) ≡ t → CountsSo s t
@@ -222,12 +190,12 @@ over_counts s t p x y is e =
     counts_to s (with_process s p (Ended y)) t e (counts_quiet s (with_process s p (Ended y)) (set_quiet s (with_process s p (Ended y)) p x (Ended y) is (ended_fewer x y) refl refl refl))
 
 ends_counts : (s t : OneKernel) (p : Pid) (y : Why) (next : step.Next) → Nexts s p next → step.ends s p y next ≡ Some t → CountsSo s t
-ends_counts s t p y (step.Calls number (calls.Ends because)) w is = over_counts s t p w.x y w.is.alive (when-is _ (with_process s p (Ended y)) t is).1
+ends_counts s t p y (step.Calls number (Called.Ends because)) w is = over_counts s t p w.x y w.is.alive (when-is _ (with_process s p (Ended y)) t is).1
 ends_counts s t p y (step.Faults fault) w is = over_counts s t p w.x y w.is.alive (when-is _ (with_process s p (Ended y)) t is).1
-ends_counts s t p y (step.Calls number (calls.Sends m z)) w is = cc
-ends_counts s t p y (step.Calls number (calls.Replies reply z)) w is = cc
-ends_counts s t p y (step.Calls number (calls.Waits z)) w is = cc
-ends_counts s t p y (step.Calls number (calls.Outputs word z)) w is = cc
+ends_counts s t p y (step.Calls number (Called.Sends m z)) w is = cc
+ends_counts s t p y (step.Calls number (Called.Replies reply z)) w is = cc
+ends_counts s t p y (step.Calls number (Called.Waits z)) w is = cc
+ends_counts s t p y (step.Calls number (Called.Outputs word z)) w is = cc
 
 receives_counts : (s t : OneKernel) (p : Pid) (id : MsgId) (c : receiving.Completed) → Completing s p id c → step.receives s p id c ≡ Some t → CountsSo s t
 receives_counts s t p id (receiving.Receives y) w is =
@@ -243,10 +211,6 @@ refuses_counts s t p id reply (receiving.Refuses d y) w is = goes_counts s t p w
 changed_counts : (s t : OneKernel) (id : MsgId) (m : PlainMessage) (x y : PlainProcess) → s.processes m.to ≡ Some (Alive x) → y.sent ≡ x.sent → t.switchboard ≡ s.switchboard → t.manager ≡ s.manager → t.processes ≡ (with_process s m.to (Alive y)).processes → CountsSo s t
 changed_counts s t id m x y is sent b g set = counts_quiet s t (set_quiet s t m.to x (Alive y) is (alive_fewer x y sent) b g set)
 
-if_some : {A : Type 0} (b : Bool) (x y : A) → (if b then Some x else None) ≡ Some y → x ≡ y
-if_some true x y e = cc
-if_some false x y e = cc
-
 landed_counts : (s : OneKernel) (id : MsgId) (m : PlainMessage) (x : PlainProcess) (c : pieces.Landed) → s.processes m.to ≡ Some (Alive x) → LandsSo m.to x c → CountsSo s (service.landed s id m c)
 landed_counts s id m x (pieces.Next request y) is lands = counts_sends s (service.changed s id m y) m.to x y request is lands.0 refl refl refl
 landed_counts s id m x (pieces.Done reply y) is lands = changed_counts s (service.changed s id m y) id m x y is lands.0 refl refl refl
@@ -257,37 +221,32 @@ lands_counts s t id m x is e =
     counts_to s (service.landed s id m c) t (let f : service.landed s id m c ≡ t = cc in f) (landed_counts s id m x c is (lands-is m.to x m x.status c landed))
 
 serves_counts : (s t : OneKernel) (id : MsgId) (m : PlainMessage) (x : PlainProcess) (w : PlainWhat) → s.processes m.to ≡ Some (Alive x) → service.serves s id m x w ≡ Some t → CountsSo s t
-serves_counts s t id m x what.Stop is e =
+serves_counts s t id m x PlainWhat.Stop is e =
     let y = record x { stopped = true } in
     counts_to s (service.changed s id m y) t (let f : service.changed s id m y ≡ t = cc in f) (changed_counts s (service.changed s id m y) id m x y is refl refl refl refl)
-serves_counts s t id m x what.Resume is e =
+serves_counts s t id m x PlainWhat.Resume is e =
     let y = record x { stopped = false } in
     counts_to s (service.changed s id m y) t (let f : service.changed s id m y ≡ t = cc in f) (changed_counts s (service.changed s id m y) id m x y is refl refl refl refl)
-serves_counts s t id m x what.Kill is e =
-    let v = with_process (without_message s id) m.to (Ended why.Killed) in
-    counts_to s v t (let f : v ≡ t = cc in f) (counts_quiet s v (set_quiet s v m.to x (Ended why.Killed) is (ended_fewer x why.Killed) refl refl refl))
-serves_counts s t id m x (what.Read base len) is e =
+serves_counts s t id m x PlainWhat.Kill is e =
+    let v = with_process (without_message s id) m.to (Ended Why.Killed) in
+    counts_to s v t (let f : v ≡ t = cc in f) (counts_quiet s v (set_quiet s v m.to x (Ended Why.Killed) is (ended_fewer x Why.Killed) refl refl refl))
+serves_counts s t id m x (PlainWhat.Read base len) is e =
     let (c, served, last) = bind-is (pieces.reads x m base len) (λ v. Some (service.answered s id m v)) t e in
-    let r : pieces.Served = record { process = x; answer = answer_to m (what.Block (take len (drop base x.memory))) } in
+    let r : pieces.Served = record { process = x; answer = answer_to m (PlainWhat.Block (take len (drop base x.memory))) } in
     let k : r ≡ c = if_some _ r c served in
     counts_to s (service.answered s id m c) t (let f : service.answered s id m c ≡ t = cc in f)
     (subst (λ (v : pieces.Served). CountsSo s (service.answered s id m v)) k (changed_counts s (service.answered s id m r) id m x x is refl refl refl refl))
-serves_counts s t id m x (what.Write base bytes) is e =
+serves_counts s t id m x (PlainWhat.Write base bytes) is e =
     let (c, served, last) = bind-is (pieces.writes x m base bytes) (λ v. Some (service.answered s id m v)) t e in
     let y = record x { memory = pieces.written_at x.memory base bytes } in
-    let r : pieces.Served = record { process = y; answer = answer_to m what.Written } in
+    let r : pieces.Served = record { process = y; answer = answer_to m PlainWhat.Written } in
     let k : r ≡ c = if_some _ r c served in
     counts_to s (service.answered s id m c) t (let f : service.answered s id m c ≡ t = cc in f)
     (subst (λ (v : pieces.Served). CountsSo s (service.answered s id m v)) k (changed_counts s (service.answered s id m r) id m x y is refl refl refl refl))
-serves_counts s t id m x (what.Block bytes) is e = lands_counts s t id m x is e
-serves_counts s t id m x what.Written is e = lands_counts s t id m x is e
-serves_counts s t id m x what.Gone is e = lands_counts s t id m x is e
-serves_counts s t id m x (what.User a b c d) is e = cc
-serves_counts s t id m x (what.Create a b) is e = cc
-serves_counts s t id m x (what.Created a) is e = cc
-serves_counts s t id m x what.NoRoom is e = cc
-serves_counts s t id m x (what.Move a) is e = cc
-serves_counts s t id m x (what.Moved a) is e = cc
+serves_counts s t id m x (PlainWhat.Block bytes) is e = lands_counts s t id m x is e
+serves_counts s t id m x PlainWhat.Written is e = lands_counts s t id m x is e
+serves_counts s t id m x PlainWhat.Gone is e = lands_counts s t id m x is e
+serves_counts s t id m x _ is e = cc
 
 -- a server takes a message
 takes_counts : (s t : OneKernel) (id : MsgId) (m : PlainMessage) (b c : Bool)
@@ -315,73 +274,49 @@ born_fewer s p y q n none e = elim (cases_Bool (pid_eq p q)) [
 
 created_counts : (s t : OneKernel) (id : MsgId) (m : PlainMessage) (child : Pid) (links : List PlainLink) (i : BootImage) → service.creates_of s id m child links i ≡ Some t → CountsSo s t
 created_counts s t id m child links i is =
-    let u = with_sent (service.with_child (without_message s id) child i links) (Some (answer_to m (what.Created child))) in
+    let u = with_sent (service.with_child (without_message s id) child i links) (Some (answer_to m (PlainWhat.Created child))) in
     counts_to s u t (when-is _ u t is).1 (counts_quiet s u (record { board = refl; manager_ = refl; process = λ q n e. born_fewer s child (begun s.format i links) q n refl e }))
 
 creates_counts : (s t : OneKernel) (id : MsgId) (m : PlainMessage) (child : Pid) (w : PlainWhat) → service.creates s id m child w ≡ Some t → CountsSo s t
-creates_counts s t id m child (what.Create image links) is =
+creates_counts s t id m child (PlainWhat.Create image links) is =
     let (i, found, rest) = bind-is (slice_get s.images image) (service.creates_of s id m child links) t is in
     created_counts s t id m child links i rest
-creates_counts s t id m child (what.User a b c d) is = cc
-creates_counts s t id m child what.Stop is = cc
-creates_counts s t id m child what.Resume is = cc
-creates_counts s t id m child what.Kill is = cc
-creates_counts s t id m child (what.Read a b) is = cc
-creates_counts s t id m child (what.Write a b) is = cc
-creates_counts s t id m child (what.Block a) is = cc
-creates_counts s t id m child what.Written is = cc
-creates_counts s t id m child what.Gone is = cc
-creates_counts s t id m child (what.Created a) is = cc
-creates_counts s t id m child what.NoRoom is = cc
-creates_counts s t id m child (what.Move a) is = cc
-creates_counts s t id m child (what.Moved a) is = cc
+creates_counts s t id m child _ is = cc
 
 answers_counts : (s : OneKernel) (id : MsgId) (o : Option PlainMessage) → CountsSo s (with_sent (without_message s id) o)
 answers_counts s id None = counts_quiet s (without_message s id) (quiet_same s (without_message s id) refl refl refl)
 answers_counts s id (Some m) = counts_quiet s (with_sent (without_message s id) (Some m)) (quiet_same s (with_sent (without_message s id) (Some m)) refl refl refl)
 
 no_room_counts : (s t : OneKernel) (id : MsgId) (m : PlainMessage) (w : PlainWhat) → service.has_no_room s id m w ≡ Some t → CountsSo s t
-no_room_counts s t id m (what.Create image links) is =
-    let a = answer_to m what.NoRoom in
+no_room_counts s t id m (PlainWhat.Create image links) is =
+    let a = answer_to m PlainWhat.NoRoom in
     counts_to s (with_sent (without_message s id) (Some a)) t (when-is _ (with_sent (without_message s id) (Some a)) t is).1 (answers_counts s id (Some a))
-no_room_counts s t id m (what.User a b c d) is = cc
-no_room_counts s t id m what.Stop is = cc
-no_room_counts s t id m what.Resume is = cc
-no_room_counts s t id m what.Kill is = cc
-no_room_counts s t id m (what.Read a b) is = cc
-no_room_counts s t id m (what.Write a b) is = cc
-no_room_counts s t id m (what.Block a) is = cc
-no_room_counts s t id m what.Written is = cc
-no_room_counts s t id m what.Gone is = cc
-no_room_counts s t id m (what.Created a) is = cc
-no_room_counts s t id m what.NoRoom is = cc
-no_room_counts s t id m (what.Move a) is = cc
-no_room_counts s t id m (what.Moved a) is = cc
+no_room_counts s t id m _ is = cc
 
 pub step_counts : (s t : OneKernel) (l : Label) → step.step s l ≡ Some t → CountsSo s t
-step_counts s t (label.Ran p k) is = ran_counts s t p k is
-step_counts s t (label.Call p n c) is = let (next, is_, rest) = bind-is (step.next s p) (step.replies s p n c) t is in replies_counts s t p n c next (nexts s p next is_) rest
-step_counts s t (label.Send p id) is = let (next, is_, rest) = bind-is (step.next s p) (step.sends s p id) t is in sends_counts s t p id next (nexts s p next is_) rest
-step_counts s t (label.Wait p) is = let (next, is_, rest) = bind-is (step.next s p) (step.waits s p) t is in waits_counts s t p next (nexts s p next is_) rest
-step_counts s t (label.Out p w) is = let (next, is_, rest) = bind-is (step.next s p) (step.outputs s p w) t is in outputs_counts s t p w next (nexts s p next is_) rest
-step_counts s t (label.End p y) is = let (next, is_, rest) = bind-is (step.next s p) (step.ends s p y) t is in ends_counts s t p y next (nexts s p next is_) rest
-step_counts s t (label.Receive p id) is = let (c, is_, rest) = bind-is (step.completing s p id) (step.receives s p id) t is in receives_counts s t p id c (completing s p id c is_) rest
-step_counts s t (label.Refuse p id reply) is = let (c, is_, rest) = bind-is (step.completing s p id) (step.refuses s p reply) t is in refuses_counts s t p id reply c (completing s p id c is_) rest
-step_counts s t (label.Served id) is =
+step_counts s t (Label.Ran p k) is = ran_counts s t p k is
+step_counts s t (Label.Call p n c) is = let (next, is_, rest) = bind-is (step.next s p) (step.replies s p n c) t is in replies_counts s t p n c next (nexts s p next is_) rest
+step_counts s t (Label.Send p id) is = let (next, is_, rest) = bind-is (step.next s p) (step.sends s p id) t is in sends_counts s t p id next (nexts s p next is_) rest
+step_counts s t (Label.Wait p) is = let (next, is_, rest) = bind-is (step.next s p) (step.waits s p) t is in waits_counts s t p next (nexts s p next is_) rest
+step_counts s t (Label.Out p w) is = let (next, is_, rest) = bind-is (step.next s p) (step.outputs s p w) t is in outputs_counts s t p w next (nexts s p next is_) rest
+step_counts s t (Label.End p y) is = let (next, is_, rest) = bind-is (step.next s p) (step.ends s p y) t is in ends_counts s t p y next (nexts s p next is_) rest
+step_counts s t (Label.Receive p id) is = let (c, is_, rest) = bind-is (step.completing s p id) (step.receives s p id) t is in receives_counts s t p id c (completing s p id c is_) rest
+step_counts s t (Label.Refuse p id reply) is = let (c, is_, rest) = bind-is (step.completing s p id) (step.refuses s p reply) t is in refuses_counts s t p id reply c (completing s p id c is_) rest
+step_counts s t (Label.Served id) is =
     let (m, there, rest) = bind-is (s.bag id) (λ m. bind (step.alive (s.processes m.to)) (λ p. service.serves s id m p m.what)) t is in
     let (x, alive, last) = bind-is (step.alive (s.processes m.to)) (λ p. service.serves s id m p m.what) t rest in
     serves_counts s t id m x m.what (alive-is (s.processes m.to) x alive) last
-step_counts s t (label.Took id) is =
+step_counts s t (Label.Took id) is =
     let (m, there, rest) = bind-is (s.bag id) (service.takes s id) t is in
     takes_counts s t id m (pid_eq m.to switchboard) (pid_eq m.to manager) rest
-step_counts s t (label.Dropped id) is =
+step_counts s t (Label.Dropped id) is =
     let (m, there, rest) = bind-is (s.bag id) (λ m. bind (step.ended (s.processes m.to)) (step.drops s id m)) t is in
     let (y, over, last) = bind-is (step.ended (s.processes m.to)) (step.drops s id m) t rest in
     counts_to s (without_message s id) t (when-is _ (without_message s id) t last).1 (answers_counts s id None)
-step_counts s t (label.Gone id) is =
+step_counts s t (Label.Gone id) is =
     let (m, there, rest) = bind-is (s.bag id) (λ m. bind (step.ended (s.processes m.to)) (step.says_gone s id m)) t is in
     let (y, over, last) = bind-is (step.ended (s.processes m.to)) (step.says_gone s id m) t rest in
-    let a = answer_to m what.Gone in
+    let a = answer_to m PlainWhat.Gone in
     counts_to s (with_sent (without_message s id) (Some a)) t (when-is _ (with_sent (without_message s id) (Some a)) t last).1 (answers_counts s id (Some a))
-step_counts s t (label.Created id child) is = let (m, there, rest) = bind-is (s.bag id) (λ m. service.creates s id m child m.what) t is in creates_counts s t id m child m.what rest
-step_counts s t (label.NoSpace id a b) is = let (m, there, rest) = bind-is (s.bag id) (λ m. service.has_no_room s id m m.what) t is in no_room_counts s t id m m.what rest
+step_counts s t (Label.Created id child) is = let (m, there, rest) = bind-is (s.bag id) (λ m. service.creates s id m child m.what) t is in creates_counts s t id m child m.what rest
+step_counts s t (Label.NoSpace id a b) is = let (m, there, rest) = bind-is (s.bag id) (λ m. service.has_no_room s id m m.what) t is in no_room_counts s t id m m.what rest

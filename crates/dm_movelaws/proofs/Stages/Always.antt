@@ -1,47 +1,12 @@
 -- Each group keeps the marks of each process in order, and so they are wherever the rule leads.
-use Rattle.std.proofs.Common.{◌≡◌, ℕ, ◌==◌, Bool, true, false, List, [], ◌∷◌, refl, ap, ◌∙◌, sym, subst, length, arith}
-use Rattle.std.specs.Prelude.{◌/◌, if◌then◌else◌, slice_get}
-use Rattle.std.specs.declared.option.Option.{Option}
-use Rattle.std.specs.declared.option.Option.TheVariants.{None, Some}
-use Rattle.std.proofs.lemmas.Bool.{false≢true}
-use Rattle.std.proofs.lemmas.Bool.Decides.{nat_tests}
-use Rattle.dm_link.specs.declared.Pid.{Pid}
-use Rattle.dm_link.specs.Names.{pid_eq}
-use Rattle.dm_message.specs.declared.MsgId.{MsgId}
-use Rattle.dm_message.specs.Plain.{PlainMessage}
-use Rattle.dm_onekernel.specs.declared.boot.Boot.{Boot}
-use Rattle.dm_onekernel.specs.Boot.{switchboard, manager}
+use Rattle.dm_movelaws.proofs.Names.{◌≡◌, ℕ, ◌==◌, Bool, true, false, List, [], ◌∷◌, refl, ap, ◌∙◌, sym, subst, length, ◌/◌, if◌then◌else◌, slice_get, Option, None, Some, Pid, pid_eq, MsgId, PlainMessage, Boot, switchboard, manager, Step}
+use Rattle.dm_movelaws.proofs.Names.{Line, View, Told, About, Of, Known, first_view, target_of, Addresses, child_number, is_between, Phase, Moves, is_due, IsIn, Point, first_point, Part, Says, Spelled, spelled, kernel_told, server_told}
+use Rattle.dm_movelaws.proofs.Names.{process_told, migrates, migrates_child, group_of, bind-is, IsNet, arrives_net, resends_net, not_true, front_way, Phased, phased_start, phased_group, due, Calm, calm_same, calm_in, told_some, head_calm}
+use Rattle.dm_movelaws.proofs.Names.{net_parts, migrates_quiet, Tame, plain_in_bag, parts_settle, InPhases, calm_phases, State, PairsFit, Sane, LeadsBy, begun, begun_sane, Mark, marks, in_order, StepsInOrder, plain_by}
 use Rattle.dm_onekernel.specs.Step as kernel
-use Rattle.dm_schedule.specs.declared.Step.{Step}
-use Rattle.dm_schedule.specs.declared.Step.TheVariants as step
-use Rattle.dm_line.specs.declared.line.Line.{Line}
-use Rattle.dm_line.specs.declared.line.Line.TheVariants as line
-use Rattle.dm_rule.specs.View.{View, Told, About, NothingElse, Target, Of, Known, first_view, target_of}
 use Rattle.dm_rule.specs.View as view
-use Rattle.dm_rule.specs.Addresses.{Addresses, child_number}
-use Rattle.dm_rule.specs.Phases.{is_between, Phase, Nowhere, Rests, Over, Moves, is_due, IsIn}
-use Rattle.dm_rule.specs.Point.{Point, first_point}
-use Rattle.dm_rule.specs.Parts.{Part, Says, Spelled, spelled}
-use Rattle.dm_rule.specs.Migrating.{kernel_told, server_told, process_told, migrates, migrates_child}
 use Rattle.dm_rule.specs.Rule as rule
-use Rattle.dm_rule.specs.Rule.{group_of}
-use Rattle.dm_laws.proofs.Steps.{bind-is}
 use Rattle.dm_rule.proofs.Groups as groups
-use Rattle.dm_rule.proofs.Groups.{IsNet, arrives_net, resends_net}
-use Rattle.dm_rule.proofs.Lines.{not_true}
-use Rattle.dm_rule.proofs.Moves.States.{front_way}
-use Rattle.dm_rule.proofs.Phases.Always.{Phased, phased_start, phased_group}
-use Rattle.dm_rule.proofs.Phases.Answers.{due}
-use Rattle.dm_rule.proofs.Phases.Calm.{Calm, calm_same, calm_in}
-use Rattle.dm_rule.proofs.Phases.Leaves.{told_some}
-use Rattle.dm_rule.proofs.Phases.Net.{head_calm, net_parts, migrates_quiet}
-use Rattle.dm_rule.proofs.Phases.Quiet.{Tame, plain_in_bag, parts_settle}
-use Rattle.dm_rule.proofs.Phases.Stand.{InPhases, calm_phases}
-use Rattle.dm_rule.proofs.States.{State, PairsFit}
-use Rattle.dm_rule.proofs.Telling.{Sane}
-use Rattle.dm_rulelaws.specs.Order.{LeadsBy}
-use Rattle.dm_rulelaws.proofs.Based.Needs.{begun, begun_sane}
-use Rattle.dm_movelaws.specs.Stages.{Mark, marks, in_order, StepsInOrder}
 use Rattle.dm_movelaws.proofs.Stages.Marks.{order-append, marks-append, marks_of, group_says}
 use Rattle.dm_movelaws.proofs.Stages.Spares.{mark_in, spares_same, spares_calm, Marked, none_marked}
 use Rattle.dm_movelaws.proofs.Stages.Lines.{AllMild, mild_marks, net_marks, TameAt}
@@ -71,24 +36,12 @@ mild_marked pt front ps w sane fits tame mild e p =
 tame_front : (v : View) (i : MsgId) → Tame v i → TameAt v (Some i)
 tame_front v i tame j e = let f : i ≡ j = cc in subst (Tame v) f tame
 
--- a kernel's own message
-zero_num : (n : ℕ) → n ≡ 0 → (n == 0) ≡ true
-zero_num n e = grind (arith, nat_tests)
-
-plain_by : (pt : Point) (i : MsgId) (is : List MsgId) (t : Told) (h : InPhases pt.view) (b : Bool) → is_between t.kind ≡ b → pt.view.inbox pt.view.acting ≡ i ∷ is → pt.view.told i ≡ Some t → (t.receiver.num == 0) ≡ false → b ≡ false
-plain_by pt i is t h true e front told off =
-    let u = due pt i is t h front told e in
-    absurd (false≢true (sym off ∙ zero_num t.receiver.num (ap (λ (y : Told). y.receiver.num) u.told)))
-plain_by pt i is t h false e front told off = refl
-
 kernel_marked : (b : Boot) (o pt : Point) (m : ℕ) (i : MsgId) (is : List MsgId) (t : Told) (a : About) (ps : List Part) (w : Spelled) → Turning o pt m → pt.view.inbox pt.view.acting ≡ i ∷ is → pt.view.told i ≡ Some t → t.about ≡ a → rule.kernel_hears b o m i t.kind a ≡ Some ps → spelled pt ps ≡ Some w → MarkedBy pt w ps
-kernel_marked b o pt m i is t NothingElse ps w h front told about e n = cc
-kernel_marked b o pt m i is t (Target to) ps w h front told about e n = cc
 kernel_marked b o pt m i is t (Of q) ps w h front told about e n =
     let (x, there, last) = bind-is (kernel.alive (o.kernel.processes q)) (λ x. kernel_told o m i q (rule.fits (rule.free_room b o m) (length x.memory / 256)) x t.kind) ps e in
     told_marked o pt m i is t q (rule.fits (rule.free_room b o m) (length x.memory / 256)) x t.kind ps w
     (record { at = record { sane = h.sane; fits = h.fits; front = front; others = about_others pt.view i t q told about }; phases = h.phases; told = told; about = about }) refl last n
-kernel_marked b o pt m i is t (view.Place q at moves) ps w h front told about e n = cc
+kernel_marked b o pt m i is t _ ps w h front told about e n = cc
 
 process_marked : (o pt : Point) (m : ℕ) (i : MsgId) (is : List MsgId) (t : Told) (k : Known) (ps : List Part) (w : Spelled) → Turning o pt m → pt.view.inbox pt.view.acting ≡ i ∷ is → pt.view.told i ≡ Some t → is_between t.kind ≡ false → o.view.known m t.receiver ≡ k → Hears k i t ps → spelled pt ps ≡ Some w → MarkedBy pt w ps
 process_marked o pt m i is t k ps w h front told plain known (Calms mild) n =
@@ -124,26 +77,26 @@ front_tame pt i is msg sane state front there =
     let (t, told) = told_some (pt.view.told i) q (state.stands.told i q way) in
     record { what = t; told = told; plain = plain_in_bag pt i msg sane there t told }
 
-comes_marked : (b : Boot) (o : Point) (m : ℕ) (i : MsgId) (is : List MsgId) (q : Option PlainMessage) (ps : List Part) (w : Spelled) → Turning o (begun o (step.Turn m)) m → o.view.inbox m ≡ i ∷ is → o.kernel.bag i ≡ q → rule.comes_to b o m i q ≡ Some ps → spelled (begun o (step.Turn m)) ps ≡ Some w
-    → MarkedBy (begun o (step.Turn m)) w ps
-comes_marked b o m i is None ps w h front there e n = hears_marked b o (begun o (step.Turn m)) m i is (o.view.told i) ps w h front refl e n
+comes_marked : (b : Boot) (o : Point) (m : ℕ) (i : MsgId) (is : List MsgId) (q : Option PlainMessage) (ps : List Part) (w : Spelled) → Turning o (begun o (Step.Turn m)) m → o.view.inbox m ≡ i ∷ is → o.kernel.bag i ≡ q → rule.comes_to b o m i q ≡ Some ps → spelled (begun o (Step.Turn m)) ps ≡ Some w
+    → MarkedBy (begun o (Step.Turn m)) w ps
+comes_marked b o m i is None ps w h front there e n = hears_marked b o (begun o (Step.Turn m)) m i is (o.view.told i) ps w h front refl e n
 comes_marked b o m i is (Some msg) ps w h front there e n =
-    let pt = begun o (step.Turn m) in
+    let pt = begun o (Step.Turn m) in
     mild_marked pt (Some i) ps w h.sane h.fits (tame_front pt.view i (front_tame pt i is msg h.sane h.state front there)) (λ p. handles_mild p b o m i msg ps e) n
 
-turns_marked : (b : Boot) (o : Point) (m : ℕ) (inbox : List MsgId) (ps : List Part) (w : Spelled) → Turning o (begun o (step.Turn m)) m → o.view.inbox m ≡ inbox → rule.turns b o m inbox ≡ Some ps → spelled (begun o (step.Turn m)) ps ≡ Some w → MarkedBy (begun o (step.Turn m)) w ps
+turns_marked : (b : Boot) (o : Point) (m : ℕ) (inbox : List MsgId) (ps : List Part) (w : Spelled) → Turning o (begun o (Step.Turn m)) m → o.view.inbox m ≡ inbox → rule.turns b o m inbox ≡ Some ps → spelled (begun o (Step.Turn m)) ps ≡ Some w → MarkedBy (begun o (Step.Turn m)) w ps
 turns_marked b o m [] ps w h front e n =
-    mild_marked (begun o (step.Turn m)) None ps w h.sane h.fits (λ i k. cc) (λ p. round_mild p None b o m (rule.first_runnable o.kernel (o.view.queue m) (o.view.ring m)) ps e) n
+    mild_marked (begun o (Step.Turn m)) None ps w h.sane h.fits (λ i k. cc) (λ p. round_mild p None b o m (rule.first_runnable o.kernel (o.view.queue m) (o.view.ring m)) ps e) n
 turns_marked b o m (i ∷ is) ps w h front e n = comes_marked b o m i is (o.kernel.bag i) ps w h front refl e n
 
-turning : (o : Point) (m : ℕ) → Phased o → Turning o (begun o (step.Turn m)) m
+turning : (o : Point) (m : ℕ) → Phased o → Turning o (begun o (Step.Turn m)) m
 turning o m h =
     let fits = groups.fits o.view h.pairs in
     record {
-      sane = begun_sane o (step.Turn m) h.sane;
+      sane = begun_sane o (Step.Turn m) h.sane;
       fits = record { within = fits.within; home = fits.home };
-      state = groups.begun o (step.Turn m) h.state (λ z. groups.turn_off o.view m z) (λ i. refl);
-      phases = calm_phases o.view (view.after_head o.view (step.Turn m)) (head_calm o.view (step.Turn m)) h.phases;
+      state = groups.begun o (Step.Turn m) h.state (λ z. groups.turn_off o.view m z) (λ i. refl);
+      phases = calm_phases o.view (view.after_head o.view (Step.Turn m)) (head_calm o.view (Step.Turn m)) h.phases;
       same = λ q. refl;
     }
 
@@ -152,7 +105,7 @@ child_marks : (p : Pid) (a : Addresses) (q : Pid) (n : Option ℕ) → marks_of 
 child_marks p a q None = refl
 child_marks p a q (Some n) = refl
 
-migrates_by : (p : Pid) (o : Point) (q : Pid) (c d : Bool) → marks_of p (if c then Says (line.Pinned q) ∷ [] else if d then Says (line.Pinned q) ∷ [] else migrates_child o.addresses q (child_number o.kernel q)) ≡ []
+migrates_by : (p : Pid) (o : Point) (q : Pid) (c d : Bool) → marks_of p (if c then Says (Line.Pinned q) ∷ [] else if d then Says (Line.Pinned q) ∷ [] else migrates_child o.addresses q (child_number o.kernel q)) ≡ []
 migrates_by p o q true d = refl
 migrates_by p o q false true = refl
 migrates_by p o q false false = child_marks p o.addresses q (child_number o.kernel q)
@@ -162,24 +115,24 @@ migrates_marks p o q = migrates_by p o q (pid_eq q switchboard) (pid_eq q manage
 
 -- behind the head of a group
 outcome_marked : (b : Boot) (pt : Point) (d : Step) (ps : List Part) (w : Spelled) → Phased pt → rule.outcome b pt d ≡ Some ps → spelled (begun pt d) ps ≡ Some w → MarkedBy (begun pt d) w ps
-outcome_marked b pt (step.Turn m) ps w h e n p = turns_marked b pt m (pt.view.inbox m) ps w (turning pt m h) refl e n p
-outcome_marked b pt (step.Tick m) ps w h e n p =
-    let qs = Says (line.Resent m (rule.outstanding pt.view m pt.kernel.machines)) ∷ rule.resends pt.view m pt.kernel.machines in
+outcome_marked b pt (Step.Turn m) ps w h e n p = turns_marked b pt m (pt.view.inbox m) ps w (turning pt m h) refl e n p
+outcome_marked b pt (Step.Tick m) ps w h e n p =
+    let qs = Says (Line.Resent m (rule.outstanding pt.view m pt.kernel.machines)) ∷ rule.resends pt.view m pt.kernel.machines in
     let f : ps ≡ qs = cc in
-    let start = begun pt (step.Tick m) in
+    let start = begun pt (Step.Tick m) in
     let net : IsNet qs = (tt, resends_net pt.view m pt.kernel.machines) in
     none_marked start.view w.point.view p (marks_of p ps) (ap (marks_of p) f ∙ net_marks p qs net) (spares_calm start.view w.point.view p (net_parts qs start w net (ap (spelled start) (sym f) ∙ n)))
-outcome_marked b pt (step.Deliver a c k) ps w h e n p =
+outcome_marked b pt (Step.Deliver a c k) ps w h e n p =
     let qs = rule.arrives a c (pt.view.pair a c) (pt.view.pair c a) (slice_get (pt.view.pair a c).wire k) in
     let f : ps ≡ qs = cc in
-    let start = begun pt (step.Deliver a c k) in
+    let start = begun pt (Step.Deliver a c k) in
     let net = arrives_net a c (pt.view.pair a c) (pt.view.pair c a) (slice_get (pt.view.pair a c).wire k) in
     none_marked start.view w.point.view p (marks_of p ps) (ap (marks_of p) f ∙ net_marks p qs net) (spares_calm start.view w.point.view p (net_parts qs start w net (ap (spelled start) (sym f) ∙ n)))
-outcome_marked b pt (step.Migrate q m) ps w h e n p =
+outcome_marked b pt (Step.Migrate q m) ps w h e n p =
     let f : ps ≡ migrates pt q = cc in
-    let start = begun pt (step.Migrate q m) in
+    let start = begun pt (Step.Migrate q m) in
     let fits = groups.fits pt.view h.pairs in
-    let settled = parts_settle (migrates pt q) start.view start w (migrates_quiet start.view pt q) (record { calm = calm_same start.view; sane = begun_sane pt (step.Migrate q m) h.sane; fits = record { within = fits.within; home = fits.home } }) (ap (spelled start) (sym f) ∙ n) in
+    let settled = parts_settle (migrates pt q) start.view start w (migrates_quiet start.view pt q) (record { calm = calm_same start.view; sane = begun_sane pt (Step.Migrate q m) h.sane; fits = record { within = fits.within; home = fits.home } }) (ap (spelled start) (sym f) ∙ n) in
     none_marked start.view w.point.view p (marks_of p ps) (ap (marks_of p) f ∙ migrates_marks p pt q) (spares_calm start.view w.point.view p settled.calm)
 
 -- a group
@@ -209,11 +162,9 @@ run_marked b (d ∷ ds) ls pt end p (w, rest, fit, is, split, more) h =
 
 -- nothing is told of before the first line
 start_mark : (b : Boot) (p : Pid) (a : Phase) → IsIn (first_view b) p a → is_due a ≡ false → mark_in a ≡ None
-start_mark b p Nowhere h due = refl
-start_mark b p (Rests at) h due = refl
-start_mark b p (Over at) h due = refl
 start_mark b p (Moves k s d None) h due = cc
 start_mark b p (Moves k s d (Some i)) h due = absurd (let e = h.token.told in cc)
+start_mark b p _ h due = refl
 
 -- wherever the rule leads
 pub steps_in_order : StepsInOrder

@@ -1,52 +1,17 @@
 -- The marks of lines: of one list after another, and of the lines that parts say.
-use Rattle.std.proofs.Common.{◌≡◌, ℕ, ◌==◌, ◌&&◌, Bool, true, false, List, [], ◌∷◌, ◌++◌, refl, ap, ◌∙◌, sym, length}
-use Rattle.std.specs.Prelude.{if◌then◌else◌}
-use Rattle.std.specs.declared.option.Option.{Option}
-use Rattle.std.specs.declared.option.Option.TheVariants.{Some}
-use Rattle.std.proofs.lemmas.Bool.{false≢true}
-use Rattle.dm_link.specs.declared.Pid.{Pid}
-use Rattle.dm_link.specs.Names.{pid_eq}
-use Rattle.dm_message.specs.declared.MsgId.{MsgId}
-use Rattle.dm_message.specs.declared.kind.MessageKind.{MessageKind}
-use Rattle.dm_message.specs.Kinds.{plain_kind}
-use Rattle.dm_onekernel.specs.declared.boot.Boot.{Boot}
-use Rattle.dm_onekernel.specs.Options.{bind}
-use Rattle.dm_laws.proofs.Equal.{pid_eq-same}
-use Rattle.dm_laws.proofs.Steps.{bind-is}
-use Rattle.dm_schedule.specs.declared.Step.{Step}
-use Rattle.dm_line.specs.declared.line.Line.{Line}
-use Rattle.dm_line.specs.declared.line.Line.TheVariants as line
-use Rattle.dm_line.specs.declared.line.Load.{Load}
-use Rattle.dm_line.specs.declared.line.Load.TheVariants as load
-use Rattle.dm_rule.specs.View.{own_id}
-use Rattle.dm_rule.specs.Addresses.{Receiver}
-use Rattle.dm_rule.specs.Point.{Point, moved, after_line, after}
-use Rattle.dm_rule.specs.Parts.{Part, Says, Routes, Again, Owns, Transmits, Spelled, lines_of, puts, goes_out, packet_line, behind, spelled}
-use Rattle.dm_rule.specs.Migrating.{sends_on}
-use Rattle.dm_rule.specs.Rule.{group_of, outcome, headed}
-use Rattle.dm_movelaws.specs.Stages.{Mark, mark_for, with_mark, marks, follows, left_open, in_order}
+use Rattle.dm_movelaws.proofs.Names.{◌≡◌, ℕ, ◌==◌, Bool, true, false, List, [], ◌∷◌, ◌++◌, refl, ap, ◌∙◌, sym, length, if◌then◌else◌, Option, Some, Pid, pid_eq, MsgId, MessageKind, plain_kind, Boot, bind, pid_eq-same, bind-is, Step, Line}
+use Rattle.dm_movelaws.proofs.Names.{Load, own_id, Receiver, Point, moved, after_line, after, Part, Says, Routes, Again, Owns, Transmits, Spelled, lines_of, puts, goes_out, packet_line, behind, spelled, sends_on, group_of, outcome, headed}
+use Rattle.dm_movelaws.proofs.Names.{Mark, mark_for, with_mark, marks, follows, left_open, in_order, left_true, right_true, both_true}
 
 -- the mark that is last behind these marks, if its migration isn't over
 abbrev pub open_after : Option Mark → List Mark → Option Mark
 open_after last [] = last
 open_after last (m ∷ ms) = open_after (left_open m) ms
 
-first_of : (b c : Bool) → (b && c) ≡ true → b ≡ true
-first_of true c e = refl
-first_of false c e = absurd (false≢true e)
-
-second_of : (b c : Bool) → (b && c) ≡ true → c ≡ true
-second_of true c e = e
-second_of false c e = absurd (false≢true e)
-
-both_of : (b c : Bool) → b ≡ true → c ≡ true → (b && c) ≡ true
-both_of true c e f = f
-both_of false c e f = absurd (false≢true e)
-
 pub order-append : (o : Option Mark) (xs ys : List Mark) → in_order o xs ≡ true → in_order (open_after o xs) ys ≡ true → in_order o (xs ++ ys) ≡ true
 order-append o [] ys e f = f
 order-append o (x ∷ xs) ys e f =
-    both_of (follows o x) (in_order (left_open x) (xs ++ ys)) (first_of (follows o x) (in_order (left_open x) xs) e) (order-append (left_open x) xs ys (second_of (follows o x) (in_order (left_open x) xs) e) f)
+    both_true (follows o x) (in_order (left_open x) (xs ++ ys)) (left_true (follows o x) (in_order (left_open x) xs) e) (order-append (left_open x) xs ys (right_true (follows o x) (in_order (left_open x) xs) e) f)
 
 pub open-append : (o : Option Mark) (xs ys : List Mark) → open_after o (xs ++ ys) ≡ open_after (open_after o xs) ys
 open-append o [] ys = refl
@@ -58,30 +23,11 @@ if-append true m xs ys = refl
 if-append false m xs ys = refl
 
 with-append : (p : Pid) (l : Line) (xs ys : List Mark) → with_mark p l (xs ++ ys) ≡ with_mark p l xs ++ ys
-with-append p (line.Migration s q) xs ys = if-append (pid_eq p q) _ xs ys
-with-append p (line.SentOn q n) xs ys = if-append (pid_eq p q) _ xs ys
-with-append p (line.Lacks q s b) xs ys = if-append (pid_eq p q) _ xs ys
-with-append p (line.Stays q) xs ys = if-append (pid_eq p q) _ xs ys
-with-append p (line.Head d) xs ys = refl
-with-append p (line.Idle m) xs ys = refl
-with-append p (line.Label l) xs ys = refl
-with-append p (line.Put a b id k q) xs ys = refl
-with-append p (line.Packet a b k l) xs ys = refl
-with-append p (line.Taken a b n) xs ys = refl
-with-append p (line.Old a b n) xs ys = refl
-with-append p (line.Early a b n) xs ys = refl
-with-append p (line.Acked a b n) xs ys = refl
-with-append p line.Nothing xs ys = refl
-with-append p (line.Resent m n) xs ys = refl
-with-append p (line.Queued id) xs ys = refl
-with-append p (line.Held id) xs ys = refl
-with-append p (line.Forwarded id m) xs ys = refl
-with-append p (line.Updated id n) xs ys = refl
-with-append p (line.Here id) xs ys = refl
-with-append p (line.NoMove id) xs ys = refl
-with-append p (line.Proto id) xs ys = refl
-with-append p (line.NoChild q) xs ys = refl
-with-append p (line.Pinned q) xs ys = refl
+with-append p (Line.Migration s q) xs ys = if-append (pid_eq p q) _ xs ys
+with-append p (Line.SentOn q n) xs ys = if-append (pid_eq p q) _ xs ys
+with-append p (Line.Lacks q s b) xs ys = if-append (pid_eq p q) _ xs ys
+with-append p (Line.Stays q) xs ys = if-append (pid_eq p q) _ xs ys
+with-append p _ xs ys = refl
 
 pub marks-append : (p : Pid) (xs ys : List Line) → marks p (xs ++ ys) ≡ marks p xs ++ marks p ys
 marks-append p [] ys = refl
@@ -90,16 +36,13 @@ marks-append p (l ∷ xs) ys = ap (with_mark p l) (marks-append p xs ys) ∙ wit
 -- the marks that parts say
 abbrev pub mark_part : Pid → Part → List Mark → List Mark
 mark_part p (Says l) ms = with_mark p l ms
-mark_part p (Routes i) ms = ms
-mark_part p (Again i b) ms = ms
-mark_part p (Owns k q b) ms = ms
-mark_part p (Transmits a b l) ms = ms
+mark_part p _ ms = ms
 
 abbrev pub marks_of : Pid → List Part → List Mark
 marks_of p [] = []
 marks_of p (q ∷ ps) = mark_part p q (marks_of p ps)
 
-packet_or_none : (p : Pid) (c d : Bool) (a b k : ℕ) (l : Load) (zs : List Line) → marks p ((if c then [] else if d then line.Packet a b k l ∷ [] else []) ++ zs) ≡ marks p zs
+packet_or_none : (p : Pid) (c d : Bool) (a b k : ℕ) (l : Load) (zs : List Line) → marks p ((if c then [] else if d then Line.Packet a b k l ∷ [] else []) ++ zs) ≡ marks p zs
 packet_or_none p true d a b k l zs = refl
 packet_or_none p false true a b k l zs = refl
 packet_or_none p false false a b k l zs = refl
@@ -108,7 +51,7 @@ puts_marks : (p : Pid) (pt : Point) (b : ℕ) (i : MsgId) (k : MessageKind) (q :
 puts_marks p pt b i k q ls zs is =
     let f : puts pt.view b i k q ≡ ls = cc in
     ap (λ (xs : List Line). marks p (xs ++ zs)) (sym f)
-    ∙ packet_or_none p (pt.view.acting == b) (goes_out (pt.view.pair pt.view.acting b)) pt.view.acting b (length (pt.view.pair pt.view.acting b).wire) (load.Data (length (pt.view.pair pt.view.acting b).ids)) zs
+    ∙ packet_or_none p (pt.view.acting == b) (goes_out (pt.view.pair pt.view.acting b)) pt.view.acting b (length (pt.view.pair pt.view.acting b).wire) (Load.Data (length (pt.view.pair pt.view.acting b).ids)) zs
 
 part_marks : (p : Pid) (pt : Point) (q : Part) (ls zs : List Line) → lines_of pt q ≡ Some ls → marks p (ls ++ zs) ≡ mark_part p q (marks p zs)
 part_marks p pt (Says l) ls zs is = let f : l ∷ [] ≡ ls = cc in ap (λ (xs : List Line). marks p (xs ++ zs)) (sym f)
@@ -135,17 +78,17 @@ pub record GroupSays (b : Boot) (pt : Point) (d : Step) (w : Spelled) : Type 0 w
   pub parts : List Part
   pub is : outcome b pt d ≡ Some parts
   pub rest : Spelled
-  pub said : spelled (moved pt (line.Head d) pt.kernel) parts ≡ Some rest
+  pub said : spelled (moved pt (Line.Head d) pt.kernel) parts ≡ Some rest
   pub point : rest.point ≡ w.point
   pub marked : (p : Pid) → marks p w.lines ≡ marks_of p parts
 
 pub group_says : (b : Boot) (pt : Point) (d : Step) (w : Spelled) → group_of b pt d ≡ Some w → GroupSays b pt d w
 group_says b pt d w e =
-    let (parts, is, more) = bind-is (outcome b pt d) (λ parts. bind (after_line pt (line.Head d)) (λ begun. bind (spelled begun parts) (λ w. Some (headed (line.Head d) w)))) w e in
-    let (start, head, last) = bind-is (after_line pt (line.Head d)) (λ begun. bind (spelled begun parts) (λ w. Some (headed (line.Head d) w))) w more in
-    let (rest, told, end) = bind-is (spelled start parts) (λ w. Some (headed (line.Head d) w)) w last in
-    let f : moved pt (line.Head d) pt.kernel ≡ start = cc in
-    let g : headed (line.Head d) rest ≡ w = cc in
+    let (parts, is, more) = bind-is (outcome b pt d) (λ parts. bind (after_line pt (Line.Head d)) (λ begun. bind (spelled begun parts) (λ w. Some (headed (Line.Head d) w)))) w e in
+    let (start, head, last) = bind-is (after_line pt (Line.Head d)) (λ begun. bind (spelled begun parts) (λ w. Some (headed (Line.Head d) w))) w more in
+    let (rest, told, end) = bind-is (spelled start parts) (λ w. Some (headed (Line.Head d) w)) w last in
+    let f : moved pt (Line.Head d) pt.kernel ≡ start = cc in
+    let g : headed (Line.Head d) rest ≡ w = cc in
     record {
       parts = parts;
       is = is;

@@ -1,96 +1,45 @@
 -- Parts that leave the migration of a process as it is.
-use Rattle.std.proofs.Common.{◌≡◌, ℕ, ◌==◌, Bool, true, false, List, [], ◌∷◌, refl, ap, ◌∙◌, subst, length}
-use Rattle.std.specs.Prelude.{if◌then◌else◌}
-use Rattle.std.specs.declared.option.Option.{Option}
-use Rattle.std.specs.declared.option.Option.TheVariants.{Some}
-use Rattle.dm_link.specs.declared.Pid.{Pid}
-use Rattle.dm_message.specs.declared.MsgId.{MsgId}
-use Rattle.dm_message.specs.declared.kind.MessageKind.{MessageKind}
-use Rattle.dm_message.specs.Kinds.{plain_kind}
-use Rattle.dm_onekernel.specs.Options.{bind}
-use Rattle.dm_line.specs.declared.line.Line.{Line}
-use Rattle.dm_line.specs.declared.line.Line.TheVariants as line
-use Rattle.dm_line.specs.declared.line.Load.{Load}
-use Rattle.dm_line.specs.declared.line.Load.TheVariants as load
-use Rattle.dm_line.specs.declared.line.Stage.TheVariants as stage
-use Rattle.dm_rule.specs.View.{View, own_id, view_after}
-use Rattle.dm_rule.specs.Addresses.{Receiver}
-use Rattle.dm_rule.specs.Point.{Point, label_of, kernel_after, moved, after_line, after}
-use Rattle.dm_rule.specs.Parts.{Part, Says, Routes, Again, Owns, Transmits, Spelled, lines_of, puts, goes_out, packet_line, behind, spelled}
-use Rattle.dm_laws.proofs.Steps.{bind-is}
-use Rattle.dm_rule.proofs.Hushed.{is_put}
-use Rattle.dm_rule.proofs.Moves.Sent.{fits_put, fits_packet}
-use Rattle.dm_rule.proofs.Pairs.Lines.{touches, pair_same}
-use Rattle.dm_rule.proofs.Phases.Lines.{packet_calm}
-use Rattle.dm_rule.proofs.Said.{fits_as}
-use Rattle.dm_rule.proofs.States.{PairsFit}
-use Rattle.dm_rule.proofs.Telling.{Sane, Sayable, part_sane}
+use Rattle.dm_movelaws.proofs.Names.{◌≡◌, ℕ, ◌==◌, Bool, true, false, List, [], ◌∷◌, refl, ap, ◌∙◌, subst, length, if◌then◌else◌, Option, Some, Pid, MsgId, MessageKind, plain_kind, bind, Line, Stage, Load, View, own_id, view_after}
+use Rattle.dm_movelaws.proofs.Names.{Receiver, Point, label_of, kernel_after, moved, after_line, after, Part, Says, Routes, Again, Owns, Transmits, Spelled, lines_of, puts, goes_out, packet_line, behind, spelled, bind-is, is_put, fits_put}
+use Rattle.dm_movelaws.proofs.Names.{fits_packet, touches, pair_same, packet_calm, fits_as, PairsFit, Sane, Sayable, part_sane}
 use Rattle.dm_movelaws.proofs.Stages.Spares.{Spares, spares_trans, spares_same, spares_calm, spares_put}
 use Rattle.dm_movelaws.proofs.Stages.Lines.{MildLine, Mild, AllMild, TameAt, line_spares}
 
 mild_put : (p : Pid) (o : Option MsgId) (l : Line) → MildLine p o l → is_put l ≡ false
-mild_put p o (line.Idle m) h = refl
-mild_put p o (line.Label l) h = refl
-mild_put p o (line.Queued i) h = refl
-mild_put p o (line.Held i) h = refl
-mild_put p o (line.Forwarded i m) h = refl
-mild_put p o (line.Updated i n) h = refl
-mild_put p o (line.Here i) h = refl
-mild_put p o (line.NoMove i) h = refl
-mild_put p o (line.Migration stage.Asked q) h = refl
-mild_put p o (line.Migration stage.Left q) h = refl
-mild_put p o (line.Migration stage.Frozen q) h = absurd h
-mild_put p o (line.Migration stage.Accepted q) h = absurd h
-mild_put p o (line.Migration stage.StateTaken q) h = absurd h
-mild_put p o (line.Migration stage.MemoryTaken q) h = absurd h
-mild_put p o (line.Migration stage.Restarted q) h = absurd h
-mild_put p o (line.Head d) h = absurd h
-mild_put p o (line.Put a b i k q) h = absurd h
-mild_put p o (line.Packet a b k l) h = absurd h
-mild_put p o (line.Taken a b n) h = absurd h
-mild_put p o (line.Old a b n) h = absurd h
-mild_put p o (line.Early a b n) h = absurd h
-mild_put p o (line.Acked a b n) h = absurd h
-mild_put p o (line.Resent m n) h = absurd h
-mild_put p o line.Nothing h = absurd h
-mild_put p o (line.SentOn q n) h = absurd h
-mild_put p o (line.Lacks q a b) h = absurd h
-mild_put p o (line.Stays q) h = absurd h
-mild_put p o (line.Proto i) h = absurd h
-mild_put p o (line.NoChild q) h = absurd h
-mild_put p o (line.Pinned q) h = absurd h
+mild_put p o (Line.Idle m) h = refl
+mild_put p o (Line.Label l) h = refl
+mild_put p o (Line.Queued i) h = refl
+mild_put p o (Line.Held i) h = refl
+mild_put p o (Line.Forwarded i m) h = refl
+mild_put p o (Line.Updated i n) h = refl
+mild_put p o (Line.Here i) h = refl
+mild_put p o (Line.NoMove i) h = refl
+mild_put p o (Line.Migration Stage.Asked q) h = refl
+mild_put p o (Line.Migration Stage.Left q) h = refl
+mild_put p o (Line.Migration Stage.Frozen q) h = absurd h
+mild_put p o (Line.Migration Stage.Accepted q) h = absurd h
+mild_put p o (Line.Migration Stage.StateTaken q) h = absurd h
+mild_put p o (Line.Migration Stage.MemoryTaken q) h = absurd h
+mild_put p o (Line.Migration Stage.Restarted q) h = absurd h
+mild_put p o _ h = absurd h
 
 mild_touches : (p : Pid) (o : Option MsgId) (l : Line) → MildLine p o l → touches l ≡ false
-mild_touches p o (line.Idle m) h = refl
-mild_touches p o (line.Label l) h = refl
-mild_touches p o (line.Queued i) h = refl
-mild_touches p o (line.Held i) h = refl
-mild_touches p o (line.Forwarded i m) h = refl
-mild_touches p o (line.Updated i n) h = refl
-mild_touches p o (line.Here i) h = refl
-mild_touches p o (line.NoMove i) h = refl
-mild_touches p o (line.Migration stage.Asked q) h = refl
-mild_touches p o (line.Migration stage.Left q) h = refl
-mild_touches p o (line.Migration stage.Frozen q) h = absurd h
-mild_touches p o (line.Migration stage.Accepted q) h = absurd h
-mild_touches p o (line.Migration stage.StateTaken q) h = absurd h
-mild_touches p o (line.Migration stage.MemoryTaken q) h = absurd h
-mild_touches p o (line.Migration stage.Restarted q) h = absurd h
-mild_touches p o (line.Head d) h = absurd h
-mild_touches p o (line.Put a b i k q) h = absurd h
-mild_touches p o (line.Packet a b k l) h = absurd h
-mild_touches p o (line.Taken a b n) h = absurd h
-mild_touches p o (line.Old a b n) h = absurd h
-mild_touches p o (line.Early a b n) h = absurd h
-mild_touches p o (line.Acked a b n) h = absurd h
-mild_touches p o (line.Resent m n) h = absurd h
-mild_touches p o line.Nothing h = absurd h
-mild_touches p o (line.SentOn q n) h = absurd h
-mild_touches p o (line.Lacks q a b) h = absurd h
-mild_touches p o (line.Stays q) h = absurd h
-mild_touches p o (line.Proto i) h = absurd h
-mild_touches p o (line.NoChild q) h = absurd h
-mild_touches p o (line.Pinned q) h = absurd h
+mild_touches p o (Line.Idle m) h = refl
+mild_touches p o (Line.Label l) h = refl
+mild_touches p o (Line.Queued i) h = refl
+mild_touches p o (Line.Held i) h = refl
+mild_touches p o (Line.Forwarded i m) h = refl
+mild_touches p o (Line.Updated i n) h = refl
+mild_touches p o (Line.Here i) h = refl
+mild_touches p o (Line.NoMove i) h = refl
+mild_touches p o (Line.Migration Stage.Asked q) h = refl
+mild_touches p o (Line.Migration Stage.Left q) h = refl
+mild_touches p o (Line.Migration Stage.Frozen q) h = absurd h
+mild_touches p o (Line.Migration Stage.Accepted q) h = absurd h
+mild_touches p o (Line.Migration Stage.StateTaken q) h = absurd h
+mild_touches p o (Line.Migration Stage.MemoryTaken q) h = absurd h
+mild_touches p o (Line.Migration Stage.Restarted q) h = absurd h
+mild_touches p o _ h = absurd h
 
 -- what parts keep
 pub record Kept (v : View) (p : Pid) (o : Option MsgId) (pt : Point) : Type 0 where
@@ -103,20 +52,20 @@ tame_on : (v w : View) (p : Pid) (o : Option MsgId) → Spares v w p → TameAt 
 tame_on v w p o h tame i e = let t = tame i e in record { what = t.what; told = h.kept i t.what t.told; plain = t.plain }
 
 -- a put and its packet
-packet_spares : (p : Pid) (v : View) (mid next : Point) (c d : Bool) (a b k : ℕ) (l : Load) → Spares v mid.view p → PairsFit mid.view → after mid (if c then [] else if d then line.Packet a b k l ∷ [] else []) ≡ Some next → (Spares v next.view p) × (PairsFit next.view)
+packet_spares : (p : Pid) (v : View) (mid next : Point) (c d : Bool) (a b k : ℕ) (l : Load) → Spares v mid.view p → PairsFit mid.view → after mid (if c then [] else if d then Line.Packet a b k l ∷ [] else []) ≡ Some next → (Spares v next.view p) × (PairsFit next.view)
 packet_spares p v mid next true d a b k l s h is = let f : mid ≡ next = cc in subst (λ (q : Point). (Spares v q.view p) × (PairsFit q.view)) f (s, h)
 packet_spares p v mid next false false a b k l s h is = let f : mid ≡ next = cc in subst (λ (q : Point). (Spares v q.view p) × (PairsFit q.view)) f (s, h)
 packet_spares p v mid next false true a b k l s h is =
-    let f : moved mid (line.Packet a b k l) mid.kernel ≡ next = cc in
+    let f : moved mid (Line.Packet a b k l) mid.kernel ≡ next = cc in
     subst (λ (q : Point). (Spares v q.view p) × (PairsFit q.view)) f
-    (spares_trans v mid.view (view_after mid.view (line.Packet a b k l)) p s (spares_calm mid.view (view_after mid.view (line.Packet a b k l)) p (packet_calm mid.view a b k l)), fits_packet mid.view a b k l h)
+    (spares_trans v mid.view (view_after mid.view (Line.Packet a b k l)) p s (spares_calm mid.view (view_after mid.view (Line.Packet a b k l)) p (packet_calm mid.view a b k l)), fits_packet mid.view a b k l h)
 
 puts_spare : (p : Pid) (pt next : Point) (b : ℕ) (i : MsgId) (k : MessageKind) (q : Pid) (ls : List Line) → PairsFit pt.view → Some (puts pt.view b i k q) ≡ Some ls → after pt ls ≡ Some next → (Spares pt.view next.view p) × (PairsFit next.view)
 puts_spare p pt next b i k q ls fits is leads =
     let v = pt.view in
     let f : puts v b i k q ≡ ls = cc in
-    let mid = moved pt (line.Put v.acting b i k q) pt.kernel in
-    packet_spares p v mid next (v.acting == b) (goes_out (v.pair v.acting b)) v.acting b (length (v.pair v.acting b).wire) (load.Data (length (v.pair v.acting b).ids))
+    let mid = moved pt (Line.Put v.acting b i k q) pt.kernel in
+    packet_spares p v mid next (v.acting == b) (goes_out (v.pair v.acting b)) v.acting b (length (v.pair v.acting b).wire) (Load.Data (length (v.pair v.acting b).ids))
     (spares_put v b i k q p fits) (fits_put v v.acting b i k q fits) (ap (after pt) f ∙ leads)
 
 says_spare : (p : Pid) (o : Option MsgId) (pt next : Point) (l : Line) (ls : List Line) → Sane pt → PairsFit pt.view → TameAt pt.view o → MildLine p o l → Some (l ∷ []) ≡ Some ls → after pt ls ≡ Some next → (Spares pt.view next.view p) × (PairsFit next.view)
@@ -143,10 +92,7 @@ part_spares p o pt next (Transmits a b l) ls h fits tame mild is leads =
 
 sayable_of : (p : Pid) (o : Option MsgId) (q : Part) → Mild p o q → Sayable q
 sayable_of p o (Says l) h = mild_put p o l h
-sayable_of p o (Routes i) h = tt
-sayable_of p o (Again i b) h = tt
-sayable_of p o (Owns k q b) h = tt
-sayable_of p o (Transmits a b l) h = tt
+sayable_of p o _ h = tt
 
 pub parts_spare : (p : Pid) (o : Option MsgId) (ps : List Part) (v : View) (pt : Point) (w : Spelled) → AllMild p o ps → Kept v p o pt → spelled pt ps ≡ Some w → Kept v p o w.point
 parts_spare p o [] v pt w mild h is = let f : record { lines = []; point = pt } ≡ w = cc in subst (λ (x : Spelled). Kept v p o x.point) f h

@@ -1,40 +1,13 @@
 -- A line that handles the message about a process, and what follows it: what that says of the marks of each process.
-use Rattle.std.proofs.Common.{◌≡◌, ℕ, ◌≤◌, Bool, true, false, List, [], ◌∷◌, ◌++◌, refl, ap, ◌∙◌, sym, subst, inl, inr, arith}
-use Rattle.std.specs.Prelude.{if◌then◌else◌}
-use Rattle.std.specs.declared.option.Option.{Option}
-use Rattle.std.specs.declared.option.Option.TheVariants.{None, Some}
-use Rattle.std.proofs.lemmas.Bool.{cases_Bool, false≢true}
-use Rattle.dm_link.specs.declared.Pid.{Pid}
-use Rattle.dm_link.specs.Names.{pid_eq}
-use Rattle.dm_message.specs.declared.MsgId.{MsgId}
-use Rattle.dm_message.specs.declared.kind.MessageKind.{MessageKind}
-use Rattle.dm_message.specs.Ids.{id_eq}
-use Rattle.dm_onekernel.specs.Options.{bind}
-use Rattle.dm_line.specs.declared.line.Line.{Line}
-use Rattle.dm_line.specs.declared.line.Line.TheVariants as line
-use Rattle.dm_line.specs.declared.line.Load.{Load}
-use Rattle.dm_rule.specs.View.{View, Told, Of, own_id, view_after, handled}
-use Rattle.dm_rule.specs.View as view
-use Rattle.dm_rule.specs.Phases.{is_between}
-use Rattle.dm_rule.specs.Point.{Point, label_of, kernel_after, moved, after}
-use Rattle.dm_rule.specs.Parts.{Part, Says, Owns, Spelled, behind, spelled}
-use Rattle.dm_rule.specs.Spots.{Spot, Inbox, times, ids_at}
-use Rattle.dm_laws.proofs.Equal.{id_eq-is, id_eq-same, pid_eq-is, pid_eq-same}
-use Rattle.dm_rule.proofs.Hushed.{is_put}
-use Rattle.dm_rule.proofs.Lines.{not_true}
-use Rattle.dm_rule.proofs.Moves.Sent.{line_next}
-use Rattle.dm_rule.proofs.Once.{one_of}
-use Rattle.dm_rule.proofs.Pairs.Lines.{touches, pair_same, onward}
-use Rattle.dm_rule.proofs.Phases.Lines.{handled_spots, packet_calm, put_at}
-use Rattle.dm_rule.proofs.Phases.Put.{put_there, put_spot}
-use Rattle.dm_rule.proofs.Said.{fits_as}
-use Rattle.dm_rule.proofs.States.{PairsFit, puts_next, said}
-use Rattle.dm_rule.proofs.Telling.{Sane, sane_line}
-use Rattle.dm_movelaws.specs.Stages.{Mark, with_mark, in_order}
+use Rattle.dm_movelaws.proofs.Names.{◌≡◌, ℕ, ◌≤◌, Bool, true, false, List, [], ◌∷◌, ◌++◌, refl, ap, ◌∙◌, sym, subst, inl, inr, arith, if◌then◌else◌, Option, None, Some, cases_Bool, false≢true, Pid, pid_eq, MsgId, MessageKind, id_eq, bind}
+use Rattle.dm_movelaws.proofs.Names.{Line, Load, View, Told, Of, own_id, view_after, handled, is_between, Point, label_of, kernel_after, moved, after, Part, Says, Owns, Spelled, behind, spelled, Spot, Inbox, times, ids_at, id_eq-is}
+use Rattle.dm_movelaws.proofs.Names.{id_eq-same, pid_eq-is, pid_eq-same, is_put, not_true, line_next, one_of, touches, pair_same, onward, handled_spots, packet_calm, put_at, put_there, put_spot, fits_as, PairsFit, puts_next, said, Sane}
+use Rattle.dm_movelaws.proofs.Names.{sane_line, Mark, with_mark, in_order, first_none}
 use Rattle.dm_movelaws.proofs.Stages.Marks.{open_after}
 use Rattle.dm_movelaws.proofs.Stages.Spares.{is_settled, mark_of, Spares, TokenOf, HasMark, token_mark, Marked, none_marked, some_marked}
 use Rattle.dm_movelaws.proofs.Stages.Lines.{AllMild, spares_line, same_spot}
 use Rattle.dm_movelaws.proofs.Stages.Parts.{Kept, parts_spare}
+pub use Rattle.dm_rule.proofs.Phases.Put.{of_same}
 
 -- the message at the front, of no other process's migration
 pub record Handling (pt : Point) (i : MsgId) (is : List MsgId) (q : Pid) : Type 0 where
@@ -42,9 +15,6 @@ pub record Handling (pt : Point) (i : MsgId) (is : List MsgId) (q : Pid) : Type 
   pub fits : PairsFit pt.view
   pub front : pt.view.inbox pt.view.acting ≡ i ∷ is
   pub others : (p : Pid) (j : MsgId) (t : Told) → pid_eq q p ≡ false → pt.view.told j ≡ Some t → is_between t.kind ≡ true → t.about ≡ Of p → id_eq i j ≡ false
-
-pub of_same : (p q : Pid) → Of p ≡ Of q → p ≡ q
-of_same p q e = cc
 
 -- it is about this process
 pub about_others : (v : View) (i : MsgId) (t : Told) (q : Pid) → v.told i ≡ Some t → t.about ≡ Of q → (p : Pid) (j : MsgId) (u : Told) → pid_eq q p ≡ false → v.told j ≡ Some u → is_between u.kind ≡ true → u.about ≡ Of p → id_eq i j ≡ false
@@ -79,12 +49,7 @@ first_spares pt i is q p l h apart quiet off known =
     (λ j t z told b a st. same_spot v (view_after v l) j z (ap (times j) (off z) ∙ handled_spots v i j (h.others p j t apart told b a) z) st)
     (λ m e. ap is_settled (known m) ∙ e)
 
--- the next message is put
-first_none : (o : Option Told) (u : Told) → o ≡ None → Some (view.first_told o u) ≡ Some u
-first_none None u e = refl
-first_none (Some t) u e = cc
-
-token_packet : (q : Pid) (k : MessageKind) (x : Point) (a b n : ℕ) (l : Load) → TokenOf x.view q k → TokenOf (view_after x.view (line.Packet a b n l)) q k
+token_packet : (q : Pid) (k : MessageKind) (x : Point) (a b n : ℕ) (l : Load) → TokenOf x.view q k → TokenOf (view_after x.view (Line.Packet a b n l)) q k
 token_packet q k x a b n l h =
     let c = packet_calm x.view a b n l in
     let (y, s) = c.on h.id h.what h.told (ap is_between h.kind ∙ h.between) h.spot h.stands in
@@ -96,7 +61,7 @@ owns_token pt k q r b w sane fits between topic e =
     let i = own_id v in
     let u : Told = record { kind = k; receiver = r; about = v.topic } in
     let untold : v.told i ≡ None = sane.numbered v.acting (v.count v.acting) (omega arith) in
-    let mid = moved pt (line.Put v.acting b i k r) pt.kernel in
+    let mid = moved pt (Line.Put v.acting b i k r) pt.kernel in
     let token : TokenOf mid.view q k = record {
       id = i;
       what = u;

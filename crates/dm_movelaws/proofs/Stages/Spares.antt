@@ -1,71 +1,32 @@
 -- How far the marks of a process have come by its phase; and what leaves that as it is.
-use Rattle.std.proofs.Common.{◌≡◌, ℕ, ◌≤◌, ◌==◌, ◌&&◌, Bool, true, false, not, List, [], refl, ap, ◌∙◌, sym, subst, inl, inr, arith}
-use Rattle.std.specs.Prelude.{if◌then◌else◌}
-use Rattle.std.specs.declared.option.Option.{Option}
-use Rattle.std.specs.declared.option.Option.TheVariants.{None, Some}
-use Rattle.std.proofs.lemmas.Bool.{cases_Bool, false≢true}
-use Rattle.std.proofs.lemmas.Bool.Decides.{nat_tests}
-use Rattle.dm_link.specs.declared.Pid.{Pid}
-use Rattle.dm_message.specs.declared.MsgId.{MsgId}
-use Rattle.dm_message.specs.declared.kind.MessageKind.{MessageKind}
-use Rattle.dm_message.specs.declared.kind.MessageKind.TheVariants as kind
-use Rattle.dm_message.specs.Ids.{id_eq}
-use Rattle.dm_rule.specs.View.{View, Told, Of, Known, Unknown, Here, Frozen, Incoming, Forward, Ended, after_put}
-use Rattle.dm_rule.specs.View as view
-use Rattle.dm_rule.specs.Spots.{Spot, standing}
-use Rattle.dm_rule.specs.Phases.{is_between, is_restart, is_early, is_away, is_here, is_over, leaves, comes, knows, Phase, Nowhere, Rests, Over, Moves, is_due, token_in, told_between, IsIn}
-use Rattle.dm_laws.proofs.Equal.{id_eq-is}
-use Rattle.dm_rule.proofs.States.{PairsFit, put_told_off}
-use Rattle.dm_rule.proofs.Phases.Calm.{Calm, between_of}
-use Rattle.dm_rule.proofs.Phases.Lines.{put_spots, put_at}
-use Rattle.dm_rule.proofs.Phases.Put.{put_there, put_spot}
-use Rattle.dm_rule.proofs.Phases.Rests.{rests_here}
-use Rattle.dm_movelaws.specs.Stages.{Mark, Reached, Lacking, in_order}
+use Rattle.dm_movelaws.proofs.Names.{◌≡◌, ℕ, ◌≤◌, ◌==◌, ◌&&◌, Bool, true, false, not, List, [], refl, ap, ◌∙◌, sym, subst, inl, inr, if◌then◌else◌, Option, None, Some, cases_Bool, false≢true, Pid, MsgId, MessageKind, id_eq, View, Told, Of}
+use Rattle.dm_movelaws.proofs.Names.{Known, Unknown, Here, Frozen, Incoming, Forward, Ended, after_put, Spot, standing, is_between, is_restart, is_early, is_away, is_here, is_over, comes, knows, Phase, Nowhere, Rests, Over, Moves, is_due}
+use Rattle.dm_movelaws.proofs.Names.{token_in, told_between, IsIn, id_eq-is, PairsFit, put_told_off, Calm, between_of, put_spots, put_at, put_there, put_spot, rests_here, Mark, Reached, Lacking, in_order, eq_self, not_false, right_true}
+use Rattle.dm_movelaws.proofs.Names.{first_kept}
+use Rattle.dm_rule.specs.Phases.{leaves}
 use Rattle.dm_movelaws.proofs.Stages.Marks.{open_after}
 
 -- the last mark, by the message that is under way
 abbrev pub mark_of : MessageKind → Option Mark
-mark_of kind.Ask = Some (Reached 2)
-mark_of kind.Refuse = Some Lacking
-mark_of kind.PullState = Some (Reached 3)
-mark_of kind.State = Some (Reached 3)
-mark_of kind.PullBlock = Some (Reached 4)
-mark_of kind.Memory = Some (Reached 4)
-mark_of kind.AllTaken = Some (Reached 5)
-mark_of kind.Restart = Some (Reached 7)
-mark_of kind.User = None
-mark_of kind.Stop = None
-mark_of kind.Resume = None
-mark_of kind.Kill = None
-mark_of kind.Read = None
-mark_of kind.Write = None
-mark_of kind.Block = None
-mark_of kind.Written = None
-mark_of kind.Gone = None
-mark_of kind.Create = None
-mark_of kind.Created = None
-mark_of kind.NoRoom = None
-mark_of kind.Migrate = None
-mark_of kind.Update = None
-mark_of kind.Move = None
-mark_of kind.Moved = None
-mark_of kind.CallOff = None
-mark_of kind.Bury = None
+mark_of MessageKind.Ask = Some (Reached 2)
+mark_of MessageKind.Refuse = Some Lacking
+mark_of MessageKind.PullState = Some (Reached 3)
+mark_of MessageKind.State = Some (Reached 3)
+mark_of MessageKind.PullBlock = Some (Reached 4)
+mark_of MessageKind.Memory = Some (Reached 4)
+mark_of MessageKind.AllTaken = Some (Reached 5)
+mark_of MessageKind.Restart = Some (Reached 7)
+mark_of _ = None
 
 abbrev pub mark_in : Phase → Option Mark
-mark_in Nowhere = None
-mark_in (Rests at) = None
-mark_in (Over at) = None
 mark_in (Moves k s d id) = mark_of k
+mark_in _ = None
 
 -- a machine neither holds the process back nor expects it
 abbrev pub is_settled : Known → Bool
-is_settled Unknown = true
-is_settled Here = true
 is_settled (Frozen to) = false
 is_settled (Incoming from) = false
-is_settled (Forward at moves) = true
-is_settled Ended = true
+is_settled _ = true
 
 -- what was told stays, no message about this process's migration goes, and no machine comes to hold it back or to expect it
 pub record Spares (v w : View) (p : Pid) : Type 0 where
@@ -89,11 +50,6 @@ spares_calm v w p c = record {
   on = λ i t z e b a s. c.on i t e b z s;
   still = λ m e. ap is_settled (c.known m p) ∙ e;
 }
-
--- any put
-first_kept : (o : Option Told) (u t : Told) → o ≡ Some t → Some (view.first_told o u) ≡ Some t
-first_kept None u t e = cc
-first_kept (Some s) u t e = e
 
 pub spares_put : (v : View) (b : ℕ) (i : MsgId) (k : MessageKind) (q p : Pid) → PairsFit v → Spares v (after_put v v.acting b i k q) p
 spares_put v b i k q p fits =
@@ -148,67 +104,28 @@ rest_settled (Moves k s t (Some i)) m x d e h = cc
 
 -- where something is, not all machines are settled: the source holds the process, or the destination expects it
 pub restart_late : (k : MessageKind) → is_restart k ≡ true → is_early k ≡ false
-restart_late kind.Ask e = absurd (false≢true e)
-restart_late kind.Refuse e = absurd (false≢true e)
-restart_late kind.PullState e = refl
-restart_late kind.State e = refl
-restart_late kind.PullBlock e = refl
-restart_late kind.Memory e = refl
-restart_late kind.AllTaken e = refl
-restart_late kind.Restart e = refl
-restart_late kind.User e = refl
-restart_late kind.Stop e = refl
-restart_late kind.Resume e = refl
-restart_late kind.Kill e = refl
-restart_late kind.Read e = refl
-restart_late kind.Write e = refl
-restart_late kind.Block e = refl
-restart_late kind.Written e = refl
-restart_late kind.Gone e = refl
-restart_late kind.Create e = refl
-restart_late kind.Created e = refl
-restart_late kind.NoRoom e = refl
-restart_late kind.Migrate e = refl
-restart_late kind.Update e = refl
-restart_late kind.Move e = refl
-restart_late kind.Moved e = refl
-restart_late kind.CallOff e = refl
-restart_late kind.Bury e = refl
+restart_late MessageKind.Ask e = absurd (false≢true e)
+restart_late MessageKind.Refuse e = absurd (false≢true e)
+restart_late _ e = refl
 
 source_settled : (k : MessageKind) (d : ℕ) (x : Known) → leaves k d x ≡ true → is_settled x ≡ true → is_restart k ≡ true
-source_settled k d Unknown h e = absurd (false≢true h)
-source_settled k d Here h e = absurd (false≢true h)
 source_settled k d (Frozen to) h e = absurd (false≢true e)
-source_settled k d (Incoming from) h e = absurd (false≢true h)
 source_settled k d (Forward at moves) h e = first_of (is_restart k) (d == at) h
   where
     first_of : (b c : Bool) → (b && c) ≡ true → b ≡ true
     first_of true c e = refl
     first_of false c e = absurd (false≢true e)
-source_settled k d Ended h e = absurd (false≢true h)
+source_settled k d _ h e = absurd (false≢true h)
 
 destination_settled : (k : MessageKind) (s : ℕ) (x : Known) → comes k s x ≡ true → is_settled x ≡ true → is_early k ≡ true
 destination_settled k s Unknown h e = h
-destination_settled k s Here h e = absurd (false≢true h)
-destination_settled k s (Frozen to) h e = absurd (false≢true h)
 destination_settled k s (Incoming from) h e = absurd (false≢true e)
 destination_settled k s (Forward at moves) h e = h
-destination_settled k s Ended h e = absurd (false≢true h)
-
-second_of : (b c : Bool) → (b && c) ≡ true → c ≡ true
-second_of true c e = e
-second_of false c e = absurd (false≢true e)
-
-not_so : (b : Bool) → not b ≡ true → b ≡ false
-not_so true e = absurd (false≢true e)
-not_so false e = refl
-
-eq_self : (m : ℕ) → (m == m) ≡ true
-eq_self m = grind (arith, nat_tests)
+destination_settled k s _ h e = absurd (false≢true h)
 
 moves_unsettled : (v : View) (p : Pid) (k : MessageKind) (s d : ℕ) (o : Option MsgId) → IsIn v p (Moves k s d o) → ((m : ℕ) → is_settled (v.known m p) ≡ true) → ⊥
 moves_unsettled v p k s d o h settled =
-    let apart : (s == d) ≡ false = not_so (s == d) (second_of (is_between k) (not (s == d)) h.apart) in
+    let apart : (s == d) ≡ false = not_false (s == d) (right_true (is_between k) (not (s == d)) h.apart) in
     let x = v.known s p in
     let y = v.known d p in
     let left : leaves k d x ≡ true = sym (ap (λ (c : Bool). if c then leaves k d x else if d == s then comes k s x else is_away x) (eq_self s)) ∙ h.known s in
@@ -234,13 +151,11 @@ told_kind : (k : MessageKind) (s d : ℕ) (p : Pid) (i : MsgId) (v : View) (t : 
 told_kind k s d p i v t h told = let f : Some t ≡ Some (told_between p k s d) = sym told ∙ h.token.told in let g : t ≡ told_between p k s d = cc in ap (λ (x : Told). x.kind) g
 
 phase_kind : (v : View) (p : Pid) (a : Phase) (i : MsgId) (t : Told) → IsIn v p a → token_in a ≡ Some i → v.told i ≡ Some t → mark_in a ≡ mark_of t.kind
-phase_kind v p Nowhere i t h e told = cc
-phase_kind v p (Rests at) i t h e told = cc
-phase_kind v p (Over at) i t h e told = cc
 phase_kind v p (Moves k s d None) i t h e told = cc
 phase_kind v p (Moves k s d (Some j)) i t h e told =
     let f : j ≡ i = cc in
     ap mark_of (sym (told_kind k s d p j v t h (ap v.told f ∙ told)))
+phase_kind v p _ i t h e told = cc
 
 -- all phases of a process have this mark
 abbrev pub HasMark : View → Pid → Option Mark → Type 0
@@ -254,15 +169,10 @@ pub here_mark : (v : View) (p : Pid) (m : ℕ) → v.known m p ≡ Here → HasM
 here_mark v p m here a h due = ap mark_in (rests_here a m (sym (ap (knows a m) here) ∙ h.known m))
 
 settled_mark : (v : View) (p : Pid) → ((m : ℕ) → is_settled (v.known m p) ≡ true) → HasMark v p None
-settled_mark v p settled Nowhere h due = refl
-settled_mark v p settled (Rests at) h due = refl
-settled_mark v p settled (Over at) h due = refl
 settled_mark v p settled (Moves k s d o) h due = absurd (moves_unsettled v p k s d o h settled)
+settled_mark v p settled _ h due = refl
 
 pub spares_mark : (v w : View) (p : Pid) (a b : Phase) → Spares v w p → IsIn v p a → IsIn w p b → is_due a ≡ false → is_due b ≡ false → mark_in b ≡ mark_in a
-spares_mark v w p Nowhere b s h k da db = settled_mark w p (λ m. s.still m (rest_settled Nowhere m (v.known m p) da refl (h.known m))) b k db
-spares_mark v w p (Rests at) b s h k da db = settled_mark w p (λ m. s.still m (rest_settled (Rests at) m (v.known m p) da refl (h.known m))) b k db
-spares_mark v w p (Over at) b s h k da db = settled_mark w p (λ m. s.still m (rest_settled (Over at) m (v.known m p) da refl (h.known m))) b k db
 spares_mark v w p (Moves c m n None) b s h k da db = cc
 spares_mark v w p (Moves c m n (Some i)) b s h k da db =
     let t = told_between p c m n in
@@ -270,6 +180,7 @@ spares_mark v w p (Moves c m n (Some i)) b s h k da db =
     let (y, x) = s.on i t h.token.spot h.token.told between refl h.token.stands in
     let token : TokenOf w p c = record { id = i; what = t; told = s.kept i t h.token.told; kind = refl; between = between; about = refl; spot = y; stands = x } in
     token_mark w p c token b k db
+spares_mark v w p any_ b s h k da db = settled_mark w p (λ m. s.still m (rest_settled any_ m (v.known m p) da refl (h.known m))) b k db
 
 -- from one view to another with these marks of a process
 abbrev pub Marked : View → View → Pid → List Mark → Type 0

@@ -1,66 +1,14 @@
 -- The rows of a migration that freeze a process, send on what waits for it, and bring it home.
-use Rattle.std.proofs.Common.{◌≡◌, ℕ, ◌+◌, ◌≤◌, ◌==◌, ◌&&◌, Bool, true, false, List, [], ◌∷◌, ◌++◌, length, refl, ap, ◌∙◌, sym, subst, inl, inr, arith}
-use Rattle.std.specs.Prelude.{if◌then◌else◌}
-use Rattle.std.specs.declared.option.Option.{Option}
-use Rattle.std.specs.declared.option.Option.TheVariants.{None, Some}
-use Rattle.std.proofs.lemmas.Bool.{cases_Bool, false≢true}
-use Rattle.dm_link.specs.declared.Pid.{Pid}
-use Rattle.dm_link.specs.Names.{pid_of, pid_eq}
-use Rattle.dm_message.specs.declared.MsgId.{MsgId}
-use Rattle.dm_message.specs.declared.kind.MessageKind.TheVariants as kind
-use Rattle.dm_line.specs.declared.line.Line.{Line}
-use Rattle.dm_line.specs.declared.line.Line.TheVariants as line
-use Rattle.dm_line.specs.declared.line.Stage.TheVariants as stage
-use Rattle.dm_line.specs.Sets.{at_machine, at_record}
-use Rattle.dm_rule.specs.View.{View, Told, Of, Known, Here, Frozen, view_after, handled_first, released, target_of, front_told}
-use Rattle.dm_rule.specs.Migrating.{to_kernel, sends_on}
-use Rattle.dm_rule.specs.Phases.{is_between}
-use Rattle.dm_rule.specs.Point.{Point, label_of, moved}
-use Rattle.dm_rule.specs.Parts.{Part, Says, Spelled, spelled}
-use Rattle.dm_rule.specs.Spots.{Spot, Queue, Held, Inbox, Untaken, times, ids_at, standing}
-use Rattle.dm_laws.proofs.Equal.{pid_eq-is, pid_eq-swap}
-use Rattle.dm_rule.proofs.Hushed.{is_put}
-use Rattle.dm_rule.proofs.Lines.{at_record_at, eq_self, eq_is, parts}
-use Rattle.dm_rule.proofs.Moves.Lists.{first_off}
-use Rattle.dm_rule.proofs.Moves.Rows.{home_again, home_off, frozen_off}
-use Rattle.dm_rule.proofs.Moves.Sent.{line_next}
-use Rattle.dm_rule.proofs.Pairs.Lines.{touches}
-use Rattle.dm_rule.proofs.Phases.Lines.{handled_spots}
-use Rattle.dm_rule.proofs.Phases.Pieces.{record_off}
-use Rattle.dm_rule.proofs.Phases.Stand.{InPhases, queued_plain, held_plain}
-use Rattle.dm_rule.proofs.Standing.{times-append}
-use Rattle.dm_rule.proofs.States.{said}
-use Rattle.dm_movelaws.specs.Stages.{Mark, Reached, mark_for, with_mark, in_order}
+use Rattle.dm_movelaws.proofs.Names.{◌≡◌, ℕ, ◌+◌, ◌≤◌, true, false, List, [], ◌∷◌, ◌++◌, length, refl, ap, ◌∙◌, sym, subst, Option, None, Some, false≢true, Pid, pid_of, pid_eq, MsgId, MessageKind, Stage, Line, at_record, Told, Of, Known}
+use Rattle.dm_movelaws.proofs.Names.{Here, Frozen, view_after, handled_first, released, target_of, front_told, to_kernel, sends_on, is_between, Point, label_of, moved, Part, Says, Spelled, spelled, Spot, Queue, Held, Inbox, Untaken, times}
+use Rattle.dm_movelaws.proofs.Names.{ids_at, standing, pid_eq-swap, is_put, at_record_at, first_off, home_again, home_off, frozen_off, line_next, touches, handled_spots, record_off, InPhases, queued_plain, held_plain, said, Mark, Reached}
+use Rattle.dm_movelaws.proofs.Names.{mark_for, with_mark, in_order, released_on}
 use Rattle.dm_movelaws.proofs.Stages.Marks.{open_after, marks_of, mark_same, mark_other, marks_sent}
 use Rattle.dm_movelaws.proofs.Stages.Spares.{is_settled, Spares, spares_same, TokenOf, HasMark, token_mark, here_mark, some_marked}
 use Rattle.dm_movelaws.proofs.Stages.Lines.{AllMild, spares_line, same_spot}
 use Rattle.dm_movelaws.proofs.Stages.Parts.{Kept, parts_spare}
 use Rattle.dm_movelaws.proofs.Stages.Hears.{freezes}
 use Rattle.dm_movelaws.proofs.Stages.Rows.{Handling, first_spares, owns_token, line_sane, line_fits, line_and_parts, Row, split}
-
--- held messages come to the inbox
-in_inbox : (v : View) (q : Pid) (j : MsgId) (m : ℕ) → (v.acting == m) ≡ true → 1 ≤ times j (v.held v.acting q) + times j (v.inbox v.acting) → 1 ≤ standing (released v q) j (Inbox m)
-in_inbox v q j m same st =
-    let now : times j (at_machine v.inbox v.acting (v.held v.acting q ++ v.inbox v.acting) m) ≡ times j (v.held v.acting q ++ v.inbox v.acting) = ap (λ (c : Bool). times j (if c then (v.held v.acting q ++ v.inbox v.acting) else v.inbox m)) same in
-    let sum = times-append j (v.held v.acting q) (v.inbox v.acting) in
-    omega (arith, st, now, sum)
-
-released_on : (v : View) (q : Pid) (j : MsgId) (z : Spot) → 1 ≤ standing v j z → (y : Spot) × (1 ≤ standing (released v q) j y)
-released_on v q j (Queue m p) st = (Queue m p, st)
-released_on v q j (Held m p) st = elim (cases_Bool ((v.acting == m) && pid_eq q p)) [
-  | inl same ↦
-      let both = parts (v.acting == m) (pid_eq q p) same in
-      let here : 1 ≤ times j (v.held v.acting q) = subst (λ (r : Pid). 1 ≤ times j (v.held v.acting r)) (sym (pid_eq-is q p both.1)) (subst (λ (n : ℕ). 1 ≤ times j (v.held n p)) (sym (eq_is v.acting m both.0)) st) in
-      (Inbox v.acting, in_inbox v q j v.acting (eq_self v.acting) (omega (arith, here)))
-  | inr off ↦ (Held m p, subst (λ n. 1 ≤ n) (sym (ap (λ (c : Bool). times j (if c then [] else v.held m p)) off)) st)
-]
-released_on v q j (Inbox m) st = elim (cases_Bool (v.acting == m)) [
-  | inl same ↦
-      let here : 1 ≤ times j (v.inbox v.acting) = subst (λ (n : ℕ). 1 ≤ times j (v.inbox n)) (sym (eq_is v.acting m same)) st in
-      (Inbox m, in_inbox v q j m same (omega (arith, here)))
-  | inr off ↦ (Inbox m, subst (λ n. 1 ≤ n) (sym (ap (λ (c : Bool). times j (if c then (v.held v.acting q ++ v.inbox v.acting) else v.inbox m)) off)) st)
-]
-released_on v q j (Untaken a b) st = (Untaken a b, st)
 
 -- a process is home again
 home_spares : (pt : Point) (i : MsgId) (is : List MsgId) (q p : Pid) (l : Line) → Handling pt i is q → pid_eq q p ≡ false → is_put l ≡ false → ((z : Spot) → ids_at (view_after pt.view l) z ≡ ids_at (released (home_again (handled_first pt.view) q) q) z)
@@ -101,30 +49,30 @@ frozen_marked q to = mark_same q (Reached 1) (mark_for q q (Reached 2) []) ∙ a
 pub freezes_row : (pt : Point) (i : MsgId) (is : List MsgId) (q : Pid) (to : ℕ) (w : Spelled) → Handling pt i is q → pt.view.known pt.view.acting q ≡ Here → spelled pt (freezes q to) ≡ Some w → Row pt.view w.point.view q (λ p. marks_of p (freezes q to))
 freezes_row pt i is q to w h here e =
     let v = pt.view in
-    let l = line.Migration stage.Frozen q in
-    let k = line.Migration stage.Asked q in
-    let ps = Says k ∷ to_kernel kind.Ask to ∷ [] in
+    let l = Line.Migration Stage.Frozen q in
+    let k = Line.Migration Stage.Asked q in
+    let ps = Says k ∷ to_kernel MessageKind.Ask to ∷ [] in
     let next = moved pt l pt.kernel in
     let n = line_next pt l ps w refl e in
     let last = moved next k next.kernel in
-    let o = line_next next k (to_kernel kind.Ask to ∷ []) n.rest refl n.more in
+    let o = line_next next k (to_kernel MessageKind.Ask to ∷ []) n.rest refl n.more in
     let sane_ = line_sane next k refl refl (line_sane pt l refl refl h.sane) in
-    let token : TokenOf w.point.view q kind.Ask = subst (λ (y : Point). TokenOf y.view q kind.Ask) (o.point ∙ n.point) (owns_token last kind.Ask q (pid_of to 0) to o.rest sane_ (line_fits pt l refl h.fits) refl refl o.more) in
+    let token : TokenOf w.point.view q MessageKind.Ask = subst (λ (y : Point). TokenOf y.view q MessageKind.Ask) (o.point ∙ n.point) (owns_token last MessageKind.Ask q (pid_of to 0) to o.rest sane_ (line_fits pt l refl h.fits) refl refl o.more) in
     record {
       others = λ p apart. (
         frozen_unmarked p q to apart,
         line_and_parts pt p l ps w refl refl refl h.sane h.fits
             (first_spares pt i is q p l h apart refl (λ z. frozen_off v q z ∙ first_off v i is h.front z) (λ m. record_off v.known v.acting q (Frozen (target_of (front_told v (v.inbox v.acting)))) m p apart)) (apart, (tt, tt)) e,
       );
-      mine = some_marked v w.point.view q (marks_of q (freezes q to)) (Reached 1 ∷ Reached 2 ∷ []) None (Some (Reached 2)) (frozen_marked q to) (here_mark v q v.acting here) (token_mark w.point.view q kind.Ask token) refl refl;
+      mine = some_marked v w.point.view q (marks_of q (freezes q to)) (Reached 1 ∷ Reached 2 ∷ []) None (Some (Reached 2)) (frozen_marked q to) (here_mark v q v.acting here) (token_mark w.point.view q MessageKind.Ask token) refl refl;
     }
 
 -- its lists go on, and it leaves
 abbrev pub departs : Pid → ℕ → List MsgId → ℕ → List Part
-departs q to ids from = Says (line.SentOn q (length ids)) ∷ sends_on to ids ++ Says (line.Migration stage.Left q) ∷ to_kernel kind.Restart from ∷ []
+departs q to ids from = Says (Line.SentOn q (length ids)) ∷ sends_on to ids ++ Says (Line.Migration Stage.Left q) ∷ to_kernel MessageKind.Restart from ∷ []
 
 departs_marks : (p q : Pid) (to : ℕ) (ids : List MsgId) (from : ℕ) → marks_of p (departs q to ids from) ≡ mark_for p q (Reached 6) (mark_for p q (Reached 7) [])
-departs_marks p q to ids from = ap (mark_for p q (Reached 6)) (marks_sent p to ids (Says (line.Migration stage.Left q) ∷ to_kernel kind.Restart from ∷ []))
+departs_marks p q to ids from = ap (mark_for p q (Reached 6)) (marks_sent p to ids (Says (Line.Migration Stage.Left q) ∷ to_kernel MessageKind.Restart from ∷ []))
 
 departs_unmarked : (p q : Pid) (to : ℕ) (ids : List MsgId) (from : ℕ) → pid_eq q p ≡ false → marks_of p (departs q to ids from) ≡ []
 departs_unmarked p q to ids from e =
@@ -136,11 +84,11 @@ departs_marked q to ids from = departs_marks q q to ids from ∙ mark_same q (Re
 
 -- what is of the protocol stands in no list
 sent_spot : (pt : Point) (i : MsgId) (is : List MsgId) (q p : Pid) (n : ℕ) (j : MsgId) (t : Told) (z : Spot) → Handling pt i is q → InPhases pt.view → pid_eq q p ≡ false → pt.view.told j ≡ Some t → is_between t.kind ≡ true → t.about ≡ Of p → 1 ≤ standing pt.view j z
-    → (y : Spot) × (1 ≤ standing (view_after pt.view (line.SentOn q n)) j y)
+    → (y : Spot) × (1 ≤ standing (view_after pt.view (Line.SentOn q n)) j y)
 sent_spot pt i is q p n j t (Queue m r) h phases apart told b a st = absurd (false≢true (sym (queued_plain pt.view m r j t phases told st) ∙ b))
 sent_spot pt i is q p n j t (Held m r) h phases apart told b a st = absurd (false≢true (sym (held_plain pt.view m r j t phases told st) ∙ b))
 sent_spot pt i is q p n j t (Inbox m) h phases apart told b a st =
-    same_spot pt.view (view_after pt.view (line.SentOn q n)) j (Inbox m) (ap (times j) (first_off pt.view i is h.front (Inbox m)) ∙ handled_spots pt.view i j (h.others p j t apart told b a) (Inbox m)) st
+    same_spot pt.view (view_after pt.view (Line.SentOn q n)) j (Inbox m) (ap (times j) (first_off pt.view i is h.front (Inbox m)) ∙ handled_spots pt.view i j (h.others p j t apart told b a) (Inbox m)) st
 sent_spot pt i is q p n j t (Untaken c d) h phases apart told b a st = (Untaken c d, st)
 
 sent_mild : (p : Pid) (to : ℕ) (ids : List MsgId) (ps : List Part) → AllMild p None ps → AllMild p None (sends_on to ids ++ ps)
@@ -155,9 +103,9 @@ pub departs_row : (pt : Point) (i : MsgId) (is : List MsgId) (q : Pid) (to : ℕ
     → Row pt.view w.point.view q (λ p. marks_of p (departs q to ids from))
 departs_row pt i is q to ids from w h phases before e =
     let v = pt.view in
-    let l = line.SentOn q (length ids) in
-    let k = line.Migration stage.Left q in
-    let end = Says k ∷ to_kernel kind.Restart from ∷ [] in
+    let l = Line.SentOn q (length ids) in
+    let k = Line.Migration Stage.Left q in
+    let end = Says k ∷ to_kernel MessageKind.Restart from ∷ [] in
     let n = line_next pt l (sends_on to ids ++ end) w refl e in
     let next = moved pt l pt.kernel in
     let s = split (sends_on to ids) end next n.rest n.more in
@@ -165,12 +113,12 @@ departs_row pt i is q to ids from w h phases before e =
     let kept = parts_spare q None (sends_on to ids) next.view next s.mid (only_sent q to ids) start s.first in
     let mid = s.mid.point in
     let last = moved mid k mid.kernel in
-    let o = line_next mid k (to_kernel kind.Restart from ∷ []) s.rest refl s.more in
-    let token : TokenOf w.point.view q kind.Restart = subst (λ (y : Point). TokenOf y.view q kind.Restart) (o.point ∙ s.point ∙ n.point) (owns_token last kind.Restart q (pid_of from 0) from o.rest (line_sane mid k refl refl kept.sane) (line_fits mid k refl kept.fits) refl refl o.more) in
+    let o = line_next mid k (to_kernel MessageKind.Restart from ∷ []) s.rest refl s.more in
+    let token : TokenOf w.point.view q MessageKind.Restart = subst (λ (y : Point). TokenOf y.view q MessageKind.Restart) (o.point ∙ s.point ∙ n.point) (owns_token last MessageKind.Restart q (pid_of from 0) from o.rest (line_sane mid k refl refl kept.sane) (line_fits mid k refl kept.fits) refl refl o.more) in
     record {
       others = λ p apart. (
         departs_unmarked p q to ids from apart,
         line_and_parts pt p l (sends_on to ids ++ end) w refl refl refl h.sane h.fits (spares_line v l p refl (λ j t z told b a st. sent_spot pt i is q p (length ids) j t z h phases apart told b a st) (λ m e. e)) (sent_mild p to ids end (apart, (tt, tt))) e,
       );
-      mine = some_marked v w.point.view q (marks_of q (departs q to ids from)) (Reached 6 ∷ Reached 7 ∷ []) (Some (Reached 5)) (Some (Reached 7)) (departs_marked q to ids from) before (token_mark w.point.view q kind.Restart token) refl refl;
+      mine = some_marked v w.point.view q (marks_of q (departs q to ids from)) (Reached 6 ∷ Reached 7 ∷ []) (Some (Reached 5)) (Some (Reached 7)) (departs_marked q to ids from) before (token_mark w.point.view q MessageKind.Restart token) refl refl;
     }

@@ -1,26 +1,7 @@
 -- A kernel hears of a process from another kernel: what that says of the marks of each process.
-use Rattle.std.proofs.Common.{◌≡◌, ℕ, ◌==◌, Bool, true, false, List, [], ◌∷◌, ◌++◌, refl, ap, ◌∙◌, subst}
-use Rattle.std.specs.declared.option.Option.{Option}
-use Rattle.std.specs.declared.option.Option.TheVariants.{None, Some}
-use Rattle.dm_link.specs.declared.Pid.{Pid}
-use Rattle.dm_link.specs.Names.{pid_of, pid_eq}
-use Rattle.dm_message.specs.declared.MsgId.{MsgId}
-use Rattle.dm_message.specs.declared.kind.MessageKind.{MessageKind}
-use Rattle.dm_message.specs.declared.kind.MessageKind.TheVariants as kind
-use Rattle.dm_onekernel.specs.PlainProcess.{PlainProcess}
-use Rattle.dm_line.specs.declared.line.Line.TheVariants as line
-use Rattle.dm_line.specs.declared.line.Stage.TheVariants as stage
-use Rattle.dm_rule.specs.View.{View, Told, after_proto, Of, Known, Unknown, Here, Frozen, Incoming, Forward, Ended, handled, front_of, view_after}
-use Rattle.dm_rule.specs.Migrating.{accepts, gives_piece, takes_chunk, takes_block, leaves, kernel_told, chunks_of, pieces_of}
-use Rattle.dm_rule.specs.Phases.{is_between}
-use Rattle.dm_rule.specs.Point.{Point}
-use Rattle.dm_rule.specs.Parts.{Part, Says, Owns, Spelled, spelled}
-use Rattle.dm_laws.proofs.Equal.{pid_eq-swap}
-use Rattle.dm_rule.proofs.Moves.Lists.{first_off}
-use Rattle.dm_rule.proofs.Moves.Rows.{accepted_off, state_off, memory_off, lacks_off, proto_off, restarted_off}
-use Rattle.dm_rule.proofs.Phases.Pieces.{record_off, proto_known}
-use Rattle.dm_rule.proofs.Phases.Stand.{InPhases}
-use Rattle.dm_movelaws.specs.Stages.{Mark, Reached, Lacking, Staying, mark_for}
+use Rattle.dm_movelaws.proofs.Names.{◌≡◌, ℕ, ◌==◌, Bool, true, false, List, [], ◌∷◌, ◌++◌, refl, ap, ◌∙◌, subst, Option, None, Some, Pid, pid_of, pid_eq, MsgId, MessageKind, Line, Stage, PlainProcess, View, Told, after_proto, Of, Known}
+use Rattle.dm_movelaws.proofs.Names.{Frozen, Incoming, handled, front_of, view_after, accepts, gives_piece, takes_chunk, takes_block, leaves, kernel_told, chunks_of, pieces_of, is_between, Point, Part, Says, Owns, Spelled, spelled}
+use Rattle.dm_movelaws.proofs.Names.{pid_eq-swap, first_off, accepted_off, state_off, memory_off, lacks_off, proto_off, restarted_off, record_off, proto_known, InPhases, Mark, Reached, Lacking, Staying, mark_for}
 use Rattle.dm_movelaws.proofs.Stages.Marks.{mark_same, mark_other, marks_of}
 use Rattle.dm_movelaws.proofs.Stages.Spares.{mark_of, HasMark, token_mark, Marked}
 use Rattle.dm_movelaws.proofs.Stages.Rows.{Handling, front_token, row_marked, answer}
@@ -47,22 +28,22 @@ given : (pt : Point) (w : Spelled) (qs ps : List Part) → Some qs ≡ Some ps �
 given pt w qs ps e h n = let f : qs ≡ ps = cc in subst (MarkedBy pt w) f (h (ap (spelled pt) f ∙ n))
 
 -- a machine takes the process, or says what is free
-asked_row : (pt : Point) (i : MsgId) (is : List MsgId) (t : Told) (q : Pid) (room : Bool) (slots blocks : ℕ) (w : Spelled) → Heard pt i is t q → t.kind ≡ kind.Ask → spelled pt (accepts i.from.home q room slots blocks) ≡ Some w → MarkedBy pt w (accepts i.from.home q room slots blocks)
+asked_row : (pt : Point) (i : MsgId) (is : List MsgId) (t : Told) (q : Pid) (room : Bool) (slots blocks : ℕ) (w : Spelled) → Heard pt i is t q → t.kind ≡ MessageKind.Ask → spelled pt (accepts i.from.home q room slots blocks) ≡ Some w → MarkedBy pt w (accepts i.from.home q room slots blocks)
 asked_row pt i is t q true slots blocks w h e n p =
     let v = pt.view in
-    let l = line.Migration stage.Accepted q in
+    let l = Line.Migration Stage.Accepted q in
     row_marked v w.point.view q (λ r. mark_for r q (Reached 3) [])
-    (answer pt i is q (pid_of i.from.home 0) l kind.PullState i.from.home (Reached 3 ∷ []) (Some (Reached 2)) w h.at refl refl refl (λ z. accepted_off v q z ∙ first_off v i is h.at.front z)
-    (λ m r apart. record_off v.known v.acting q (Incoming (front_of (v.inbox v.acting))) m r apart) refl refl (λ r apart. unmarked q (Reached 3) r apart) (mark_same q (Reached 3) []) (heard_mark pt i is t q kind.Ask h e refl) refl refl n) p
+    (answer pt i is q (pid_of i.from.home 0) l MessageKind.PullState i.from.home (Reached 3 ∷ []) (Some (Reached 2)) w h.at refl refl refl (λ z. accepted_off v q z ∙ first_off v i is h.at.front z)
+    (λ m r apart. record_off v.known v.acting q (Incoming (front_of (v.inbox v.acting))) m r apart) refl refl (λ r apart. unmarked q (Reached 3) r apart) (mark_same q (Reached 3) []) (heard_mark pt i is t q MessageKind.Ask h e refl) refl refl n) p
 asked_row pt i is t q false slots blocks w h e n p =
     let v = pt.view in
-    let l = line.Lacks q slots blocks in
+    let l = Line.Lacks q slots blocks in
     row_marked v w.point.view q (λ r. mark_for r q Lacking [])
-    (answer pt i is q (pid_of i.from.home 0) l kind.Refuse i.from.home (Lacking ∷ []) (Some (Reached 2)) w h.at refl refl refl (λ z. lacks_off v q slots blocks z ∙ first_off v i is h.at.front z)
-    (λ m r apart. refl) refl refl (λ r apart. unmarked q Lacking r apart) (mark_same q Lacking []) (heard_mark pt i is t q kind.Ask h e refl) refl refl n) p
+    (answer pt i is q (pid_of i.from.home 0) l MessageKind.Refuse i.from.home (Lacking ∷ []) (Some (Reached 2)) w h.at refl refl refl (λ z. lacks_off v q slots blocks z ∙ first_off v i is h.at.front z)
+    (λ m r apart. refl) refl refl (λ r apart. unmarked q Lacking r apart) (mark_same q Lacking []) (heard_mark pt i is t q MessageKind.Ask h e refl) refl refl n) p
 
 -- a piece goes or comes, and says no more than that
-proto_topic : (pt : Point) (i : MsgId) (is : List MsgId) (t : Told) (q : Pid) → Heard pt i is t q → (view_after pt.view (line.Proto i)).topic ≡ Of q
+proto_topic : (pt : Point) (i : MsgId) (is : List MsgId) (t : Told) (q : Pid) → Heard pt i is t q → (view_after pt.view (Line.Proto i)).topic ≡ Of q
 proto_topic pt i is t q h = topic_of (handled pt.view i) (pt.view.told i) t h.told ∙ h.about
   where
     topic_of : (v : View) (o : Option Told) (t : Told) → o ≡ Some t → (after_proto v o).topic ≡ t.about
@@ -70,77 +51,56 @@ proto_topic pt i is t q h = topic_of (handled pt.view i) (pt.view.told i) t h.to
     topic_of v (Some s) t e = let f : s ≡ t = cc in ap (λ (x : Told). x.about) f
 
 proto_row : (pt : Point) (i : MsgId) (is : List MsgId) (t : Told) (q : Pid) (j k : MessageKind) (w : Spelled) → Heard pt i is t q → t.kind ≡ j → is_between j ≡ true → is_between k ≡ true → mark_of j ≡ mark_of k
-    → spelled pt (Says (line.Proto i) ∷ Owns k (pid_of i.from.home 0) i.from.home ∷ []) ≡ Some w → MarkedBy pt w (Says (line.Proto i) ∷ Owns k (pid_of i.from.home 0) i.from.home ∷ [])
+    → spelled pt (Says (Line.Proto i) ∷ Owns k (pid_of i.from.home 0) i.from.home ∷ []) ≡ Some w → MarkedBy pt w (Says (Line.Proto i) ∷ Owns k (pid_of i.from.home 0) i.from.home ∷ [])
 proto_row pt i is t q j k w h e between next same n p =
     let v = pt.view in
     row_marked v w.point.view q (λ r. [])
-    (answer pt i is q (pid_of i.from.home 0) (line.Proto i) k i.from.home [] (mark_of j) w h.at refl refl refl (λ z. proto_off (handled v i) (v.told i) z) (λ m r apart. proto_known (handled v i) (v.told i) m r)
+    (answer pt i is q (pid_of i.from.home 0) (Line.Proto i) k i.from.home [] (mark_of j) w h.at refl refl refl (λ z. proto_off (handled v i) (v.told i) z) (λ m r apart. proto_known (handled v i) (v.told i) m r)
     (proto_topic pt i is t q h) next (λ r apart. refl) refl (heard_mark pt i is t q j h e between) refl same n) p
 
-chunk_row : (pt : Point) (i : MsgId) (is : List MsgId) (t : Told) (q : Pid) (last : Bool) (w : Spelled) → Heard pt i is t q → t.kind ≡ kind.State → spelled pt (takes_chunk i q last) ≡ Some w → MarkedBy pt w (takes_chunk i q last)
+chunk_row : (pt : Point) (i : MsgId) (is : List MsgId) (t : Told) (q : Pid) (last : Bool) (w : Spelled) → Heard pt i is t q → t.kind ≡ MessageKind.State → spelled pt (takes_chunk i q last) ≡ Some w → MarkedBy pt w (takes_chunk i q last)
 chunk_row pt i is t q true w h e n p =
     let v = pt.view in
     row_marked v w.point.view q (λ r. mark_for r q (Reached 4) [])
-    (answer pt i is q (pid_of i.from.home 0) (line.Migration stage.StateTaken q) kind.PullBlock i.from.home (Reached 4 ∷ []) (Some (Reached 3)) w h.at refl refl refl (λ z. state_off v q z ∙ first_off v i is h.at.front z)
-    (λ m r apart. refl) refl refl (λ r apart. unmarked q (Reached 4) r apart) (mark_same q (Reached 4) []) (heard_mark pt i is t q kind.State h e refl) refl refl n) p
-chunk_row pt i is t q false w h e n p = proto_row pt i is t q kind.State kind.PullState w h e refl refl refl n p
+    (answer pt i is q (pid_of i.from.home 0) (Line.Migration Stage.StateTaken q) MessageKind.PullBlock i.from.home (Reached 4 ∷ []) (Some (Reached 3)) w h.at refl refl refl (λ z. state_off v q z ∙ first_off v i is h.at.front z)
+    (λ m r apart. refl) refl refl (λ r apart. unmarked q (Reached 4) r apart) (mark_same q (Reached 4) []) (heard_mark pt i is t q MessageKind.State h e refl) refl refl n) p
+chunk_row pt i is t q false w h e n p = proto_row pt i is t q MessageKind.State MessageKind.PullState w h e refl refl refl n p
 
-block_row : (pt : Point) (i : MsgId) (is : List MsgId) (t : Told) (q : Pid) (last : Bool) (w : Spelled) → Heard pt i is t q → t.kind ≡ kind.Memory → spelled pt (takes_block i q last) ≡ Some w → MarkedBy pt w (takes_block i q last)
+block_row : (pt : Point) (i : MsgId) (is : List MsgId) (t : Told) (q : Pid) (last : Bool) (w : Spelled) → Heard pt i is t q → t.kind ≡ MessageKind.Memory → spelled pt (takes_block i q last) ≡ Some w → MarkedBy pt w (takes_block i q last)
 block_row pt i is t q true w h e n p =
     let v = pt.view in
     row_marked v w.point.view q (λ r. mark_for r q (Reached 5) [])
-    (answer pt i is q (pid_of i.from.home 0) (line.Migration stage.MemoryTaken q) kind.AllTaken i.from.home (Reached 5 ∷ []) (Some (Reached 4)) w h.at refl refl refl (λ z. memory_off v q z ∙ first_off v i is h.at.front z)
-    (λ m r apart. refl) refl refl (λ r apart. unmarked q (Reached 5) r apart) (mark_same q (Reached 5) []) (heard_mark pt i is t q kind.Memory h e refl) refl refl n) p
-block_row pt i is t q false w h e n p = proto_row pt i is t q kind.Memory kind.PullBlock w h e refl refl refl n p
+    (answer pt i is q (pid_of i.from.home 0) (Line.Migration Stage.MemoryTaken q) MessageKind.AllTaken i.from.home (Reached 5 ∷ []) (Some (Reached 4)) w h.at refl refl refl (λ z. memory_off v q z ∙ first_off v i is h.at.front z)
+    (λ m r apart. refl) refl refl (λ r apart. unmarked q (Reached 5) r apart) (mark_same q (Reached 5) []) (heard_mark pt i is t q MessageKind.Memory h e refl) refl refl n) p
+block_row pt i is t q false w h e n p = proto_row pt i is t q MessageKind.Memory MessageKind.PullBlock w h e refl refl refl n p
 
 -- it stays, and it is restarted
-stays_row : (pt : Point) (i : MsgId) (is : List MsgId) (t : Told) (q : Pid) (w : Spelled) → Heard pt i is t q → t.kind ≡ kind.Refuse → spelled pt (Says (line.Stays q) ∷ []) ≡ Some w → MarkedBy pt w (Says (line.Stays q) ∷ [])
+stays_row : (pt : Point) (i : MsgId) (is : List MsgId) (t : Told) (q : Pid) (w : Spelled) → Heard pt i is t q → t.kind ≡ MessageKind.Refuse → spelled pt (Says (Line.Stays q) ∷ []) ≡ Some w → MarkedBy pt w (Says (Line.Stays q) ∷ [])
 stays_row pt i is t q w h e n p =
     row_marked pt.view w.point.view q (λ r. mark_for r q Staying [])
-    (comes_home pt i is q (line.Stays q) (Staying ∷ []) (Some Lacking) w h.at refl refl refl (λ z. refl) refl (λ r apart. unmarked q Staying r apart) (mark_same q Staying []) (heard_mark pt i is t q kind.Refuse h e refl) refl refl n) p
+    (comes_home pt i is q (Line.Stays q) (Staying ∷ []) (Some Lacking) w h.at refl refl refl (λ z. refl) refl (λ r apart. unmarked q Staying r apart) (mark_same q Staying []) (heard_mark pt i is t q MessageKind.Refuse h e refl) refl refl n) p
 
-restarted_row : (pt : Point) (i : MsgId) (is : List MsgId) (t : Told) (q : Pid) (w : Spelled) → Heard pt i is t q → t.kind ≡ kind.Restart → spelled pt (Says (line.Migration stage.Restarted q) ∷ []) ≡ Some w → MarkedBy pt w (Says (line.Migration stage.Restarted q) ∷ [])
+restarted_row : (pt : Point) (i : MsgId) (is : List MsgId) (t : Told) (q : Pid) (w : Spelled) → Heard pt i is t q → t.kind ≡ MessageKind.Restart → spelled pt (Says (Line.Migration Stage.Restarted q) ∷ []) ≡ Some w → MarkedBy pt w (Says (Line.Migration Stage.Restarted q) ∷ [])
 restarted_row pt i is t q w h e n p =
     row_marked pt.view w.point.view q (λ r. mark_for r q (Reached 8) [])
-    (comes_home pt i is q (line.Migration stage.Restarted q) (Reached 8 ∷ []) (Some (Reached 7)) w h.at refl refl refl (λ z. restarted_off pt.view q z) refl (λ r apart. unmarked q (Reached 8) r apart) (mark_same q (Reached 8) []) (heard_mark pt i is t q kind.Restart h e refl) refl refl n) p
+    (comes_home pt i is q (Line.Migration Stage.Restarted q) (Reached 8 ∷ []) (Some (Reached 7)) w h.at refl refl refl (λ z. restarted_off pt.view q z) refl (λ r apart. unmarked q (Reached 8) r apart) (mark_same q (Reached 8) []) (heard_mark pt i is t q MessageKind.Restart h e refl) refl refl n) p
 
 -- all is taken
-leaves_row : (pt : Point) (i : MsgId) (is : List MsgId) (t : Told) (q : Pid) (ids : List MsgId) (k : Known) (parts : List Part) (w : Spelled) → Heard pt i is t q → t.kind ≡ kind.AllTaken → leaves i q ids k ≡ Some parts → spelled pt parts ≡ Some w → MarkedBy pt w parts
-leaves_row pt i is t q ids Unknown parts w h e f n = cc
-leaves_row pt i is t q ids Here parts w h e f n = cc
+leaves_row : (pt : Point) (i : MsgId) (is : List MsgId) (t : Told) (q : Pid) (ids : List MsgId) (k : Known) (parts : List Part) (w : Spelled) → Heard pt i is t q → t.kind ≡ MessageKind.AllTaken → leaves i q ids k ≡ Some parts → spelled pt parts ≡ Some w → MarkedBy pt w parts
 leaves_row pt i is t q ids (Frozen to) parts w h e f n =
     given pt w (departs q to ids i.from.home) parts f
-    (λ m p. row_marked pt.view w.point.view q (λ r. marks_of r (departs q to ids i.from.home)) (departs_row pt i is q to ids i.from.home w h.at h.phases (heard_mark pt i is t q kind.AllTaken h e refl) m) p) n
-leaves_row pt i is t q ids (Incoming from) parts w h e f n = cc
-leaves_row pt i is t q ids (Forward at moves) parts w h e f n = cc
-leaves_row pt i is t q ids Ended parts w h e f n = cc
+    (λ m p. row_marked pt.view w.point.view q (λ r. marks_of r (departs q to ids i.from.home)) (departs_row pt i is q to ids i.from.home w h.at h.phases (heard_mark pt i is t q MessageKind.AllTaken h e refl) m) p) n
+leaves_row pt i is t q ids _ parts w h e f n = cc
 
 -- by its kind
 pub told_marked : (o pt : Point) (m : ℕ) (i : MsgId) (is : List MsgId) (t : Told) (q : Pid) (room : Bool × ℕ × ℕ) (x : PlainProcess) (k : MessageKind) (parts : List Part) (w : Spelled) → Heard pt i is t q → t.kind ≡ k → kernel_told o m i q room x k ≡ Some parts → spelled pt parts ≡ Some w
     → (p : Pid) → Marked pt.view w.point.view p (marks_of p parts)
-told_marked o pt m i is t q room x kind.Ask parts w h e g n = given pt w (accepts i.from.home q room.0 room.1 room.2) parts g (λ s. asked_row pt i is t q room.0 room.1 room.2 w h e s) n
-told_marked o pt m i is t q room x kind.Refuse parts w h e g n = given pt w (Says (line.Stays q) ∷ []) parts g (λ s. stays_row pt i is t q w h e s) n
-told_marked o pt m i is t q room x kind.PullState parts w h e g n = given pt w (gives_piece i kind.State) parts g (λ s. proto_row pt i is t q kind.PullState kind.State w h e refl refl refl s) n
-told_marked o pt m i is t q room x kind.State parts w h e g n = given pt w (takes_chunk i q (o.view.asked q == chunks_of x)) parts g (λ s. chunk_row pt i is t q (o.view.asked q == chunks_of x) w h e s) n
-told_marked o pt m i is t q room x kind.PullBlock parts w h e g n = given pt w (gives_piece i kind.Memory) parts g (λ s. proto_row pt i is t q kind.PullBlock kind.Memory w h e refl refl refl s) n
-told_marked o pt m i is t q room x kind.Memory parts w h e g n = given pt w (takes_block i q (o.view.asked q == pieces_of x)) parts g (λ s. block_row pt i is t q (o.view.asked q == pieces_of x) w h e s) n
-told_marked o pt m i is t q room x kind.AllTaken parts w h e g n = leaves_row pt i is t q (o.view.queue m q ++ o.view.held m q) (o.view.known m q) parts w h e g n
-told_marked o pt m i is t q room x kind.Restart parts w h e g n = given pt w (Says (line.Migration stage.Restarted q) ∷ []) parts g (λ s. restarted_row pt i is t q w h e s) n
-told_marked o pt m i is t q room x kind.User parts w h e g n = cc
-told_marked o pt m i is t q room x kind.Stop parts w h e g n = cc
-told_marked o pt m i is t q room x kind.Resume parts w h e g n = cc
-told_marked o pt m i is t q room x kind.Kill parts w h e g n = cc
-told_marked o pt m i is t q room x kind.Read parts w h e g n = cc
-told_marked o pt m i is t q room x kind.Write parts w h e g n = cc
-told_marked o pt m i is t q room x kind.Block parts w h e g n = cc
-told_marked o pt m i is t q room x kind.Written parts w h e g n = cc
-told_marked o pt m i is t q room x kind.Gone parts w h e g n = cc
-told_marked o pt m i is t q room x kind.Create parts w h e g n = cc
-told_marked o pt m i is t q room x kind.Created parts w h e g n = cc
-told_marked o pt m i is t q room x kind.NoRoom parts w h e g n = cc
-told_marked o pt m i is t q room x kind.Migrate parts w h e g n = cc
-told_marked o pt m i is t q room x kind.Update parts w h e g n = cc
-told_marked o pt m i is t q room x kind.Move parts w h e g n = cc
-told_marked o pt m i is t q room x kind.Moved parts w h e g n = cc
-told_marked o pt m i is t q room x kind.CallOff parts w h e g n = cc
-told_marked o pt m i is t q room x kind.Bury parts w h e g n = cc
+told_marked o pt m i is t q room x MessageKind.Ask parts w h e g n = given pt w (accepts i.from.home q room.0 room.1 room.2) parts g (λ s. asked_row pt i is t q room.0 room.1 room.2 w h e s) n
+told_marked o pt m i is t q room x MessageKind.Refuse parts w h e g n = given pt w (Says (Line.Stays q) ∷ []) parts g (λ s. stays_row pt i is t q w h e s) n
+told_marked o pt m i is t q room x MessageKind.PullState parts w h e g n = given pt w (gives_piece i MessageKind.State) parts g (λ s. proto_row pt i is t q MessageKind.PullState MessageKind.State w h e refl refl refl s) n
+told_marked o pt m i is t q room x MessageKind.State parts w h e g n = given pt w (takes_chunk i q (o.view.asked q == chunks_of x)) parts g (λ s. chunk_row pt i is t q (o.view.asked q == chunks_of x) w h e s) n
+told_marked o pt m i is t q room x MessageKind.PullBlock parts w h e g n = given pt w (gives_piece i MessageKind.Memory) parts g (λ s. proto_row pt i is t q MessageKind.PullBlock MessageKind.Memory w h e refl refl refl s) n
+told_marked o pt m i is t q room x MessageKind.Memory parts w h e g n = given pt w (takes_block i q (o.view.asked q == pieces_of x)) parts g (λ s. block_row pt i is t q (o.view.asked q == pieces_of x) w h e s) n
+told_marked o pt m i is t q room x MessageKind.AllTaken parts w h e g n = leaves_row pt i is t q (o.view.queue m q ++ o.view.held m q) (o.view.known m q) parts w h e g n
+told_marked o pt m i is t q room x MessageKind.Restart parts w h e g n = given pt w (Says (Line.Migration Stage.Restarted q) ∷ []) parts g (λ s. restarted_row pt i is t q w h e s) n
+told_marked o pt m i is t q room x _ parts w h e g n = cc

@@ -1,41 +1,14 @@
 -- What a turn says of a message of the bag, or of a process that is served, leaves all migrations as they are.
-use Rattle.std.proofs.Common.{◌≡◌, ℕ, ◌+◌, ◌==◌, Bool, true, false, List, [], ◌∷◌, refl, subst, length}
-use Rattle.std.specs.Prelude.{if◌then◌else◌, slice_get}
-use Rattle.std.specs.declared.option.Option.{Option}
-use Rattle.std.specs.declared.option.Option.TheVariants.{None, Some}
-use Rattle.dm_link.specs.declared.Pid.{Pid}
-use Rattle.dm_link.specs.Names.{pid_of, pid_eq}
-use Rattle.dm_message.specs.declared.MsgId.{MsgId}
-use Rattle.dm_message.specs.Kinds.{plain_kind}
-use Rattle.dm_message.specs.Plain as what
-use Rattle.dm_message.specs.Plain.{PlainMessage, PlainWhat}
-use Rattle.dm_processor.specs.Instructions.{instruction}
-use Rattle.dm_onekernel.specs.declared.boot.BootImage.{BootImage}
-use Rattle.dm_onekernel.specs.declared.boot.Boot.{Boot}
-use Rattle.dm_onekernel.specs.declared.label.Label.TheVariants as label
-use Rattle.dm_onekernel.specs.Boot.{first_number, switchboard, manager}
-use Rattle.dm_onekernel.specs.Options.{bind}
-use Rattle.dm_onekernel.specs.PlainProcess.{PlainProcess, PlainStatus, Ready, Waiting, Moving}
-use Rattle.dm_onekernel.specs.Kernel.{OneKernel}
+use Rattle.dm_movelaws.proofs.Names.{◌≡◌, ℕ, ◌+◌, ◌==◌, Bool, true, false, List, [], ◌∷◌, refl, subst, length, if◌then◌else◌, slice_get, Option, None, Some, Pid, pid_of, pid_eq, MsgId, plain_kind, Label, Line, PlainMessage, PlainWhat}
+use Rattle.dm_movelaws.proofs.Names.{instruction, BootImage, Boot, first_number, switchboard, manager, bind, PlainProcess, PlainStatus, Ready, Waiting, Moving, OneKernel, answer_id, machine_of, with_machine, Point, Part, Says, Routes, Ran}
+use Rattle.dm_movelaws.proofs.Names.{Room, says, drops, called, stops, executes, ran, completes, receives, first_awaited, serves_status, goes_round, has_room, free_room, creates, kernel_handles, routes, board_took, manager_took, lands}
+use Rattle.dm_movelaws.proofs.Names.{here_handles, ended_handles, process_handles, handles, forwards_on, Known, Unknown, Here, Forward, Ended, Addresses, Sender, is_told_back, MessageKind, Owns, bind-is}
 use Rattle.dm_onekernel.specs.Calls as calls
 use Rattle.dm_onekernel.specs.Pieces as pieces
-use Rattle.dm_onekernel.specs.Pieces.{answer_id}
 use Rattle.dm_onekernel.specs.Receiving as receiving
 use Rattle.dm_onekernel.specs.Switchboard as board
 use Rattle.dm_onekernel.specs.Manager as manage
 use Rattle.dm_onekernel.specs.Step as kernel
-use Rattle.dm_onekernel.specs.Step.{machine_of, with_machine}
-use Rattle.dm_line.specs.declared.line.Line.TheVariants as line
-use Rattle.dm_rule.specs.Point.{Point}
-use Rattle.dm_rule.specs.Parts.{Part, Says, Routes}
-use Rattle.dm_rule.specs.Rule.{Ran, Room, says, drops, called, stops, executes, ran, completes, receives, first_awaited, serves_status, goes_round, has_room, free_room, creates, kernel_handles, routes, board_took, manager_took, lands, here_handles, ended_handles, process_handles, handles}
-use Rattle.dm_rule.specs.Migrating.{forwards_on}
-use Rattle.dm_rule.specs.View.{Known, Unknown, Here, Frozen, Incoming, Forward, Ended}
-use Rattle.dm_rule.specs.Addresses.{Addresses, Sender, is_told_back}
-use Rattle.dm_message.specs.declared.kind.MessageKind.{MessageKind}
-use Rattle.dm_message.specs.declared.kind.MessageKind.TheVariants as kind
-use Rattle.dm_rule.specs.Parts.{Owns}
-use Rattle.dm_laws.proofs.Steps.{bind-is}
 use Rattle.dm_movelaws.proofs.Stages.Lines.{Mild, AllMild}
 
 given : (me : Pid) (front : Option MsgId) (qs ps : List Part) → AllMild me front qs → Some qs ≡ Some ps → AllMild me front ps
@@ -46,11 +19,9 @@ drops_mild me front [] = tt
 drops_mild me front (i ∷ is) = (tt, drops_mild me front is)
 
 called_mild : (me : Pid) (front : Option MsgId) (p : Pid) (n : ℕ) (queue : List MsgId) (c : calls.Called) → AllMild me front (called p n queue c)
-called_mild me front p n queue (calls.Replies reply x) = (tt, tt)
 called_mild me front p n queue (calls.Sends m x) = (tt, (tt, tt))
-called_mild me front p n queue (calls.Waits x) = (tt, tt)
-called_mild me front p n queue (calls.Outputs word x) = (tt, tt)
 called_mild me front p n queue (calls.Ends because) = (tt, drops_mild me front queue)
+called_mild me front p n queue _ = (tt, tt)
 
 stops_mild : (me : Pid) (front : Option MsgId) (p : Pid) (queue : List MsgId) (o : Option kernel.Next) → AllMild me front (stops p queue o)
 stops_mild me front p queue None = tt
@@ -84,7 +55,7 @@ serves_mild me front quantum s p queue x (Waiting mask base cap_) ps e = receive
 serves_mild me front quantum s p queue x (Moving dir owner base own left pending) ps e = cc
 
 pub round_mild : (me : Pid) (front : Option MsgId) (b : Boot) (pt : Point) (m : ℕ) (o : Option Pid) (ps : List Part) → goes_round b pt m o ≡ Some ps → AllMild me front ps
-round_mild me front b pt m None ps e = given me front (Says (line.Idle m) ∷ []) ps (tt, tt) e
+round_mild me front b pt m None ps e = given me front (Says (Line.Idle m) ∷ []) ps (tt, tt) e
 round_mild me front b pt m (Some p) ps e =
     let (x, there, is) = bind-is (kernel.alive (pt.kernel.processes p)) (λ x. serves_status b.quantum pt.kernel p (pt.view.queue m p) x x.status) ps e in
     serves_mild me front b.quantum pt.kernel p (pt.view.queue m p) x x.status ps is
@@ -96,25 +67,13 @@ says_if_mild me front false p q h k = k
 creates_mild : (me : Pid) (front : Option MsgId) (pt : Point) (m : ℕ) (id : MsgId) (r : Room) (o : Option BootImage) (ps : List Part) → creates pt m id r o ≡ Some ps → AllMild me front ps
 creates_mild me front pt m id r None ps e = cc
 creates_mild me front pt m id r (Some i) ps e =
-    let yes = says (label.Created id (pid_of m (first_number + pt.kernel.made m))) in
-    let no = says (label.NoSpace id r.slots r.blocks) in
+    let yes = says (Label.Created id (pid_of m (first_number + pt.kernel.made m))) in
+    let no = says (Label.NoSpace id r.slots r.blocks) in
     given me front ((if has_room r i.blocks then yes else no) ∷ Routes (answer_id id) ∷ []) ps (says_if_mild me front (has_room r i.blocks) yes no tt tt, (tt, tt)) e
 
 kernel_mild : (me : Pid) (front : Option MsgId) (b : Boot) (pt : Point) (m : ℕ) (id : MsgId) (w : PlainWhat) (ps : List Part) → kernel_handles b pt m id w ≡ Some ps → AllMild me front ps
-kernel_mild me front b pt m id (what.Create image links) ps e = creates_mild me front pt m id (free_room b pt m) (slice_get b.images image) ps e
-kernel_mild me front b pt m id (what.User code channel body links) ps e = cc
-kernel_mild me front b pt m id what.Stop ps e = cc
-kernel_mild me front b pt m id what.Resume ps e = cc
-kernel_mild me front b pt m id what.Kill ps e = cc
-kernel_mild me front b pt m id (what.Read base len) ps e = cc
-kernel_mild me front b pt m id (what.Write base bytes) ps e = cc
-kernel_mild me front b pt m id (what.Block bytes) ps e = cc
-kernel_mild me front b pt m id what.Written ps e = cc
-kernel_mild me front b pt m id what.Gone ps e = cc
-kernel_mild me front b pt m id (what.Created pid) ps e = cc
-kernel_mild me front b pt m id what.NoRoom ps e = cc
-kernel_mild me front b pt m id (what.Move machine) ps e = cc
-kernel_mild me front b pt m id (what.Moved outcome) ps e = cc
+kernel_mild me front b pt m id (PlainWhat.Create image links) ps e = creates_mild me front pt m id (free_room b pt m) (slice_get b.images image) ps e
+kernel_mild me front b pt m id _ ps e = cc
 
 routes_mild : (me : Pid) (front : Option MsgId) (o : Option PlainMessage) → AllMild me front (routes o)
 routes_mild me front None = tt
@@ -122,68 +81,57 @@ routes_mild me front (Some m) = (tt, tt)
 
 board_mild : (me : Pid) (front : Option MsgId) (id : MsgId) (o : Option board.Took) (ps : List Part) → board_took id o ≡ Some ps → AllMild me front ps
 board_mild me front id None ps e = cc
-board_mild me front id (Some t) ps e = given me front (says (label.Took id) ∷ routes t.answer) ps (tt, routes_mild me front t.answer) e
+board_mild me front id (Some t) ps e = given me front (says (Label.Took id) ∷ routes t.answer) ps (tt, routes_mild me front t.answer) e
 
 manager_mild : (me : Pid) (front : Option MsgId) (id : MsgId) (o : Option manage.Took) (ps : List Part) → manager_took id o ≡ Some ps → AllMild me front ps
 manager_mild me front id None ps e = cc
-manager_mild me front id (Some t) ps e = given me front (says (label.Took id) ∷ routes t.message) ps (tt, routes_mild me front t.message) e
+manager_mild me front id (Some t) ps e = given me front (says (Label.Took id) ∷ routes t.message) ps (tt, routes_mild me front t.message) e
 
 lands_mild : (me : Pid) (front : Option MsgId) (id : MsgId) (o : Option pieces.Landed) (ps : List Part) → lands id o ≡ Some ps → AllMild me front ps
 lands_mild me front id None ps e = cc
-lands_mild me front id (Some (pieces.Next request x)) ps e = given me front (says (label.Served id) ∷ Routes request.id ∷ []) ps (tt, (tt, tt)) e
-lands_mild me front id (Some (pieces.Done reply x)) ps e = given me front (says (label.Served id) ∷ []) ps (tt, tt) e
+lands_mild me front id (Some (pieces.Next request x)) ps e = given me front (says (Label.Served id) ∷ Routes request.id ∷ []) ps (tt, (tt, tt)) e
+lands_mild me front id (Some (pieces.Done reply x)) ps e = given me front (says (Label.Served id) ∷ []) ps (tt, tt) e
 
 here_mild : (me : Pid) (pt : Point) (m : ℕ) (id : MsgId) (msg : PlainMessage) (x : PlainProcess) (w : PlainWhat) (ps : List Part) → here_handles pt m id msg x w ≡ Some ps → AllMild me (Some id) ps
-here_mild me pt m id msg x (what.User code channel body links) ps e = given me (Some id) (Says (line.Queued id) ∷ []) ps (refl, tt) e
-here_mild me pt m id msg x what.Stop ps e = given me (Some id) (says (label.Served id) ∷ []) ps (tt, tt) e
-here_mild me pt m id msg x what.Resume ps e = given me (Some id) (says (label.Served id) ∷ []) ps (tt, tt) e
-here_mild me pt m id msg x what.Kill ps e = given me (Some id) (says (label.Served id) ∷ drops (pt.view.queue m msg.to)) ps (tt, drops_mild me (Some id) (pt.view.queue m msg.to)) e
-here_mild me pt m id msg x (what.Read base len) ps e = given me (Some id) (says (label.Served id) ∷ Routes (answer_id id) ∷ []) ps (tt, (tt, tt)) e
-here_mild me pt m id msg x (what.Write base bytes) ps e = given me (Some id) (says (label.Served id) ∷ Routes (answer_id id) ∷ []) ps (tt, (tt, tt)) e
-here_mild me pt m id msg x (what.Block bytes) ps e = lands_mild me (Some id) id (pieces.lands msg.to x msg x.status) ps e
-here_mild me pt m id msg x what.Written ps e = lands_mild me (Some id) id (pieces.lands msg.to x msg x.status) ps e
-here_mild me pt m id msg x what.Gone ps e = lands_mild me (Some id) id (pieces.lands msg.to x msg x.status) ps e
-here_mild me pt m id msg x (what.Create image links) ps e = cc
-here_mild me pt m id msg x (what.Created pid) ps e = cc
-here_mild me pt m id msg x what.NoRoom ps e = cc
-here_mild me pt m id msg x (what.Move machine) ps e = cc
-here_mild me pt m id msg x (what.Moved outcome) ps e = cc
+here_mild me pt m id msg x (PlainWhat.User code channel body links) ps e = given me (Some id) (Says (Line.Queued id) ∷ []) ps (refl, tt) e
+here_mild me pt m id msg x PlainWhat.Stop ps e = given me (Some id) (says (Label.Served id) ∷ []) ps (tt, tt) e
+here_mild me pt m id msg x PlainWhat.Resume ps e = given me (Some id) (says (Label.Served id) ∷ []) ps (tt, tt) e
+here_mild me pt m id msg x PlainWhat.Kill ps e = given me (Some id) (says (Label.Served id) ∷ drops (pt.view.queue m msg.to)) ps (tt, drops_mild me (Some id) (pt.view.queue m msg.to)) e
+here_mild me pt m id msg x (PlainWhat.Read base len) ps e = given me (Some id) (says (Label.Served id) ∷ Routes (answer_id id) ∷ []) ps (tt, (tt, tt)) e
+here_mild me pt m id msg x (PlainWhat.Write base bytes) ps e = given me (Some id) (says (Label.Served id) ∷ Routes (answer_id id) ∷ []) ps (tt, (tt, tt)) e
+here_mild me pt m id msg x (PlainWhat.Block bytes) ps e = lands_mild me (Some id) id (pieces.lands msg.to x msg x.status) ps e
+here_mild me pt m id msg x PlainWhat.Written ps e = lands_mild me (Some id) id (pieces.lands msg.to x msg x.status) ps e
+here_mild me pt m id msg x PlainWhat.Gone ps e = lands_mild me (Some id) id (pieces.lands msg.to x msg x.status) ps e
+here_mild me pt m id msg x _ ps e = cc
 
-gone_mild : (me : Pid) (front : Option MsgId) (id : MsgId) (ps : List Part) → Some (says (label.Gone id) ∷ Routes (answer_id id) ∷ []) ≡ Some ps → AllMild me front ps
-gone_mild me front id ps e = given me front (says (label.Gone id) ∷ Routes (answer_id id) ∷ []) ps (tt, (tt, tt)) e
+gone_mild : (me : Pid) (front : Option MsgId) (id : MsgId) (ps : List Part) → Some (says (Label.Gone id) ∷ Routes (answer_id id) ∷ []) ≡ Some ps → AllMild me front ps
+gone_mild me front id ps e = given me front (says (Label.Gone id) ∷ Routes (answer_id id) ∷ []) ps (tt, (tt, tt)) e
 
-dropped_mild : (me : Pid) (front : Option MsgId) (id : MsgId) (ps : List Part) → Some (says (label.Dropped id) ∷ []) ≡ Some ps → AllMild me front ps
-dropped_mild me front id ps e = given me front (says (label.Dropped id) ∷ []) ps (tt, tt) e
+dropped_mild : (me : Pid) (front : Option MsgId) (id : MsgId) (ps : List Part) → Some (says (Label.Dropped id) ∷ []) ≡ Some ps → AllMild me front ps
+dropped_mild me front id ps e = given me front (says (Label.Dropped id) ∷ []) ps (tt, tt) e
 
 ended_mild : (me : Pid) (front : Option MsgId) (id : MsgId) (w : PlainWhat) (ps : List Part) → ended_handles id w ≡ Some ps → AllMild me front ps
-ended_mild me front id (what.Read base len) ps e = gone_mild me front id ps e
-ended_mild me front id (what.Write base bytes) ps e = gone_mild me front id ps e
-ended_mild me front id (what.User code channel body links) ps e = dropped_mild me front id ps e
-ended_mild me front id what.Stop ps e = dropped_mild me front id ps e
-ended_mild me front id what.Resume ps e = dropped_mild me front id ps e
-ended_mild me front id what.Kill ps e = dropped_mild me front id ps e
-ended_mild me front id (what.Block bytes) ps e = dropped_mild me front id ps e
-ended_mild me front id what.Written ps e = dropped_mild me front id ps e
-ended_mild me front id what.Gone ps e = dropped_mild me front id ps e
-ended_mild me front id (what.Create image links) ps e = cc
-ended_mild me front id (what.Created pid) ps e = cc
-ended_mild me front id what.NoRoom ps e = cc
-ended_mild me front id (what.Move machine) ps e = cc
-ended_mild me front id (what.Moved outcome) ps e = cc
+ended_mild me front id (PlainWhat.Read base len) ps e = gone_mild me front id ps e
+ended_mild me front id (PlainWhat.Write base bytes) ps e = gone_mild me front id ps e
+ended_mild me front id (PlainWhat.Create image links) ps e = cc
+ended_mild me front id (PlainWhat.Created pid) ps e = cc
+ended_mild me front id PlainWhat.NoRoom ps e = cc
+ended_mild me front id (PlainWhat.Move machine) ps e = cc
+ended_mild me front id (PlainWhat.Moved outcome) ps e = cc
+ended_mild me front id _ ps e = dropped_mild me front id ps e
 
 pub forwards_mild : (me : Pid) (a : Addresses) (id : MsgId) (k : MessageKind) (sender : Pid) (to : ℕ) → AllMild me (Some id) (forwards_on a id k sender to)
-forwards_mild me a id k sender to = (refl, (tt, if_mild me (Some id) (is_told_back k) (Owns kind.Update sender (a (Sender id)).at ∷ []) [] (tt, tt) tt))
+forwards_mild me a id k sender to = (refl, (tt, if_mild me (Some id) (is_told_back k) (Owns MessageKind.Update sender (a (Sender id)).at ∷ []) [] (tt, tt) tt))
 
 process_mild : (me : Pid) (pt : Point) (m : ℕ) (id : MsgId) (msg : PlainMessage) (k : Known) (ps : List Part) → process_handles pt m id msg k ≡ Some ps → AllMild me (Some id) ps
 process_mild me pt m id msg Unknown ps e = cc
 process_mild me pt m id msg Here ps e =
     let (x, there, is) = bind-is (kernel.alive (pt.kernel.processes msg.to)) (λ x. here_handles pt m id msg x msg.what) ps e in
     here_mild me pt m id msg x msg.what ps is
-process_mild me pt m id msg (Frozen to) ps e = given me (Some id) (Says (line.Held id) ∷ []) ps (refl, tt) e
-process_mild me pt m id msg (Incoming from) ps e = given me (Some id) (Says (line.Held id) ∷ []) ps (refl, tt) e
 process_mild me pt m id msg (Forward at moves) ps e =
     given me (Some id) (forwards_on pt.addresses id (plain_kind msg.what) msg.sender at) ps (forwards_mild me pt.addresses id (plain_kind msg.what) msg.sender at) e
 process_mild me pt m id msg Ended ps e = ended_mild me (Some id) id msg.what ps e
+process_mild me pt m id msg _ ps e = given me (Some id) (Says (Line.Held id) ∷ []) ps (refl, tt) e
 
 handles_by : (me : Pid) (b : Boot) (pt : Point) (m : ℕ) (id : MsgId) (msg : PlainMessage) (c d g : Bool) (ps : List Part)
     → (if c then kernel_handles b pt m id msg.what

@@ -1,31 +1,10 @@
 -- Wherever the rule leads, each address is on the trail of its process, and from there the forwards lead to it.
-use Rattle.std.proofs.Common.{◌≡◌, ℕ, ◌==◌, ◌&&◌, Bool, true, false, refl, ap, ◌∙◌, sym, subst}
-use Rattle.std.proofs.lemmas.Bool.{false≢true}
-use Rattle.std.specs.Prelude.{if◌then◌else◌}
-use Rattle.std.specs.declared.option.Option.TheVariants.{Some}
-use Rattle.dm_link.specs.declared.Pid.{Pid}
-use Rattle.dm_onekernel.specs.declared.boot.Boot.{Boot}
-use Rattle.dm_onekernel.specs.Boot.{IsValid}
-use Rattle.dm_schedule.specs.declared.Step.{Step}
-use Rattle.dm_rule.specs.Laws.{IsStep}
-use Rattle.dm_rule.specs.Parts.{Spelled}
-use Rattle.dm_rule.specs.Rule.{group_of}
-use Rattle.dm_rule.specs.Trails.{Trodden, first_trails, along, TrailsAlways}
-use Rattle.dm_rule.specs.View.{Known, Unknown, Here, Forward, first_view}
-use Rattle.dm_rule.proofs.Lines.{eq_is}
-use Rattle.dm_rule.proofs.Phases.Start.{starts, start_known}
-use Rattle.dm_rule.proofs.Trails.Along.{Carries, trails_always_by}
-use Rattle.dm_rule.proofs.Trails.Treads.{Treads}
-use Rattle.dm_rulelaws.proofs.Goes.Runs.{Both, both_start, both_group}
-use Rattle.dm_rulelaws.proofs.RunsAlways.{run_start, run_group}
+use Rattle.dm_movelaws.proofs.Names.{◌≡◌, ℕ, ◌==◌, ◌&&◌, Bool, true, false, refl, ap, ◌∙◌, sym, subst, false≢true, if◌then◌else◌, Some, Boot, IsValid, Step, IsStep, Spelled, group_of, Trodden, first_trails, along, TrailsAlways, Unknown}
+use Rattle.dm_movelaws.proofs.Names.{Here, Forward, first_view, eq_is, starts, start_known, Carries, trails_always_by, Treads, Both, both_start, both_group, run_start, run_group}
 use Rattle.dm_movelaws.proofs.After.{group_after}
 use Rattle.dm_movelaws.proofs.Trail.Placed.{is_held, Places}
 use Rattle.dm_movelaws.proofs.Trail.Walks.{AllGood, good_fit, good_places, along_after}
 use Rattle.dm_movelaws.proofs.Trail.Turns.{group_good}
-
--- where a run begins each process is at home
-at_start : Bool → Pid → ℕ → Known
-at_start b q m = if b && (q.home == m) then Here else Unknown
 
 held_home : (b c : Bool) → is_held (if b && c then Here else Unknown) ≡ true → c ≡ true
 held_home true true e = refl

@@ -1,29 +1,8 @@
 -- Wherever the rule leads there are trails that all addresses are on; where a process doesn't move, its trail ends where it is.
-use Rattle.std.proofs.Common.{◌≡◌, ◌≢◌, ℕ, ◌+◌, ◌==◌, not, Bool, true, false, List, [], ◌∷◌, length, refl, ap, ◌∙◌, sym, subst, inl, inr, arith}
-use Rattle.std.proofs.lemmas.Bool.{false≢true}
-use Rattle.std.proofs.lemmas.Bool.Decides.{nat_tests}
-use Rattle.std.specs.Prelude.{if◌then◌else◌, slice_get}
-use Rattle.std.specs.declared.option.Option.{Option}
-use Rattle.std.specs.declared.option.Option.TheVariants.{Some}
-use Rattle.dm_link.specs.declared.Pid.{Pid}
-use Rattle.dm_message.specs.declared.MsgId.{MsgId}
-use Rattle.dm_message.specs.declared.kind.MessageKind.{MessageKind}
-use Rattle.dm_onekernel.specs.declared.boot.Boot.{Boot}
-use Rattle.dm_onekernel.specs.Options.{bind}
-use Rattle.dm_schedule.specs.declared.Step.{Step}
-use Rattle.dm_laws.proofs.Steps.{bind-is}
-use Rattle.dm_line.specs.declared.line.Line.{Line}
-use Rattle.dm_rule.specs.Laws.{Leads}
-use Rattle.dm_rule.specs.Phases.{Phase, Nowhere, Rests, Over, Moves, IsIn, is_away, is_here, is_over, is_unknown, is_restart, is_early, is_between, leaves, comes}
-use Rattle.dm_rule.specs.Point.{Point, first_point, after, after_line}
-use Rattle.dm_rule.specs.Trails.{Trails, Trodden, first_trodden, along, trails_after}
-use Rattle.dm_rule.specs.View.{View, Known, Unknown, Here, Frozen, Incoming, Forward, Ended}
-use Rattle.dm_rule.proofs.Lines.{parts}
-use Rattle.dm_rule.proofs.Trails.Along.{along_treads}
-use Rattle.dm_rule.proofs.Trails.Found.{treads_start}
-use Rattle.dm_rule.proofs.Trails.Treads.{Treads}
-use Rattle.dm_movelaws.specs.AtRest.{is_moving}
-use Rattle.dm_movelaws.specs.Links.{IsThere}
+use Rattle.dm_movelaws.proofs.Names.{◌≡◌, ◌≢◌, ℕ, ◌+◌, ◌==◌, not, Bool, true, false, List, [], ◌∷◌, length, refl, ap, ◌∙◌, sym, subst, inl, inr, arith, false≢true, if◌then◌else◌, slice_get, Option, Some, Pid, MsgId, MessageKind, Boot, bind}
+use Rattle.dm_movelaws.proofs.Names.{Step, bind-is, Line, Leads, Phase, Nowhere, Rests, Over, Moves, IsIn, is_away, is_here, is_over, is_unknown, is_restart, is_early, is_between, comes, Point, first_point, after, after_line, Trails}
+use Rattle.dm_movelaws.proofs.Names.{Trodden, first_trodden, along, trails_after, View, Known, Unknown, Here, Frozen, Incoming, Forward, Ended, parts, along_treads, treads_start, Treads, is_moving, IsThere, eq_self, not_false}
+use Rattle.dm_rule.specs.Phases.{leaves}
 use Rattle.dm_movelaws.proofs.After.{group_after}
 use Rattle.dm_movelaws.proofs.Promise.Trail.{TrailKnown}
 use Rattle.dm_movelaws.proofs.Stages.Spares.{restart_late}
@@ -62,62 +41,38 @@ trod_on b (e ∷ es) pt end (w, fit, is, rest) h =
 -- a process that doesn't move is where its trail ends
 unknown_is : (x : Known) → is_unknown x ≡ true → x ≡ Unknown
 unknown_is Unknown e = refl
-unknown_is Here e = absurd (false≢true e)
-unknown_is (Frozen to) e = absurd (false≢true e)
-unknown_is (Incoming from) e = absurd (false≢true e)
-unknown_is (Forward at moves) e = absurd (false≢true e)
-unknown_is Ended e = absurd (false≢true e)
+unknown_is _ e = absurd (false≢true e)
 
 here_held : (x : Known) → is_here x ≡ true → is_held x ≡ true
 here_held Here e = refl
-here_held Unknown e = absurd (false≢true e)
-here_held (Frozen to) e = absurd (false≢true e)
-here_held (Incoming from) e = absurd (false≢true e)
-here_held (Forward at moves) e = absurd (false≢true e)
-here_held Ended e = absurd (false≢true e)
+here_held _ e = absurd (false≢true e)
 
 over_held : (x : Known) → is_over x ≡ true → is_held x ≡ true
 over_held Ended e = refl
-over_held Unknown e = absurd (false≢true e)
-over_held Here e = absurd (false≢true e)
-over_held (Frozen to) e = absurd (false≢true e)
-over_held (Incoming from) e = absurd (false≢true e)
-over_held (Forward at moves) e = absurd (false≢true e)
+over_held _ e = absurd (false≢true e)
 
 -- one that moves is leaving, or its destination waits for it
 still_leaves : (k : MessageKind) (d : ℕ) (x : Known) → is_moving x ≡ false → leaves k d x ≡ true → is_restart k ≡ true
 still_leaves k d (Forward to moves) still e = (parts (is_restart k) (d == to) e).0
 still_leaves k d (Frozen to) still e = absurd (false≢true (sym still))
-still_leaves k d Unknown still e = absurd (false≢true e)
-still_leaves k d Here still e = absurd (false≢true e)
-still_leaves k d (Incoming from) still e = absurd (false≢true e)
-still_leaves k d Ended still e = absurd (false≢true e)
+still_leaves k d _ still e = absurd (false≢true e)
 
 still_comes : (k : MessageKind) (s : ℕ) (x : Known) → is_moving x ≡ false → comes k s x ≡ true → is_early k ≡ true
 still_comes k s Unknown still e = e
 still_comes k s (Forward at moves) still e = e
 still_comes k s (Incoming from) still e = absurd (false≢true (sym still))
-still_comes k s Here still e = absurd (false≢true e)
-still_comes k s (Frozen to) still e = absurd (false≢true e)
-still_comes k s Ended still e = absurd (false≢true e)
-
-same_machine : (m : ℕ) → (m == m) ≡ true
-same_machine m = grind (arith, nat_tests)
+still_comes k s _ still e = absurd (false≢true e)
 
 at_self : (m : ℕ) (x y : Bool) → (if m == m then x else y) ≡ true → x ≡ true
-at_self m x y e = sym (ap (λ (c : Bool). if c then x else y) (same_machine m)) ∙ e
+at_self m x y e = sym (ap (λ (c : Bool). if c then x else y) (eq_self m)) ∙ e
 
 at_other : (s d : ℕ) (x y z : Bool) → (s == d) ≡ false → (if s == d then x else if d == d then y else z) ≡ true → y ≡ true
 at_other s d x y z apart e = at_self d y z (sym (ap (λ (c : Bool). if c then x else if d == d then y else z) apart) ∙ e)
 
-not_true : (c : Bool) → not c ≡ true → c ≡ false
-not_true false e = refl
-not_true true e = absurd (false≢true e)
-
 never_moves : (v : View) (p : Pid) (k : MessageKind) (s d : ℕ) (o : Option MsgId) → IsIn v p (Moves k s d o) → ((m : ℕ) → is_moving (v.known m p) ≡ false) → ⊥
 never_moves v p k s d o h still =
     let restart = still_leaves k d (v.known s p) (still s) (at_self s (leaves k d (v.known s p)) (if d == s then comes k s (v.known s p) else is_away (v.known s p)) (h.known s)) in
-    let early = still_comes k s (v.known d p) (still d) (at_other s d (leaves k d (v.known d p)) (comes k s (v.known d p)) (is_away (v.known d p)) (not_true (s == d) (parts (is_between k) (not (s == d)) h.apart).1) (h.known d)) in
+    let early = still_comes k s (v.known d p) (still d) (at_other s d (leaves k d (v.known d p)) (comes k s (v.known d p)) (is_away (v.known d p)) (not_false (s == d) (parts (is_between k) (not (s == d)) h.apart).1) (h.known d)) in
     false≢true (sym (restart_late k restart) ∙ early)
 
 long_in : (v : View) (t : Trails) (p : Pid) (phase : Phase) → IsIn v p phase → Placed v t p → ((m : ℕ) → is_moving (v.known m p) ≡ false) → length (t p) ≡ v.moves p + 1
@@ -129,19 +84,11 @@ long_in v t p (Moves k s d o) h on still = absurd (never_moves v p k s d o h sti
 -- and it is there
 here_is : (x : Known) → is_here x ≡ true → x ≡ Here
 here_is Here e = refl
-here_is Unknown e = absurd (false≢true e)
-here_is (Frozen to) e = absurd (false≢true e)
-here_is (Incoming from) e = absurd (false≢true e)
-here_is (Forward at moves) e = absurd (false≢true e)
-here_is Ended e = absurd (false≢true e)
+here_is _ e = absurd (false≢true e)
 
 over_is : (x : Known) → is_over x ≡ true → x ≡ Ended
 over_is Ended e = refl
-over_is Unknown e = absurd (false≢true e)
-over_is Here e = absurd (false≢true e)
-over_is (Frozen to) e = absurd (false≢true e)
-over_is (Incoming from) e = absurd (false≢true e)
-over_is (Forward at moves) e = absurd (false≢true e)
+over_is _ e = absurd (false≢true e)
 
 away_at : (x y c : Bool) → c ≡ false → (if c then x else y) ≡ true → y ≡ true
 away_at x y c off e = sym (ap (λ (d : Bool). if d then x else y) off) ∙ e

@@ -1,29 +1,15 @@
 -- Where a process is on its trail: at the end, or one machine before it while the message that restarts it is under way.
-use Rattle.std.proofs.Common.{◌≡◌, ◌≢◌, ◌⊎◌, ℕ, ◌+◌, ◌==◌, ◌&&◌, not, Bool, true, false, List, length, refl, ap, ◌∙◌, sym, subst, inl, inr, arith}
-use Rattle.std.proofs.lemmas.Bool.{cases_Bool, false≢true}
-use Rattle.std.proofs.lemmas.Bool.Decides.{nat_tests}
-use Rattle.std.specs.Prelude.{if◌then◌else◌, slice_get}
-use Rattle.std.specs.declared.option.Option.{Option}
-use Rattle.std.specs.declared.option.Option.TheVariants.{Some}
-use Rattle.dm_link.specs.declared.Pid.{Pid}
-use Rattle.dm_link.specs.Names.{pid_eq}
-use Rattle.dm_message.specs.declared.MsgId.{MsgId}
-use Rattle.dm_message.specs.declared.kind.MessageKind.{MessageKind}
-use Rattle.dm_laws.proofs.Equal.{pid_eq-is, pid_eq-same}
-use Rattle.dm_line.specs.Sets.{at_record}
-use Rattle.dm_rule.specs.View.{View, Known, Unknown, Here, Frozen, Incoming, Forward, Ended}
-use Rattle.dm_rule.specs.Phases.{Moves, IsIn, knows, leaves, comes, is_restart, is_away}
-use Rattle.dm_rule.specs.Trails.{Trails}
-use Rattle.dm_rule.proofs.Lines.{eq_is, parts}
+use Rattle.dm_movelaws.proofs.Names.{◌≡◌, ◌≢◌, ◌⊎◌, ℕ, ◌+◌, ◌==◌, not, Bool, true, false, List, length, refl, ap, ◌∙◌, sym, subst, inl, inr, arith, cases_Bool, false≢true, if◌then◌else◌, slice_get, Option, Some, Pid, pid_eq, MsgId}
+use Rattle.dm_movelaws.proofs.Names.{MessageKind, pid_eq-is, at_record, View, Known, Unknown, Here, Frozen, Incoming, Forward, Ended, Moves, IsIn, knows, comes, is_restart, is_away, Trails, eq_is, parts, eq_self, set_off}
+use Rattle.dm_rule.specs.Phases.{leaves}
+use Rattle.dm_rule.proofs.Trails.Steps.{set_at}
 
 -- a machine has a process, or had it last
 abbrev pub is_held : Known → Bool
-is_held Unknown = false
 is_held Here = true
 is_held (Frozen to) = true
-is_held (Incoming from) = false
-is_held (Forward at moves) = false
 is_held Ended = true
+is_held _ = false
 
 pub record Placed (v : View) (t : Trails) (p : Pid) : Type 0 where
   pub now : (m : ℕ) → is_held (v.known m p) ≡ true → slice_get (t p) (v.moves p) ≡ Some m
@@ -49,11 +35,8 @@ placed_same v w t u p known moves same h = record {
 abbrev pub Learnt : View → View → Pid → Known → Type 0
 Learnt v w p x = (m : ℕ) → w.known m p ≡ (if v.acting == m then x else v.known m p)
 
-same_number : (m : ℕ) → (m == m) ≡ true
-same_number m = grind (arith, nat_tests)
-
 learnt_here : (v w : View) (p : Pid) (x : Known) → Learnt v w p x → w.known v.acting p ≡ x
-learnt_here v w p x known = known v.acting ∙ ap (λ (c : Bool). if c then x else v.known v.acting p) (same_number v.acting)
+learnt_here v w p x known = known v.acting ∙ ap (λ (c : Bool). if c then x else v.known v.acting p) (eq_self v.acting)
 
 pub record Off (v w : View) (p : Pid) (m : ℕ) : Type 0 where
   pub off : (v.acting == m) ≡ false
@@ -167,21 +150,6 @@ placed_left v w t p d n known moves at long none only = record {
       | inr old ↦ only k s (sym old.is ∙ f)
     ]
 
--- of the other processes it learns nothing
-set_at : (v : View) (p : Pid) (x : Known) (m : ℕ) → at_record v.known v.acting p x m p ≡ (if v.acting == m then x else v.known m p)
-set_at v p x m = ap (λ (c : Bool). if (v.acting == m) && c then x else v.known m p) (pid_eq-same p) ∙ drop_true (v.acting == m)
-  where
-    drop_true : (b : Bool) → (if b && true then x else v.known m p) ≡ (if b then x else v.known m p)
-    drop_true true = refl
-    drop_true false = refl
-
-set_off : (v : View) (p : Pid) (x : Known) (m : ℕ) (q : Pid) → pid_eq p q ≡ false → at_record v.known v.acting p x m q ≡ v.known m q
-set_off v p x m q off = ap (λ (c : Bool). if (v.acting == m) && c then x else v.known m q) off ∙ drop_false (v.acting == m)
-  where
-    drop_false : (b : Bool) → (if b && false then x else v.known m q) ≡ v.known m q
-    drop_false true = refl
-    drop_false false = refl
-
 pub places_set : (v w : View) (t u : Trails) (p : Pid) (x : Known) → w.known ≡ at_record v.known v.acting p x → ((q : Pid) → pid_eq p q ≡ false → w.moves q ≡ v.moves q) → ((q : Pid) → pid_eq p q ≡ false → u q ≡ t q)
     → ((q : Pid) → pid_eq p q ≡ false → Placed v t q) → (Learnt v w p x → Placed w u p) → Places w u
 places_set v w t u p x known moves same h on q = elim (cases_Bool (pid_eq p q)) [
@@ -203,27 +171,21 @@ leaves_held k d (Frozen to) e h = turned (is_restart k) (parts (not (is_restart 
     turned : (b : Bool) → not b ≡ true → b ≡ false
     turned true f = absurd (false≢true f)
     turned false f = refl
-leaves_held k d Unknown e h = absurd (false≢true h)
 leaves_held k d Here e h = absurd (false≢true e)
-leaves_held k d (Incoming from) e h = absurd (false≢true h)
-leaves_held k d (Forward at moves) e h = absurd (false≢true h)
 leaves_held k d Ended e h = absurd (false≢true e)
+leaves_held k d _ e h = absurd (false≢true h)
 
 comes_held : (k : MessageKind) (s : ℕ) (x : Known) → comes k s x ≡ true → is_held x ≡ true → ⊥
-comes_held k s Unknown e h = false≢true h
 comes_held k s Here e h = false≢true e
 comes_held k s (Frozen to) e h = false≢true e
-comes_held k s (Incoming from) e h = false≢true h
-comes_held k s (Forward at moves) e h = false≢true h
 comes_held k s Ended e h = false≢true e
+comes_held k s _ e h = false≢true h
 
 away_held : (x : Known) → is_away x ≡ true → is_held x ≡ true → ⊥
-away_held Unknown e h = false≢true h
 away_held Here e h = false≢true e
 away_held (Frozen to) e h = false≢true e
-away_held (Incoming from) e h = false≢true h
-away_held (Forward at moves) e h = false≢true h
 away_held Ended e h = false≢true e
+away_held _ e h = false≢true h
 
 held_by : (k : MessageKind) (s d m : ℕ) (x : Known) (b c : Bool) → (s == m) ≡ b → (if b then leaves k d x else if c then comes k s x else is_away x) ≡ true → is_held x ≡ true → (s ≡ m) × (is_restart k ≡ false)
 held_by k s d m x true c is e h = (eq_is s m is, leaves_held k d x e h)
@@ -246,12 +208,9 @@ moves_comes v p k s d m from o h at = incoming_by k s d m from (s == m) (d == m)
 forward_by : (k : MessageKind) (d : ℕ) (x : Known) → is_restart k ≡ true → leaves k d x ≡ true → (c : ℕ) × (x ≡ Forward d c)
 forward_by k d (Forward to c) on e = let both = parts (is_restart k) (d == to) e in (c, ap (λ (n : ℕ). Forward n c) (sym (eq_is d to both.1)))
 forward_by k d (Frozen to) on e = absurd (let both = parts (not (is_restart k)) (d == to) e in false≢true (sym (ap not on) ∙ both.0))
-forward_by k d Unknown on e = absurd (false≢true e)
-forward_by k d Here on e = absurd (false≢true e)
-forward_by k d (Incoming from) on e = absurd (false≢true e)
-forward_by k d Ended on e = absurd (false≢true e)
+forward_by k d _ on e = absurd (false≢true e)
 
 -- then its source forwards
 pub moves_forward : (v : View) (p : Pid) (k : MessageKind) (s d : ℕ) (o : Option MsgId) → IsIn v p (Moves k s d o) → is_restart k ≡ true → (c : ℕ) × (v.known s p ≡ Forward d c)
 moves_forward v p k s d o h on =
-    forward_by k d (v.known s p) on (sym (ap (λ (c : Bool). if c then leaves k d (v.known s p) else if d == s then comes k s (v.known s p) else is_away (v.known s p)) (same_number s)) ∙ h.known s)
+    forward_by k d (v.known s p) on (sym (ap (λ (c : Bool). if c then leaves k d (v.known s p) else if d == s then comes k s (v.known s p) else is_away (v.known s p)) (eq_self s)) ∙ h.known s)

@@ -1,61 +1,18 @@
 -- Whom a place is named for is a kernel, a server or a process that was made.
-use Rattle.std.proofs.Common.{◌≡◌, ℕ, ◌+◌, ◌==◌, ◌&&◌, ◌||◌, Bool, true, false, not, filter, is_some, List, [], ◌∷◌, refl, ap, ◌∙◌, sym, subst, inl, inr}
-use Rattle.std.proofs.lemmas.Bool.{cases_Bool, false≢true}
-use Rattle.std.specs.Prelude.{if◌then◌else◌}
-use Rattle.std.specs.declared.option.Option.{Option}
-use Rattle.std.specs.declared.option.Option.TheVariants.{None, Some}
-use Rattle.dm_link.specs.declared.Pid.{Pid}
-use Rattle.dm_link.specs.Names.{Place}
-use Rattle.dm_message.specs.declared.MsgId.{MsgId}
-use Rattle.dm_message.specs.declared.kind.MessageKind.{MessageKind}
-use Rattle.dm_message.specs.Ids.{id_eq}
-use Rattle.dm_onekernel.specs.declared.boot.Boot.{Boot}
-use Rattle.dm_onekernel.specs.declared.label.Label.{Label}
-use Rattle.dm_onekernel.specs.declared.label.Label.TheVariants as label
-use Rattle.dm_onekernel.specs.Boot.{IsValid}
-use Rattle.dm_onekernel.specs.Kernel.{Life, OneKernel}
+use Rattle.dm_movelaws.proofs.Names.{◌≡◌, ℕ, ◌+◌, ◌==◌, ◌&&◌, ◌||◌, Bool, true, false, not, filter, is_some, List, [], ◌∷◌, refl, ap, ◌∙◌, sym, subst, inl, inr, cases_Bool, false≢true, if◌then◌else◌, Option, None, Some, Pid, Place, MsgId}
+use Rattle.dm_movelaws.proofs.Names.{MessageKind, id_eq, Boot, Label, IsValid, Life, OneKernel, Step, after_step, Line, Stage, Leads, Spelled, Point, first_point, label_of, kernel_after, group_of, at_record, View, Told, About, NothingElse}
+use Rattle.dm_movelaws.proofs.Names.{Target, Of, Known, Unknown, Here, Frozen, Incoming, Forward, Ended, view_after, handled, receiver_of, first_told, target_of, front_told, front_of, gone_to, served_told, forward_about, hushed, grown_none}
+use Rattle.dm_movelaws.proofs.Names.{Phased, queued_known, held_known, dropped_known, starts, start_known, Sane, label_topic, is_server, is_fixed, KnownStands, agrees, group_keeps, Loud, keeps_by, set_all, killed_or, named_real, Both}
+use Rattle.dm_movelaws.proofs.Names.{both_start, both_group, run_start, run_group, is_made, IsNamed, ByHolder, ByOwn, ByRequest, ByUpdate, ByForward, queued_topic, held_topic, taken_topic, or_first}
 use Rattle.dm_onekernel.specs.Step as kernel
-use Rattle.dm_schedule.specs.declared.Step.{Step}
-use Rattle.dm_schedule.specs.declared.Step.TheVariants as step
-use Rattle.dm_laws.proofs.Runs.{after_step}
-use Rattle.dm_line.specs.declared.line.Line.{Line}
-use Rattle.dm_line.specs.declared.line.Line.TheVariants as line
-use Rattle.dm_line.specs.declared.line.Stage.{Stage}
-use Rattle.dm_line.specs.declared.line.Stage.TheVariants as stage
-use Rattle.dm_rule.specs.Laws.{Leads}
-use Rattle.dm_rule.specs.Parts.{Spelled}
-use Rattle.dm_rule.specs.Point.{Point, first_point, label_of, kernel_after}
-use Rattle.dm_rule.specs.Rule.{group_of}
-use Rattle.dm_line.specs.Sets.{at_record}
-use Rattle.dm_rule.specs.View.{View, Told, About, NothingElse, Target, Of, Known, Unknown, Here, Frozen, Incoming, Forward, Ended, view_after, handled, receiver_of, first_told, is_kernels, target_of, front_told, front_of, gone_to, served_told, forward_about}
 use Rattle.dm_rule.specs.View as view
-use Rattle.dm_rule.proofs.Hushed.{hushed}
-use Rattle.dm_rule.proofs.Lives.{grown_none}
-use Rattle.dm_rule.proofs.Phases.Always.{Phased}
-use Rattle.dm_rule.proofs.Phases.Lines.{queued_known, held_known, dropped_known}
-use Rattle.dm_rule.proofs.Phases.Start.{starts, start_known}
-use Rattle.dm_rule.proofs.Telling.{Sane}
-use Rattle.dm_rule.proofs.Trails.Labels.{label_topic}
-use Rattle.dm_rulelaws.specs.Fits.{is_server}
-use Rattle.dm_rulelaws.specs.Found.{is_fixed}
-use Rattle.dm_rulelaws.specs.KnownStands.{KnownStands, agrees}
-use Rattle.dm_rulelaws.proofs.Based.Groups.{group_keeps}
-use Rattle.dm_rulelaws.proofs.Based.Loud.{Loud, keeps_by}
-use Rattle.dm_rulelaws.proofs.Based.Sets.{set_all, killed_or}
 use Rattle.dm_rulelaws.proofs.Found.Core.{IsReal}
-use Rattle.dm_rulelaws.proofs.Found.Real.{named_real}
-use Rattle.dm_rulelaws.proofs.Goes.Runs.{Both, both_start, both_group}
-use Rattle.dm_rulelaws.proofs.RunsAlways.{run_start, run_group}
-use Rattle.dm_movelaws.specs.Trail.{is_made, IsNamed, ByHolder, ByOwn, ByRequest, ByUpdate, ByForward}
 
 -- a process that leaves a machine, or has left it
 abbrev passes : Known → Bool
-passes Unknown = false
-passes Here = false
 passes (Frozen to) = true
-passes (Incoming from) = false
 passes (Forward at_ moves) = true
-passes Ended = false
+passes _ = false
 
 abbrev WasMade : OneKernel → Pid → Type 0
 WasMade s p = is_some (s.processes p) ≡ true
@@ -97,25 +54,9 @@ no_target T p n m c e = cc
 no_of : (T : Type 0) (q p : Pid) (m c : ℕ) → Of q ≡ view.Place p m c → T
 no_of T q p m c e = cc
 
-queued_topic : (v : View) (i : MsgId) (o : Option Pid) → (view.queued_for v i o).topic ≡ v.topic
-queued_topic v i None = refl
-queued_topic v i (Some p) = refl
-
-held_topic : (v : View) (i : MsgId) (o : Option Pid) → (view.held_for v i o).topic ≡ v.topic
-held_topic v i None = refl
-held_topic v i (Some p) = refl
-
-taken_topic : (v : View) (b : ℕ) (o : Option MsgId) → (view.taken_id v b o).topic ≡ v.topic
-taken_topic v b None = refl
-taken_topic v b (Some i) = refl
-
 forward_made : (s : OneKernel) (q : Pid) (x : Known) (p : Pid) (m c : ℕ) → (passes x ≡ true → WasMade s q) → forward_about q x ≡ view.Place p m c → WasMade s p
-forward_made s q Unknown p m c made e = no_place (WasMade s p) NothingElse p m c refl e
-forward_made s q Here p m c made e = no_place (WasMade s p) NothingElse p m c refl e
-forward_made s q (Frozen to) p m c made e = no_place (WasMade s p) NothingElse p m c refl e
-forward_made s q (Incoming from) p m c made e = no_place (WasMade s p) NothingElse p m c refl e
 forward_made s q (Forward at_ moves) p m c made e = let f : q ≡ p = cc in subst (WasMade s) f (made refl)
-forward_made s q Ended p m c made e = no_place (WasMade s p) NothingElse p m c refl e
+forward_made s q _ p m c made e = no_place (WasMade s p) NothingElse p m c refl e
 
 forwarded_made : (s : OneKernel) (v : View) (o : Option Pid) (p : Pid) (m c : ℕ) → Passing s v → (view.forwarded_for v o).topic ≡ view.Place p m c → WasMade s p
 forwarded_made s v None p m c h e = h.topic p m c e
@@ -126,49 +67,30 @@ proto_made s v i None p m c is h e = no_place (WasMade s p) NothingElse p m c re
 proto_made s v i (Some u) p m c is h e = h.told i u p m c is e
 
 head_made : (s : OneKernel) (v : View) (d : Step) (p : Pid) (m c : ℕ) → (view.after_head v d).topic ≡ view.Place p m c → WasMade s p
-head_made s v (step.Turn n) p m c e = no_place (WasMade s p) NothingElse p m c refl e
-head_made s v (step.Tick n) p m c e = no_place (WasMade s p) NothingElse p m c refl e
-head_made s v (step.Deliver a b k) p m c e = no_place (WasMade s p) NothingElse p m c refl e
-head_made s v (step.Migrate q n) p m c e = no_target (WasMade s p) p n m c e
+head_made s v (Step.Migrate q n) p m c e = no_target (WasMade s p) p n m c e
+head_made s v _ p m c e = no_place (WasMade s p) NothingElse p m c refl e
 
 stage_made : (s : OneKernel) (v : View) (q : Pid) (k : Stage) (p : Pid) (m c : ℕ) → Passing s v → (view.after_stage v q k).topic ≡ view.Place p m c → WasMade s p
-stage_made s v q stage.Frozen p m c h e = no_of (WasMade s p) q p m c e
-stage_made s v q stage.Asked p m c h e = h.topic p m c e
-stage_made s v q stage.Accepted p m c h e = no_of (WasMade s p) q p m c e
-stage_made s v q stage.StateTaken p m c h e = no_of (WasMade s p) q p m c e
-stage_made s v q stage.MemoryTaken p m c h e = no_of (WasMade s p) q p m c e
-stage_made s v q stage.Left p m c h e = no_of (WasMade s p) q p m c e
-stage_made s v q stage.Restarted p m c h e = h.topic p m c e
+stage_made s v q Stage.Asked p m c h e = h.topic p m c e
+stage_made s v q Stage.Restarted p m c h e = h.topic p m c e
+stage_made s v q _ p m c h e = no_of (WasMade s p) q p m c e
 
 line_made : (s : OneKernel) (v : View) (l : Line) → Passing s v → (p : Pid) (m c : ℕ) → (view_after v l).topic ≡ view.Place p m c → WasMade s p
-line_made s v (line.Head d) h p m c e = head_made s v d p m c e
-line_made s v (line.Label l) h p m c e = h.topic p m c (sym (label_topic v l) ∙ e)
-line_made s v (line.Forwarded i n) h p m c e =
+line_made s v (Line.Head d) h p m c e = head_made s v d p m c e
+line_made s v (Line.Label l) h p m c e = h.topic p m c (sym (label_topic v l) ∙ e)
+line_made s v (Line.Forwarded i n) h p m c e =
     forwarded_made s (handled v i) (receiver_of (v.told i)) p m c (record { known = h.known; told = h.told; topic = h.topic }) e
-line_made s v (line.Proto i) h p m c e = proto_made s v i (v.told i) p m c refl h e
-line_made s v (line.Migration k q) h p m c e = stage_made s v q k p m c h e
-line_made s v (line.SentOn q n) h p m c e = no_of (WasMade s p) q p m c e
-line_made s v (line.Lacks q x y) h p m c e = no_of (WasMade s p) q p m c e
-line_made s v (line.Queued i) h p m c e = h.topic p m c (sym (queued_topic (handled v i) i (receiver_of (v.told i))) ∙ e)
-line_made s v (line.Held i) h p m c e = h.topic p m c (sym (held_topic (handled v i) i (receiver_of (v.told i))) ∙ e)
-line_made s v (line.Taken a b n) h p m c e =
+line_made s v (Line.Proto i) h p m c e = proto_made s v i (v.told i) p m c refl h e
+line_made s v (Line.Migration k q) h p m c e = stage_made s v q k p m c h e
+line_made s v (Line.SentOn q n) h p m c e = no_of (WasMade s p) q p m c e
+line_made s v (Line.Lacks q x y) h p m c e = no_of (WasMade s p) q p m c e
+line_made s v (Line.Queued i) h p m c e = h.topic p m c (sym (queued_topic (handled v i) i (receiver_of (v.told i))) ∙ e)
+line_made s v (Line.Held i) h p m c e = h.topic p m c (sym (held_topic (handled v i) i (receiver_of (v.told i))) ∙ e)
+line_made s v (Line.Taken a b n) h p m c e =
     let x = v.pair a b in
     let w = view.with_pair v a b (record x { taken = x.taken + 1; kept = filter (λ j. not (j == n)) x.kept }) in
     h.topic p m c (sym (taken_topic w b (view.oldest x)) ∙ e)
-line_made s v (line.Stays q) h p m c e = h.topic p m c e
-line_made s v (line.Idle n) h p m c e = h.topic p m c e
-line_made s v (line.Put a b i k q) h p m c e = h.topic p m c e
-line_made s v (line.Packet a b k l) h p m c e = h.topic p m c e
-line_made s v (line.Old a b n) h p m c e = h.topic p m c e
-line_made s v (line.Early a b n) h p m c e = h.topic p m c e
-line_made s v (line.Acked a b n) h p m c e = h.topic p m c e
-line_made s v line.Nothing h p m c e = h.topic p m c e
-line_made s v (line.Resent n k) h p m c e = h.topic p m c e
-line_made s v (line.Updated i n) h p m c e = h.topic p m c e
-line_made s v (line.Here i) h p m c e = h.topic p m c e
-line_made s v (line.NoMove i) h p m c e = h.topic p m c e
-line_made s v (line.NoChild q) h p m c e = h.topic p m c e
-line_made s v (line.Pinned q) h p m c e = h.topic p m c e
+line_made s v _ h p m c e = h.topic p m c e
 
 -- a line after which the same leave
 line_passing : (pt : Point) (t : OneKernel) (l : Line) → Goes pt.kernel t → ((m : ℕ) (p : Pid) → passes ((view_after pt.view l).known m p) ≡ true → WasMade pt.kernel p) → (view_after pt.view l).told ≡ pt.view.told → Passing pt.kernel pt.view
@@ -216,44 +138,44 @@ passing_loud = record {
   };
   quiet = λ pt w t l e s told alike sane is h.
       line_passing pt t l (goes_by pt t (label_of l) sane is) (same_known pt.kernel pt.view (view_after pt.view l) (ap (λ (x : View). x.known) e ∙ s.known) h) (ap (λ (x : View). x.told) e ∙ told) h;
-  ran = λ pt t p k here alike sane is h. line_passing pt t (line.Label (label.Ran p k)) (goes_label pt t (label.Ran p k) sane is) h.known refl h;
-  receive = λ pt t p id here alike sane is h. line_passing pt t (line.Label (label.Receive p id)) (goes_label pt t (label.Receive p id) sane is) h.known refl h;
-  refuse = λ pt t p id c here alike sane is h. line_passing pt t (line.Label (label.Refuse p id c)) (goes_label pt t (label.Refuse p id c) sane is) h.known refl h;
+  ran = λ pt t p k here alike sane is h. line_passing pt t (Line.Label (Label.Ran p k)) (goes_label pt t (Label.Ran p k) sane is) h.known refl h;
+  receive = λ pt t p id here alike sane is h. line_passing pt t (Line.Label (Label.Receive p id)) (goes_label pt t (Label.Receive p id) sane is) h.known refl h;
+  refuse = λ pt t p id c here alike sane is h. line_passing pt t (Line.Label (Label.Refuse p id c)) (goes_label pt t (Label.Refuse p id c) sane is) h.known refl h;
   end = λ pt t p y rests sane is h.
-      let l = line.Label (label.End p y) in
-      line_passing pt t l (goes_label pt t (label.End p y) sane is) (set_known pt.kernel pt.view (view_after pt.view l) p Ended refl (λ f. absurd (false≢true f)) h) refl h;
+      let l = Line.Label (Label.End p y) in
+      line_passing pt t l (goes_label pt t (Label.End p y) sane is) (set_known pt.kernel pt.view (view_after pt.view l) p Ended refl (λ f. absurd (false≢true f)) h) refl h;
   dropped = λ pt t id alike sane is h.
-      let l = line.Label (label.Dropped id) in
-      line_passing pt t l (goes_label pt t (label.Dropped id) sane is) (point_known pt.kernel pt.view (view_after pt.view l) (λ m q. dropped_known (handled pt.view id) id (receiver_of (pt.view.told id)) m q) h) (hushed pt.view l refl).told h;
+      let l = Line.Label (Label.Dropped id) in
+      line_passing pt t l (goes_label pt t (Label.Dropped id) sane is) (point_known pt.kernel pt.view (view_after pt.view l) (λ m q. dropped_known (handled pt.view id) id (receiver_of (pt.view.told id)) m q) h) (hushed pt.view l refl).told h;
   served = λ pt t id serves sane is h.
-      let l = line.Label (label.Served id) in
-      line_passing pt t l (goes_label pt t (label.Served id) sane is) (served_known pt.kernel pt.view id (pt.view.told id) h) (hushed pt.view l refl).told h;
+      let l = Line.Label (Label.Served id) in
+      line_passing pt t l (goes_label pt t (Label.Served id) sane is) (served_known pt.kernel pt.view id (pt.view.told id) h) (hushed pt.view l refl).told h;
   created = λ pt t id p unborn sane is h.
-      let l = line.Label (label.Created id p) in
-      line_passing pt t l (goes_label pt t (label.Created id p) sane is) (set_known pt.kernel pt.view (view_after pt.view l) p Here refl (λ f. absurd (false≢true f)) h) refl h;
+      let l = Line.Label (Label.Created id p) in
+      line_passing pt t l (goes_label pt t (Label.Created id p) sane is) (set_known pt.kernel pt.view (view_after pt.view l) p Here refl (λ f. absurd (false≢true f)) h) refl h;
   queued = λ pt id need sane h.
-      let l = line.Queued id in
+      let l = Line.Queued id in
       line_passing pt pt.kernel l (λ p e. e) (point_known pt.kernel pt.view (view_after pt.view l) (λ m q. queued_known (handled pt.view id) id (receiver_of (pt.view.told id)) m q) h) (hushed pt.view l refl).told h;
   held = λ pt id need sane h.
-      let l = line.Held id in
+      let l = Line.Held id in
       line_passing pt pt.kernel l (λ p e. e) (point_known pt.kernel pt.view (view_after pt.view l) (λ m q. held_known (handled pt.view id) id (receiver_of (pt.view.told id)) m q) h) (hushed pt.view l refl).told h;
   frozen = λ pt p lives here h.
-      let l = line.Migration stage.Frozen p in
+      let l = Line.Migration Stage.Frozen p in
       line_passing pt pt.kernel l (λ q e. e) (set_known pt.kernel pt.view (view_after pt.view l) p (Frozen (target_of (front_told pt.view (pt.view.inbox pt.view.acting)))) refl (λ f. ap is_some lives.alive) h) refl h;
   accepted = λ pt p lives away h.
-      let l = line.Migration stage.Accepted p in
+      let l = Line.Migration Stage.Accepted p in
       line_passing pt pt.kernel l (λ q e. e) (set_known pt.kernel pt.view (view_after pt.view l) p (Incoming (front_of (pt.view.inbox pt.view.acting))) refl (λ f. absurd (false≢true f)) h) refl h;
   left = λ pt p leaves h.
-      let l = line.Migration stage.Left p in
+      let l = Line.Migration Stage.Left p in
       line_passing pt pt.kernel l (λ q e. e)
       (set_known pt.kernel pt.view (view_after pt.view l) p (gone_to (pt.view.known pt.view.acting p) (pt.view.moves p + 1)) refl (λ f. h.known pt.view.acting p (ap passes leaves.frozen)) h) refl h;
   restarted = λ pt p lives off h.
-      let l = line.Migration stage.Restarted p in
+      let l = Line.Migration Stage.Restarted p in
       line_passing pt pt.kernel l (λ q e. e) (set_known pt.kernel pt.view (view_after pt.view l) p Here refl (λ f. absurd (false≢true f)) h) refl h;
   stays_ = λ pt p lives off h.
-      let l = line.Stays p in
+      let l = Line.Stays p in
       line_passing pt pt.kernel l (λ q e. e) (set_known pt.kernel pt.view (view_after pt.view l) p Here refl (λ f. absurd (false≢true f)) h) refl h;
-  sent_on = λ pt p n h. line_passing pt pt.kernel (line.SentOn p n) (λ q e. e) h.known refl h;
+  sent_on = λ pt p n h. line_passing pt pt.kernel (Line.SentOn p n) (λ q e. e) h.known refl h;
 }
 
 -- at the start no process leaves
@@ -286,11 +208,6 @@ passed_on b (e ∷ es) pt end valid (w, fit, is, more) h =
 passed_always : (b : Boot) (es : List Step) (pt : Point) → IsValid b → Leads b (first_point b) es pt → Passed b pt
 passed_always b es pt valid way = passed_on b es (first_point b) pt valid way (record { both = both_start run_start b valid; passing = passing_start b })
 
--- whom a place is named for is a kernel, or was made
-or_right : (c d : Bool) → d ≡ true → (c || d) ≡ true
-or_right true d e = refl
-or_right false d e = e
-
 or_left : (c d : Bool) → c ≡ true → (c || d) ≡ true
 or_left true d e = refl
 or_left false d e = absurd (false≢true e)
@@ -311,7 +228,7 @@ agrees_some Ended None e some = absurd (false≢true e)
 known_made : (s : OneKernel) (v : View) (m : ℕ) (q : Pid) → KnownStands s v → (v.known m q ≡ Unknown → ⊥) → is_made s q ≡ true
 known_made s v m q h some = elim (cases_Bool (is_server q)) [
   | inl server ↦ or_left (is_server q) (is_some (s.processes q)) server
-  | inr process ↦ or_right (is_server q) (is_some (s.processes q)) (agrees_some (v.known m q) (s.processes q) (h.agree m q process) some)
+  | inr process ↦ or_first (is_server q) (is_some (s.processes q)) (agrees_some (v.known m q) (s.processes q) (h.agree m q process) some)
 ]
 
 fixed_made : (s : OneKernel) (q : Pid) → (q.num == 0) ≡ false → is_fixed q ≡ true → is_made s q ≡ true
@@ -328,8 +245,8 @@ made_by b pt q place h other (ByHolder g is at_) = real_made pt.kernel pt.view p
 made_by b pt q place h other (ByOwn i u own told to at_) =
     real_made pt.kernel pt.view pt.kernel.machines q h.both.run.based.known other (subst (IsReal pt.kernel.machines pt.view) to (h.both.run.kept.real i u told own).0)
 made_by b pt q place h other (ByRequest i u own told asks to at_) = subst (λ (p : Pid). is_made pt.kernel p ≡ true) to refl
-made_by b pt q place h other (ByUpdate i u told about) = or_right (is_server q) (is_some (pt.kernel.processes q)) (h.passing.told i u q place.at place.moves told about)
-made_by b pt q place h other (ByForward m e) = or_right (is_server q) (is_some (pt.kernel.processes q)) (h.passing.known m q (ap passes e))
+made_by b pt q place h other (ByUpdate i u told about) = or_first (is_server q) (is_some (pt.kernel.processes q)) (h.passing.told i u q place.at place.moves told about)
+made_by b pt q place h other (ByForward m e) = or_first (is_server q) (is_some (pt.kernel.processes q)) (h.passing.known m q (ap passes e))
 
 pub named_made : (b : Boot) (es : List Step) (pt : Point) (q : Pid) (place : Place) → IsValid b → Leads b (first_point b) es pt → (q.num == 0) ≡ false → IsNamed pt q place → is_made pt.kernel q ≡ true
 named_made b es pt q place valid way other named = made_by b pt q place (passed_always b es pt valid way) other named

@@ -1,35 +1,8 @@
 -- The trails that printed lines lay stand, and from each place that is named for a process the forwarding addresses lead to it.
-use Rattle.std.proofs.Common.{◌≡◌, ◌≢◌, ◌⊎◌, ℕ, zero, suc, ◌-◌, ◌<◌, ◌==◌, ◌||◌, Bool, true, false, is_some, List, [], ◌∷◌, ◌++◌, length, refl, ap, ◌∙◌, sym, subst, inl, inr, arith}
-use Rattle.std.proofs.lemmas.Bool.{cases_Bool, false≢true}
-use Rattle.std.proofs.lemmas.Option.{slice_get_within}
-use Rattle.std.specs.Prelude.{slice_get}
-use Rattle.std.specs.declared.option.Option.{Option}
-use Rattle.std.specs.declared.option.Option.TheVariants.{None, Some}
-use Rattle.dm_link.specs.declared.Pid.{Pid}
-use Rattle.dm_link.specs.Names.{Place}
-use Rattle.dm_onekernel.specs.declared.boot.Boot.{Boot}
-use Rattle.dm_onekernel.specs.Boot.{IsValid}
-use Rattle.dm_onekernel.specs.Kernel.{Life, OneKernel}
-use Rattle.dm_onekernel.specs.Options.{bind}
-use Rattle.dm_schedule.specs.declared.Step.{Step}
-use Rattle.dm_laws.proofs.Steps.{bind-is}
-use Rattle.dm_line.specs.declared.line.Line.{Line}
-use Rattle.dm_rule.specs.Addresses.{Receiver, Sender, unmoved}
-use Rattle.dm_rule.specs.Laws.{Leads}
-use Rattle.dm_rule.specs.Point.{Point, first_point, after, after_line}
-use Rattle.dm_rule.specs.Trails.{Trails, Trail, IsOn, Trodden, first_trodden, along, trails_after}
-use Rattle.dm_rule.specs.View.{View, Known, Unknown, Here, Frozen, Incoming, Forward, Ended}
-use Rattle.dm_rule.proofs.Trails.Along.{along_treads}
-use Rattle.dm_rule.proofs.Trails.Found.{treads_start}
-use Rattle.dm_rule.proofs.Trails.Leads.{trail_leads}
-use Rattle.dm_rule.proofs.Trails.Treads.{Treads}
-use Rattle.dm_rule.proofs.Trails.Within.{Within, trail_within}
-use Rattle.dm_rulelaws.specs.Fits.{is_server}
-use Rattle.dm_rulelaws.specs.Found.{is_fixed}
-use Rattle.dm_rulelaws.specs.KnownStands.{KnownStands, agrees, server_at}
-use Rattle.dm_rulelaws.specs.Order.{LeadsBy}
-use Rattle.dm_rulelaws.proofs.Found.Real.{made_free, server_fixed}
-use Rattle.dm_movelaws.specs.Trail.{is_made, has_it, ends_walk, IsNamed, ByHolder, ByOwn, ByRequest, ByUpdate, ByForward, Reaches, IsLast, TrailStands, TrailsStand, IsLed, AddressesLead}
+use Rattle.dm_movelaws.proofs.Names.{◌≡◌, ◌≢◌, ◌⊎◌, ℕ, zero, suc, ◌-◌, ◌<◌, ◌==◌, ◌||◌, Bool, true, false, is_some, List, [], ◌∷◌, ◌++◌, length, refl, ap, ◌∙◌, sym, subst, inl, inr, arith, cases_Bool, false≢true, slice_get_within}
+use Rattle.dm_movelaws.proofs.Names.{slice_get, Option, None, Some, Pid, Place, Boot, IsValid, Life, OneKernel, bind, Step, bind-is, Line, Receiver, Sender, unmoved, Leads, Point, first_point, after, after_line, Trails, Trail, IsOn}
+use Rattle.dm_movelaws.proofs.Names.{Trodden, first_trodden, along, trails_after, View, Known, Unknown, Here, Forward, along_treads, treads_start, trail_leads, Treads, Within, trail_within, is_server, is_fixed, KnownStands, agrees}
+use Rattle.dm_movelaws.proofs.Names.{server_at, LeadsBy, made_free, server_fixed, is_made, has_it, ends_walk, IsNamed, ByHolder, ByOwn, ByRequest, ByUpdate, ByForward, Reaches, IsLast, TrailStands, TrailsStand, IsLed, AddressesLead}
 use Rattle.dm_movelaws.proofs.After.{group_after}
 use Rattle.dm_movelaws.proofs.Trail.Always.{Holds, carries}
 use Rattle.dm_movelaws.proofs.Trail.Placed.{is_held}
@@ -101,19 +74,11 @@ none_is (Some x) e = absurd (false≢true (sym e))
 
 agrees_none : (k : Known) → agrees k None ≡ true → k ≡ Unknown
 agrees_none Unknown e = refl
-agrees_none Here e = absurd (false≢true e)
-agrees_none (Frozen to) e = absurd (false≢true e)
-agrees_none (Incoming from) e = absurd (false≢true e)
-agrees_none (Forward at moves) e = absurd (false≢true e)
-agrees_none Ended e = absurd (false≢true e)
+agrees_none _ e = absurd (false≢true e)
 
 held_it : (k : Known) → has_it k ≡ true → is_held k ≡ true
 held_it Unknown e = e
-held_it Here e = e
-held_it (Frozen to) e = e
-held_it (Incoming from) e = e
-held_it (Forward at moves) e = e
-held_it Ended e = e
+held_it _ e = e
 
 or_made : (s : OneKernel) (p : Pid) (c : Bool) → is_server p ≡ c → (c || is_some (s.processes p)) ≡ true → (is_server p ≡ true) ⊎ ((is_server p ≡ false) × (is_some (s.processes p) ≡ true))
 or_made s p true is e = inl is
@@ -125,11 +90,8 @@ here_known k e f = let g : Here ≡ Unknown = sym e ∙ f in cc
 -- the last machine of a trail doesn't forward
 walk_ends : (k : Known) → k ≢ Unknown → ((m c : ℕ) → k ≡ Forward m c → ⊥) → ends_walk k ≡ true
 walk_ends Unknown some off = absurd (some refl)
-walk_ends Here some off = refl
-walk_ends (Frozen to) some off = refl
-walk_ends (Incoming from) some off = refl
 walk_ends (Forward m c) some off = absurd (off m c refl)
-walk_ends Ended some off = refl
+walk_ends _ some off = refl
 
 -- what was never made has only been at home
 never_made : (b : Boot) (pt : Point) (t : Trails) (p : Pid) → Holds b (trodden pt t) → is_fixed p ≡ true → pt.kernel.processes p ≡ None

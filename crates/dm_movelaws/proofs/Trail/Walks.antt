@@ -1,31 +1,8 @@
 -- A walk over the parts of a group: their lines fit the trails, and behind the last each process is placed on its trail.
-use Rattle.std.proofs.Common.{◌≡◌, ℕ, ◌==◌, Bool, true, false, List, [], ◌∷◌, ◌++◌, length, refl, ap, ◌∙◌, sym, subst}
-use Rattle.std.specs.Prelude.{⊤, if◌then◌else◌}
-use Rattle.std.specs.declared.option.Option.{Option}
-use Rattle.std.specs.declared.option.Option.TheVariants.{None, Some}
-use Rattle.dm_link.specs.declared.Pid.{Pid}
-use Rattle.dm_message.specs.declared.MsgId.{MsgId}
-use Rattle.dm_message.specs.declared.kind.MessageKind.{MessageKind}
-use Rattle.dm_message.specs.Kinds.{plain_kind}
-use Rattle.dm_message.specs.Plain as what
-use Rattle.dm_message.specs.Plain.{PlainMessage, PlainWhat}
-use Rattle.dm_onekernel.specs.Options.{bind}
-use Rattle.dm_laws.proofs.Steps.{bind-is}
-use Rattle.dm_line.specs.declared.line.Line.{Line}
-use Rattle.dm_line.specs.declared.line.Line.TheVariants as line
-use Rattle.dm_line.specs.declared.line.Load.TheVariants as load
-use Rattle.dm_rule.specs.View.{View, Told, own_id}
-use Rattle.dm_rule.specs.Addresses.{Receiver}
-use Rattle.dm_rule.specs.Point.{Point, moved, after_line, after}
-use Rattle.dm_rule.specs.Parts.{Part, Says, Routes, Again, Owns, Transmits, Spelled, lines_of, puts, goes_out, packet_line, behind, spelled}
-use Rattle.dm_rule.specs.Trails.{Trails, Trodden, along, trails_after}
-use Rattle.dm_rule.proofs.Letters.{not_kernels}
-use Rattle.dm_rule.proofs.Telling.{Sane, AllSayable, part_sane}
-use Rattle.dm_rule.proofs.Trails.Puts.{is_own}
-use Rattle.dm_rule.proofs.Trails.Treads as treads
-use Rattle.dm_rule.proofs.Trails.Treads.{Treads, LineFits, PutFits, line_treads}
+use Rattle.dm_movelaws.proofs.Names.{◌≡◌, ℕ, ◌==◌, Bool, true, false, List, [], ◌∷◌, ◌++◌, length, refl, ap, ◌∙◌, sym, subst, ⊤, if◌then◌else◌, Option, None, Some, Pid, MsgId, MessageKind, plain_kind, Load, PlainMessage, bind, bind-is}
+use Rattle.dm_movelaws.proofs.Names.{Line, View, Told, own_id, Receiver, Point, moved, after_line, after, Part, Says, Routes, Again, Owns, Transmits, Spelled, lines_of, puts, goes_out, packet_line, behind, spelled, Trails, Trodden, along}
+use Rattle.dm_movelaws.proofs.Names.{trails_after, not_kernels, Sane, AllSayable, part_sane, Treads, LineFits, PutFits, line_treads, Rides, Steps, Said, said_by, plain_own}
 use Rattle.dm_rule.proofs.Trails.Along.{AllFit}
-use Rattle.dm_rulelaws.proofs.Based.Needs.{Rides, Steps, Said, said_by}
 use Rattle.dm_movelaws.proofs.Trail.Placed.{Places, placed_same}
 
 -- each of these lines fits where the ones before lead, and behind the last each process is placed
@@ -52,17 +29,12 @@ along_after (l ∷ ls) x y is =
 -- what a part needs
 abbrev pub FitsPart : Point → Trails → Part → Type 0
 FitsPart pt t (Says l) = LineFits pt t l
-FitsPart pt t (Routes i) = ⊤
-FitsPart pt t (Again i b) = ⊤
 FitsPart pt t (Owns k q b) = PutFits pt t (own_id pt.view) k q
-FitsPart pt t (Transmits a b l) = ⊤
+FitsPart pt t _ = ⊤
 
 abbrev pub behind_part : View → Trails → Part → Trails
 behind_part v t (Says l) = trails_after v t l
-behind_part v t (Routes i) = t
-behind_part v t (Again i b) = t
-behind_part v t (Owns k q b) = t
-behind_part v t (Transmits a b l) = t
+behind_part v t _ = t
 
 -- each part has what it needs where the ones before lead
 abbrev pub Walks : Point → Trails → List Part → Type 0
@@ -86,13 +58,13 @@ one_good pt next t l more fits leads h rest = (
 
 -- a put with its packet
 puts_by : (pt next : Point) (t : Trails) (b : ℕ) (i : MsgId) (k : MessageKind) (q : Pid) (more : List Line) (c d : Bool) → PutFits pt t i k q
-    → after pt (line.Put pt.view.acting b i k q ∷ (if c then [] else if d then packet_line pt.view pt.view.acting b (load.Data (length (pt.view.pair pt.view.acting b).ids)) ∷ [] else [])) ≡ Some next → Treads pt t → (Treads next t → AllGood next t more)
-    → AllGood pt t ((line.Put pt.view.acting b i k q ∷ (if c then [] else if d then packet_line pt.view pt.view.acting b (load.Data (length (pt.view.pair pt.view.acting b).ids)) ∷ [] else [])) ++ more)
-puts_by pt next t b i k q more true d fits leads h rest = one_good pt next t (line.Put pt.view.acting b i k q) more fits leads h rest
-puts_by pt next t b i k q more false false fits leads h rest = one_good pt next t (line.Put pt.view.acting b i k q) more fits leads h rest
+    → after pt (Line.Put pt.view.acting b i k q ∷ (if c then [] else if d then packet_line pt.view pt.view.acting b (Load.Data (length (pt.view.pair pt.view.acting b).ids)) ∷ [] else [])) ≡ Some next → Treads pt t → (Treads next t → AllGood next t more)
+    → AllGood pt t ((Line.Put pt.view.acting b i k q ∷ (if c then [] else if d then packet_line pt.view pt.view.acting b (Load.Data (length (pt.view.pair pt.view.acting b).ids)) ∷ [] else [])) ++ more)
+puts_by pt next t b i k q more true d fits leads h rest = one_good pt next t (Line.Put pt.view.acting b i k q) more fits leads h rest
+puts_by pt next t b i k q more false false fits leads h rest = one_good pt next t (Line.Put pt.view.acting b i k q) more fits leads h rest
 puts_by pt next t b i k q more false true fits leads h rest =
-    let put = line.Put pt.view.acting b i k q in
-    let packet = packet_line pt.view pt.view.acting b (load.Data (length (pt.view.pair pt.view.acting b).ids)) in
+    let put = Line.Put pt.view.acting b i k q in
+    let packet = packet_line pt.view pt.view.acting b (Load.Data (length (pt.view.pair pt.view.acting b).ids)) in
     let mid = moved pt put pt.kernel in
     one_good pt mid t put (packet ∷ more) fits refl h (λ k. one_good mid next t packet more tt leads k rest)
 
@@ -102,26 +74,9 @@ puts_good pt next t b i k q ls more fits is leads h rest =
     let f : puts pt.view b i k q ≡ ls = cc in
     subst (λ (xs : List Line). AllGood pt t (xs ++ more)) f (puts_by pt next t b i k q more (pt.view.acting == b) (goes_out (pt.view.pair pt.view.acting b)) fits (ap (after pt) f ∙ leads) h rest)
 
--- a message of the bag is none of a kernel's
-plain_own : (w : PlainWhat) → is_own (plain_kind w) ≡ false
-plain_own (what.User a b c d) = refl
-plain_own what.Stop = refl
-plain_own what.Resume = refl
-plain_own what.Kill = refl
-plain_own (what.Read a b) = refl
-plain_own (what.Write a b) = refl
-plain_own (what.Block a) = refl
-plain_own what.Written = refl
-plain_own what.Gone = refl
-plain_own (what.Create a b) = refl
-plain_own (what.Created a) = refl
-plain_own what.NoRoom = refl
-plain_own (what.Move a) = refl
-plain_own (what.Moved a) = refl
-
 routed_fits : (pt : Point) (t : Trails) (i : MsgId) (m : PlainMessage) (o : Option Told) → pt.view.told i ≡ o → pt.kernel.bag i ≡ Some m → Sane pt → PutFits pt t i (plain_kind m.what) m.to
-routed_fits pt t i m None told there sane = treads.Routed (not_kernels sane.r sane.e pt.kernel i m there sane.sound) (plain_own m.what) told
-routed_fits pt t i m (Some u) told there sane = treads.Again u told
+routed_fits pt t i m None told there sane = PutFits.Routed (not_kernels sane.r sane.e pt.kernel i m there sane.sound) (plain_own m.what) told
+routed_fits pt t i m (Some u) told there sane = PutFits.Again u told
 
 -- a part
 part_good : (pt next : Point) (t : Trails) (p : Part) (ls more : List Line) → FitsPart pt t p → Sane pt → lines_of pt p ≡ Some ls → after pt ls ≡ Some next → Treads pt t → (Treads next (behind_part pt.view t p) → AllGood next (behind_part pt.view t p) more) → AllGood pt t (ls ++ more)
@@ -133,7 +88,7 @@ part_good pt next t (Routes i) ls more fits sane is leads h rest =
     puts_good pt next t (pt.addresses (Receiver i)).at i (plain_kind m.what) m.to ls more (routed_fits pt t i m (pt.view.told i) refl there sane) last leads h rest
 part_good pt next t (Again i b) ls more fits sane is leads h rest =
     let (u, there, last) = bind-is (pt.view.told i) (λ u. Some (puts pt.view b i u.kind u.receiver)) ls is in
-    puts_good pt next t b i u.kind u.receiver ls more (treads.Again u there) last leads h rest
+    puts_good pt next t b i u.kind u.receiver ls more (PutFits.Again u there) last leads h rest
 part_good pt next t (Owns k q b) ls more fits sane is leads h rest = puts_good pt next t b (own_id pt.view) k q ls more fits is leads h rest
 part_good pt next t (Transmits a b l) ls more fits sane is leads h rest =
     let f : packet_line pt.view a b l ∷ [] ≡ ls = cc in
@@ -173,6 +128,6 @@ first_walks l ps pt t h loose = λ sane on.
 -- what puts and packets leave
 pub places_ride : (t : Trails) → Rides (λ (q : Point). Places q.view t)
 places_ride t = record {
-  put = λ pt a b i k q h p. placed_same pt.view (moved pt (line.Put a b i k q) pt.kernel).view t t p (λ m. refl) refl refl (h p);
-  packet = λ pt a b k l h p. placed_same pt.view (moved pt (line.Packet a b k l) pt.kernel).view t t p (λ m. refl) refl refl (h p);
+  put = λ pt a b i k q h p. placed_same pt.view (moved pt (Line.Put a b i k q) pt.kernel).view t t p (λ m. refl) refl refl (h p);
+  packet = λ pt a b k l h p. placed_same pt.view (moved pt (Line.Packet a b k l) pt.kernel).view t t p (λ m. refl) refl refl (h p);
 }

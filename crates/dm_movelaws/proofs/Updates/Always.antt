@@ -1,35 +1,11 @@
 -- What an update does wherever the rule leads.
-use Rattle.std.proofs.Common.{◌≡◌, ◌⊎◌, ℕ, ◌<◌, ◌≤◌, ◌==◌, ◌&&◌, ◌||◌, Bool, true, false, not, [], ◌++◌, refl, ap, ◌∙◌, sym, inl, inr, nat_lt, arith}
-use Rattle.std.specs.Prelude.{if◌then◌else◌}
-use Rattle.std.proofs.lemmas.Bool.{cases_Bool, false≢true}
-use Rattle.std.proofs.lemmas.Bool.Decides.{nat_tests}
-use Rattle.std.specs.declared.option.Option.{Option}
-use Rattle.std.specs.declared.option.Option.TheVariants.{None, Some}
-use Rattle.dm_link.specs.declared.Pid.{Pid}
-use Rattle.dm_link.specs.Names.{Place, pid_eq}
-use Rattle.dm_message.specs.declared.MsgId.{MsgId}
-use Rattle.dm_onekernel.specs.declared.boot.Boot.{Boot}
-use Rattle.dm_onekernel.specs.Boot.{switchboard, manager}
-use Rattle.dm_onekernel.specs.Kernel.{Life, Alive, OneKernel}
-use Rattle.dm_onekernel.specs.Kernel as kernels
+use Rattle.dm_movelaws.proofs.Names.{◌≡◌, ◌⊎◌, ℕ, ◌<◌, ◌≤◌, ◌==◌, ◌&&◌, ◌||◌, Bool, true, false, not, [], ◌++◌, refl, ap, ◌∙◌, sym, inl, inr, nat_lt, arith, if◌then◌else◌, cases_Bool, false≢true, nat_tests, Option, None, Some, Pid, Place}
+use Rattle.dm_movelaws.proofs.Names.{pid_eq, MsgId, Boot, switchboard, manager, Life, Alive, OneKernel, pid_eq-same, Step, Addresses, Holder, belongs_to, leads_to, is_pid, is_behind, place_told, updated, updated_to, holders_of}
+use Rattle.dm_movelaws.proofs.Names.{behind_among, behind_count, numbered, answers_in, slots_in, Spelled, Point, View, Told, About, Ended, after_head, is_server, KnownStands, agrees, Updated, UpdatesAlways, front_own, Both, is_place}
+use Rattle.dm_movelaws.proofs.Names.{own_sort, run_always, pid_there, second}
 use Rattle.dm_onekernel.specs.Step as kernel
-use Rattle.dm_laws.proofs.Equal.{pid_eq-is, pid_eq-same}
-use Rattle.dm_schedule.specs.declared.Step.{Step}
-use Rattle.dm_schedule.specs.declared.Step.TheVariants as step
 use Rattle.dm_rule.specs.Addresses as addresses
-use Rattle.dm_rule.specs.Addresses.{Addresses, Holder, belongs_to, leads_to, is_pid, is_behind, place_told, updated, updated_to}
-use Rattle.dm_rule.specs.Migrating.{holders_of, behind_among, behind_count, numbered, answers_in, slots_in}
-use Rattle.dm_rule.specs.Parts.{Spelled}
-use Rattle.dm_rule.specs.Point.{Point}
-use Rattle.dm_rule.specs.View.{View, Told, About, NothingElse, Target, Of, Ended, after_head}
 use Rattle.dm_rule.specs.View as view
-use Rattle.dm_rulelaws.specs.Fits.{is_server}
-use Rattle.dm_rulelaws.specs.KnownStands.{KnownStands, agrees}
-use Rattle.dm_movelaws.specs.Updates.{Updated, UpdatesAlways}
-use Rattle.dm_rulelaws.proofs.Goes.Always.{front_own}
-use Rattle.dm_rulelaws.proofs.Goes.Runs.{Both}
-use Rattle.dm_rulelaws.proofs.Own.Told.{is_place, own_sort}
-use Rattle.dm_rulelaws.proofs.RunsAlways.{run_always}
 use Rattle.dm_movelaws.proofs.Updates.Groups.{Handled, handled_by}
 use Rattle.dm_movelaws.proofs.Updates.Listed.{listed}
 
@@ -40,21 +16,13 @@ record Tells (a : About) : Type 0 where
   is : a ≡ view.Place process place.at place.moves
 
 tells : (a : About) → is_place a ≡ true → Tells a
-tells NothingElse e = absurd (false≢true e)
-tells (Target m) e = absurd (false≢true e)
-tells (Of p) e = absurd (false≢true e)
 tells (view.Place p m c) e = record { process = p; place = record { at = m; moves = c }; is = refl }
-
-second : (b c : Bool) → (b && c) ≡ true → c ≡ true
-second true c e = e
-second false c e = absurd (false≢true e)
+tells _ e = absurd (false≢true e)
 
 -- the head changes nothing that it reads
 head_told : (v : View) (d : Step) → (after_head v d).told ≡ v.told
-head_told v (step.Turn m) = refl
-head_told v (step.Tick m) = refl
-head_told v (step.Deliver a b k) = refl
-head_told v (step.Migrate p m) = refl
+head_told v (Step.Turn m) = refl
+head_told v _ = refl
 
 record Kept (v w : View) : Type 0 where
   known : w.known ≡ v.known
@@ -63,10 +31,8 @@ record Kept (v w : View) : Type 0 where
   ring : w.ring ≡ v.ring
 
 head_kept : (v : View) (d : Step) → Kept v (after_head v d)
-head_kept v (step.Turn m) = record { known = refl; queue = refl; held = refl; ring = refl }
-head_kept v (step.Tick m) = record { known = refl; queue = refl; held = refl; ring = refl }
-head_kept v (step.Deliver a b k) = record { known = refl; queue = refl; held = refl; ring = refl }
-head_kept v (step.Migrate p m) = record { known = refl; queue = refl; held = refl; ring = refl }
+head_kept v (Step.Turn m) = record { known = refl; queue = refl; held = refl; ring = refl }
+head_kept v _ = record { known = refl; queue = refl; held = refl; ring = refl }
 
 address : (s : OneKernel) (v w : View) (a : Addresses) (id : MsgId) (t : Told) (p : Pid) (at_ : Place) (h : Holder) → w.told ≡ v.told → v.told id ≡ Some t → t.about ≡ view.Place p at_.at at_.moves
     → updated s w a (w.told id) h ≡ (if is_behind s a t.receiver p at_.moves h then at_ else a h)
@@ -78,10 +44,6 @@ address s v w a id t p at_ h same told about =
 -- whether an address is behind
 pid_true : (p : Pid) (o : Option Pid) → o ≡ Some p → is_pid p o ≡ true
 pid_true p o e = ap (is_pid p) e ∙ pid_eq-same p
-
-pid_is : (p : Pid) (o : Option Pid) → is_pid p o ≡ true → o ≡ Some p
-pid_is p None e = absurd (false≢true e)
-pid_is p (Some q) e = ap Some (sym (pid_eq-is p q e))
 
 three : (a b c : Bool) → (a && (b && c)) ≡ true → (a ≡ true) × (b ≡ true) × (c ≡ true)
 three true true c e = (refl, refl, e)
@@ -98,7 +60,7 @@ behind_is s a q p c h x mine leads e =
 ended_none : (o : Option Life) → agrees Ended o ≡ true → kernel.alive o ≡ None
 ended_none None e = refl
 ended_none (Some (Alive x)) e = absurd (false≢true e)
-ended_none (Some (kernels.Ended y)) e = refl
+ended_none (Some (Life.Ended y)) e = refl
 
 either : (b c : Bool) → (b || c) ≡ false → (b ≡ false) × (c ≡ false)
 either true c e = absurd (false≢true (sym e))
@@ -155,7 +117,7 @@ updated_by b pt d w id n both h =
       others = λ g most. elim (cases_Bool (behind g)) [
         | inl e ↦
             let k = three (belongs_to t.receiver g) (is_pid x.process (leads_to s g)) (nat_lt (a g).moves x.place.moves) e in
-            let f = most k.0 (pid_is x.process (leads_to s g) k.1) in
+            let f = most k.0 (pid_there x.process (leads_to s g) k.1) in
             let less : (a g).moves < x.place.moves = let l = k.2 in grind (arith, nat_tests) in
             absurd (omega (arith, f, less))
         | inr e ↦ stay g e

@@ -1,32 +1,13 @@
 -- A group that says that an update was handled says nothing else, and where it leads.
-use Rattle.std.proofs.Common.{◌≡◌, ℕ, ◌==◌, ◌||◌, Bool, true, false, List, [], ◌∷◌, ◌++◌, length, refl, ap, ◌∙◌, sym, subst}
-use Rattle.std.specs.Prelude.{if◌then◌else◌}
-use Rattle.std.proofs.lemmas.Bool.{false≢true}
-use Rattle.std.specs.declared.option.Option.{Option}
-use Rattle.std.specs.declared.option.Option.TheVariants.{None, Some}
-use Rattle.dm_link.specs.declared.Pid.{Pid}
-use Rattle.dm_message.specs.declared.MsgId.{MsgId}
-use Rattle.dm_message.specs.declared.kind.MessageKind.{MessageKind}
-use Rattle.dm_message.specs.Kinds.{plain_kind}
-use Rattle.dm_onekernel.specs.declared.boot.Boot.{Boot}
-use Rattle.dm_onekernel.specs.Options.{bind}
-use Rattle.dm_laws.proofs.Steps.{bind-is}
-use Rattle.dm_schedule.specs.declared.Step.{Step}
-use Rattle.dm_line.specs.declared.line.Line.{Line}
-use Rattle.dm_line.specs.declared.line.Line.TheVariants as line
-use Rattle.dm_line.specs.declared.line.Load.TheVariants as load
-use Rattle.dm_rule.specs.Addresses.{Receiver}
-use Rattle.dm_rule.specs.Parts.{Part, Says, Routes, Again, Owns, Transmits, Spelled, lines_of, puts, goes_out, packet_line, behind, spelled}
-use Rattle.dm_rule.specs.Point.{Point, moved, after_line, after}
+use Rattle.dm_movelaws.proofs.Names.{◌≡◌, ℕ, ◌==◌, ◌||◌, Bool, true, false, List, [], ◌∷◌, ◌++◌, length, refl, ap, ◌∙◌, sym, subst, if◌then◌else◌, false≢true, Option, None, Some, Pid, MsgId, MessageKind, plain_kind, Boot, bind, bind-is}
+use Rattle.dm_movelaws.proofs.Names.{Step, Line, Load, Receiver, Part, Says, Routes, Again, Owns, Transmits, Spelled, lines_of, puts, goes_out, packet_line, behind, spelled, Point, moved, after_line, after, group_of, View}
 use Rattle.dm_rule.specs.Rule as rule
-use Rattle.dm_rule.specs.Rule.{group_of}
-use Rattle.dm_rule.specs.View.{View}
 use Rattle.dm_rule.specs.View as view
 use Rattle.dm_movelaws.proofs.Updates.Rows.{Handles, is_updated, PartQuiet, AllQuiet, Shape, Quiet, Updates, ShapeOf}
 use Rattle.dm_movelaws.proofs.Updates.Shapes.{outcome_shape}
 
 abbrev begun : Point → Step → Point
-begun pt d = moved pt (line.Head d) pt.kernel
+begun pt d = moved pt (Line.Head d) pt.kernel
 
 -- a group by its parts and lines
 record GroupSays (b : Boot) (pt : Point) (d : Step) (w : Spelled) : Type 0 where
@@ -34,15 +15,15 @@ record GroupSays (b : Boot) (pt : Point) (d : Step) (w : Spelled) : Type 0 where
   is : rule.outcome b pt d ≡ Some parts
   rest : Spelled
   said : spelled (begun pt d) parts ≡ Some rest
-  whole : rule.headed (line.Head d) rest ≡ w
+  whole : rule.headed (Line.Head d) rest ≡ w
 
 group_says : (b : Boot) (pt : Point) (d : Step) (w : Spelled) → group_of b pt d ≡ Some w → GroupSays b pt d w
 group_says b pt d w e =
-    let (parts, is, more) = bind-is (rule.outcome b pt d) (λ parts. bind (after_line pt (line.Head d)) (λ begun. bind (spelled begun parts) (λ w. Some (rule.headed (line.Head d) w)))) w e in
-    let (start, head, last) = bind-is (after_line pt (line.Head d)) (λ begun. bind (spelled begun parts) (λ w. Some (rule.headed (line.Head d) w))) w more in
-    let (rest, told, end) = bind-is (spelled start parts) (λ w. Some (rule.headed (line.Head d) w)) w last in
+    let (parts, is, more) = bind-is (rule.outcome b pt d) (λ parts. bind (after_line pt (Line.Head d)) (λ begun. bind (spelled begun parts) (λ w. Some (rule.headed (Line.Head d) w)))) w e in
+    let (start, head, last) = bind-is (after_line pt (Line.Head d)) (λ begun. bind (spelled begun parts) (λ w. Some (rule.headed (Line.Head d) w))) w more in
+    let (rest, told, end) = bind-is (spelled start parts) (λ w. Some (rule.headed (Line.Head d) w)) w last in
     let f : begun pt d ≡ start = cc in
-    let g : rule.headed (line.Head d) rest ≡ w = cc in
+    let g : rule.headed (Line.Head d) rest ≡ w = cc in
     record { parts = parts; is = is; rest = rest; said = ap (λ p. spelled p parts) f ∙ told; whole = g }
 
 -- whether one of the lines says so
@@ -54,7 +35,7 @@ or_true : (c : Bool) → (c || true) ≡ true
 or_true true = refl
 or_true false = refl
 
-has_in : (xs ys : List Line) (id : MsgId) (n : ℕ) → has (xs ++ line.Updated id n ∷ ys) ≡ true
+has_in : (xs ys : List Line) (id : MsgId) (n : ℕ) → has (xs ++ Line.Updated id n ∷ ys) ≡ true
 has_in [] ys id n = refl
 has_in (x ∷ xs) ys id n = ap (λ (c : Bool). is_updated x || c) (has_in xs ys id n) ∙ or_true (is_updated x)
 
@@ -67,7 +48,7 @@ neither [] ys e f = f
 neither (x ∷ xs) ys e f = neither_if (is_updated x) xs ys (xs ++ ys) (λ g. neither xs ys g f) e
 
 puts_if : (v : View) (b : ℕ) (i : MsgId) (k : MessageKind) (q : Pid) (c d : Bool)
-    → has (line.Put v.acting b i k q ∷ (if c then [] else if d then packet_line v v.acting b (load.Data (length (v.pair v.acting b).ids)) ∷ [] else [])) ≡ false
+    → has (Line.Put v.acting b i k q ∷ (if c then [] else if d then packet_line v v.acting b (Load.Data (length (v.pair v.acting b).ids)) ∷ [] else [])) ≡ false
 puts_if v b i k q true d = refl
 puts_if v b i k q false true = refl
 puts_if v b i k q false false = refl
@@ -101,40 +82,40 @@ parts_have (p ∷ ps) pt w quiet is =
 pub record Handled (b : Boot) (pt : Point) (d : Step) (w : Spelled) (id : MsgId) (n : ℕ) : Type 0 where
   pub machine : ℕ
   pub handles : Handles pt machine id n
-  pub lines : w.lines ≡ line.Head d ∷ line.Updated id n ∷ []
-  pub point : moved (begun pt d) (line.Updated id n) pt.kernel ≡ w.point
+  pub lines : w.lines ≡ Line.Head d ∷ Line.Updated id n ∷ []
+  pub point : moved (begun pt d) (Line.Updated id n) pt.kernel ≡ w.point
 
 -- the only line of two that says so is the second
-same_line : (d : Step) (xs ys : List Line) (id i : MsgId) (n k : ℕ) → xs ++ line.Updated id n ∷ ys ≡ line.Head d ∷ line.Updated i k ∷ [] → line.Updated i k ≡ line.Updated id n
+same_line : (d : Step) (xs ys : List Line) (id i : MsgId) (n k : ℕ) → xs ++ Line.Updated id n ∷ ys ≡ Line.Head d ∷ Line.Updated i k ∷ [] → Line.Updated i k ≡ Line.Updated id n
 same_line d [] ys id i n k e = absurd (false≢true (sym (ap first_is e)))
   where
     first_is : List Line → Bool
     first_is [] = false
     first_is (l ∷ ls) = is_updated l
-same_line d (x ∷ []) ys id i n k e = let f : line.Updated id n ∷ ys ≡ line.Updated i k ∷ [] = cc in cc
+same_line d (x ∷ []) ys id i n k e = let f : Line.Updated id n ∷ ys ≡ Line.Updated i k ∷ [] = cc in cc
 same_line d (x ∷ y ∷ zs) ys id i n k e =
-    let f : zs ++ line.Updated id n ∷ ys ≡ [] = cc in
+    let f : zs ++ Line.Updated id n ∷ ys ≡ [] = cc in
     absurd (false≢true (sym (ap has f) ∙ has_in zs ys id n))
 
 abbrev spelled_or : Spelled → Option Spelled → Spelled
 spelled_or z None = z
 spelled_or z (Some w) = w
 
-handled_line : (b : Boot) (pt : Point) (d : Step) (w : Spelled) (m k n : ℕ) (i id : MsgId) → Handles pt m i k → w.lines ≡ line.Head d ∷ line.Updated i k ∷ [] → moved (begun pt d) (line.Updated i k) pt.kernel ≡ w.point → line.Updated i k ≡ line.Updated id n → Handled b pt d w id n
+handled_line : (b : Boot) (pt : Point) (d : Step) (w : Spelled) (m k n : ℕ) (i id : MsgId) → Handles pt m i k → w.lines ≡ Line.Head d ∷ Line.Updated i k ∷ [] → moved (begun pt d) (Line.Updated i k) pt.kernel ≡ w.point → Line.Updated i k ≡ Line.Updated id n → Handled b pt d w id n
 handled_line b pt d w m k n i id handles lines point same =
     let names : i ≡ id = cc in
     let counts : k ≡ n = cc in
     let first : Handled b pt d w i k = record { machine = m; handles = handles; lines = lines; point = point } in
     subst (λ (j : MsgId). Handled b pt d w j n) names (subst (λ (c : ℕ). Handled b pt d w i c) counts first)
 
-by_shape : (b : Boot) (pt : Point) (d : Step) (w : Spelled) (id : MsgId) (n : ℕ) (xs ys : List Line) (g : GroupSays b pt d w) → w.lines ≡ xs ++ line.Updated id n ∷ ys → Shape pt g.parts → Handled b pt d w id n
+by_shape : (b : Boot) (pt : Point) (d : Step) (w : Spelled) (id : MsgId) (n : ℕ) (xs ys : List Line) (g : GroupSays b pt d w) → w.lines ≡ xs ++ Line.Updated id n ∷ ys → Shape pt g.parts → Handled b pt d w id n
 by_shape b pt d w id n xs ys g there (Quiet quiet) =
     absurd (false≢true (sym (parts_have g.parts (begun pt d) g.rest quiet g.said) ∙ ap (λ (x : Spelled). has x.lines) g.whole ∙ ap has there ∙ has_in xs ys id n))
 by_shape b pt d w id n xs ys g there (Updates m i k form handles) =
-    let rest : record { lines = line.Updated i k ∷ []; point = moved (begun pt d) (line.Updated i k) pt.kernel } ≡ g.rest = ap (spelled_or g.rest) (ap (spelled (begun pt d)) (sym form) ∙ g.said) in
-    let all : line.Head d ∷ line.Updated i k ∷ [] ≡ w.lines = ap (λ (x : Spelled). line.Head d ∷ x.lines) rest ∙ ap (λ (x : Spelled). x.lines) g.whole in
-    let point : moved (begun pt d) (line.Updated i k) pt.kernel ≡ w.point = ap (λ (x : Spelled). x.point) rest ∙ ap (λ (x : Spelled). x.point) g.whole in
+    let rest : record { lines = Line.Updated i k ∷ []; point = moved (begun pt d) (Line.Updated i k) pt.kernel } ≡ g.rest = ap (spelled_or g.rest) (ap (spelled (begun pt d)) (sym form) ∙ g.said) in
+    let all : Line.Head d ∷ Line.Updated i k ∷ [] ≡ w.lines = ap (λ (x : Spelled). Line.Head d ∷ x.lines) rest ∙ ap (λ (x : Spelled). x.lines) g.whole in
+    let point : moved (begun pt d) (Line.Updated i k) pt.kernel ≡ w.point = ap (λ (x : Spelled). x.point) rest ∙ ap (λ (x : Spelled). x.point) g.whole in
     handled_line b pt d w m k n i id handles (sym all) point (same_line d xs ys id i n k (sym there ∙ sym all))
 
-pub handled_by : (b : Boot) (pt : Point) (d : Step) (w : Spelled) (id : MsgId) (n : ℕ) (xs ys : List Line) → group_of b pt d ≡ Some w → w.lines ≡ xs ++ line.Updated id n ∷ ys → Handled b pt d w id n
+pub handled_by : (b : Boot) (pt : Point) (d : Step) (w : Spelled) (id : MsgId) (n : ℕ) (xs ys : List Line) → group_of b pt d ≡ Some w → w.lines ≡ xs ++ Line.Updated id n ∷ ys → Handled b pt d w id n
 handled_by b pt d w id n xs ys is there = let g = group_says b pt d w is in by_shape b pt d w id n xs ys g there (subst (ShapeOf pt) g.is (outcome_shape b pt d))

@@ -1,28 +1,10 @@
 -- An update's line counts each address of its receiver once.
-use Rattle.std.proofs.Common.{◌≡◌, ℕ, zero, suc, ◌+◌, ◌<◌, ◌≤◌, ◌==◌, ◌&&◌, Bool, true, false, List, [], ◌∷◌, ◌++◌, length, refl, ap, ◌∙◌, sym, inl, inr, arith}
-use Rattle.std.specs.Prelude.{if◌then◌else◌, slice_get}
-use Rattle.std.proofs.lemmas.Bool.{cases_Bool, false≢true}
-use Rattle.std.proofs.lemmas.Bool.Decides.{nat_tests}
-use Rattle.std.proofs.lemmas.Option.{slice_get_cases}
-use Rattle.std.specs.declared.option.Option.{Option}
-use Rattle.std.specs.declared.option.Option.TheVariants.{None, Some}
-use Rattle.dm_link.specs.declared.Pid.{Pid}
-use Rattle.dm_link.specs.Names.{pid_eq}
-use Rattle.dm_link.specs.Plain.{PlainLink}
-use Rattle.dm_linktable.specs.Slots.{link_at}
-use Rattle.dm_onekernel.specs.Boot.{switchboard, manager}
-use Rattle.dm_onekernel.specs.Kernel.{NamedLink, Pending, OneKernel}
+use Rattle.dm_movelaws.proofs.Names.{◌≡◌, ℕ, zero, suc, ◌+◌, ◌<◌, ◌≤◌, ◌==◌, ◌&&◌, Bool, true, false, List, [], ◌∷◌, ◌++◌, length, refl, ap, ◌∙◌, sym, inl, inr, arith, if◌then◌else◌, slice_get, cases_Bool, false≢true, nat_tests}
+use Rattle.dm_movelaws.proofs.Names.{slice_get_cases, Option, None, Some, Pid, pid_eq, PlainLink, link_at, switchboard, manager, NamedLink, Pending, OneKernel, PlainProcess, pid_eq-is, pid_eq-same, not_server, alive-is, Holder, Slot, Owner}
+use Rattle.dm_movelaws.proofs.Names.{Child, Name, Answer, holder_eq, belongs_to, leads_to, link_to, slot_of, name_link, answer_link, ascends, holders_of, slots_from, slots_in, numbered, answers_in, listings, is_owner}
 use Rattle.dm_onekernel.specs.Manager as manage
-use Rattle.dm_onekernel.specs.PlainProcess.{PlainProcess}
 use Rattle.dm_onekernel.specs.Step as kernel
 use Rattle.dm_laws.proofs.Entered.{Made}
-use Rattle.dm_laws.proofs.Equal.{pid_eq-is, pid_eq-same}
-use Rattle.dm_laws.proofs.Sound.{not_server}
-use Rattle.dm_laws.proofs.Steps.{alive-is}
-use Rattle.dm_rule.specs.Addresses.{Holder, Slot, Owner, Receiver, Sender, Enclosed, Child, Name, Answer, holder_eq, belongs_to, leads_to, link_to, slot_of, name_link, answer_link}
-use Rattle.dm_rule.specs.Homes.{ascends}
-use Rattle.dm_rule.specs.Migrating.{holders_of, slots_from, slots_in, numbered, answers_in}
-use Rattle.dm_movelaws.specs.Updates.{listings, is_owner}
 
 -- where a list has something
 got : {X : Type 0} (xs : List X) (k : ℕ) (x : X) → slice_get xs k ≡ Some x → k < length xs
@@ -166,9 +148,6 @@ listed s q (Slot p k) r made up mine other leads =
     ∙ ap (λ (o : Option PlainProcess). listings (Slot p k) (slots_in q o)) there
     ∙ slots_once p q k 0 x.links back (omega arith) (omega (arith, within))
 listed s q (Owner p) r made up mine other leads = absurd (false≢true (sym other))
-listed s q (Receiver id) r made up mine other leads = absurd (false≢true mine)
-listed s q (Sender id) r made up mine other leads = absurd (false≢true mine)
-listed s q (Enclosed id k) r made up mine other leads = absurd (false≢true mine)
 listed s q (Child zero) r made up mine other leads = absurd (let f : None ≡ Some r = leads in cc)
 listed s q (Child (suc n)) r made up mine other leads =
     let within = got s.manager.children n r leads in
@@ -190,3 +169,4 @@ listed s q (Answer n) r made up mine other leads =
     ap (λ (c : Bool). listings (Answer n) (listed_as s q c (pid_eq q manager))) (not_board q mine)
     ∙ ap (λ (c : Bool). listings (Answer n) (listed_as s q false c)) mine
     ∙ (let f : listings (Answer n) (numbered Child 1 s.manager.children ++ answers_in s.manager.pending) ≡ 1 = omega (arith, once, none, sum) in f)
+listed s q _ r made up mine other leads = absurd (false≢true mine)

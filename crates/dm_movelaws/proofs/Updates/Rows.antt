@@ -1,48 +1,21 @@
 -- What handles a message of the bag, or serves a process, handles no update.
-use Rattle.std.proofs.Common.{◌≡◌, ◌⊎◌, ℕ, ◌+◌, ◌==◌, Bool, true, false, List, [], ◌∷◌, length, refl}
-use Rattle.std.specs.Prelude.{⊤, if◌then◌else◌, slice_get}
-use Rattle.std.specs.declared.option.Option.{Option}
-use Rattle.std.specs.declared.option.Option.TheVariants.{None, Some}
-use Rattle.dm_link.specs.declared.Pid.{Pid}
-use Rattle.dm_link.specs.Names.{pid_of, pid_eq}
-use Rattle.dm_message.specs.declared.MsgId.{MsgId}
-use Rattle.dm_message.specs.declared.kind.MessageKind.{MessageKind}
-use Rattle.dm_message.specs.declared.kind.MessageKind.TheVariants as kind
-use Rattle.dm_message.specs.Kinds.{plain_kind}
-use Rattle.dm_message.specs.Plain as what
-use Rattle.dm_message.specs.Plain.{PlainMessage, PlainWhat}
-use Rattle.dm_onekernel.specs.declared.boot.BootImage.{BootImage}
-use Rattle.dm_onekernel.specs.declared.boot.Boot.{Boot}
-use Rattle.dm_onekernel.specs.declared.label.Label.{Label}
-use Rattle.dm_onekernel.specs.declared.label.Label.TheVariants as label
-use Rattle.dm_onekernel.specs.Boot.{first_number, switchboard, manager}
-use Rattle.dm_onekernel.specs.Options.{bind}
-use Rattle.dm_onekernel.specs.PlainProcess.{PlainProcess, PlainStatus, Ready, Waiting, Moving}
-use Rattle.dm_onekernel.specs.Kernel.{OneKernel}
+use Rattle.dm_movelaws.proofs.Names.{◌≡◌, ◌⊎◌, ℕ, ◌+◌, ◌==◌, Bool, true, false, List, [], ◌∷◌, length, refl, ⊤, if◌then◌else◌, slice_get, Option, None, Some, Pid, pid_of, pid_eq, MsgId, MessageKind, plain_kind, PlainMessage, PlainWhat}
+use Rattle.dm_movelaws.proofs.Names.{BootImage, Boot, Label, first_number, switchboard, manager, bind, PlainProcess, PlainStatus, Ready, Waiting, Moving, OneKernel, machine_of, with_machine, instruction, Line, Addresses, Sender}
+use Rattle.dm_movelaws.proofs.Names.{is_told_back, place_told, behind_count, forwards_on, Part, Says, Owns, Point, Told, Known, Unknown, Here, Forward, Ended, is_server}
 use Rattle.dm_onekernel.specs.Calls as calls
 use Rattle.dm_onekernel.specs.Pieces as pieces
-use Rattle.dm_onekernel.specs.Step.{machine_of, with_machine}
-use Rattle.dm_processor.specs.Instructions.{instruction}
 use Rattle.dm_onekernel.specs.Receiving as receiving
 use Rattle.dm_onekernel.specs.Switchboard as board
 use Rattle.dm_onekernel.specs.Manager as manage
 use Rattle.dm_onekernel.specs.Step as kernel
-use Rattle.dm_line.specs.declared.line.Line.{Line}
-use Rattle.dm_line.specs.declared.line.Line.TheVariants as line
-use Rattle.dm_rule.specs.Addresses.{Addresses, Sender, is_told_back, place_told}
-use Rattle.dm_rule.specs.Migrating.{behind_count, forwards_on}
-use Rattle.dm_rule.specs.Parts.{Part, Says, Routes, Again, Owns, Transmits}
-use Rattle.dm_rule.specs.Point.{Point}
 use Rattle.dm_rule.specs.Rule as rule
-use Rattle.dm_rule.specs.View.{Told, Known, Unknown, Here, Frozen, Incoming, Forward, Ended}
-use Rattle.dm_rulelaws.specs.Fits.{is_server}
 
 -- the update is at the front of an inbox and not in the bag: its receiver is a server or here and the line counts the addresses
 -- that are behind, or its receiver has ended
 pub record Handles (o : Point) (m : ℕ) (id : MsgId) (n : ℕ) : Type 0 where
   pub told : Told
   pub is : o.view.told id ≡ Some told
-  pub update : told.kind ≡ kind.Update
+  pub update : told.kind ≡ MessageKind.Update
   pub counts : (n ≡ behind_count o.kernel o.addresses told.receiver (place_told told.about)) ⊎ ((n ≡ 0) × (is_server told.receiver ≡ false) × (o.view.known m told.receiver ≡ Ended))
   pub rest : List MsgId
   pub box : o.view.inbox m ≡ id ∷ rest
@@ -50,15 +23,12 @@ pub record Handles (o : Point) (m : ℕ) (id : MsgId) (n : ℕ) : Type 0 where
 
 -- no update is handled
 abbrev pub is_updated : Line → Bool
-is_updated (line.Updated id n) = true
+is_updated (Line.Updated id n) = true
 is_updated l = false
 
 abbrev pub PartQuiet : Part → Type 0
 PartQuiet (Says l) = is_updated l ≡ false
-PartQuiet (Routes i) = ⊤
-PartQuiet (Again i b) = ⊤
-PartQuiet (Owns k q b) = ⊤
-PartQuiet (Transmits a b l) = ⊤
+PartQuiet _ = ⊤
 
 abbrev pub AllQuiet : List Part → Type 0
 AllQuiet [] = ⊤
@@ -67,7 +37,7 @@ AllQuiet (p ∷ ps) = PartQuiet p × AllQuiet ps
 -- the parts of a group: none of them says so, or the only one
 pub data Shape (o : Point) (ps : List Part) : Type 0 where
   Quiet : AllQuiet ps → Shape o ps
-  Updates : (m : ℕ) → (id : MsgId) → (n : ℕ) → ps ≡ Says (line.Updated id n) ∷ [] → Handles o m id n → Shape o ps
+  Updates : (m : ℕ) → (id : MsgId) → (n : ℕ) → ps ≡ Says (Line.Updated id n) ∷ [] → Handles o m id n → Shape o ps
 
 abbrev pub ShapeOf : Point → Option (List Part) → Type 0
 ShapeOf o None = ⊤
@@ -91,11 +61,9 @@ drops_quiet [] = tt
 drops_quiet (i ∷ is) = (refl, drops_quiet is)
 
 called_quiet : (p : Pid) (n : ℕ) (queue : List MsgId) (c : calls.Called) → AllQuiet (rule.called p n queue c)
-called_quiet p n queue (calls.Replies reply x) = (refl, tt)
 called_quiet p n queue (calls.Sends m x) = (refl, (tt, tt))
-called_quiet p n queue (calls.Waits x) = (refl, tt)
-called_quiet p n queue (calls.Outputs word x) = (refl, tt)
 called_quiet p n queue (calls.Ends because) = (refl, drops_quiet queue)
+called_quiet p n queue _ = (refl, tt)
 
 stops_quiet : (p : Pid) (queue : List MsgId) (next : Option kernel.Next) → AllQuiet (rule.stops p queue next)
 stops_quiet p queue None = tt
@@ -139,47 +107,36 @@ lands_shape o id (Some (pieces.Next request x)) = Quiet (refl, (tt, tt))
 lands_shape o id (Some (pieces.Done reply x)) = Quiet (refl, tt)
 
 here_shape : (o : Point) (m : ℕ) (id : MsgId) (msg : PlainMessage) (x : PlainProcess) (k : PlainWhat) → ShapeOf o (rule.here_handles o m id msg x k)
-here_shape o m id msg x (what.User x1 x2 x3 x4) = Quiet (refl, tt)
-here_shape o m id msg x what.Stop = Quiet (refl, tt)
-here_shape o m id msg x what.Resume = Quiet (refl, tt)
-here_shape o m id msg x what.Kill = Quiet (refl, drops_quiet (o.view.queue m msg.to))
-here_shape o m id msg x (what.Read x1 x2) = Quiet (refl, (tt, tt))
-here_shape o m id msg x (what.Write x1 x2) = Quiet (refl, (tt, tt))
-here_shape o m id msg x (what.Block x1) = lands_shape o id (pieces.lands msg.to x msg x.status)
-here_shape o m id msg x what.Written = lands_shape o id (pieces.lands msg.to x msg x.status)
-here_shape o m id msg x what.Gone = lands_shape o id (pieces.lands msg.to x msg x.status)
-here_shape o m id msg x (what.Create x1 x2) = tt
-here_shape o m id msg x (what.Created x1) = tt
-here_shape o m id msg x what.NoRoom = tt
-here_shape o m id msg x (what.Move x1) = tt
-here_shape o m id msg x (what.Moved x1) = tt
+here_shape o m id msg x (PlainWhat.User x1 x2 x3 x4) = Quiet (refl, tt)
+here_shape o m id msg x PlainWhat.Stop = Quiet (refl, tt)
+here_shape o m id msg x PlainWhat.Resume = Quiet (refl, tt)
+here_shape o m id msg x PlainWhat.Kill = Quiet (refl, drops_quiet (o.view.queue m msg.to))
+here_shape o m id msg x (PlainWhat.Read x1 x2) = Quiet (refl, (tt, tt))
+here_shape o m id msg x (PlainWhat.Write x1 x2) = Quiet (refl, (tt, tt))
+here_shape o m id msg x (PlainWhat.Block x1) = lands_shape o id (pieces.lands msg.to x msg x.status)
+here_shape o m id msg x PlainWhat.Written = lands_shape o id (pieces.lands msg.to x msg x.status)
+here_shape o m id msg x PlainWhat.Gone = lands_shape o id (pieces.lands msg.to x msg x.status)
+here_shape o m id msg x _ = tt
 
 ended_shape : (o : Point) (id : MsgId) (k : PlainWhat) → ShapeOf o (rule.ended_handles id k)
-ended_shape o id (what.User x1 x2 x3 x4) = Quiet (refl, tt)
-ended_shape o id what.Stop = Quiet (refl, tt)
-ended_shape o id what.Resume = Quiet (refl, tt)
-ended_shape o id what.Kill = Quiet (refl, tt)
-ended_shape o id (what.Read x1 x2) = Quiet (refl, (tt, tt))
-ended_shape o id (what.Write x1 x2) = Quiet (refl, (tt, tt))
-ended_shape o id (what.Block x1) = Quiet (refl, tt)
-ended_shape o id what.Written = Quiet (refl, tt)
-ended_shape o id what.Gone = Quiet (refl, tt)
-ended_shape o id (what.Create x1 x2) = tt
-ended_shape o id (what.Created x1) = tt
-ended_shape o id what.NoRoom = tt
-ended_shape o id (what.Move x1) = tt
-ended_shape o id (what.Moved x1) = tt
+ended_shape o id (PlainWhat.Read x1 x2) = Quiet (refl, (tt, tt))
+ended_shape o id (PlainWhat.Write x1 x2) = Quiet (refl, (tt, tt))
+ended_shape o id (PlainWhat.Create x1 x2) = tt
+ended_shape o id (PlainWhat.Created x1) = tt
+ended_shape o id PlainWhat.NoRoom = tt
+ended_shape o id (PlainWhat.Move x1) = tt
+ended_shape o id (PlainWhat.Moved x1) = tt
+ended_shape o id _ = Quiet (refl, tt)
 
 pub forwards_shape : (o : Point) (c : Addresses) (id : MsgId) (k : MessageKind) (sender : Pid) (to : ℕ) → Shape o (forwards_on c id k sender to)
-forwards_shape o c id k sender to = Quiet (refl, (tt, quiet_if (is_told_back k) (Owns kind.Update sender (c (Sender id)).at ∷ []) (tt, tt)))
+forwards_shape o c id k sender to = Quiet (refl, (tt, quiet_if (is_told_back k) (Owns MessageKind.Update sender (c (Sender id)).at ∷ []) (tt, tt)))
 
 process_shape : (o : Point) (m : ℕ) (id : MsgId) (msg : PlainMessage) (k : Known) → ShapeOf o (rule.process_handles o m id msg k)
 process_shape o m id msg Unknown = tt
 process_shape o m id msg Here = of_bind o (kernel.alive (o.kernel.processes msg.to)) (λ x. rule.here_handles o m id msg x msg.what) (λ x is. here_shape o m id msg x msg.what)
-process_shape o m id msg (Frozen to) = Quiet (refl, tt)
-process_shape o m id msg (Incoming from) = Quiet (refl, tt)
 process_shape o m id msg (Forward at moves) = forwards_shape o o.addresses id (plain_kind msg.what) msg.sender at
 process_shape o m id msg Ended = ended_shape o id msg.what
+process_shape o m id msg _ = Quiet (refl, tt)
 
 label_if : (c : Bool) (l k : Label) → PartQuiet (if c then rule.says l else rule.says k)
 label_if true l k = refl
@@ -187,23 +144,11 @@ label_if false l k = refl
 
 creates_shape : (o : Point) (m : ℕ) (id : MsgId) (r : rule.Room) (i : Option BootImage) → ShapeOf o (rule.creates o m id r i)
 creates_shape o m id r None = tt
-creates_shape o m id r (Some i) = Quiet (label_if (rule.has_room r i.blocks) (label.Created id (pid_of m (first_number + o.kernel.made m))) (label.NoSpace id r.slots r.blocks), (tt, tt))
+creates_shape o m id r (Some i) = Quiet (label_if (rule.has_room r i.blocks) (Label.Created id (pid_of m (first_number + o.kernel.made m))) (Label.NoSpace id r.slots r.blocks), (tt, tt))
 
 kernel_shape : (b : Boot) (o : Point) (m : ℕ) (id : MsgId) (k : PlainWhat) → ShapeOf o (rule.kernel_handles b o m id k)
-kernel_shape b o m id (what.Create image links) = creates_shape o m id (rule.free_room b o m) (slice_get b.images image)
-kernel_shape b o m id (what.User x1 x2 x3 x4) = tt
-kernel_shape b o m id what.Stop = tt
-kernel_shape b o m id what.Resume = tt
-kernel_shape b o m id what.Kill = tt
-kernel_shape b o m id (what.Read x1 x2) = tt
-kernel_shape b o m id (what.Write x1 x2) = tt
-kernel_shape b o m id (what.Block x1) = tt
-kernel_shape b o m id what.Written = tt
-kernel_shape b o m id what.Gone = tt
-kernel_shape b o m id (what.Created x1) = tt
-kernel_shape b o m id what.NoRoom = tt
-kernel_shape b o m id (what.Move x1) = tt
-kernel_shape b o m id (what.Moved x1) = tt
+kernel_shape b o m id (PlainWhat.Create image links) = creates_shape o m id (rule.free_room b o m) (slice_get b.images image)
+kernel_shape b o m id _ = tt
 
 routes_quiet : (m : Option PlainMessage) → AllQuiet (rule.routes m)
 routes_quiet None = tt

@@ -1,36 +1,9 @@
 -- A group has no label of a process that moves, and leaves its plain value.
-use Rattle.std.proofs.Common.{◌≡◌, ◌≢◌, ℕ, ◌+◌, ◌==◌, Bool, true, false, List, [], ◌∷◌, ◌++◌, length, refl, ap, ◌∙◌, sym, subst}
-use Rattle.std.specs.Prelude.{if◌then◌else◌, slice_get}
-use Rattle.std.specs.declared.option.Option.{Option}
-use Rattle.std.specs.declared.option.Option.TheVariants.{None, Some}
-use Rattle.std.proofs.lemmas.Bool.{false≢true}
-use Rattle.dm_link.specs.declared.Pid.{Pid}
-use Rattle.dm_link.specs.Names.{pid_of}
-use Rattle.dm_message.specs.declared.MsgId.{MsgId}
-use Rattle.dm_message.specs.declared.kind.MessageKind.{MessageKind}
-use Rattle.dm_message.specs.Kinds.{plain_kind}
-use Rattle.dm_onekernel.specs.declared.boot.Boot.{Boot}
-use Rattle.dm_onekernel.specs.declared.label.Label.{Label}
-use Rattle.dm_onekernel.specs.Boot.{first_number}
-use Rattle.dm_onekernel.specs.Options.{bind}
-use Rattle.dm_onekernel.specs.Kernel.{OneKernel}
+use Rattle.dm_rule.proofs.Names.{◌≡◌, ◌≢◌, ℕ, ◌+◌, ◌==◌, Bool, true, false, List, [], ◌∷◌, ◌++◌, length, refl, ap, ◌∙◌, sym, subst, if◌then◌else◌, slice_get, Option, None, Some, false≢true, Pid, pid_of, MsgId, MessageKind, plain_kind, Boot}
+use Rattle.dm_rule.proofs.Names.{Label, first_number, bind, OneKernel, Step, Load, Line, Here, own_id, Receiver, Point, label_of, kernel_after, moved, after_line, after, first_point, Part, Says, Routes, Again, Owns, Transmits, Spelled}
+use Rattle.dm_rule.proofs.Names.{lines_of, puts, goes_out, packet_line, behind, spelled, migrates, Nowhere, Moves, knows, IsIn, Spares, AllSpare, group_of, MovingStaysAlways, bind-is}
 use Rattle.dm_onekernel.specs.Step as kernel
-use Rattle.dm_schedule.specs.declared.Step.{Step}
-use Rattle.dm_schedule.specs.declared.Step.TheVariants as step
-use Rattle.dm_line.specs.declared.line.Line.{Line}
-use Rattle.dm_line.specs.declared.line.Line.TheVariants as line
-use Rattle.dm_line.specs.declared.line.Load.TheVariants as load
-use Rattle.dm_rule.specs.View.{Here, own_id}
-use Rattle.dm_rule.specs.Addresses.{Receiver}
-use Rattle.dm_rule.specs.Point.{Point, label_of, kernel_after, moved, after_line, after, first_point}
-use Rattle.dm_rule.specs.Parts.{Part, Says, Routes, Again, Owns, Transmits, Spelled, lines_of, puts, goes_out, packet_line, behind, spelled}
-use Rattle.dm_rule.specs.Migrating.{migrates}
-use Rattle.dm_rule.specs.Phases.{Nowhere, Moves, knows, IsIn}
-use Rattle.dm_rule.specs.Apart.{Spares, AllSpare}
 use Rattle.dm_rule.specs.Rule as rule
-use Rattle.dm_rule.specs.Rule.{group_of}
-use Rattle.dm_rule.specs.Laws.{MovingStaysAlways}
-use Rattle.dm_laws.proofs.Steps.{bind-is}
 use Rattle.dm_rule.proofs.Groups.{arrives_net, resends_net}
 use Rattle.dm_rule.proofs.Phases.Lives.{nowhere_known}
 use Rattle.dm_rule.proofs.Phases.Groups.{Rooted}
@@ -49,11 +22,11 @@ spare_append : (z : OneKernel) (y : Pid) (ls ms : List Line) → AllSpare z y ls
 spare_append z y [] ms h k = k
 spare_append z y (l ∷ ls) ms h k = (h.0, spare_append z y ls ms h.1 k)
 
-keeps_is : (s t : OneKernel) (y : Pid) (o : Option OneKernel) → o ≡ Some t → Keeps s y o → t.processes y ≡ s.processes y
+pub keeps_is : (s t : OneKernel) (y : Pid) (o : Option OneKernel) → o ≡ Some t → Keeps s y o → t.processes y ≡ s.processes y
 keeps_is s t y None e h = cc
 keeps_is s t y (Some u) e h = ap (λ (k : OneKernel). k.processes y) (let f : t ≡ u = cc in f) ∙ h
 
-kernel_same : (s t : OneKernel) (y : Pid) (o : Option Label) → Spares s y o → kernel_after s o ≡ Some t → t.processes y ≡ s.processes y
+pub kernel_same : (s t : OneKernel) (y : Pid) (o : Option Label) → Spares s y o → kernel_after s o ≡ Some t → t.processes y ≡ s.processes y
 kernel_same s t y None off e = ap (λ (k : OneKernel). k.processes y) (let f : t ≡ s = cc in f)
 kernel_same s t y (Some l) off e = keeps_is s t y (kernel.step s l) e (keeps_step s y l off)
 
@@ -70,15 +43,15 @@ one_left z y pt next l ls here there is leads =
     }
 
 puts_by : (z : OneKernel) (y : Pid) (pt next : Point) (b : ℕ) (i : MsgId) (k : MessageKind) (q : Pid) (c d : Bool)
-    → after pt (line.Put pt.view.acting b i k q ∷ (if c then [] else if d then packet_line pt.view pt.view.acting b (load.Data (length (pt.view.pair pt.view.acting b).ids)) ∷ [] else [])) ≡ Some next
-    → Left z y pt next (line.Put pt.view.acting b i k q ∷ (if c then [] else if d then packet_line pt.view pt.view.acting b (load.Data (length (pt.view.pair pt.view.acting b).ids)) ∷ [] else []))
+    → after pt (Line.Put pt.view.acting b i k q ∷ (if c then [] else if d then packet_line pt.view pt.view.acting b (Load.Data (length (pt.view.pair pt.view.acting b).ids)) ∷ [] else [])) ≡ Some next
+    → Left z y pt next (Line.Put pt.view.acting b i k q ∷ (if c then [] else if d then packet_line pt.view pt.view.acting b (Load.Data (length (pt.view.pair pt.view.acting b).ids)) ∷ [] else []))
 puts_by z y pt next b i k q true d is =
-    let f : moved pt (line.Put pt.view.acting b i k q) pt.kernel ≡ next = cc in record { spare = (tt, tt); same = ap (λ (r : Point). r.kernel.processes y) (sym f) }
+    let f : moved pt (Line.Put pt.view.acting b i k q) pt.kernel ≡ next = cc in record { spare = (tt, tt); same = ap (λ (r : Point). r.kernel.processes y) (sym f) }
 puts_by z y pt next b i k q false false is =
-    let f : moved pt (line.Put pt.view.acting b i k q) pt.kernel ≡ next = cc in record { spare = (tt, tt); same = ap (λ (r : Point). r.kernel.processes y) (sym f) }
+    let f : moved pt (Line.Put pt.view.acting b i k q) pt.kernel ≡ next = cc in record { spare = (tt, tt); same = ap (λ (r : Point). r.kernel.processes y) (sym f) }
 puts_by z y pt next b i k q false true is =
-    let mid = moved pt (line.Put pt.view.acting b i k q) pt.kernel in
-    let f : moved mid (packet_line pt.view pt.view.acting b (load.Data (length (pt.view.pair pt.view.acting b).ids))) mid.kernel ≡ next = cc in
+    let mid = moved pt (Line.Put pt.view.acting b i k q) pt.kernel in
+    let f : moved mid (packet_line pt.view pt.view.acting b (Load.Data (length (pt.view.pair pt.view.acting b).ids))) mid.kernel ≡ next = cc in
     record { spare = (tt, (tt, tt)); same = ap (λ (r : Point). r.kernel.processes y) (sym f) }
 
 puts_left : (z : OneKernel) (y : Pid) (pt next : Point) (b : ℕ) (i : MsgId) (k : MessageKind) (q : Pid) (ls : List Line) → Some (puts pt.view b i k q) ≡ Some ls → after pt ls ≡ Some next → Left z y pt next ls
@@ -114,26 +87,26 @@ apart_some z y o ps e h = subst (ApartOf z y) e h
 
 group_left : (b : Boot) (pt : Point) (d : Step) (w : Spelled) (y : Pid) → ApartOf pt.kernel y (rule.outcome b pt d) → group_of b pt d ≡ Some w → Left pt.kernel y pt w.point w.lines
 group_left b pt d w y h e =
-    let (parts, is, more) = bind-is (rule.outcome b pt d) (λ parts. bind (after_line pt (line.Head d)) (λ begun. bind (spelled begun parts) (λ w. Some (rule.headed (line.Head d) w)))) w e in
-    let (start, head, last) = bind-is (after_line pt (line.Head d)) (λ begun. bind (spelled begun parts) (λ w. Some (rule.headed (line.Head d) w))) w more in
-    let (rest, told, end) = bind-is (spelled start parts) (λ w. Some (rule.headed (line.Head d) w)) w last in
-    let f : moved pt (line.Head d) pt.kernel ≡ start = cc in
-    let g : rule.headed (line.Head d) rest ≡ w = cc in
+    let (parts, is, more) = bind-is (rule.outcome b pt d) (λ parts. bind (after_line pt (Line.Head d)) (λ begun. bind (spelled begun parts) (λ w. Some (rule.headed (Line.Head d) w)))) w e in
+    let (start, head, last) = bind-is (after_line pt (Line.Head d)) (λ begun. bind (spelled begun parts) (λ w. Some (rule.headed (Line.Head d) w))) w more in
+    let (rest, told, end) = bind-is (spelled start parts) (λ w. Some (rule.headed (Line.Head d) w)) w last in
+    let f : moved pt (Line.Head d) pt.kernel ≡ start = cc in
+    let g : rule.headed (Line.Head d) rest ≡ w = cc in
     let fits = apart_some pt.kernel y (rule.outcome b pt d) parts is h in
-    let k = parts_left pt.kernel y parts (moved pt (line.Head d) pt.kernel) rest fits fits (ap (λ p. spelled p parts) f ∙ told) in
+    let k = parts_left pt.kernel y parts (moved pt (Line.Head d) pt.kernel) rest fits fits (ap (λ p. spelled p parts) f ∙ told) in
     subst (λ (x : Spelled). Left pt.kernel y pt x.point x.lines) g (record { spare = (tt, k.spare); same = k.same })
 
 outcome_apart : (b : Boot) (pt : Point) (d : Step) (y : Pid) → Rooted pt → ((m : ℕ) → pid_of m (first_number + pt.kernel.made m) ≢ y) → ((m : ℕ) (p : Pid) → pt.view.known m p ≡ Here → p ≢ y) → ApartOf pt.kernel y (rule.outcome b pt d)
-outcome_apart b pt (step.Turn m) y h child off = turns_apart y b pt m (pt.view.inbox m) (child m) (off m) (h.served m)
-outcome_apart b pt (step.Tick m) y h child off = (tt, net_apart y (rule.resends pt.view m pt.kernel.machines) (resends_net pt.view m pt.kernel.machines))
-outcome_apart b pt (step.Deliver a c k) y h child off =
+outcome_apart b pt (Step.Turn m) y h child off = turns_apart y b pt m (pt.view.inbox m) (child m) (off m) (h.served m)
+outcome_apart b pt (Step.Tick m) y h child off = (tt, net_apart y (rule.resends pt.view m pt.kernel.machines) (resends_net pt.view m pt.kernel.machines))
+outcome_apart b pt (Step.Deliver a c k) y h child off =
     let s = slice_get (pt.view.pair a c).wire k in
     let qs = rule.arrives a c (pt.view.pair a c) (pt.view.pair c a) s in
     apart_first pt.kernel y qs (net_apart y qs (arrives_net a c (pt.view.pair a c) (pt.view.pair c a) s))
-outcome_apart b pt (step.Migrate p m) y h child off = apart_first pt.kernel y (migrates pt p) (migrates_apart y pt p)
+outcome_apart b pt (Step.Migrate p m) y h child off = apart_first pt.kernel y (migrates pt p) (migrates_apart y pt p)
 
 -- what moves is here nowhere, and was made
-moves_known : (k : MessageKind) (s d : ℕ) (o : Option MsgId) → Moves k s d o ≡ Nowhere → ⊥
+pub moves_known : (k : MessageKind) (s d : ℕ) (o : Option MsgId) → Moves k s d o ≡ Nowhere → ⊥
 moves_known k s d o e = cc
 
 moving_left : (b : Boot) (pt : Point) (d : Step) (w : Spelled) (y : Pid) (k : MessageKind) (s t : ℕ) (o : Option MsgId) → Rooted pt → IsIn pt.view y (Moves k s t o) → group_of b pt d ≡ Some w → Left pt.kernel y pt w.point w.lines

@@ -1,45 +1,18 @@
 -- The labels of a group: what is another process's.
-use Rattle.std.proofs.Common.{◌≡◌, ◌≢◌, ℕ, ◌+◌, ◌==◌, Bool, true, false, List, [], ◌∷◌, length, refl}
-use Rattle.std.specs.Prelude.{⊤, if◌then◌else◌, slice_get}
-use Rattle.std.specs.declared.option.Option.{Option}
-use Rattle.std.specs.declared.option.Option.TheVariants.{None, Some}
-use Rattle.dm_link.specs.declared.Pid.{Pid}
-use Rattle.dm_link.specs.Names.{pid_of, pid_eq}
-use Rattle.dm_message.specs.declared.MsgId.{MsgId}
-use Rattle.dm_message.specs.declared.kind.MessageKind.{MessageKind}
-use Rattle.dm_message.specs.declared.kind.MessageKind.TheVariants as kind
-use Rattle.dm_message.specs.Kinds.{plain_kind}
-use Rattle.dm_message.specs.Plain as what
-use Rattle.dm_message.specs.Plain.{PlainMessage, PlainWhat}
-use Rattle.dm_processor.specs.Instructions.{instruction}
-use Rattle.dm_onekernel.specs.declared.boot.BootImage.{BootImage}
-use Rattle.dm_onekernel.specs.declared.boot.Boot.{Boot}
-use Rattle.dm_onekernel.specs.declared.label.Label.TheVariants as label
-use Rattle.dm_onekernel.specs.Boot.{first_number, switchboard, manager}
-use Rattle.dm_onekernel.specs.Options.{bind}
-use Rattle.dm_onekernel.specs.PlainProcess.{PlainProcess, PlainStatus, Ready, Waiting, Moving}
-use Rattle.dm_onekernel.specs.Kernel.{OneKernel}
+use Rattle.dm_rule.proofs.Names.{◌≡◌, ◌≢◌, ℕ, ◌+◌, ◌==◌, Bool, true, false, List, [], ◌∷◌, length, refl, ⊤, if◌then◌else◌, slice_get, Option, None, Some, Pid, pid_of, pid_eq, MsgId, MessageKind, Label, plain_kind, PlainMessage, PlainWhat}
+use Rattle.dm_rule.proofs.Names.{instruction, BootImage, Boot, first_number, switchboard, manager, bind, PlainProcess, PlainStatus, Ready, Waiting, Moving, OneKernel, machine_of, with_machine, Known, Unknown, Here, Forward, Ended}
+use Rattle.dm_rule.proofs.Names.{Addresses, Sender, is_told_back, Point, label_of, Part, Says, Owns, forwards_on, Spares}
 use Rattle.dm_onekernel.specs.Calls as calls
 use Rattle.dm_onekernel.specs.Pieces as pieces
 use Rattle.dm_onekernel.specs.Receiving as receiving
 use Rattle.dm_onekernel.specs.Switchboard as board
 use Rattle.dm_onekernel.specs.Manager as manage
 use Rattle.dm_onekernel.specs.Step as kernel
-use Rattle.dm_onekernel.specs.Step.{machine_of, with_machine}
-use Rattle.dm_rule.specs.View.{Known, Unknown, Here, Frozen, Incoming, Forward, Ended}
-use Rattle.dm_rule.specs.Addresses.{Addresses, Sender, is_told_back}
-use Rattle.dm_rule.specs.Point.{Point, label_of}
-use Rattle.dm_rule.specs.Parts.{Part, Says, Routes, Again, Owns, Transmits}
-use Rattle.dm_rule.specs.Migrating.{forwards_on}
 use Rattle.dm_rule.specs.Rule as rule
-use Rattle.dm_rule.specs.Apart.{Spares}
 
 abbrev pub SparesPart : OneKernel → Pid → Part → Type 0
 SparesPart z y (Says l) = Spares z y (label_of l)
-SparesPart z y (Routes i) = ⊤
-SparesPart z y (Again i b) = ⊤
-SparesPart z y (Owns k q b) = ⊤
-SparesPart z y (Transmits a b l) = ⊤
+SparesPart z y _ = ⊤
 
 abbrev pub AllApart : Pid → List Part → Type 0
 AllApart y [] = ⊤
@@ -79,11 +52,9 @@ drops_apart y [] = tt
 drops_apart y (i ∷ is) = (λ s. tt, drops_apart y is)
 
 called_apart : (y p : Pid) (n : ℕ) (queue : List MsgId) (c : calls.Called) → p ≢ y → AllApart y (rule.called p n queue c)
-called_apart y p n queue (calls.Replies reply x) off = (λ s. off, tt)
 called_apart y p n queue (calls.Sends m x) off = (λ s. off, (λ s. tt, tt))
-called_apart y p n queue (calls.Waits x) off = (λ s. off, tt)
-called_apart y p n queue (calls.Outputs word x) off = (λ s. off, tt)
 called_apart y p n queue (calls.Ends because) off = (λ s. off, drops_apart y queue)
+called_apart y p n queue _ off = (λ s. off, tt)
 
 stops_apart : (y p : Pid) (queue : List MsgId) (o : Option kernel.Next) → p ≢ y → AllApart y (rule.stops p queue o)
 stops_apart y p queue None off = tt
@@ -117,7 +88,7 @@ round_apart z y b o m (Some p) off =
     (λ x is. serves_apart z y b.quantum o.kernel p (o.view.queue m p) x x.status (off p refl))
 
 -- a message of the bag is handled
-created_apart : (z : OneKernel) (y : Pid) (c : Bool) (id : MsgId) (p : Pid) (a b : ℕ) → p ≢ y → SparesPart z y (if c then rule.says (label.Created id p) else rule.says (label.NoSpace id a b))
+created_apart : (z : OneKernel) (y : Pid) (c : Bool) (id : MsgId) (p : Pid) (a b : ℕ) → p ≢ y → SparesPart z y (if c then rule.says (Label.Created id p) else rule.says (Label.NoSpace id a b))
 created_apart z y true id p a b off = off
 created_apart z y false id p a b off = tt
 
@@ -126,20 +97,8 @@ creates_apart z y o m id r None off = tt
 creates_apart z y o m id r (Some i) off = (created_apart z y (rule.has_room r i.blocks) id (pid_of m (first_number + o.kernel.made m)) r.slots r.blocks off, (λ s. tt, tt))
 
 kernel_apart : (z : OneKernel) (y : Pid) (b : Boot) (o : Point) (m : ℕ) (id : MsgId) (k : PlainWhat) → pid_of m (first_number + o.kernel.made m) ≢ y → ApartOf z y (rule.kernel_handles b o m id k)
-kernel_apart z y b o m id (what.User x1 x2 x3 x4) off = tt
-kernel_apart z y b o m id what.Stop off = tt
-kernel_apart z y b o m id what.Resume off = tt
-kernel_apart z y b o m id what.Kill off = tt
-kernel_apart z y b o m id (what.Read x1 x2) off = tt
-kernel_apart z y b o m id (what.Write x1 x2) off = tt
-kernel_apart z y b o m id (what.Block x1) off = tt
-kernel_apart z y b o m id what.Written off = tt
-kernel_apart z y b o m id what.Gone off = tt
-kernel_apart z y b o m id (what.Create x1 x2) off = creates_apart z y o m id (rule.free_room b o m) (slice_get b.images x1) off
-kernel_apart z y b o m id (what.Created x1) off = tt
-kernel_apart z y b o m id what.NoRoom off = tt
-kernel_apart z y b o m id (what.Move x1) off = tt
-kernel_apart z y b o m id (what.Moved x1) off = tt
+kernel_apart z y b o m id (PlainWhat.Create x1 x2) off = creates_apart z y o m id (rule.free_room b o m) (slice_get b.images x1) off
+kernel_apart z y b o m id _ off = tt
 
 routes_apart : (y : Pid) (o : Option PlainMessage) → AllApart y (rule.routes o)
 routes_apart y None = tt
@@ -163,47 +122,36 @@ lands_apart z y id (Some (pieces.Next request x)) off = (off, (λ s. tt, tt))
 lands_apart z y id (Some (pieces.Done reply x)) off = (off, tt)
 
 here_apart : (z : OneKernel) (y : Pid) (o : Point) (m : ℕ) (id : MsgId) (msg : PlainMessage) (x : PlainProcess) (k : PlainWhat) → ForOther z y id → ApartOf z y (rule.here_handles o m id msg x k)
-here_apart z y o m id msg x (what.User x1 x2 x3 x4) off = (tt, tt)
-here_apart z y o m id msg x what.Stop off = (off, tt)
-here_apart z y o m id msg x what.Resume off = (off, tt)
-here_apart z y o m id msg x what.Kill off = (off, drops_apart y (o.view.queue m msg.to))
-here_apart z y o m id msg x (what.Read x1 x2) off = (off, (λ s. tt, tt))
-here_apart z y o m id msg x (what.Write x1 x2) off = (off, (λ s. tt, tt))
-here_apart z y o m id msg x (what.Block x1) off = lands_apart z y id (pieces.lands msg.to x msg x.status) off
-here_apart z y o m id msg x what.Written off = lands_apart z y id (pieces.lands msg.to x msg x.status) off
-here_apart z y o m id msg x what.Gone off = lands_apart z y id (pieces.lands msg.to x msg x.status) off
-here_apart z y o m id msg x (what.Create x1 x2) off = tt
-here_apart z y o m id msg x (what.Created x1) off = tt
-here_apart z y o m id msg x what.NoRoom off = tt
-here_apart z y o m id msg x (what.Move x1) off = tt
-here_apart z y o m id msg x (what.Moved x1) off = tt
+here_apart z y o m id msg x (PlainWhat.User x1 x2 x3 x4) off = (tt, tt)
+here_apart z y o m id msg x PlainWhat.Stop off = (off, tt)
+here_apart z y o m id msg x PlainWhat.Resume off = (off, tt)
+here_apart z y o m id msg x PlainWhat.Kill off = (off, drops_apart y (o.view.queue m msg.to))
+here_apart z y o m id msg x (PlainWhat.Read x1 x2) off = (off, (λ s. tt, tt))
+here_apart z y o m id msg x (PlainWhat.Write x1 x2) off = (off, (λ s. tt, tt))
+here_apart z y o m id msg x (PlainWhat.Block x1) off = lands_apart z y id (pieces.lands msg.to x msg x.status) off
+here_apart z y o m id msg x PlainWhat.Written off = lands_apart z y id (pieces.lands msg.to x msg x.status) off
+here_apart z y o m id msg x PlainWhat.Gone off = lands_apart z y id (pieces.lands msg.to x msg x.status) off
+here_apart z y o m id msg x _ off = tt
 
 ended_apart : (z : OneKernel) (y : Pid) (id : MsgId) (k : PlainWhat) → ApartOf z y (rule.ended_handles id k)
-ended_apart z y id (what.User x1 x2 x3 x4) = (tt, tt)
-ended_apart z y id what.Stop = (tt, tt)
-ended_apart z y id what.Resume = (tt, tt)
-ended_apart z y id what.Kill = (tt, tt)
-ended_apart z y id (what.Read x1 x2) = (tt, (λ s. tt, tt))
-ended_apart z y id (what.Write x1 x2) = (tt, (λ s. tt, tt))
-ended_apart z y id (what.Block x1) = (tt, tt)
-ended_apart z y id what.Written = (tt, tt)
-ended_apart z y id what.Gone = (tt, tt)
-ended_apart z y id (what.Create x1 x2) = tt
-ended_apart z y id (what.Created x1) = tt
-ended_apart z y id what.NoRoom = tt
-ended_apart z y id (what.Move x1) = tt
-ended_apart z y id (what.Moved x1) = tt
+ended_apart z y id (PlainWhat.Read x1 x2) = (tt, (λ s. tt, tt))
+ended_apart z y id (PlainWhat.Write x1 x2) = (tt, (λ s. tt, tt))
+ended_apart z y id (PlainWhat.Create x1 x2) = tt
+ended_apart z y id (PlainWhat.Created x1) = tt
+ended_apart z y id PlainWhat.NoRoom = tt
+ended_apart z y id (PlainWhat.Move x1) = tt
+ended_apart z y id (PlainWhat.Moved x1) = tt
+ended_apart z y id _ = (tt, tt)
 
 pub forwards_apart : (z : OneKernel) (y : Pid) (a : Addresses) (id : MsgId) (k : MessageKind) (sender : Pid) (to : ℕ) → FirstApart z y (forwards_on a id k sender to)
-forwards_apart z y a id k sender to = (tt, (λ s. tt, apart_if y (is_told_back k) (Owns kind.Update sender (a (Sender id)).at ∷ []) (λ s. tt, tt)))
+forwards_apart z y a id k sender to = (tt, (λ s. tt, apart_if y (is_told_back k) (Owns MessageKind.Update sender (a (Sender id)).at ∷ []) (λ s. tt, tt)))
 
 process_apart : (z : OneKernel) (y : Pid) (o : Point) (m : ℕ) (id : MsgId) (msg : PlainMessage) (k : Known) → (k ≡ Here → ForOther z y id) → ApartOf z y (rule.process_handles o m id msg k)
 process_apart z y o m id msg Unknown off = tt
 process_apart z y o m id msg Here off = of_bind z y (kernel.alive (o.kernel.processes msg.to)) (λ x. rule.here_handles o m id msg x msg.what) (λ x is. here_apart z y o m id msg x msg.what (off refl))
-process_apart z y o m id msg (Frozen to) off = (tt, tt)
-process_apart z y o m id msg (Incoming from) off = (tt, tt)
 process_apart z y o m id msg (Forward at moves) off = forwards_apart z y o.addresses id (plain_kind msg.what) msg.sender at
 process_apart z y o m id msg Ended off = ended_apart z y id msg.what
+process_apart z y o m id msg _ off = (tt, tt)
 
 pub handles_apart : (z : OneKernel) (y : Pid) (b : Boot) (o : Point) (m : ℕ) (id : MsgId) (msg : PlainMessage) → pid_of m (first_number + o.kernel.made m) ≢ y → (o.view.known m msg.to ≡ Here → ForOther z y id) → ApartOf z y (rule.handles b o m id msg)
 handles_apart z y b o m id msg child off =

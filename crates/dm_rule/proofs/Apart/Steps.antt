@@ -1,38 +1,14 @@
 -- A step that is not of a process leaves its plain value.
-use Rattle.std.proofs.Common.{◌≡◌, ◌≢◌, ℕ, ◌+◌, ◌==◌, ◌&&◌, Bool, true, false, List, length, refl, ap}
-use Rattle.std.specs.Prelude.{⊤, if◌then◌else◌, slice_get}
-use Rattle.std.specs.declared.option.Option.{Option}
-use Rattle.std.specs.declared.option.Option.TheVariants.{None, Some}
-use Rattle.dm_link.specs.declared.Pid.{Pid}
-use Rattle.dm_link.specs.Names.{pid_of, pid_eq}
-use Rattle.dm_link.specs.Plain.{PlainLink}
-use Rattle.dm_message.specs.declared.MsgId.{MsgId}
-use Rattle.dm_message.specs.Ids.{id_eq}
-use Rattle.dm_message.specs.Plain as what
-use Rattle.dm_message.specs.Plain.{PlainMessage, PlainWhat}
-use Rattle.dm_onekernel.specs.declared.boot.BootImage.{BootImage}
-use Rattle.dm_onekernel.specs.declared.label.Label.{Label}
-use Rattle.dm_onekernel.specs.declared.label.Label.TheVariants as label
-use Rattle.dm_onekernel.specs.declared.label.Reply.{Reply}
-use Rattle.dm_onekernel.specs.declared.label.Why.{Why}
-use Rattle.dm_onekernel.specs.declared.label.Why.TheVariants as why
-use Rattle.dm_onekernel.specs.Boot.{first_number, switchboard, manager}
-use Rattle.dm_onekernel.specs.Codes.{reply_eq, why_eq}
-use Rattle.dm_onekernel.specs.Options.{bind, when}
-use Rattle.dm_onekernel.specs.PlainProcess.{PlainProcess}
-use Rattle.dm_onekernel.specs.Kernel.{Life, Alive, Ended, OneKernel, with_process, with_sent}
-use Rattle.dm_onekernel.specs.Calls as calls
+use Rattle.dm_rule.proofs.Names.{◌≡◌, ◌≢◌, ℕ, ◌+◌, ◌==◌, ◌&&◌, Bool, true, false, List, length, refl, ap, ⊤, if◌then◌else◌, slice_get, Option, None, Some, Pid, pid_of, pid_eq, PlainLink, MsgId, id_eq, Called, PlainMessage, PlainWhat}
+use Rattle.dm_rule.proofs.Names.{BootImage, Label, Reply, Why, first_number, switchboard, manager, reply_eq, why_eq, bind, when, PlainProcess, Life, Alive, OneKernel, with_process, with_sent, answer_to, without_message, begun, IsOthers}
+use Rattle.dm_rule.proofs.Names.{pid_eq-is}
+use Rattle.dm_onekernel.specs.Kernel.{Ended}
 use Rattle.dm_onekernel.specs.Pieces as pieces
-use Rattle.dm_onekernel.specs.Pieces.{answer_to}
 use Rattle.dm_onekernel.specs.Receiving as receiving
 use Rattle.dm_onekernel.specs.Service as service
-use Rattle.dm_onekernel.specs.Service.{without_message}
-use Rattle.dm_onekernel.specs.Start.{begun}
 use Rattle.dm_onekernel.specs.Switchboard as board
 use Rattle.dm_onekernel.specs.Manager as manage
 use Rattle.dm_onekernel.specs.Step as kernel
-use Rattle.dm_rule.specs.Apart.{IsOthers}
-use Rattle.dm_laws.proofs.Equal.{pid_eq-is}
 use Rattle.dm_rule.proofs.Lines.{not_true}
 
 -- the next kernel, where there is one, has the process as it was
@@ -62,44 +38,44 @@ sent_off s (Some m) p = refl
 
 -- calls, a row each
 keeps_replies : (s : OneKernel) (p q : Pid) (n : ℕ) (c : Reply) (next : kernel.Next) → q ≢ p → Keeps s p (kernel.replies s q n c next)
-keeps_replies s p q n c (kernel.Calls number (calls.Replies reply x)) off = keeps_when s p ((n == number) && reply_eq c reply) (kernel.goes_on s q x) (set_off s q p (Alive x) off)
-keeps_replies s p q n c (kernel.Calls number (calls.Sends m x)) off = tt
-keeps_replies s p q n c (kernel.Calls number (calls.Waits x)) off = tt
-keeps_replies s p q n c (kernel.Calls number (calls.Outputs word x)) off = tt
-keeps_replies s p q n c (kernel.Calls number (calls.Ends because)) off = tt
+keeps_replies s p q n c (kernel.Calls number (Called.Replies reply x)) off = keeps_when s p ((n == number) && reply_eq c reply) (kernel.goes_on s q x) (set_off s q p (Alive x) off)
+keeps_replies s p q n c (kernel.Calls number (Called.Sends m x)) off = tt
+keeps_replies s p q n c (kernel.Calls number (Called.Waits x)) off = tt
+keeps_replies s p q n c (kernel.Calls number (Called.Outputs word x)) off = tt
+keeps_replies s p q n c (kernel.Calls number (Called.Ends because)) off = tt
 keeps_replies s p q n c (kernel.Faults fault) off = tt
 
 keeps_sends : (s : OneKernel) (p q : Pid) (id : MsgId) (next : kernel.Next) → q ≢ p → Keeps s p (kernel.sends s q id next)
-keeps_sends s p q id (kernel.Calls number (calls.Replies reply x)) off = tt
-keeps_sends s p q id (kernel.Calls number (calls.Sends m x)) off = keeps_when s p (id_eq id m.id) (with_sent (kernel.goes_on s q x) (Some m)) (set_off s q p (Alive x) off)
-keeps_sends s p q id (kernel.Calls number (calls.Waits x)) off = tt
-keeps_sends s p q id (kernel.Calls number (calls.Outputs word x)) off = tt
-keeps_sends s p q id (kernel.Calls number (calls.Ends because)) off = tt
+keeps_sends s p q id (kernel.Calls number (Called.Replies reply x)) off = tt
+keeps_sends s p q id (kernel.Calls number (Called.Sends m x)) off = keeps_when s p (id_eq id m.id) (with_sent (kernel.goes_on s q x) (Some m)) (set_off s q p (Alive x) off)
+keeps_sends s p q id (kernel.Calls number (Called.Waits x)) off = tt
+keeps_sends s p q id (kernel.Calls number (Called.Outputs word x)) off = tt
+keeps_sends s p q id (kernel.Calls number (Called.Ends because)) off = tt
 keeps_sends s p q id (kernel.Faults fault) off = tt
 
 keeps_waits : (s : OneKernel) (p q : Pid) (next : kernel.Next) → q ≢ p → Keeps s p (kernel.waits s q next)
-keeps_waits s p q (kernel.Calls number (calls.Replies reply x)) off = tt
-keeps_waits s p q (kernel.Calls number (calls.Sends m x)) off = tt
-keeps_waits s p q (kernel.Calls number (calls.Waits x)) off = set_off s q p (Alive x) off
-keeps_waits s p q (kernel.Calls number (calls.Outputs word x)) off = tt
-keeps_waits s p q (kernel.Calls number (calls.Ends because)) off = tt
+keeps_waits s p q (kernel.Calls number (Called.Replies reply x)) off = tt
+keeps_waits s p q (kernel.Calls number (Called.Sends m x)) off = tt
+keeps_waits s p q (kernel.Calls number (Called.Waits x)) off = set_off s q p (Alive x) off
+keeps_waits s p q (kernel.Calls number (Called.Outputs word x)) off = tt
+keeps_waits s p q (kernel.Calls number (Called.Ends because)) off = tt
 keeps_waits s p q (kernel.Faults fault) off = tt
 
 keeps_outputs : (s : OneKernel) (p q : Pid) (w : ℕ) (next : kernel.Next) → q ≢ p → Keeps s p (kernel.outputs s q w next)
-keeps_outputs s p q w (kernel.Calls number (calls.Replies reply x)) off = tt
-keeps_outputs s p q w (kernel.Calls number (calls.Sends m x)) off = tt
-keeps_outputs s p q w (kernel.Calls number (calls.Waits x)) off = tt
-keeps_outputs s p q w (kernel.Calls number (calls.Outputs word x)) off = keeps_when s p (w == word) (kernel.goes_on s q x) (set_off s q p (Alive x) off)
-keeps_outputs s p q w (kernel.Calls number (calls.Ends because)) off = tt
+keeps_outputs s p q w (kernel.Calls number (Called.Replies reply x)) off = tt
+keeps_outputs s p q w (kernel.Calls number (Called.Sends m x)) off = tt
+keeps_outputs s p q w (kernel.Calls number (Called.Waits x)) off = tt
+keeps_outputs s p q w (kernel.Calls number (Called.Outputs word x)) off = keeps_when s p (w == word) (kernel.goes_on s q x) (set_off s q p (Alive x) off)
+keeps_outputs s p q w (kernel.Calls number (Called.Ends because)) off = tt
 keeps_outputs s p q w (kernel.Faults fault) off = tt
 
 keeps_ends : (s : OneKernel) (p q : Pid) (y : Why) (next : kernel.Next) → q ≢ p → Keeps s p (kernel.ends s q y next)
-keeps_ends s p q y (kernel.Calls number (calls.Replies reply x)) off = tt
-keeps_ends s p q y (kernel.Calls number (calls.Sends m x)) off = tt
-keeps_ends s p q y (kernel.Calls number (calls.Waits x)) off = tt
-keeps_ends s p q y (kernel.Calls number (calls.Outputs word x)) off = tt
-keeps_ends s p q y (kernel.Calls number (calls.Ends because)) off = keeps_when s p (why_eq y because) (with_process s q (Ended y)) (set_off s q p (Ended y) off)
-keeps_ends s p q y (kernel.Faults fault) off = keeps_when s p (why_eq y (why.Fault fault)) (with_process s q (Ended y)) (set_off s q p (Ended y) off)
+keeps_ends s p q y (kernel.Calls number (Called.Replies reply x)) off = tt
+keeps_ends s p q y (kernel.Calls number (Called.Sends m x)) off = tt
+keeps_ends s p q y (kernel.Calls number (Called.Waits x)) off = tt
+keeps_ends s p q y (kernel.Calls number (Called.Outputs word x)) off = tt
+keeps_ends s p q y (kernel.Calls number (Called.Ends because)) off = keeps_when s p (why_eq y because) (with_process s q (Ended y)) (set_off s q p (Ended y) off)
+keeps_ends s p q y (kernel.Faults fault) off = keeps_when s p (why_eq y (Why.Fault fault)) (with_process s q (Ended y)) (set_off s q p (Ended y) off)
 
 keeps_receives : (s : OneKernel) (p q : Pid) (id : MsgId) (c : receiving.Completed) → q ≢ p → Keeps s p (kernel.receives s q id c)
 keeps_receives s p q id (receiving.Receives x) off = set_off (without_message s id) q p (Alive x) off
@@ -124,20 +100,15 @@ keeps_answers : (s : OneKernel) (p : Pid) (id : MsgId) (m : PlainMessage) (o : O
 keeps_answers s p id m o off = keeps_bind s p o (λ r. Some (service.answered s id m r)) (λ r is. changed_off s p id m r.process off)
 
 keeps_serves : (s : OneKernel) (p : Pid) (id : MsgId) (m : PlainMessage) (x : PlainProcess) (k : PlainWhat) → m.to ≢ p → Keeps s p (service.serves s id m x k)
-keeps_serves s p id m x (what.User x1 x2 x3 x4) off = tt
-keeps_serves s p id m x what.Stop off = changed_off s p id m (record x { stopped = true }) off
-keeps_serves s p id m x what.Resume off = changed_off s p id m (record x { stopped = false }) off
-keeps_serves s p id m x what.Kill off = set_off (without_message s id) m.to p (Ended why.Killed) off
-keeps_serves s p id m x (what.Read x1 x2) off = keeps_answers s p id m (pieces.reads x m x1 x2) off
-keeps_serves s p id m x (what.Write x1 x2) off = keeps_answers s p id m (pieces.writes x m x1 x2) off
-keeps_serves s p id m x (what.Block x1) off = keeps_lands s p id m (pieces.lands m.to x m x.status) off
-keeps_serves s p id m x what.Written off = keeps_lands s p id m (pieces.lands m.to x m x.status) off
-keeps_serves s p id m x what.Gone off = keeps_lands s p id m (pieces.lands m.to x m x.status) off
-keeps_serves s p id m x (what.Create x1 x2) off = tt
-keeps_serves s p id m x (what.Created x1) off = tt
-keeps_serves s p id m x what.NoRoom off = tt
-keeps_serves s p id m x (what.Move x1) off = tt
-keeps_serves s p id m x (what.Moved x1) off = tt
+keeps_serves s p id m x PlainWhat.Stop off = changed_off s p id m (record x { stopped = true }) off
+keeps_serves s p id m x PlainWhat.Resume off = changed_off s p id m (record x { stopped = false }) off
+keeps_serves s p id m x PlainWhat.Kill off = set_off (without_message s id) m.to p (Ended Why.Killed) off
+keeps_serves s p id m x (PlainWhat.Read x1 x2) off = keeps_answers s p id m (pieces.reads x m x1 x2) off
+keeps_serves s p id m x (PlainWhat.Write x1 x2) off = keeps_answers s p id m (pieces.writes x m x1 x2) off
+keeps_serves s p id m x (PlainWhat.Block x1) off = keeps_lands s p id m (pieces.lands m.to x m x.status) off
+keeps_serves s p id m x PlainWhat.Written off = keeps_lands s p id m (pieces.lands m.to x m x.status) off
+keeps_serves s p id m x PlainWhat.Gone off = keeps_lands s p id m (pieces.lands m.to x m x.status) off
+keeps_serves s p id m x _ off = tt
 
 keeps_takes : (s : OneKernel) (p : Pid) (id : MsgId) (m : PlainMessage) → Keeps s p (service.takes s id m)
 keeps_takes s p id m =
@@ -151,62 +122,38 @@ keeps_takes s p id m =
 -- a process is made
 keeps_image : (s : OneKernel) (p child : Pid) (id : MsgId) (m : PlainMessage) (links : List PlainLink) (i : BootImage) → child ≢ p → Keeps s p (service.creates_of s id m child links i)
 keeps_image s p child id m links i off =
-    keeps_when s p (service.is_kernel s m.to && pid_eq child (pid_of m.to.home (first_number + s.made m.to.home))) (with_sent (service.with_child (without_message s id) child i links) (Some (answer_to m (what.Created child))))
+    keeps_when s p (service.is_kernel s m.to && pid_eq child (pid_of m.to.home (first_number + s.made m.to.home))) (with_sent (service.with_child (without_message s id) child i links) (Some (answer_to m (PlainWhat.Created child))))
     (set_off (without_message s id) child p (Alive (begun s.format i links)) off)
 
 keeps_creates : (s : OneKernel) (p child : Pid) (id : MsgId) (m : PlainMessage) (k : PlainWhat) → child ≢ p → Keeps s p (service.creates s id m child k)
-keeps_creates s p child id m (what.User x1 x2 x3 x4) off = tt
-keeps_creates s p child id m what.Stop off = tt
-keeps_creates s p child id m what.Resume off = tt
-keeps_creates s p child id m what.Kill off = tt
-keeps_creates s p child id m (what.Read x1 x2) off = tt
-keeps_creates s p child id m (what.Write x1 x2) off = tt
-keeps_creates s p child id m (what.Block x1) off = tt
-keeps_creates s p child id m what.Written off = tt
-keeps_creates s p child id m what.Gone off = tt
-keeps_creates s p child id m (what.Create x1 x2) off = keeps_bind s p (slice_get s.images x1) (service.creates_of s id m child x2) (λ i is. keeps_image s p child id m x2 i off)
-keeps_creates s p child id m (what.Created x1) off = tt
-keeps_creates s p child id m what.NoRoom off = tt
-keeps_creates s p child id m (what.Move x1) off = tt
-keeps_creates s p child id m (what.Moved x1) off = tt
+keeps_creates s p child id m (PlainWhat.Create x1 x2) off = keeps_bind s p (slice_get s.images x1) (service.creates_of s id m child x2) (λ i is. keeps_image s p child id m x2 i off)
+keeps_creates s p child id m _ off = tt
 
 keeps_no_room : (s : OneKernel) (p : Pid) (id : MsgId) (m : PlainMessage) (k : PlainWhat) → Keeps s p (service.has_no_room s id m k)
-keeps_no_room s p id m (what.User x1 x2 x3 x4) = tt
-keeps_no_room s p id m what.Stop = tt
-keeps_no_room s p id m what.Resume = tt
-keeps_no_room s p id m what.Kill = tt
-keeps_no_room s p id m (what.Read x1 x2) = tt
-keeps_no_room s p id m (what.Write x1 x2) = tt
-keeps_no_room s p id m (what.Block x1) = tt
-keeps_no_room s p id m what.Written = tt
-keeps_no_room s p id m what.Gone = tt
-keeps_no_room s p id m (what.Create x1 x2) = keeps_when s p (service.is_kernel s m.to) (with_sent (without_message s id) (Some (answer_to m what.NoRoom))) refl
-keeps_no_room s p id m (what.Created x1) = tt
-keeps_no_room s p id m what.NoRoom = tt
-keeps_no_room s p id m (what.Move x1) = tt
-keeps_no_room s p id m (what.Moved x1) = tt
+keeps_no_room s p id m (PlainWhat.Create x1 x2) = keeps_when s p (service.is_kernel s m.to) (with_sent (without_message s id) (Some (answer_to m PlainWhat.NoRoom))) refl
+keeps_no_room s p id m _ = tt
 
 -- a row a label
 pub keeps_step : (s : OneKernel) (p : Pid) (l : Label) → IsOthers s p l → Keeps s p (kernel.step s l)
-keeps_step s p (label.Ran q k) off =
+keeps_step s p (Label.Ran q k) off =
     keeps_bind s p (kernel.running s q) (λ x. bind (kernel.plain_steps k (kernel.machine_of x)) (λ m. Some (kernel.goes_on s q (kernel.with_machine x m))))
     (λ x is. keeps_bind s p (kernel.plain_steps k (kernel.machine_of x)) (λ m. Some (kernel.goes_on s q (kernel.with_machine x m))) (λ m e. set_off s q p (Alive (kernel.with_machine x m)) off))
-keeps_step s p (label.Call q n c) off = keeps_bind s p (kernel.next s q) (kernel.replies s q n c) (λ x is. keeps_replies s p q n c x off)
-keeps_step s p (label.Send q id) off = keeps_bind s p (kernel.next s q) (kernel.sends s q id) (λ x is. keeps_sends s p q id x off)
-keeps_step s p (label.Wait q) off = keeps_bind s p (kernel.next s q) (kernel.waits s q) (λ x is. keeps_waits s p q x off)
-keeps_step s p (label.Out q w) off = keeps_bind s p (kernel.next s q) (kernel.outputs s q w) (λ x is. keeps_outputs s p q w x off)
-keeps_step s p (label.End q y) off = keeps_bind s p (kernel.next s q) (kernel.ends s q y) (λ x is. keeps_ends s p q y x off)
-keeps_step s p (label.Receive q id) off = keeps_bind s p (kernel.completing s q id) (kernel.receives s q id) (λ x is. keeps_receives s p q id x off)
-keeps_step s p (label.Refuse q id c) off = keeps_bind s p (kernel.completing s q id) (kernel.refuses s q c) (λ x is. keeps_refuses s p q c x off)
-keeps_step s p (label.Dropped id) off =
+keeps_step s p (Label.Call q n c) off = keeps_bind s p (kernel.next s q) (kernel.replies s q n c) (λ x is. keeps_replies s p q n c x off)
+keeps_step s p (Label.Send q id) off = keeps_bind s p (kernel.next s q) (kernel.sends s q id) (λ x is. keeps_sends s p q id x off)
+keeps_step s p (Label.Wait q) off = keeps_bind s p (kernel.next s q) (kernel.waits s q) (λ x is. keeps_waits s p q x off)
+keeps_step s p (Label.Out q w) off = keeps_bind s p (kernel.next s q) (kernel.outputs s q w) (λ x is. keeps_outputs s p q w x off)
+keeps_step s p (Label.End q y) off = keeps_bind s p (kernel.next s q) (kernel.ends s q y) (λ x is. keeps_ends s p q y x off)
+keeps_step s p (Label.Receive q id) off = keeps_bind s p (kernel.completing s q id) (kernel.receives s q id) (λ x is. keeps_receives s p q id x off)
+keeps_step s p (Label.Refuse q id c) off = keeps_bind s p (kernel.completing s q id) (kernel.refuses s q c) (λ x is. keeps_refuses s p q c x off)
+keeps_step s p (Label.Dropped id) off =
     keeps_bind s p (s.bag id) (λ m. bind (kernel.ended (s.processes m.to)) (kernel.drops s id m))
     (λ m there. keeps_bind s p (kernel.ended (s.processes m.to)) (kernel.drops s id m) (λ y is. keeps_when s p (service.is_dropped m.what) (without_message s id) refl))
-keeps_step s p (label.Served id) off =
+keeps_step s p (Label.Served id) off =
     keeps_bind s p (s.bag id) (λ m. bind (kernel.alive (s.processes m.to)) (λ x. service.serves s id m x m.what))
     (λ m there. keeps_bind s p (kernel.alive (s.processes m.to)) (λ x. service.serves s id m x m.what) (λ x is. keeps_serves s p id m x m.what (off m there)))
-keeps_step s p (label.Gone id) off =
+keeps_step s p (Label.Gone id) off =
     keeps_bind s p (s.bag id) (λ m. bind (kernel.ended (s.processes m.to)) (kernel.says_gone s id m))
-    (λ m there. keeps_bind s p (kernel.ended (s.processes m.to)) (kernel.says_gone s id m) (λ y is. keeps_when s p (service.is_of_memory m.what) (with_sent (without_message s id) (Some (answer_to m what.Gone))) refl))
-keeps_step s p (label.Took id) off = keeps_bind s p (s.bag id) (service.takes s id) (λ m there. keeps_takes s p id m)
-keeps_step s p (label.Created id q) off = keeps_bind s p (s.bag id) (λ m. service.creates s id m q m.what) (λ m there. keeps_creates s p q id m m.what off)
-keeps_step s p (label.NoSpace id a b) off = keeps_bind s p (s.bag id) (λ m. service.has_no_room s id m m.what) (λ m there. keeps_no_room s p id m m.what)
+    (λ m there. keeps_bind s p (kernel.ended (s.processes m.to)) (kernel.says_gone s id m) (λ y is. keeps_when s p (service.is_of_memory m.what) (with_sent (without_message s id) (Some (answer_to m PlainWhat.Gone))) refl))
+keeps_step s p (Label.Took id) off = keeps_bind s p (s.bag id) (service.takes s id) (λ m there. keeps_takes s p id m)
+keeps_step s p (Label.Created id q) off = keeps_bind s p (s.bag id) (λ m. service.creates s id m q m.what) (λ m there. keeps_creates s p q id m m.what off)
+keeps_step s p (Label.NoSpace id a b) off = keeps_bind s p (s.bag id) (λ m. service.has_no_room s id m m.what) (λ m there. keeps_no_room s p id m m.what)

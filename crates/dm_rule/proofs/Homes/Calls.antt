@@ -1,38 +1,11 @@
 -- What a call gives: each address that it gives is one that the process that it is of may have.
-use Rattle.std.proofs.Common.{◌≡◌, ℕ, zero, suc, ◌+◌, ◌==◌, ◌&&◌, ◌||◌, Bool, true, false, List, [], ◌∷◌, refl, ap, ◌∙◌, sym, subst, inl, inr, arith, nat_lt}
-use Rattle.std.specs.Prelude.{⊤, if◌then◌else◌, map, slice_get, slice_set, filter_map}
-use Rattle.std.specs.List.{cons_option}
-use Rattle.std.specs.Option.{is_none}
-use Rattle.std.specs.declared.option.Option.{Option}
-use Rattle.std.specs.declared.option.Option.TheVariants.{None, Some}
-use Rattle.std.proofs.lemmas.Bool.Decides.{nat_tests}
-use Rattle.dm_link.specs.declared.Pid.{Pid}
-use Rattle.dm_link.specs.Names.{Place, pid_eq}
-use Rattle.dm_link.specs.Plain.{PlainLink}
-use Rattle.dm_linktable.specs.Slots.{first_empty, link_at}
-use Rattle.dm_message.specs.declared.MsgId.{MsgId}
-use Rattle.dm_message.specs.Ids.{id_eq, id_of}
-use Rattle.dm_message.specs.Plain.{PlainMessage}
-use Rattle.dm_process.specs.declared.process.Direction.{Direction}
-use Rattle.dm_process.specs.declared.process.Direction.TheVariants as direction
-use Rattle.dm_process.specs.Directions.{direction_numbered}
-use Rattle.dm_processor.specs.declared.registers.Regs.{Regs}
-use Rattle.dm_processor.specs.Instructions.{Row, instruction, past}
-use Rattle.dm_processor.specs.Instructions as row
-use Rattle.dm_onekernel.specs.declared.label.Reply.{Reply}
-use Rattle.dm_onekernel.specs.declared.label.Reply.TheVariants as reply
-use Rattle.dm_onekernel.specs.PlainProcess.{PlainProcess, Waiting, reg, setting}
-use Rattle.dm_onekernel.specs.Kernel.{OneKernel}
+use Rattle.dm_rule.proofs.Names.{◌≡◌, ℕ, zero, suc, ◌+◌, ◌==◌, ◌&&◌, ◌||◌, Bool, true, false, List, [], ◌∷◌, refl, ap, ◌∙◌, sym, subst, inl, inr, arith, nat_lt, ⊤, if◌then◌else◌, map, slice_get, slice_set, filter_map, cons_option, is_none}
+use Rattle.dm_rule.proofs.Names.{Option, None, Some, nat_tests, Pid, Place, pid_eq, PlainLink, first_empty, link_at, MsgId, id_eq, id_of, PlainMessage, Direction, direction_numbered, Regs, Row, instruction, past, Reply, PlainProcess}
+use Rattle.dm_rule.proofs.Names.{Waiting, reg, setting, OneKernel, CallNumber, Called, Replies, Sends, Waits, Outputs, Ends, first_failed, pid_eq-same, id_eq-same, bind-is, View, Addresses, Gets, gets, given, Slot, Owner, Receiver, Sender}
+use Rattle.dm_rule.proofs.Names.{here, encloses, fills, fills_by, sends_what, owner_in, links_in}
 use Rattle.dm_onekernel.specs.Calls as calls
-use Rattle.dm_onekernel.specs.Calls.{CallNumber, Called, Replies, Sends, Waits, Outputs, Ends}
 use Rattle.dm_onekernel.specs.Pieces as pieces
-use Rattle.dm_onekernel.specs.Refusals.{first_failed}
 use Rattle.dm_onekernel.specs.Step as kernel
-use Rattle.dm_laws.proofs.Equal.{pid_eq-same, id_eq-same}
-use Rattle.dm_laws.proofs.Steps.{bind-is}
-use Rattle.dm_rule.specs.View.{View}
-use Rattle.dm_rule.specs.Addresses.{Addresses, Gets, gets, given, Slot, Owner, Receiver, Sender, here, encloses, fills, fills_by, sends_what, owner_in}
-use Rattle.dm_rule.specs.Homes.{links_in}
 use Rattle.dm_rule.proofs.Homes.{place_as, pid_as, HomeProcess, HomeMessage, AtHome}
 use Rattle.dm_rule.proofs.Homes.Slots.{set_link, emptied_link, without_replies_link, past_call}
 use Rattle.dm_rule.proofs.Homes.Rows.{SameProcess, SameMessage, SameServers, running_home, encloses_servers, encloses_process, encloses_message, encloses_at}
@@ -43,15 +16,8 @@ behind x = record x { regs = past x.regs }
 
 -- what a reply gives
 abbrev pub gives_by : View → Addresses → Pid → PlainProcess → CallNumber → Reply → List Gets
-gives_by v a p x n reply.Done = fills_by v a p x n
-gives_by v a p x n reply.NoLink = []
-gives_by v a p x n reply.TableFull = []
-gives_by v a p x n reply.BadKind = []
-gives_by v a p x n reply.BadRange = []
-gives_by v a p x n reply.NoRight = []
-gives_by v a p x n reply.TooLong = []
-gives_by v a p x n reply.Gone = []
-gives_by v a p x n reply.NotCopyable = []
+gives_by v a p x n Reply.Done = fills_by v a p x n
+gives_by v a p x n _ = []
 
 -- a process that has sent a message, where b is a with what the sending gives
 pub record HomeSent (P : Pid → Place → Type 0) (a b : Addresses) (p : Pid) (m : PlainMessage) (y : PlainProcess) : Type 0 where
@@ -73,15 +39,8 @@ regs_home : (P : Pid → Place → Type 0) (a : Addresses) (p : Pid) (x : PlainP
 regs_home P a p x regs h = record { slots = h.slots; owner = h.owner }
 
 pub no_gives : (v : View) (a : Addresses) (p : Pid) (x : PlainProcess) (n : CallNumber) (c : Reply) → fills_by v a p x n ≡ [] → gives_by v a p x n c ≡ []
-no_gives v a p x n reply.Done e = e
-no_gives v a p x n reply.NoLink e = refl
-no_gives v a p x n reply.TableFull e = refl
-no_gives v a p x n reply.BadKind e = refl
-no_gives v a p x n reply.BadRange e = refl
-no_gives v a p x n reply.NoRight e = refl
-no_gives v a p x n reply.TooLong e = refl
-no_gives v a p x n reply.Gone e = refl
-no_gives v a p x n reply.NotCopyable e = refl
+no_gives v a p x n Reply.Done e = e
+no_gives v a p x n _ e = refl
 
 refused_home : (P : Pid → Place → Type 0) (v : View) (a : Addresses) (p : Pid) (x : PlainProcess) (n : CallNumber) (c : Reply) → fills_by v a p x n ≡ [] → HomeProcess P a p x → HomeCalled P v a p x n (calls.refused c (behind x))
 refused_home P v a p x n c e h =
@@ -115,26 +74,26 @@ set_slot_home P a p x regs slot l place is h = record {
 
 puts_home : (P : Pid → Place → Type 0) (v : View) (a : Addresses) (p : Pid) (x : PlainProcess) (n : CallNumber) (l : PlainLink) (place : Place) (o : Option ℕ) → fills_by v a p x n ≡ fills p o place → P l.to place → HomeProcess P a p x
     → HomeCalled P v a p x n (calls.puts_link (behind x) l o)
-puts_home P v a p x n l place None fills is h = regs_home P a p x (calls.replied reply.TableFull (behind x)).regs h
+puts_home P v a p x n l place None fills is h = regs_home P a p x (calls.replied Reply.TableFull (behind x)).regs h
 puts_home P v a p x n l place (Some slot) fills is h =
     let y = record (behind x) { regs = setting (setting (past x.regs) 0 0) 1 slot; links = slice_set x.links slot (Some l) } in
     subst (λ (gs : List Gets). HomeProcess P (given a gs) p y) (sym fills) (set_slot_home P a p x y.regs slot l place is h)
 
 copies_home : (P : Pid → Place → Type 0) (v : View) (a : Addresses) (p : Pid) (x : PlainProcess) (o : Option PlainLink) → link_at x.links (reg x.regs 1) ≡ o → HomeProcess P a p x → HomeCalled P v a p x calls.Copy (calls.copies (behind x) o)
-copies_home P v a p x None is h = regs_home P a p x (calls.replied reply.NoLink (behind x)).regs h
+copies_home P v a p x None is h = regs_home P a p x (calls.replied Reply.NoLink (behind x)).regs h
 copies_home P v a p x (Some l) is h =
-    if_home P v a p x calls.Copy (calls.is_reply l.kind) (calls.refused reply.NotCopyable (behind x)) (calls.puts_link (behind x) l (first_empty x.links))
-    (regs_home P a p x (calls.replied reply.NotCopyable (behind x)).regs h)
+    if_home P v a p x calls.Copy (calls.is_reply l.kind) (calls.refused Reply.NotCopyable (behind x)) (calls.puts_link (behind x) l (first_empty x.links))
+    (regs_home P a p x (calls.replied Reply.NotCopyable (behind x)).regs h)
     (puts_home P v a p x calls.Copy l (a (Slot p (reg x.regs 1))) (first_empty x.links) refl (h.slots (reg x.regs 1) l is) h)
 
 drops_home : (P : Pid → Place → Type 0) (v : View) (a : Addresses) (p : Pid) (x : PlainProcess) (o : Option PlainLink) → HomeProcess P a p x → HomeCalled P v a p x calls.Drop (calls.drops (behind x) o)
-drops_home P v a p x None h = regs_home P a p x (calls.replied reply.NoLink (behind x)).regs h
+drops_home P v a p x None h = regs_home P a p x (calls.replied Reply.NoLink (behind x)).regs h
 drops_home P v a p x (Some l) h = record { slots = λ k w e. h.slots k w (emptied_link x.links (reg x.regs 1) k w e); owner = h.owner }
 
 makes_by : (P : Pid → Place → Type 0) (v : View) (a : Addresses) (p : Pid) (x : PlainProcess) (b c : Bool) → P p (here v p) → HomeProcess P a p x
-    → HomeCalled P v a p x calls.Make (calls.unless_refused (first_failed (record { fails = b; reply = reply.BadKind } ∷ record { fails = c; reply = reply.BadRange } ∷ [])) (behind x) (calls.puts_link (behind x) (calls.own_link p (behind x)) (first_empty x.links)))
-makes_by P v a p x true c is h = regs_home P a p x (calls.replied reply.BadKind (behind x)).regs h
-makes_by P v a p x false true is h = regs_home P a p x (calls.replied reply.BadRange (behind x)).regs h
+    → HomeCalled P v a p x calls.Make (calls.unless_refused (first_failed (record { fails = b; reply = Reply.BadKind } ∷ record { fails = c; reply = Reply.BadRange } ∷ [])) (behind x) (calls.puts_link (behind x) (calls.own_link p (behind x)) (first_empty x.links)))
+makes_by P v a p x true c is h = regs_home P a p x (calls.replied Reply.BadKind (behind x)).regs h
+makes_by P v a p x false true is h = regs_home P a p x (calls.replied Reply.BadRange (behind x)).regs h
 makes_by P v a p x false false is h = puts_home P v a p x calls.Make (calls.own_link p (behind x)) (here v p) (first_empty x.links) refl is h
 
 -- the links that a message encloses have their places among the slots'
@@ -193,16 +152,16 @@ user_sent P v a p x l over some is h =
 
 sends_by : (P : Pid → Place → Type 0) (v : View) (a : Addresses) (p : Pid) (x : PlainProcess) (l : PlainLink) (b c d e : Bool) → d ≡ calls.any_empty x.links (calls.listed x) → link_at x.links (reg x.regs 1) ≡ Some l → P p (here v p) → HomeProcess P a p x
     → HomeCalled P v a p x calls.Send (calls.unless_refused
-    (first_failed (record { fails = b; reply = reply.TooLong } ∷ record { fails = c; reply = reply.BadRange } ∷ record { fails = d; reply = reply.NoLink } ∷ record { fails = e; reply = reply.BadKind } ∷ []))
+    (first_failed (record { fails = b; reply = Reply.TooLong } ∷ record { fails = c; reply = Reply.BadRange } ∷ record { fails = d; reply = Reply.NoLink } ∷ record { fails = e; reply = Reply.BadKind } ∷ []))
     (behind x) (Sends (calls.message_over p (behind x) l) (calls.after_send (behind x))))
-sends_by P v a p x l true c d e f over is h = regs_home P a p x (calls.replied reply.TooLong (behind x)).regs h
-sends_by P v a p x l false true d e f over is h = regs_home P a p x (calls.replied reply.BadRange (behind x)).regs h
-sends_by P v a p x l false false true e f over is h = regs_home P a p x (calls.replied reply.NoLink (behind x)).regs h
-sends_by P v a p x l false false false true f over is h = regs_home P a p x (calls.replied reply.BadKind (behind x)).regs h
+sends_by P v a p x l true c d e f over is h = regs_home P a p x (calls.replied Reply.TooLong (behind x)).regs h
+sends_by P v a p x l false true d e f over is h = regs_home P a p x (calls.replied Reply.BadRange (behind x)).regs h
+sends_by P v a p x l false false true e f over is h = regs_home P a p x (calls.replied Reply.NoLink (behind x)).regs h
+sends_by P v a p x l false false false true f over is h = regs_home P a p x (calls.replied Reply.BadKind (behind x)).regs h
 sends_by P v a p x l false false false false f over is h = user_sent P v a p x l over (sym f) is h
 
 sends_home : (P : Pid → Place → Type 0) (v : View) (a : Addresses) (p : Pid) (x : PlainProcess) (o : Option PlainLink) → link_at x.links (reg x.regs 1) ≡ o → P p (here v p) → HomeProcess P a p x → HomeCalled P v a p x calls.Send (calls.sends p (behind x) o)
-sends_home P v a p x None over is h = regs_home P a p x (calls.replied reply.NoLink (behind x)).regs h
+sends_home P v a p x None over is h = regs_home P a p x (calls.replied Reply.NoLink (behind x)).regs h
 sends_home P v a p x (Some l) over is h =
     sends_by P v a p x l (nat_lt (calls.most_body x) (reg x.regs 3) || nat_lt 4 (reg x.regs 4)) (calls.is_outside x (reg x.regs 2) (reg x.regs 3) || calls.is_outside x (reg x.regs 5) (reg x.regs 4))
     (calls.any_empty x.links (calls.listed x)) (calls.reply_named_twice x.links (reg x.regs 1 ∷ calls.listed x)) refl over is h
@@ -234,38 +193,37 @@ move_sent P v a p m x y to there from none links owner is h = record {
 
 begins_home : (P : Pid → Place → Type 0) (v : View) (a : Addresses) (p : Pid) (x : PlainProcess) (l : PlainLink) (dir : Direction) (base own left : ℕ) → link_at x.links (reg x.regs 1) ≡ Some l → P p (here v p) → HomeProcess P a p x
     → HomeCalled P v a p x calls.Move (calls.begins (pieces.requests p (behind x) dir l.to base own left))
-begins_home P v a p x l direction.FromArea base own left over is h =
-    let r = pieces.requests p (behind x) direction.FromArea l.to base own left in
+begins_home P v a p x l Direction.FromArea base own left over is h =
+    let r = pieces.requests p (behind x) Direction.FromArea l.to base own left in
     move_sent P v a p r.message x r.process (a (Slot p (reg x.regs 1))) (h.slots (reg x.regs 1) l over) refl refl refl refl is h
-begins_home P v a p x l direction.IntoArea base own left over is h =
-    let r = pieces.requests p (behind x) direction.IntoArea l.to base own left in
+begins_home P v a p x l Direction.IntoArea base own left over is h =
+    let r = pieces.requests p (behind x) Direction.IntoArea l.to base own left in
     move_sent P v a p r.message x r.process (a (Slot p (reg x.regs 1))) (h.slots (reg x.regs 1) l over) refl refl refl refl is h
 
 moves_over_home : (P : Pid → Place → Type 0) (v : View) (a : Addresses) (p : Pid) (x : PlainProcess) (l : PlainLink) (o : Option Direction) → link_at x.links (reg x.regs 1) ≡ Some l → P p (here v p) → HomeProcess P a p x
     → HomeCalled P v a p x calls.Move (calls.moves_over p (behind x) l o)
-moves_over_home P v a p x l None over is h = regs_home P a p x (calls.replied reply.BadKind (behind x)).regs h
+moves_over_home P v a p x l None over is h = regs_home P a p x (calls.replied Reply.BadKind (behind x)).regs h
 moves_over_home P v a p x l (Some dir) over is h =
     unless_refused_home P v a p x calls.Move (first_failed (calls.move_refusals (behind x) l dir)) (calls.moves_bytes p (behind x) l dir) refl h
-    (if_home P v a p x calls.Move (reg x.regs 5 == 0) (calls.refused reply.Done (behind x)) (calls.begins (pieces.requests p (behind x) dir l.to (l.area.base + reg x.regs 3) (reg x.regs 4) (reg x.regs 5)))
-    (regs_home P a p x (calls.replied reply.Done (behind x)).regs h)
+    (if_home P v a p x calls.Move (reg x.regs 5 == 0) (calls.refused Reply.Done (behind x)) (calls.begins (pieces.requests p (behind x) dir l.to (l.area.base + reg x.regs 3) (reg x.regs 4) (reg x.regs 5)))
+    (regs_home P a p x (calls.replied Reply.Done (behind x)).regs h)
     (begins_home P v a p x l dir (l.area.base + reg x.regs 3) (reg x.regs 4) (reg x.regs 5) over is h))
 
 moves_home : (P : Pid → Place → Type 0) (v : View) (a : Addresses) (p : Pid) (x : PlainProcess) (o : Option PlainLink) → link_at x.links (reg x.regs 1) ≡ o → P p (here v p) → HomeProcess P a p x → HomeCalled P v a p x calls.Move (calls.moves p (behind x) o)
-moves_home P v a p x None over is h = regs_home P a p x (calls.replied reply.NoLink (behind x)).regs h
+moves_home P v a p x None over is h = regs_home P a p x (calls.replied Reply.NoLink (behind x)).regs h
 moves_home P v a p x (Some l) over is h = moves_over_home P v a p x l (direction_numbered (reg x.regs 2)) over is h
 
 does_call_home : (P : Pid → Place → Type 0) (v : View) (a : Addresses) (p : Pid) (x : PlainProcess) (n : CallNumber) → P p (here v p) → HomeProcess P a p x → HomeCalled P v a p x n (calls.does_call p (behind x) n)
-does_call_home P v a p x calls.Exit is h = tt
-does_call_home P v a p x calls.Out is h = regs_home P a p x (calls.replied reply.Done (behind x)).regs h
+does_call_home P v a p x calls.Out is h = regs_home P a p x (calls.replied Reply.Done (behind x)).regs h
 does_call_home P v a p x calls.Make is h = makes_by P v a p x (nat_lt 7 (reg x.regs 3)) (nat_lt 31 (reg x.regs 2) || calls.is_outside x (reg x.regs 4) (reg x.regs 5)) is h
 does_call_home P v a p x calls.Copy is h = copies_home P v a p x (link_at x.links (reg x.regs 1)) refl h
 does_call_home P v a p x calls.Drop is h = drops_home P v a p x (link_at x.links (reg x.regs 1)) h
 does_call_home P v a p x calls.Send is h = sends_home P v a p x (link_at x.links (reg x.regs 1)) refl is h
 does_call_home P v a p x calls.Receive is h =
-    if_home P v a p x calls.Receive (calls.is_outside x (reg x.regs 2) (reg x.regs 3)) (calls.refused reply.BadRange (behind x)) (Waits (record (behind x) { status = Waiting (reg x.regs 1) (reg x.regs 2) (reg x.regs 3) }))
-    (regs_home P a p x (calls.replied reply.BadRange (behind x)).regs h) (record { slots = h.slots; owner = λ q e. absurd (let f : None ≡ Some q = e in cc) })
+    if_home P v a p x calls.Receive (calls.is_outside x (reg x.regs 2) (reg x.regs 3)) (calls.refused Reply.BadRange (behind x)) (Waits (record (behind x) { status = Waiting (reg x.regs 1) (reg x.regs 2) (reg x.regs 3) }))
+    (regs_home P a p x (calls.replied Reply.BadRange (behind x)).regs h) (record { slots = h.slots; owner = λ q e. absurd (let f : None ≡ Some q = e in cc) })
 does_call_home P v a p x calls.Move is h = moves_home P v a p x (link_at x.links (reg x.regs 1)) refl is h
-does_call_home P v a p x calls.Unknown is h = tt
+does_call_home P v a p x _ is h = tt
 
 -- what comes next of a process that executes
 abbrev pub HomeNext : (Pid → Place → Type 0) → View → Addresses → Pid → PlainProcess → kernel.Next → Type 0
@@ -273,12 +231,12 @@ HomeNext P v a p x (kernel.Calls number called) = HomeCalled P v a p x (calls.ca
 HomeNext P v a p x (kernel.Faults fault) = ⊤
 
 next_row_home : (P : Pid → Place → Type 0) (v : View) (a : Addresses) (p : Pid) (x : PlainProcess) (w : Row) (n : kernel.Next) → instruction x.regs x.memory ≡ w → kernel.next_row p x w ≡ Some n → P p (here v p) → HomeProcess P a p x → HomeNext P v a p x n
-next_row_home P v a p x (row.Plain regs bytes) n w e is h = cc
-next_row_home P v a p x (row.Calls number regs) n w e is h =
+next_row_home P v a p x (Row.Plain regs bytes) n w e is h = cc
+next_row_home P v a p x (Row.Calls number regs) n w e is h =
     let f : regs ≡ past x.regs = past_call x.regs x.memory number regs w in
     let g : kernel.Calls number (calls.call p (record x { regs = regs }) number) ≡ n = cc in
     subst (HomeNext P v a p x) (ap (λ (r : Regs). kernel.Calls number (calls.call p (record x { regs = r }) number)) (sym f) ∙ g) (does_call_home P v a p x (calls.call_number number) is h)
-next_row_home P v a p x (row.Faults fault) n w e is h = let g : kernel.Faults fault ≡ n = cc in subst (HomeNext P v a p x) g tt
+next_row_home P v a p x (Row.Faults fault) n w e is h = let g : kernel.Faults fault ≡ n = cc in subst (HomeNext P v a p x) g tt
 
 pub record Nexts (P : Pid → Place → Type 0) (v : View) (s : OneKernel) (a : Addresses) (p : Pid) (n : kernel.Next) : Type 0 where
   pub x : PlainProcess

@@ -1,39 +1,17 @@
 -- A group keeps all of it where its first part is said where it belongs.
-use Rattle.std.proofs.Common.{◌≡◌, ℕ, zero, suc, ◌+◌, ◌==◌, Bool, true, false, List, [], ◌∷◌, ◌++◌, length, refl, ap, ◌∙◌, sym, subst, ◌⊎◌, inl, inr}
-use Rattle.std.specs.Prelude.{⊤, if◌then◌else◌}
-use Rattle.std.specs.declared.option.Option.{Option}
-use Rattle.std.specs.declared.option.Option.TheVariants.{None, Some}
-use Rattle.dm_link.specs.declared.Pid.{Pid}
-use Rattle.dm_message.specs.declared.MsgId.{MsgId}
-use Rattle.dm_onekernel.specs.declared.boot.Boot.{Boot}
-use Rattle.dm_onekernel.specs.declared.label.Label.{Label}
-use Rattle.dm_onekernel.specs.Kernel.{OneKernel}
-use Rattle.dm_onekernel.specs.Options.{bind}
-use Rattle.dm_laws.proofs.Steps.{bind-is}
-use Rattle.dm_line.specs.declared.line.Line.{Line}
-use Rattle.dm_line.specs.declared.line.Line.TheVariants as line
-use Rattle.dm_line.specs.declared.line.Load.{Load}
-use Rattle.dm_line.specs.declared.line.Load.TheVariants as load
+use Rattle.dm_rule.proofs.Names.{◌≡◌, ℕ, zero, suc, ◌+◌, ◌==◌, Bool, true, false, List, [], ◌∷◌, ◌++◌, length, refl, ap, ◌∙◌, sym, subst, ◌⊎◌, inl, inr, ⊤, if◌then◌else◌, Option, None, Some, Pid, MsgId, Boot, Label, OneKernel, bind}
+use Rattle.dm_rule.proofs.Names.{bind-is, Line, Load, View, Pair, queued_for, handled, Point, after, after_line, moved, Part, Says, Transmits, Spelled, behind, spelled, lines_of, slice_get, ◌-◌, nat_lt, window, Step, actor, begins, marked}
+use Rattle.dm_rule.proofs.Names.{Sent, NothingElse, group_of, outcome, headed, IsStill}
 use Rattle.dm_rule.specs.View as view
-use Rattle.dm_rule.specs.View.{View, Pair, Told, after_label, after_put, after_packet, after_taken, after_early, after_acked, queued_for, handled}
-use Rattle.dm_rule.specs.Point.{Point, after, after_line, moved}
-use Rattle.dm_rule.specs.Parts.{Part, Says, Transmits, Spelled, behind, spelled, lines_of}
 use Rattle.dm_rule.proofs.Homes.Labels.{SaidAt, RingsHome, rings_same}
 use Rattle.dm_rule.proofs.Homes.Lists.{stands, queue_lists}
-use Rattle.std.specs.Prelude.{slice_get, ◌-◌, nat_lt}
-use Rattle.dm_rule.specs.Parts.{window}
 use Rattle.dm_rule.proofs.Homes.Lines.{NoneReplaced, Home, Kept, same_lists, label_keeps}
-use Rattle.dm_schedule.specs.declared.Step.{Step}
-use Rattle.dm_schedule.specs.declared.Step.TheVariants as directive
-use Rattle.dm_rule.specs.View.{actor, begins, marked, marked_at, Sent, after_head, About, NothingElse}
 use Rattle.dm_rule.specs.Rule as rule
-use Rattle.dm_rule.specs.Rule.{group_of, outcome, headed}
-use Rattle.dm_rule.specs.Laws.{IsStill}
 use Rattle.dm_rule.proofs.Homes.Parts.{PartAnywhere, PartsAnywhere, parts_keep, part_keeps}
 
 -- the first part of a group: one that may stand anywhere, a label said where it belongs, or a message that is queued
 abbrev pub FirstGood : OneKernel → (MsgId → ℕ) → ℕ → Part → Type 0
-FirstGood s e m p = PartAnywhere m p ⊎ (((l : Label) × (p ≡ Says (line.Label l)) × SaidAt s m l) ⊎ ((id : MsgId) × (p ≡ Says (line.Queued id)) × (stands s e m id ≡ true)))
+FirstGood s e m p = PartAnywhere m p ⊎ (((l : Label) × (p ≡ Says (Line.Label l)) × SaidAt s m l) ⊎ ((id : MsgId) × (p ≡ Says (Line.Queued id)) × (stands s e m id ≡ true)))
 
 abbrev pub PartsGood : OneKernel → (MsgId → ℕ) → ℕ → List Part → Type 0
 PartsGood s e m [] = ⊤
@@ -47,9 +25,9 @@ rings_queued : (v : View) (id : MsgId) (o : Option Pid) → RingsHome v → Ring
 rings_queued v id None h = h
 rings_queued v id (Some p) h = record { moves = h.moves; ring = h.ring; known = h.known }
 
-queued_keeps : (r e : MsgId → ℕ) (pt pt' : Point) (id : MsgId) → stands pt.kernel e pt.view.acting id ≡ true → Home r e pt → after pt (line.Queued id ∷ []) ≡ Some pt' → Kept pt.view.acting pt'
+queued_keeps : (r e : MsgId → ℕ) (pt pt' : Point) (id : MsgId) → stands pt.kernel e pt.view.acting id ≡ true → Home r e pt → after pt (Line.Queued id ∷ []) ≡ Some pt' → Kept pt.view.acting pt'
 queued_keeps r e pt pt' id at h is =
-    let f : moved pt (line.Queued id) pt.kernel ≡ pt' = cc in
+    let f : moved pt (Line.Queued id) pt.kernel ≡ pt' = cc in
     let w = handled pt.view id in
     subst (Kept pt.view.acting) f (record {
       r = r;
@@ -63,12 +41,12 @@ first_keeps none r e pt pt' p ls good h is next = elim good [
   | inl any ↦ part_keeps none r e pt pt' p ls any h is next
   | inr said ↦ elim said [
     | inl one ↦
-        let f : Some (line.Label one.0 ∷ []) ≡ Some ls = ap (lines_of pt) (sym one.1) ∙ is in
-        let g : line.Label one.0 ∷ [] ≡ ls = cc in
+        let f : Some (Line.Label one.0 ∷ []) ≡ Some ls = ap (lines_of pt) (sym one.1) ∙ is in
+        let g : Line.Label one.0 ∷ [] ≡ ls = cc in
         label_keeps none r e pt pt' one.0 one.2 h (ap (after pt) g ∙ next)
     | inr one ↦
-        let f : Some (line.Queued one.0 ∷ []) ≡ Some ls = ap (lines_of pt) (sym one.1) ∙ is in
-        let g : line.Queued one.0 ∷ [] ≡ ls = cc in
+        let f : Some (Line.Queued one.0 ∷ []) ≡ Some ls = ap (lines_of pt) (sym one.1) ∙ is in
+        let g : Line.Queued one.0 ∷ [] ≡ ls = cc in
         queued_keeps r e pt pt' one.0 one.2 h (ap (after pt) g ∙ next)
   ]
 ]
@@ -87,28 +65,28 @@ good_keep none (p ∷ ps) r e m pt w acting at h is =
 pub begun_home : (r e : MsgId → ℕ) (pt : Point) (m : ℕ) → Home r e pt → Home r e (record { kernel = pt.kernel; view = begins pt.view m NothingElse; addresses = pt.addresses })
 begun_home r e pt m h = record { sound = h.sound; at = h.at; rings = record { moves = h.rings.moves; ring = h.rings.ring; known = h.rings.known }; lists = record { inbox = h.lists.inbox; queue = h.lists.queue; untaken = h.lists.untaken } }
 
-spells : NoneReplaced → (r e : MsgId → ℕ) (m : ℕ) (begun : Point) (ps : List Part) (d : Step) (w : Spelled) → begun.view.acting ≡ m → PartsGood begun.kernel e m ps → Home r e begun → bind (spelled begun ps) (λ (z : Spelled). Some (headed (line.Head d) z)) ≡ Some w → Kept m w.point
+spells : NoneReplaced → (r e : MsgId → ℕ) (m : ℕ) (begun : Point) (ps : List Part) (d : Step) (w : Spelled) → begun.view.acting ≡ m → PartsGood begun.kernel e m ps → Home r e begun → bind (spelled begun ps) (λ (z : Spelled). Some (headed (Line.Head d) z)) ≡ Some w → Kept m w.point
 spells none r e m begun ps d w acting good h is =
-    let (z, more, end) = bind-is (spelled begun ps) (λ (y : Spelled). Some (headed (line.Head d) y)) w is in
-    let f : headed (line.Head d) z ≡ w = cc in
+    let (z, more, end) = bind-is (spelled begun ps) (λ (y : Spelled). Some (headed (Line.Head d) y)) w is in
+    let f : headed (Line.Head d) z ≡ w = cc in
     subst (λ (x : Spelled). Kept m x.point) f (good_keep none ps r e m begun z acting good h more)
 
 -- a group whose parts are good where the run stands
 pub group_keeps : NoneReplaced → (b : Boot) (r e : MsgId → ℕ) (pt : Point) (d : Step) (w : Spelled) → IsStill d → group_of b pt d ≡ Some w → Home r e pt → ((ps : List Part) → outcome b pt d ≡ Some ps → PartsGood pt.kernel e (actor d) ps) → Kept (actor d) w.point
-group_keeps none b r e pt (directive.Turn m) w still is h good =
-    let (ps, comes, rest) = bind-is (outcome b pt (directive.Turn m)) (λ (xs : List Part). bind (after_line pt (line.Head (directive.Turn m))) (λ (q : Point). bind (spelled q xs) (λ (z : Spelled). Some (headed (line.Head (directive.Turn m)) z)))) w is in
-    spells none r e m (moved pt (line.Head (directive.Turn m)) pt.kernel) ps (directive.Turn m) w refl (good ps comes) (begun_home r e pt m h) rest
-group_keeps none b r e pt (directive.Tick m) w still is h good =
-    let (ps, comes, rest) = bind-is (outcome b pt (directive.Tick m)) (λ (xs : List Part). bind (after_line pt (line.Head (directive.Tick m))) (λ (q : Point). bind (spelled q xs) (λ (z : Spelled). Some (headed (line.Head (directive.Tick m)) z)))) w is in
-    spells none r e m (moved pt (line.Head (directive.Tick m)) pt.kernel) ps (directive.Tick m) w refl (good ps comes) (begun_home r e pt m h) rest
-group_keeps none b r e pt (directive.Deliver a c k) w still is h good =
-    let (ps, comes, rest) = bind-is (outcome b pt (directive.Deliver a c k)) (λ (xs : List Part). bind (after_line pt (line.Head (directive.Deliver a c k))) (λ (q : Point). bind (spelled q xs) (λ (z : Spelled). Some (headed (line.Head (directive.Deliver a c k)) z)))) w is in
+group_keeps none b r e pt (Step.Turn m) w still is h good =
+    let (ps, comes, rest) = bind-is (outcome b pt (Step.Turn m)) (λ (xs : List Part). bind (after_line pt (Line.Head (Step.Turn m))) (λ (q : Point). bind (spelled q xs) (λ (z : Spelled). Some (headed (Line.Head (Step.Turn m)) z)))) w is in
+    spells none r e m (moved pt (Line.Head (Step.Turn m)) pt.kernel) ps (Step.Turn m) w refl (good ps comes) (begun_home r e pt m h) rest
+group_keeps none b r e pt (Step.Tick m) w still is h good =
+    let (ps, comes, rest) = bind-is (outcome b pt (Step.Tick m)) (λ (xs : List Part). bind (after_line pt (Line.Head (Step.Tick m))) (λ (q : Point). bind (spelled q xs) (λ (z : Spelled). Some (headed (Line.Head (Step.Tick m)) z)))) w is in
+    spells none r e m (moved pt (Line.Head (Step.Tick m)) pt.kernel) ps (Step.Tick m) w refl (good ps comes) (begun_home r e pt m h) rest
+group_keeps none b r e pt (Step.Deliver a c k) w still is h good =
+    let (ps, comes, rest) = bind-is (outcome b pt (Step.Deliver a c k)) (λ (xs : List Part). bind (after_line pt (Line.Head (Step.Deliver a c k))) (λ (q : Point). bind (spelled q xs) (λ (z : Spelled). Some (headed (Line.Head (Step.Deliver a c k)) z)))) w is in
     let v = begins pt.view c NothingElse in
     let begun = begun_home r e pt c h in
     let p = marked (pt.view.pair a c) k in
-    spells none r e c (moved pt (line.Head (directive.Deliver a c k)) pt.kernel) ps (directive.Deliver a c k) w refl (good ps comes)
+    spells none r e c (moved pt (Line.Head (Step.Deliver a c k)) pt.kernel) ps (Step.Deliver a c k) w refl (good ps comes)
     (record { sound = h.sound; at = h.at; rings = rings_same v (view.with_pair v a c p) refl refl refl begun.rings; lists = same_lists pt.kernel e v a c p refl refl begun.lists }) rest
-group_keeps none b r e pt (directive.Migrate p m) w still is h good = absurd still
+group_keeps none b r e pt (Step.Migrate p m) w still is h good = absurd still
 
 -- parts that may stand anywhere
 parts_append : (m : ℕ) (ps qs : List Part) → PartsAnywhere m ps → PartsAnywhere m qs → PartsAnywhere m (ps ++ qs)
@@ -134,13 +112,13 @@ takes_good m a b [] = tt
 takes_good m a b (n ∷ ns) = (tt, takes_good m a b ns)
 
 comes_good : (m a b : ℕ) (p q : Pair) (l : Load) → PartsAnywhere m (rule.comes a b p q l)
-comes_good m a b p q (load.Data n) =
+comes_good m a b p q (Load.Data n) =
     let ns = rule.kept_from p.kept (n + 1) window in
-    if_parts m (nat_lt n p.taken) (Says (line.Old a b n) ∷ Transmits b a (load.Ack p.taken) ∷ []) (if nat_lt p.taken n then Says (line.Early a b n) ∷ Transmits b a (load.Ack p.taken) ∷ [] else rule.takes_on a b n ns)
+    if_parts m (nat_lt n p.taken) (Says (Line.Old a b n) ∷ Transmits b a (Load.Ack p.taken) ∷ []) (if nat_lt p.taken n then Says (Line.Early a b n) ∷ Transmits b a (Load.Ack p.taken) ∷ [] else rule.takes_on a b n ns)
     (tt, (tt, tt))
-    (if_parts m (nat_lt p.taken n) (Says (line.Early a b n) ∷ Transmits b a (load.Ack p.taken) ∷ []) (rule.takes_on a b n ns) (tt, (tt, tt))
-    (parts_append m (rule.takes a b (n ∷ ns)) (Transmits b a (load.Ack (n + 1 + length ns)) ∷ []) (takes_good m a b (n ∷ ns)) (tt, tt)))
-comes_good m a b p q (load.Ack n) = (tt, repeats_good m b a (rule.let_go q (rule.more n q.acked)))
+    (if_parts m (nat_lt p.taken n) (Says (Line.Early a b n) ∷ Transmits b a (Load.Ack p.taken) ∷ []) (rule.takes_on a b n ns) (tt, (tt, tt))
+    (parts_append m (rule.takes a b (n ∷ ns)) (Transmits b a (Load.Ack (n + 1 + length ns)) ∷ []) (takes_good m a b (n ∷ ns)) (tt, tt)))
+comes_good m a b p q (Load.Ack n) = (tt, repeats_good m b a (rule.let_go q (rule.more n q.acked)))
 
 pub arrives_good : (m a b : ℕ) (p q : Pair) (o : Option Sent) → PartsAnywhere m (rule.arrives a b p q o)
 arrives_good m a b p q None = (tt, tt)
@@ -150,15 +128,15 @@ pub anywhere_good : (s : OneKernel) (e : MsgId → ℕ) (m : ℕ) (ps : List Par
 anywhere_good s e m [] h = tt
 anywhere_good s e m (p ∷ ps) h = (inl h.0, h.1)
 
-pub tick_keeps : NoneReplaced → (b : Boot) (r e : MsgId → ℕ) (pt : Point) (m : ℕ) (w : Spelled) → group_of b pt (directive.Tick m) ≡ Some w → Home r e pt → Kept m w.point
+pub tick_keeps : NoneReplaced → (b : Boot) (r e : MsgId → ℕ) (pt : Point) (m : ℕ) (w : Spelled) → group_of b pt (Step.Tick m) ≡ Some w → Home r e pt → Kept m w.point
 tick_keeps none b r e pt m w is h =
-    group_keeps none b r e pt (directive.Tick m) w tt is h
-    (λ ps comes. let f : Says (line.Resent m (rule.outstanding pt.view m pt.kernel.machines)) ∷ rule.resends pt.view m pt.kernel.machines ≡ ps = cc in
+    group_keeps none b r e pt (Step.Tick m) w tt is h
+    (λ ps comes. let f : Says (Line.Resent m (rule.outstanding pt.view m pt.kernel.machines)) ∷ rule.resends pt.view m pt.kernel.machines ≡ ps = cc in
     subst (PartsGood pt.kernel e m) f (inl tt, resends_good m m pt.view pt.kernel.machines))
 
-pub deliver_keeps : NoneReplaced → (b : Boot) (r e : MsgId → ℕ) (pt : Point) (a c k : ℕ) (w : Spelled) → group_of b pt (directive.Deliver a c k) ≡ Some w → Home r e pt → Kept c w.point
+pub deliver_keeps : NoneReplaced → (b : Boot) (r e : MsgId → ℕ) (pt : Point) (a c k : ℕ) (w : Spelled) → group_of b pt (Step.Deliver a c k) ≡ Some w → Home r e pt → Kept c w.point
 deliver_keeps none b r e pt a c k w is h =
-    group_keeps none b r e pt (directive.Deliver a c k) w tt is h
+    group_keeps none b r e pt (Step.Deliver a c k) w tt is h
     (λ ps comes. let parts = rule.arrives a c (pt.view.pair a c) (pt.view.pair c a) (slice_get (pt.view.pair a c).wire k) in
     let f : parts ≡ ps = cc in
     subst (PartsGood pt.kernel e c) f (anywhere_good pt.kernel e c parts (arrives_good c a c (pt.view.pair a c) (pt.view.pair c a) (slice_get (pt.view.pair a c).wire k))))

@@ -1,24 +1,9 @@
 -- Each label keeps addresses where they may be, as at homes, and what it does to the rings too.
-use Rattle.std.proofs.Common.{◌≡◌, ℕ, ◌==◌, ◌&&◌, Bool, true, false, not, List, [], ◌∷◌, ◌++◌, refl, ap, ◌∙◌, sym, inl, inr, arith}
-use Rattle.std.specs.Prelude.{⊤, if◌then◌else◌, filter}
-use Rattle.std.specs.declared.option.Option.{Option}
-use Rattle.std.specs.declared.option.Option.TheVariants.{None, Some}
-use Rattle.std.proofs.lemmas.Bool.{cases_Bool}
-use Rattle.std.proofs.lemmas.Bool.Decides.{nat_tests}
-use Rattle.dm_link.specs.declared.Pid.{Pid}
-use Rattle.dm_link.specs.Names.{Place, pid_eq}
-use Rattle.dm_message.specs.declared.MsgId.{MsgId}
-use Rattle.dm_message.specs.declared.kind.MessageKind.{MessageKind}
-use Rattle.dm_message.specs.declared.kind.MessageKind.TheVariants as kind
-use Rattle.dm_onekernel.specs.declared.label.Label.{Label}
-use Rattle.dm_onekernel.specs.declared.label.Label.TheVariants as label
-use Rattle.dm_onekernel.specs.Kernel.{OneKernel}
+use Rattle.dm_rule.proofs.Names.{◌≡◌, ℕ, ◌==◌, ◌&&◌, Bool, true, false, not, List, [], ◌∷◌, ◌++◌, refl, ap, ◌∙◌, sym, inl, inr, arith, ⊤, if◌then◌else◌, filter, Option, None, Some, cases_Bool, nat_tests, Pid, Place, pid_eq, MsgId}
+use Rattle.dm_rule.proofs.Names.{MessageKind, Label, OneKernel, at_machine, at_record, without, moved_back, View, Told, Known, Here, Frozen, Incoming, Forward, after_label, served_told, kills, ended, handled, Addresses, given, gives}
+use Rattle.dm_rule.proofs.Names.{unmoved, here, are_home}
 use Rattle.dm_onekernel.specs.Step as kernel
-use Rattle.dm_line.specs.Sets.{at_machine, at_record, without, moved_back}
 use Rattle.dm_rule.specs.View as view
-use Rattle.dm_rule.specs.View.{View, Told, Known, Unknown, Here, Frozen, Incoming, Forward, after_label, served_told, kills, ended, serving, handled}
-use Rattle.dm_rule.specs.Addresses.{Addresses, given, gives, unmoved, here}
-use Rattle.dm_rule.specs.Homes.{are_home}
 use Rattle.dm_rule.proofs.Homes.{IsHome, AtHome}
 use Rattle.dm_rule.proofs.Homes.Steps.{ran_home, call_home, send_home, wait_home, out_home, end_home}
 use Rattle.dm_rule.proofs.Homes.Receives.{receive_home, refuse_home}
@@ -27,75 +12,67 @@ use Rattle.dm_rule.proofs.Homes.Manager.{took_home}
 
 -- a label is said where its process is at home, or where its message's receiver is
 abbrev pub SaidAt : OneKernel → ℕ → Label → Type 0
-SaidAt s m (label.Ran p k) = p.home ≡ m
-SaidAt s m (label.Call p n c) = p.home ≡ m
-SaidAt s m (label.Send p id) = p.home ≡ m
-SaidAt s m (label.Wait p) = p.home ≡ m
-SaidAt s m (label.Out p w) = p.home ≡ m
-SaidAt s m (label.End p y) = p.home ≡ m
-SaidAt s m (label.Receive p id) = p.home ≡ m
-SaidAt s m (label.Refuse p id c) = p.home ≡ m
-SaidAt s m (label.Dropped id) = ⊤
-SaidAt s m (label.Served id) = ReceivedAt s m id
-SaidAt s m (label.Gone id) = ReceivedAt s m id
-SaidAt s m (label.Took id) = ReceivedAt s m id
-SaidAt s m (label.Created id child) = ReceivedAt s m id × (child.home ≡ m)
-SaidAt s m (label.NoSpace id f b) = ReceivedAt s m id
+SaidAt s m (Label.Ran p k) = p.home ≡ m
+SaidAt s m (Label.Call p n c) = p.home ≡ m
+SaidAt s m (Label.Send p id) = p.home ≡ m
+SaidAt s m (Label.Wait p) = p.home ≡ m
+SaidAt s m (Label.Out p w) = p.home ≡ m
+SaidAt s m (Label.End p y) = p.home ≡ m
+SaidAt s m (Label.Receive p id) = p.home ≡ m
+SaidAt s m (Label.Refuse p id c) = p.home ≡ m
+SaidAt s m (Label.Dropped id) = ⊤
+SaidAt s m (Label.Served id) = ReceivedAt s m id
+SaidAt s m (Label.Gone id) = ReceivedAt s m id
+SaidAt s m (Label.Took id) = ReceivedAt s m id
+SaidAt s m (Label.Created id child) = ReceivedAt s m id × (child.home ≡ m)
+SaidAt s m (Label.NoSpace id f b) = ReceivedAt s m id
 
 here_home : (v : View) (p : Pid) → ((q : Pid) → v.moves q ≡ 0) → p.home ≡ v.acting → here v p ≡ unmoved p.home
 here_home v p still at = ap (λ (n : ℕ). record { at = v.acting; moves = n }) (still p) ∙ ap unmoved (sym at)
 
 -- a label is said where its process is, where its message's receiver is or has ended, or at a server's or a kernel's home
 abbrev pub SaidOn : (Pid → Place → Type 0) → OneKernel → View → Addresses → Label → Type 0
-SaidOn P s v a (label.Ran p k) = ⊤
-SaidOn P s v a (label.Call p n c) = P p (here v p)
-SaidOn P s v a (label.Send p id) = P p (here v p)
-SaidOn P s v a (label.Wait p) = P p (here v p)
-SaidOn P s v a (label.Out p w) = P p (here v p)
-SaidOn P s v a (label.End p y) = ⊤
-SaidOn P s v a (label.Receive p id) = ⊤
-SaidOn P s v a (label.Refuse p id c) = ⊤
-SaidOn P s v a (label.Dropped id) = ⊤
-SaidOn P s v a (label.Served id) = ServedAt P s v id
-SaidOn P s v a (label.Gone id) = EndedAt P s v a id
-SaidOn P s v a (label.Took id) = ReceivedAt s v.acting id
-SaidOn P s v a (label.Created id child) = ReceivedAt s v.acting id
-SaidOn P s v a (label.NoSpace id f b) = ReceivedAt s v.acting id
+SaidOn P s v a (Label.Call p n c) = P p (here v p)
+SaidOn P s v a (Label.Send p id) = P p (here v p)
+SaidOn P s v a (Label.Wait p) = P p (here v p)
+SaidOn P s v a (Label.Out p w) = P p (here v p)
+SaidOn P s v a (Label.Served id) = ServedAt P s v id
+SaidOn P s v a (Label.Gone id) = EndedAt P s v a id
+SaidOn P s v a (Label.Took id) = ReceivedAt s v.acting id
+SaidOn P s v a (Label.Created id child) = ReceivedAt s v.acting id
+SaidOn P s v a (Label.NoSpace id f b) = ReceivedAt s v.acting id
+SaidOn P s v a _ = ⊤
 
 -- each label keeps addresses where they may be
 pub label_on : (P : Pid → Place → Type 0) (s t : OneKernel) (v : View) (a : Addresses) (l : Label) → kernel.step s l ≡ Some t → Named s → SaidOn P s v a l → AtHome P s a → AtHome P t (given a (gives s v a l))
-label_on P s t v a (label.Ran p k) is named at h = ran_home P s t v a p k is h
-label_on P s t v a (label.Call p n c) is named at h = call_home P s t v a p n c is at h
-label_on P s t v a (label.Send p id) is named at h = send_home P s t v a p id is at h
-label_on P s t v a (label.Wait p) is named at h = wait_home P s t v a p is at h
-label_on P s t v a (label.Out p w) is named at h = out_home P s t v a p w is at h
-label_on P s t v a (label.End p y) is named at h = end_home P s t a p y is h
-label_on P s t v a (label.Receive p id) is named at h = receive_home P s t v a p id is h
-label_on P s t v a (label.Refuse p id c) is named at h = refuse_home P s t a p id c is h
-label_on P s t v a (label.Dropped id) is named at h = dropped_home P s t a id is h
-label_on P s t v a (label.Served id) is named at h = served_home P s t v a id is named at h
-label_on P s t v a (label.Gone id) is named at h = gone_home P s t v a id is named at h
-label_on P s t v a (label.Took id) is named at h = took_home P s t v a id is named at h
-label_on P s t v a (label.Created id child) is named at h = created_home P s t v a id child is named at h
-label_on P s t v a (label.NoSpace id f b) is named at h = no_space_home P s t v a id f b is named at h
+label_on P s t v a (Label.Ran p k) is named at h = ran_home P s t v a p k is h
+label_on P s t v a (Label.Call p n c) is named at h = call_home P s t v a p n c is at h
+label_on P s t v a (Label.Send p id) is named at h = send_home P s t v a p id is at h
+label_on P s t v a (Label.Wait p) is named at h = wait_home P s t v a p is at h
+label_on P s t v a (Label.Out p w) is named at h = out_home P s t v a p w is at h
+label_on P s t v a (Label.End p y) is named at h = end_home P s t a p y is h
+label_on P s t v a (Label.Receive p id) is named at h = receive_home P s t v a p id is h
+label_on P s t v a (Label.Refuse p id c) is named at h = refuse_home P s t a p id c is h
+label_on P s t v a (Label.Dropped id) is named at h = dropped_home P s t a id is h
+label_on P s t v a (Label.Served id) is named at h = served_home P s t v a id is named at h
+label_on P s t v a (Label.Gone id) is named at h = gone_home P s t v a id is named at h
+label_on P s t v a (Label.Took id) is named at h = took_home P s t v a id is named at h
+label_on P s t v a (Label.Created id child) is named at h = created_home P s t v a id child is named at h
+label_on P s t v a (Label.NoSpace id f b) is named at h = no_space_home P s t v a id f b is named at h
 
 -- as long as nothing moves
 said_home : (s : OneKernel) (v : View) (a : Addresses) (l : Label) → ((q : Pid) → v.moves q ≡ 0) → SaidAt s v.acting l → AtHome IsHome s a → SaidOn IsHome s v a l
-said_home s v a (label.Ran p k) still at h = tt
-said_home s v a (label.Call p n c) still at h = here_home v p still at
-said_home s v a (label.Send p id) still at h = here_home v p still at
-said_home s v a (label.Wait p) still at h = here_home v p still at
-said_home s v a (label.Out p w) still at h = here_home v p still at
-said_home s v a (label.End p y) still at h = tt
-said_home s v a (label.Receive p id) still at h = tt
-said_home s v a (label.Refuse p id c) still at h = tt
-said_home s v a (label.Dropped id) still at h = tt
-said_home s v a (label.Served id) still at h = λ m there. here_home v m.to still (at m there)
-said_home s v a (label.Gone id) still at h = λ m there.
+said_home s v a (Label.Call p n c) still at h = here_home v p still at
+said_home s v a (Label.Send p id) still at h = here_home v p still at
+said_home s v a (Label.Wait p) still at h = here_home v p still at
+said_home s v a (Label.Out p w) still at h = here_home v p still at
+said_home s v a (Label.Served id) still at h = λ m there. here_home v m.to still (at m there)
+said_home s v a (Label.Gone id) still at h = λ m there.
     ap (λ (n : ℕ). record { at = v.acting; moves = n }) (ap (λ (p : Place). p.moves) (h.messages id m there).receiver) ∙ ap unmoved (sym (at m there))
-said_home s v a (label.Took id) still at h = at
-said_home s v a (label.Created id child) still at h = at.0
-said_home s v a (label.NoSpace id f b) still at h = at
+said_home s v a (Label.Took id) still at h = at
+said_home s v a (Label.Created id child) still at h = at.0
+said_home s v a (Label.NoSpace id f b) still at h = at
+said_home s v a _ still at h = tt
 
 pub label_home : (s t : OneKernel) (v : View) (a : Addresses) (l : Label) → kernel.step s l ≡ Some t → Named s → ((q : Pid) → v.moves q ≡ 0) → SaidAt s v.acting l → AtHome IsHome s a → AtHome IsHome t (given a (gives s v a l))
 label_home s t v a l is named still at h = label_on IsHome s t v a l is named (said_home s v a l still at h) h
@@ -127,12 +104,10 @@ joins_home m p (q ∷ qs) e h =
 -- rings whose processes are at home, and no process has moved
 -- what a machine knows of a process as long as nothing moves
 abbrev pub is_still : Known → Bool
-is_still Unknown = true
-is_still Here = true
 is_still (Frozen to) = false
 is_still (Incoming from) = false
 is_still (Forward at moves) = false
-is_still view.Ended = true
+is_still _ = true
 
 pub record RingsHome (v : View) : Type 0 where
   pub moves : (p : Pid) → v.moves p ≡ 0
@@ -170,33 +145,9 @@ rings_same v w moves ring known k = record {
 }
 
 kills_rings : (v : View) (k : MessageKind) (o : Option Pid) → RingsHome v → RingsHome (kills k v o)
-kills_rings v kind.Kill (Some p) h = rings_set v (ended v p) (without p (v.ring v.acting)) refl refl (known_set v v.acting p view.Ended refl h) (without_home v.acting p (v.ring v.acting) (h.ring v.acting)) h
-kills_rings v kind.User o h = h
-kills_rings v kind.Stop o h = h
-kills_rings v kind.Resume o h = h
-kills_rings v kind.Read o h = h
-kills_rings v kind.Write o h = h
-kills_rings v kind.Block o h = h
-kills_rings v kind.Written o h = h
-kills_rings v kind.Gone o h = h
-kills_rings v kind.Create o h = h
-kills_rings v kind.Created o h = h
-kills_rings v kind.NoRoom o h = h
-kills_rings v kind.Migrate o h = h
-kills_rings v kind.Update o h = h
-kills_rings v kind.Ask o h = h
-kills_rings v kind.Refuse o h = h
-kills_rings v kind.PullState o h = h
-kills_rings v kind.State o h = h
-kills_rings v kind.PullBlock o h = h
-kills_rings v kind.Memory o h = h
-kills_rings v kind.AllTaken o h = h
-kills_rings v kind.Restart o h = h
-kills_rings v kind.Move o h = h
-kills_rings v kind.Moved o h = h
-kills_rings v kind.CallOff o h = h
-kills_rings v kind.Bury o h = h
-kills_rings v kind.Kill None h = h
+kills_rings v MessageKind.Kill (Some p) h = rings_set v (ended v p) (without p (v.ring v.acting)) refl refl (known_set v v.acting p view.Ended refl h) (without_home v.acting p (v.ring v.acting) (h.ring v.acting)) h
+kills_rings v MessageKind.Kill None h = h
+kills_rings v _ o h = h
 
 told_rings : (v : View) (o : Option Told) → RingsHome v → RingsHome (served_told v o)
 told_rings v None h = h
@@ -213,17 +164,14 @@ back_home : (v : View) (p : Pid) → p.home ≡ v.acting → RingsHome v → are
 back_home v p at h = joins_home v.acting p (without p (v.ring v.acting)) at (without_home v.acting p (v.ring v.acting) (h.ring v.acting))
 
 pub label_rings : (s : OneKernel) (v : View) (l : Label) → SaidAt s v.acting l → RingsHome v → RingsHome (after_label v l)
-label_rings s v (label.Ran p k) at h = rings_set v (after_label v (label.Ran p k)) (moved_back p (v.ring v.acting)) refl refl h.known (back_home v p at h) h
-label_rings s v (label.Call p n c) at h = h
-label_rings s v (label.Send p id) at h = h
-label_rings s v (label.Wait p) at h = h
-label_rings s v (label.Out p w) at h = h
-label_rings s v (label.End p y) at h = rings_set v (after_label v (label.End p y)) (without p (v.ring v.acting)) refl refl (known_set v v.acting p view.Ended refl h) (without_home v.acting p (v.ring v.acting) (h.ring v.acting)) h
-label_rings s v (label.Receive p id) at h = rings_set v (after_label v (label.Receive p id)) (moved_back p (v.ring v.acting)) refl refl h.known (back_home v p at h) h
-label_rings s v (label.Refuse p id c) at h = rings_set v (after_label v (label.Refuse p id c)) (moved_back p (v.ring v.acting)) refl refl h.known (back_home v p at h) h
-label_rings s v (label.Dropped id) at h = dropped_rings (handled v id) id (view.receiver_of (v.told id)) (handled_rings v id h)
-label_rings s v (label.Served id) at h = told_rings (handled v id) (v.told id) (handled_rings v id h)
-label_rings s v (label.Gone id) at h = handled_rings v id h
-label_rings s v (label.Took id) at h = handled_rings v id h
-label_rings s v (label.Created id p) at h = rings_set v (after_label v (label.Created id p)) (v.ring v.acting ++ p ∷ []) refl refl (known_set v v.acting p Here refl h) (joins_home v.acting p (v.ring v.acting) at.1 (h.ring v.acting)) h
-label_rings s v (label.NoSpace id f b) at h = handled_rings v id h
+label_rings s v (Label.Ran p k) at h = rings_set v (after_label v (Label.Ran p k)) (moved_back p (v.ring v.acting)) refl refl h.known (back_home v p at h) h
+label_rings s v (Label.End p y) at h = rings_set v (after_label v (Label.End p y)) (without p (v.ring v.acting)) refl refl (known_set v v.acting p view.Ended refl h) (without_home v.acting p (v.ring v.acting) (h.ring v.acting)) h
+label_rings s v (Label.Receive p id) at h = rings_set v (after_label v (Label.Receive p id)) (moved_back p (v.ring v.acting)) refl refl h.known (back_home v p at h) h
+label_rings s v (Label.Refuse p id c) at h = rings_set v (after_label v (Label.Refuse p id c)) (moved_back p (v.ring v.acting)) refl refl h.known (back_home v p at h) h
+label_rings s v (Label.Dropped id) at h = dropped_rings (handled v id) id (view.receiver_of (v.told id)) (handled_rings v id h)
+label_rings s v (Label.Served id) at h = told_rings (handled v id) (v.told id) (handled_rings v id h)
+label_rings s v (Label.Gone id) at h = handled_rings v id h
+label_rings s v (Label.Took id) at h = handled_rings v id h
+label_rings s v (Label.Created id p) at h = rings_set v (after_label v (Label.Created id p)) (v.ring v.acting ++ p ∷ []) refl refl (known_set v v.acting p Here refl h) (joins_home v.acting p (v.ring v.acting) at.1 (h.ring v.acting)) h
+label_rings s v (Label.NoSpace id f b) at h = handled_rings v id h
+label_rings s v _ at h = h

@@ -1,44 +1,11 @@
 -- Each line that is said where it belongs keeps all of it: addresses, rings and lists; so do the parts of a group.
-use Rattle.std.proofs.Common.{◌≡◌, ℕ, ◌+◌, ◌≤◌, ◌==◌, ◌&&◌, Bool, true, false, List, [], ◌∷◌, ◌++◌, length, drop, refl, ap, ◌∙◌, sym, subst, is_some, is_none, arith, nat_le}
-use Rattle.std.specs.Prelude.{if◌then◌else◌}
-use Rattle.std.specs.declared.option.Option.{Option}
-use Rattle.std.specs.declared.option.Option.TheVariants.{None, Some}
-use Rattle.std.proofs.lemmas.Bool.Decides.{nat_tests}
-use Rattle.dm_link.specs.declared.Pid.{Pid}
-use Rattle.dm_link.specs.Names.{Place}
-use Rattle.dm_message.specs.declared.MsgId.{MsgId}
-use Rattle.dm_message.specs.declared.kind.MessageKind.{MessageKind}
-use Rattle.dm_message.specs.declared.kind.MessageKind.TheVariants as kind
-use Rattle.dm_message.specs.Kinds.{plain_kind}
-use Rattle.dm_message.specs.Plain.{PlainMessage}
-use Rattle.dm_onekernel.specs.declared.boot.Boot.{Boot}
-use Rattle.dm_onekernel.specs.declared.label.Label.{Label}
-use Rattle.dm_onekernel.specs.declared.label.Label.TheVariants as label
-use Rattle.dm_onekernel.specs.Boot.{IsValid}
-use Rattle.dm_onekernel.specs.Kernel.{OneKernel}
+use Rattle.dm_rule.proofs.Names.{◌≡◌, ℕ, ◌+◌, ◌≤◌, ◌==◌, ◌&&◌, Bool, true, false, List, [], ◌∷◌, ◌++◌, length, drop, refl, ap, ◌∙◌, sym, subst, is_some, arith, nat_le, if◌then◌else◌, Option, None, Some, nat_tests, Pid, Place, MsgId}
+use Rattle.dm_rule.proofs.Names.{MessageKind, plain_kind, PlainMessage, Boot, Label, IsValid, OneKernel, entry, in_bag, reception, Sound, bind-is, after_step, start-sound, Line, Load, untaken, View, Pair, Told, after_label, after_put}
+use Rattle.dm_rule.proofs.Names.{handled, ◌||◌, pid_eq, PlainWhat, BootProcess, switchboard, manager, Known, Unknown, Here, known_at, Addresses, Receiver, Gets, given, own_gives, first_gives, addresses_after, Point, first_point, after}
+use Rattle.dm_rule.proofs.Names.{after_line, moved, Routes, lines_of, puts, packet_line, goes_out, Homes, is_for_home}
+use Rattle.std.proofs.Common.{is_none}
 use Rattle.dm_onekernel.specs.Step as kernel
-use Rattle.dm_laws.specs.Laws.{entry, in_bag, reception}
-use Rattle.dm_laws.proofs.Sound.{Sound}
-use Rattle.dm_laws.proofs.Steps.{bind-is}
-use Rattle.dm_laws.proofs.Runs.{after_step, start-sound}
-use Rattle.dm_line.specs.declared.line.Line.{Line}
-use Rattle.dm_line.specs.declared.line.Line.TheVariants as line
-use Rattle.dm_line.specs.declared.line.Load.{Load}
-use Rattle.dm_line.specs.declared.line.Load.TheVariants as load
-use Rattle.dm_rule.specs.Spots.{untaken}
 use Rattle.dm_rule.specs.View as view
-use Rattle.dm_rule.specs.View.{View, Pair, Told, after_label, after_put, after_packet, after_taken, after_early, after_acked, queued_for, handled}
-use Rattle.std.specs.Prelude.{◌||◌}
-use Rattle.dm_link.specs.Names.{pid_eq}
-use Rattle.dm_message.specs.Plain as what
-use Rattle.dm_message.specs.Plain.{PlainWhat}
-use Rattle.dm_onekernel.specs.declared.boot.BootProcess.{BootProcess}
-use Rattle.dm_onekernel.specs.Boot.{switchboard, manager}
-use Rattle.dm_rule.specs.View.{Known, Unknown, Here, known_at}
-use Rattle.dm_rule.specs.Addresses.{Addresses, Receiver, Gets, given, own_gives, first_gives, addresses_after}
-use Rattle.dm_rule.specs.Point.{Point, first_point, after, after_line, moved}
-use Rattle.dm_rule.specs.Parts.{Routes, lines_of, puts, packet_line, goes_out}
-use Rattle.dm_rule.specs.Homes.{Homes, is_for_home}
 use Rattle.dm_rule.proofs.Homes.{IsHome, AtHome, homes_are}
 use Rattle.dm_rule.proofs.Homes.Start.{start_at_home, Homes-start}
 use Rattle.dm_rule.proofs.Homes.Labels.{SaidAt, label_home, RingsHome, is_still, rings_same, label_rings}
@@ -96,7 +63,7 @@ old_of None (Some z) e x entered once there same = absurd (let f : 1 ≤ e = gri
 
 -- a label
 label_line : NoneReplaced → (r e : MsgId → ℕ) (pt : Point) (l : Label) (t : OneKernel) → kernel.step pt.kernel l ≡ Some t → SaidAt pt.kernel pt.view.acting l → Home r e pt
-    → Home (λ i. r i + reception i l) (λ i. e i + entry i pt.kernel t) (moved pt (line.Label l) t)
+    → Home (λ i. r i + reception i l) (λ i. e i + entry i pt.kernel t) (moved pt (Line.Label l) t)
 label_line none r e pt l t is at h =
     let a = after_step r e pt.kernel t l is h.sound in
     let old : Old e pt.kernel t = λ i x entered there. old_of (pt.kernel.bag i) (t.bag i) (e i) x entered (a.sound.entered.once i) there (λ y was. none r e pt.kernel t l is h.sound i y x was there) in
@@ -108,57 +75,22 @@ label_line none r e pt l t is at h =
     }
 
 acting_kills : (v : View) (k : MessageKind) (o : Option Pid) → (view.kills k v o).acting ≡ v.acting
-acting_kills v kind.Kill (Some p) = refl
-acting_kills v kind.Kill None = refl
-acting_kills v kind.User o = refl
-acting_kills v kind.Stop o = refl
-acting_kills v kind.Resume o = refl
-acting_kills v kind.Read o = refl
-acting_kills v kind.Write o = refl
-acting_kills v kind.Block o = refl
-acting_kills v kind.Written o = refl
-acting_kills v kind.Gone o = refl
-acting_kills v kind.Create o = refl
-acting_kills v kind.Created o = refl
-acting_kills v kind.NoRoom o = refl
-acting_kills v kind.Migrate o = refl
-acting_kills v kind.Update o = refl
-acting_kills v kind.Ask o = refl
-acting_kills v kind.Refuse o = refl
-acting_kills v kind.PullState o = refl
-acting_kills v kind.State o = refl
-acting_kills v kind.PullBlock o = refl
-acting_kills v kind.Memory o = refl
-acting_kills v kind.AllTaken o = refl
-acting_kills v kind.Restart o = refl
-acting_kills v kind.Move o = refl
-acting_kills v kind.Moved o = refl
-acting_kills v kind.CallOff o = refl
-acting_kills v kind.Bury o = refl
+acting_kills v MessageKind.Kill (Some p) = refl
+acting_kills v MessageKind.Kill None = refl
+acting_kills v _ o = refl
 
-acting_told : (v : View) (o : Option Told) → (view.served_told v o).acting ≡ v.acting
+pub acting_told : (v : View) (o : Option Told) → (view.served_told v o).acting ≡ v.acting
 acting_told v None = refl
 acting_told v (Some t) = acting_kills v t.kind (Some t.receiver)
 
-acting_dropped : (v : View) (id : MsgId) (o : Option Pid) → (view.dropped_for v id o).acting ≡ v.acting
+pub acting_dropped : (v : View) (id : MsgId) (o : Option Pid) → (view.dropped_for v id o).acting ≡ v.acting
 acting_dropped v id None = refl
 acting_dropped v id (Some p) = refl
 
 pub acting_label : (v : View) (l : Label) → (after_label v l).acting ≡ v.acting
-acting_label v (label.Dropped id) = acting_dropped (handled v id) id (view.receiver_of (v.told id))
-acting_label v (label.Served id) = acting_told (handled v id) (v.told id)
-acting_label v (label.Ran p k) = refl
-acting_label v (label.Call p n c) = refl
-acting_label v (label.Send p id) = refl
-acting_label v (label.Wait p) = refl
-acting_label v (label.Out p w) = refl
-acting_label v (label.End p y) = refl
-acting_label v (label.Receive p id) = refl
-acting_label v (label.Refuse p id c) = refl
-acting_label v (label.Gone id) = refl
-acting_label v (label.Took id) = refl
-acting_label v (label.Created id p) = refl
-acting_label v (label.NoSpace id f b) = refl
+acting_label v (Label.Dropped id) = acting_dropped (handled v id) id (view.receiver_of (v.told id))
+acting_label v (Label.Served id) = acting_told (handled v id) (v.told id)
+acting_label v _ = refl
 
 -- a pair whose messages stay
 pub same_lists : (s : OneKernel) (e : MsgId → ℕ) (v : View) (a b : ℕ) (p : Pair) → p.ids ≡ (v.pair a b).ids → p.taken ≡ (v.pair a b).taken → ListsHome s e v → ListsHome s e (view.with_pair v a b p)
@@ -168,41 +100,29 @@ same_lists s e v a b p ids taken h = record {
   untaken = pair_set s e v.pair a b p (ap (λ (is : List MsgId). all_stand s e b (drop p.taken is)) ids ∙ ap (λ (n : ℕ). all_stand s e b (drop n (v.pair a b).ids)) taken ∙ h.untaken a b) h.untaken;
 }
 
-pub packet_line_home : (r e : MsgId → ℕ) (pt : Point) (a b k : ℕ) (l : Load) → Home r e pt → Home r e (moved pt (line.Packet a b k l) pt.kernel)
+pub packet_line_home : (r e : MsgId → ℕ) (pt : Point) (a b k : ℕ) (l : Load) → Home r e pt → Home r e (moved pt (Line.Packet a b k l) pt.kernel)
 packet_line_home r e pt a b k l h =
     let p = pt.view.pair a b in
     let q : Pair = record p { gone = view.gone_after l p.gone; wire = p.wire ++ record { load = l; delivered = false } ∷ [] } in
     record { sound = h.sound; at = h.at; rings = rings_same pt.view (view.with_pair pt.view a b q) refl refl refl h.rings; lists = same_lists pt.kernel e pt.view a b q refl refl h.lists }
 
 -- a message of the bag has its places from the label that sent it
-own_none : (s : OneKernel) (v : View) (a : Addresses) (id : MsgId) (q : Pid) (w : PlainWhat) → own_gives s v a id q (plain_kind w) ≡ []
-own_none s v a id q (what.User x1 x2 x3 x4) = refl
-own_none s v a id q what.Stop = refl
-own_none s v a id q what.Resume = refl
-own_none s v a id q what.Kill = refl
-own_none s v a id q (what.Read x1 x2) = refl
-own_none s v a id q (what.Write x1 x2) = refl
-own_none s v a id q (what.Block x1) = refl
-own_none s v a id q what.Written = refl
-own_none s v a id q what.Gone = refl
-own_none s v a id q (what.Create x1 x2) = refl
-own_none s v a id q (what.Created x1) = refl
-own_none s v a id q what.NoRoom = refl
-own_none s v a id q (what.Move x1) = refl
-own_none s v a id q (what.Moved x1) = refl
+pub own_none : (s : OneKernel) (v : View) (a : Addresses) (id : MsgId) (q : Pid) (w : PlainWhat) → own_gives s v a id q (plain_kind w) ≡ []
+own_none s v a id q (PlainWhat.User x1 x2 x3 x4) = refl
+own_none s v a id q _ = refl
 
-first_none : (o : Option Told) (gs : List Gets) → gs ≡ [] → first_gives o gs ≡ []
+pub first_none : (o : Option Told) (gs : List Gets) → gs ≡ [] → first_gives o gs ≡ []
 first_none None gs e = e
 first_none (Some t) gs e = refl
 
-pub put_places : (s : OneKernel) (v : View) (a : Addresses) (from b : ℕ) (id : MsgId) (w : PlainWhat) (q : Pid) → addresses_after s v a (line.Put from b id (plain_kind w) q) ≡ a
+pub put_places : (s : OneKernel) (v : View) (a : Addresses) (from b : ℕ) (id : MsgId) (w : PlainWhat) (q : Pid) → addresses_after s v a (Line.Put from b id (plain_kind w) q) ≡ a
 put_places s v a from b id w q = ap (given a) (first_none (v.told id) (own_gives s v a id q (plain_kind w)) (own_none s v a id q w))
 
-put_at_home : (s : OneKernel) (v : View) (a : Addresses) (from b : ℕ) (id : MsgId) (w : PlainWhat) (q : Pid) → AtHome IsHome s a → AtHome IsHome s (addresses_after s v a (line.Put from b id (plain_kind w) q))
+put_at_home : (s : OneKernel) (v : View) (a : Addresses) (from b : ℕ) (id : MsgId) (w : PlainWhat) (q : Pid) → AtHome IsHome s a → AtHome IsHome s (addresses_after s v a (Line.Put from b id (plain_kind w) q))
 put_at_home s v a from b id w q h = subst (AtHome IsHome s) (sym (put_places s v a from b id w q)) h
 
 -- a routed message
-routed_home : (r e : MsgId → ℕ) (pt : Point) (id : MsgId) (m : PlainMessage) (b : ℕ) → pt.kernel.bag id ≡ Some m → b ≡ m.to.home → Home r e pt → Home r e (moved pt (line.Put pt.view.acting b id (plain_kind m.what) m.to) pt.kernel)
+routed_home : (r e : MsgId → ℕ) (pt : Point) (id : MsgId) (m : PlainMessage) (b : ℕ) → pt.kernel.bag id ≡ Some m → b ≡ m.to.home → Home r e pt → Home r e (moved pt (Line.Put pt.view.acting b id (plain_kind m.what) m.to) pt.kernel)
 routed_home r e pt id m b there is h =
     let w = after_put pt.view pt.view.acting b id (plain_kind m.what) m.to in
     let few = h.sound.entered.fewer id in
@@ -214,11 +134,11 @@ routed_home r e pt id m b there is h =
     record { sound = h.sound; at = put_at_home pt.kernel pt.view pt.addresses pt.view.acting b id m.what m.to h.at; rings = rings_same pt.view w refl refl refl h.rings; lists = put_lists pt.kernel e pt.view pt.view.acting b id (plain_kind m.what) m.to at h.lists }
 
 -- its packet goes out at once, or later
-packet_if : (r e : MsgId → ℕ) (pt pt' : Point) (c d : Bool) (a b k : ℕ) (l : Load) → Home r e pt → after pt (if c then [] else if d then line.Packet a b k l ∷ [] else []) ≡ Some pt' → Kept pt.view.acting pt'
+packet_if : (r e : MsgId → ℕ) (pt pt' : Point) (c d : Bool) (a b k : ℕ) (l : Load) → Home r e pt → after pt (if c then [] else if d then Line.Packet a b k l ∷ [] else []) ≡ Some pt' → Kept pt.view.acting pt'
 packet_if r e pt pt' true d a b k l h is = let f : pt ≡ pt' = cc in subst (Kept pt.view.acting) f (record { r = r; e = e; home = h; acting = refl })
 packet_if r e pt pt' false false a b k l h is = let f : pt ≡ pt' = cc in subst (Kept pt.view.acting) f (record { r = r; e = e; home = h; acting = refl })
 packet_if r e pt pt' false true a b k l h is =
-    let f : moved pt (line.Packet a b k l) pt.kernel ≡ pt' = cc in
+    let f : moved pt (Line.Packet a b k l) pt.kernel ≡ pt' = cc in
     subst (Kept pt.view.acting) f (record { r = r; e = e; home = packet_line_home r e pt a b k l h; acting = refl })
 
 pub routes_keep : (r e : MsgId → ℕ) (pt pt' : Point) (id : MsgId) (ls : List Line) → Home r e pt → lines_of pt (Routes id) ≡ Some ls → after pt ls ≡ Some pt' → Kept pt.view.acting pt'
@@ -228,14 +148,14 @@ routes_keep r e pt pt' id ls h is next =
     let f : puts pt.view b id (plain_kind m.what) m.to ≡ ls = cc in
     let at : b ≡ m.to.home = ap (λ (p : Place). p.at) (h.at.messages id m there).receiver in
     let c = pt.view.acting in
-    let rest = if (c == b) then [] else if goes_out (pt.view.pair c b) then packet_line pt.view c b (load.Data (length (pt.view.pair c b).ids)) ∷ [] else [] in
-    packet_if r e (moved pt (line.Put c b id (plain_kind m.what) m.to) pt.kernel) pt' (c == b) (goes_out (pt.view.pair c b)) c b (length (pt.view.pair c b).wire) (load.Data (length (pt.view.pair c b).ids))
+    let rest = if (c == b) then [] else if goes_out (pt.view.pair c b) then packet_line pt.view c b (Load.Data (length (pt.view.pair c b).ids)) ∷ [] else [] in
+    packet_if r e (moved pt (Line.Put c b id (plain_kind m.what) m.to) pt.kernel) pt' (c == b) (goes_out (pt.view.pair c b)) c b (length (pt.view.pair c b).wire) (Load.Data (length (pt.view.pair c b).ids))
     (routed_home r e pt id m b there at h) (ap (after pt) f ∙ next)
 
-pub label_keeps : NoneReplaced → (r e : MsgId → ℕ) (pt pt' : Point) (l : Label) → SaidAt pt.kernel pt.view.acting l → Home r e pt → after pt (line.Label l ∷ []) ≡ Some pt' → Kept pt.view.acting pt'
+pub label_keeps : NoneReplaced → (r e : MsgId → ℕ) (pt pt' : Point) (l : Label) → SaidAt pt.kernel pt.view.acting l → Home r e pt → after pt (Line.Label l ∷ []) ≡ Some pt' → Kept pt.view.acting pt'
 label_keeps none r e pt pt' l at h is =
-    let (mid, first, last) = bind-is (after_line pt (line.Label l)) (λ (x : Point). after x []) pt' is in
-    let (t, step, then_) = bind-is (kernel.step pt.kernel l) (λ (s : OneKernel). Some (moved pt (line.Label l) s)) mid first in
-    let f : moved pt (line.Label l) t ≡ mid = cc in
+    let (mid, first, last) = bind-is (after_line pt (Line.Label l)) (λ (x : Point). after x []) pt' is in
+    let (t, step, then_) = bind-is (kernel.step pt.kernel l) (λ (s : OneKernel). Some (moved pt (Line.Label l) s)) mid first in
+    let f : moved pt (Line.Label l) t ≡ mid = cc in
     let g : mid ≡ pt' = cc in
     subst (Kept pt.view.acting) (f ∙ g) (record { r = λ i. r i + reception i l; e = λ i. e i + entry i pt.kernel t; home = label_line none r e pt l t step at h; acting = acting_label pt.view l })

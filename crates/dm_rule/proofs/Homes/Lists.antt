@@ -1,25 +1,8 @@
 -- Each message stands where its receiver is at home: what lines do to the lists that messages stand in.
-use Rattle.std.proofs.Common.{◌≡◌, ℕ, zero, suc, ◌+◌, ◌≤◌, ◌==◌, ◌&&◌, Bool, true, false, not, List, [], ◌∷◌, ◌++◌, drop, refl, ap, ◌∙◌, sym, inl, inr, arith, nat_le}
-use Rattle.std.specs.Prelude.{if◌then◌else◌, slice_get, filter}
-use Rattle.std.specs.declared.option.Option.{Option}
-use Rattle.std.specs.declared.option.Option.TheVariants.{None, Some}
-use Rattle.std.proofs.lemmas.Bool.{cases_Bool}
-use Rattle.std.proofs.lemmas.Bool.Decides.{nat_tests}
-use Rattle.dm_link.specs.declared.Pid.{Pid}
-use Rattle.dm_link.specs.Names.{pid_eq}
-use Rattle.dm_message.specs.declared.MsgId.{MsgId}
-use Rattle.dm_message.specs.Ids.{id_eq}
-use Rattle.dm_message.specs.declared.kind.MessageKind.{MessageKind}
-use Rattle.dm_message.specs.declared.kind.MessageKind.TheVariants as kind
-use Rattle.dm_message.specs.Plain.{PlainMessage}
-use Rattle.dm_onekernel.specs.declared.label.Label.{Label}
-use Rattle.dm_onekernel.specs.declared.label.Label.TheVariants as label
-use Rattle.dm_onekernel.specs.Kernel.{OneKernel}
-use Rattle.dm_line.specs.Sets.{at_machine, at_pair, at_record, without_id, without_front}
-use Rattle.dm_rule.specs.Spots.{untaken}
+use Rattle.dm_rule.proofs.Names.{◌≡◌, ℕ, zero, suc, ◌+◌, ◌≤◌, ◌==◌, ◌&&◌, Bool, true, false, not, List, [], ◌∷◌, ◌++◌, drop, refl, ap, ◌∙◌, sym, inl, inr, arith, nat_le, if◌then◌else◌, slice_get, filter, Option, None, Some, cases_Bool}
+use Rattle.dm_rule.proofs.Names.{nat_tests, Pid, pid_eq, MsgId, id_eq, MessageKind, PlainMessage, Label, OneKernel, at_machine, at_pair, at_record, without_id, without_front, untaken, View, Pair, Told, after_label, served_told, kills}
+use Rattle.dm_rule.proofs.Names.{handled, routed_on, after_put, after_taken, taken_id, oldest, queued_for, is_for_home, are_for_home, both_true}
 use Rattle.dm_rule.specs.View as view
-use Rattle.dm_rule.specs.View.{View, Pair, Told, after_label, served_told, kills, handled, routed_on, after_put, after_taken, taken_id, oldest, queued_for}
-use Rattle.dm_rule.specs.Homes.{is_for_home, are_for_home}
 
 -- each of these messages has entered, and is for a receiver of this home as long as it is in the bag
 abbrev pub stands : OneKernel → (MsgId → ℕ) → ℕ → MsgId → Bool
@@ -33,21 +16,17 @@ both : (b c : Bool) → (b && c) ≡ true → (b ≡ true) × (c ≡ true)
 both true c e = (refl, e)
 both false c e = cc
 
-two_hold : (b c : Bool) → b ≡ true → c ≡ true → (b && c) ≡ true
-two_hold true c e f = f
-two_hold false c e f = e
-
 pub are_for : (s : OneKernel) (e : MsgId → ℕ) (m : ℕ) (is : List MsgId) → all_stand s e m is ≡ true → are_for_home s m is ≡ true
 are_for s e m [] h = refl
 are_for s e m (i ∷ is) h =
     let k = both (stands s e m i) (all_stand s e m is) h in
-    two_hold (is_for_home m (s.bag i)) (are_for_home s m is) (both (nat_le 1 (e i)) (is_for_home m (s.bag i)) k.0).1 (are_for s e m is k.1)
+    both_true (is_for_home m (s.bag i)) (are_for_home s m is) (both (nat_le 1 (e i)) (is_for_home m (s.bag i)) k.0).1 (are_for s e m is k.1)
 
 pub all_stand_last : (s : OneKernel) (e : MsgId → ℕ) (m : ℕ) (is : List MsgId) (i : MsgId) → all_stand s e m is ≡ true → stands s e m i ≡ true → all_stand s e m (is ++ i ∷ []) ≡ true
-all_stand_last s e m [] i h k = two_hold (stands s e m i) true k refl
+all_stand_last s e m [] i h k = both_true (stands s e m i) true k refl
 all_stand_last s e m (j ∷ js) i h k =
     let w = both (stands s e m j) (all_stand s e m js) h in
-    two_hold (stands s e m j) (all_stand s e m (js ++ i ∷ [])) w.0 (all_stand_last s e m js i w.1 k)
+    both_true (stands s e m j) (all_stand s e m (js ++ i ∷ [])) w.0 (all_stand_last s e m js i w.1 k)
 
 front_if : (s : OneKernel) (e : MsgId → ℕ) (m : ℕ) (b : Bool) (j : MsgId) (js : List MsgId) → all_stand s e m (j ∷ js) ≡ true → all_stand s e m (if b then js else j ∷ js) ≡ true
 front_if s e m true j js h = (both (stands s e m j) (all_stand s e m js) h).1
@@ -59,7 +38,7 @@ all_stand_front s e m i (j ∷ js) h = front_if s e m (id_eq i j) j js h
 
 without_if : (s : OneKernel) (e : MsgId → ℕ) (m : ℕ) (b : Bool) (j : MsgId) (js ks : List MsgId) → stands s e m j ≡ true → all_stand s e m js ≡ true → all_stand s e m ks ≡ true → all_stand s e m (if b then js else j ∷ ks) ≡ true
 without_if s e m true j js ks h k l = k
-without_if s e m false j js ks h k l = two_hold (stands s e m j) (all_stand s e m ks) h l
+without_if s e m false j js ks h k l = both_true (stands s e m j) (all_stand s e m ks) h l
 
 pub all_stand_without : (s : OneKernel) (e : MsgId → ℕ) (m : ℕ) (i : MsgId) (is : List MsgId) → all_stand s e m is ≡ true → all_stand s e m (without_id i is) ≡ true
 all_stand_without s e m i [] h = refl
@@ -102,8 +81,8 @@ stand_on s t e f m (i ∷ is) old le h =
     let x = both (nat_le 1 (e i)) (is_for_home m (s.bag i)) w.0 in
     let entered = x.0 in
     let more = le i in
-    two_hold (stands t f m i) (all_stand t f m is)
-    (two_hold (nat_le 1 (f i)) (is_for_home m (t.bag i)) (let g : nat_le 1 (f i) ≡ true = grind (arith, nat_tests) in g) (for_home_on m (s.bag i) (t.bag i) (λ y there. old i y entered there) x.1))
+    both_true (stands t f m i) (all_stand t f m is)
+    (both_true (nat_le 1 (f i)) (is_for_home m (t.bag i)) (let g : nat_le 1 (f i) ≡ true = grind (arith, nat_tests) in g) (for_home_on m (s.bag i) (t.bag i) (λ y there. old i y entered there) x.1))
     (stand_on s t e f m is old le w.1)
 
 pub record ListsHome (s : OneKernel) (e : MsgId → ℕ) (v : View) : Type 0 where
@@ -154,57 +133,33 @@ dropped_lists s e v id (Some p) h = record {
 }
 
 kills_lists : (s : OneKernel) (e : MsgId → ℕ) (v : View) (k : MessageKind) (o : Option Pid) → ListsHome s e v → ListsHome s e (kills k v o)
-kills_lists s e v kind.Kill (Some p) h = record { inbox = h.inbox; queue = h.queue; untaken = h.untaken }
-kills_lists s e v kind.Kill None h = h
-kills_lists s e v kind.User o h = h
-kills_lists s e v kind.Stop o h = h
-kills_lists s e v kind.Resume o h = h
-kills_lists s e v kind.Read o h = h
-kills_lists s e v kind.Write o h = h
-kills_lists s e v kind.Block o h = h
-kills_lists s e v kind.Written o h = h
-kills_lists s e v kind.Gone o h = h
-kills_lists s e v kind.Create o h = h
-kills_lists s e v kind.Created o h = h
-kills_lists s e v kind.NoRoom o h = h
-kills_lists s e v kind.Migrate o h = h
-kills_lists s e v kind.Update o h = h
-kills_lists s e v kind.Ask o h = h
-kills_lists s e v kind.Refuse o h = h
-kills_lists s e v kind.PullState o h = h
-kills_lists s e v kind.State o h = h
-kills_lists s e v kind.PullBlock o h = h
-kills_lists s e v kind.Memory o h = h
-kills_lists s e v kind.AllTaken o h = h
-kills_lists s e v kind.Restart o h = h
-kills_lists s e v kind.Move o h = h
-kills_lists s e v kind.Moved o h = h
-kills_lists s e v kind.CallOff o h = h
-kills_lists s e v kind.Bury o h = h
+kills_lists s e v MessageKind.Kill (Some p) h = record { inbox = h.inbox; queue = h.queue; untaken = h.untaken }
+kills_lists s e v MessageKind.Kill None h = h
+kills_lists s e v _ o h = h
 
 told_lists : (s : OneKernel) (e : MsgId → ℕ) (v : View) (o : Option Told) → ListsHome s e v → ListsHome s e (served_told v o)
 told_lists s e v None h = h
 told_lists s e v (Some t) h = kills_lists s e v t.kind (Some t.receiver) h
 
 pub label_lists : (s : OneKernel) (e : MsgId → ℕ) (v : View) (l : Label) → ListsHome s e v → ListsHome s e (after_label v l)
-label_lists s e v (label.Ran p k) h = record { inbox = h.inbox; queue = h.queue; untaken = h.untaken }
-label_lists s e v (label.Call p n c) h = h
-label_lists s e v (label.Send p id) h = h
-label_lists s e v (label.Wait p) h = h
-label_lists s e v (label.Out p w) h = h
-label_lists s e v (label.End p y) h = record { inbox = h.inbox; queue = h.queue; untaken = h.untaken }
-label_lists s e v (label.Receive p id) h = record {
+label_lists s e v (Label.Ran p k) h = record { inbox = h.inbox; queue = h.queue; untaken = h.untaken }
+label_lists s e v (Label.Call p n c) h = h
+label_lists s e v (Label.Send p id) h = h
+label_lists s e v (Label.Wait p) h = h
+label_lists s e v (Label.Out p w) h = h
+label_lists s e v (Label.End p y) h = record { inbox = h.inbox; queue = h.queue; untaken = h.untaken }
+label_lists s e v (Label.Receive p id) h = record {
   inbox = h.inbox;
   queue = queue_set s e v.queue v.acting p (without_id id (v.queue v.acting p)) (all_stand_without s e v.acting id (v.queue v.acting p) (h.queue v.acting p)) h.queue;
   untaken = h.untaken;
 }
-label_lists s e v (label.Refuse p id c) h = record { inbox = h.inbox; queue = h.queue; untaken = h.untaken }
-label_lists s e v (label.Dropped id) h = dropped_lists s e (handled v id) id (view.receiver_of (v.told id)) (handled_lists s e v id h)
-label_lists s e v (label.Served id) h = told_lists s e (handled v id) (v.told id) (handled_lists s e v id h)
-label_lists s e v (label.Gone id) h = handled_lists s e v id h
-label_lists s e v (label.Took id) h = handled_lists s e v id h
-label_lists s e v (label.Created id p) h = let k = handled_lists s e v id h in record { inbox = k.inbox; queue = k.queue; untaken = k.untaken }
-label_lists s e v (label.NoSpace id f b) h = handled_lists s e v id h
+label_lists s e v (Label.Refuse p id c) h = record { inbox = h.inbox; queue = h.queue; untaken = h.untaken }
+label_lists s e v (Label.Dropped id) h = dropped_lists s e (handled v id) id (view.receiver_of (v.told id)) (handled_lists s e v id h)
+label_lists s e v (Label.Served id) h = told_lists s e (handled v id) (v.told id) (handled_lists s e v id h)
+label_lists s e v (Label.Gone id) h = handled_lists s e v id h
+label_lists s e v (Label.Took id) h = handled_lists s e v id h
+label_lists s e v (Label.Created id p) h = let k = handled_lists s e v id h in record { inbox = k.inbox; queue = k.queue; untaken = k.untaken }
+label_lists s e v (Label.NoSpace id f b) h = handled_lists s e v id h
 
 -- queued
 queued_lists : (s : OneKernel) (e : MsgId → ℕ) (v : View) (id : MsgId) (o : Option Pid) → stands s e v.acting id ≡ true → ListsHome s e v → ListsHome s e (queued_for v id o)

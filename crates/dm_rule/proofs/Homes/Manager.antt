@@ -1,36 +1,12 @@
 -- What the process manager does keeps addresses where they may be.
-use Rattle.std.proofs.Common.{◌≡◌, ℕ, zero, suc, ◌+◌, ◌==◌, ◌&&◌, Bool, true, false, List, [], ◌∷◌, ◌++◌, refl, ap, ◌∙◌, sym, subst, inl, inr, arith, nat_lt, length}
-use Rattle.std.specs.Prelude.{if◌then◌else◌, slice_get}
-use Rattle.std.specs.declared.option.Option.{Option}
-use Rattle.std.specs.declared.option.Option.TheVariants.{None, Some}
-use Rattle.std.proofs.lemmas.Bool.Decides.{nat_tests}
-use Rattle.dm_link.specs.declared.Pid.{Pid}
-use Rattle.dm_link.specs.Names.{Place, pid_eq}
-use Rattle.dm_link.specs.Plain.{PlainLink}
-use Rattle.dm_message.specs.declared.MsgId.{MsgId}
-use Rattle.dm_message.specs.Ids.{id_eq, id_of}
-use Rattle.dm_message.specs.Plain as what
-use Rattle.dm_message.specs.Plain.{PlainMessage, PlainWhat}
-use Rattle.dm_onekernel.specs.declared.label.Label.TheVariants as label
-use Rattle.dm_onekernel.specs.Options.{bind}
-use Rattle.dm_onekernel.specs.Kernel.{OneKernel}
-use Rattle.dm_onekernel.specs.Service.{without_message}
+use Rattle.dm_rule.proofs.Names.{◌≡◌, ℕ, zero, suc, ◌+◌, ◌==◌, ◌&&◌, Bool, true, false, List, [], ◌∷◌, ◌++◌, refl, ap, ◌∙◌, sym, subst, inl, inr, arith, nat_lt, length, if◌then◌else◌, slice_get, Option, None, Some, nat_tests, Pid, Place}
+use Rattle.dm_rule.proofs.Names.{pid_eq, PlainLink, MsgId, id_eq, id_of, Label, PlainMessage, PlainWhat, bind, OneKernel, without_message, id_eq-same, bind-is, View, Addresses, Gets, gets, given, gives, Receiver, Sender, Enclosed, unmoved}
+use Rattle.dm_rule.proofs.Names.{pid_of, answers, ◌*◌, Pending, Manager, switchboard, manager, Child, Name, Answer, encloses, enclosed_from, board_takes, manager_sends, manager_answers, manager_takes, links_in, ascends}
 use Rattle.dm_onekernel.specs.Step as kernel
-use Rattle.dm_laws.proofs.Equal.{id_eq-same}
-use Rattle.dm_laws.proofs.Steps.{bind-is}
-use Rattle.dm_rule.specs.View.{View}
 use Rattle.dm_rule.specs.Addresses as addresses
-use Rattle.dm_rule.specs.Addresses.{Addresses, Gets, gets, given, gives, Slot, Owner, Receiver, Sender, Enclosed, unmoved, here, fills, fills_by, made, sends_what, receives_links, receives_what, slot_after, owner_in}
 use Rattle.dm_onekernel.specs.Service as service
-use Rattle.dm_link.specs.Names.{pid_of}
-use Rattle.dm_rule.specs.Addresses.{answers, serves_what, lands, child_links}
-use Rattle.std.specs.Prelude.{◌*◌}
-use Rattle.dm_onekernel.specs.Kernel.{Pending, Manager}
-use Rattle.dm_onekernel.specs.Boot.{switchboard, manager}
 use Rattle.dm_onekernel.specs.Switchboard as board
 use Rattle.dm_onekernel.specs.Manager as manage
-use Rattle.dm_rule.specs.Addresses.{Child, Name, Answer, encloses, enclosed_from, place_named, board_finds, board_keeps, board_takes, manager_sends, manager_tells, manager_answers, manager_takes}
-use Rattle.dm_rule.specs.Homes.{links_in, ascends}
 use Rattle.dm_rule.proofs.Homes.{place_as, pid_as, acts_at, AtHome}
 use Rattle.dm_rule.proofs.Homes.Rows.{SameProcess, SameMessage, sent_home, at_home_out, process_same, encloses_servers, encloses_process, encloses_message, encloses_at}
 use Rattle.dm_rule.proofs.Homes.Serves.{two, two_sends, Named, ReceivedAt}
@@ -78,7 +54,7 @@ asks_for_home P s v a id mid code machine image l ls en at h =
     let c = given a (encloses sent 0 ps) in
     let b = given c (gets (Receiver sent) to ∷ gets (Sender sent) from ∷ gets (Answer n) pl ∷ []) in
     let k = manage.asks_for s.manager machine image l ls in
-    let m : PlainMessage = record { id = sent; to = pid_of machine 0; sender = manager; what = what.Create image ls } in
+    let m : PlainMessage = record { id = sent; to = pid_of machine 0; sender = manager; what = PlainWhat.Create image ls } in
     let t = record (without_message s id) { manager = k.manager } in
     let servers = encloses_servers a sent 0 ps in
     record {
@@ -130,10 +106,10 @@ tells_home P s v a id code child w none to at h =
     (counted P s a id h) none to (acts_at P manager v.acting (h.rooted manager) at)
 
 control_by : (P : Pid → Place → Type 0) (s : OneKernel) (v : View) (a : Addresses) (id mid : MsgId) (code : ℕ) (child : Pid) (b c d : Bool) (links : List PlainLink) → P child (a (Child code)) → LinksHome P a mid links → v.acting ≡ 0 → AtHome P s a
-    → TookAt P s v a id mid code (manage.controls_child s.manager child (if b then Some what.Stop else if c then Some what.Resume else if d then Some what.Kill else None) links)
-control_by P s v a id mid code child true c d links to en at h = tells_home P s v a id code child what.Stop refl to at h
-control_by P s v a id mid code child false true d links to en at h = tells_home P s v a id code child what.Resume refl to at h
-control_by P s v a id mid code child false false true links to en at h = tells_home P s v a id code child what.Kill refl to at h
+    → TookAt P s v a id mid code (manage.controls_child s.manager child (if b then Some PlainWhat.Stop else if c then Some PlainWhat.Resume else if d then Some PlainWhat.Kill else None) links)
+control_by P s v a id mid code child true c d links to en at h = tells_home P s v a id code child PlainWhat.Stop refl to at h
+control_by P s v a id mid code child false true d links to en at h = tells_home P s v a id code child PlainWhat.Resume refl to at h
+control_by P s v a id mid code child false false true links to en at h = tells_home P s v a id code child PlainWhat.Kill refl to at h
 control_by P s v a id mid code child false false false links to en at h = bad_home P s v a id mid code links en at h
 
 controls_home : (P : Pid → Place → Type 0) (s : OneKernel) (v : View) (a : Addresses) (id mid : MsgId) (code : ℕ) (o : Option Pid) (body : List ℕ) (links : List PlainLink) → manage.child_numbered s.manager.children code ≡ o → LinksHome P a mid links → v.acting ≡ 0 → AtHome P s a
@@ -246,35 +222,25 @@ no_room_by P s v a id n (Some r) k is e at h =
 manager_row : (P : Pid → Place → Type 0) (s t : OneKernel) (v : View) (a : Addresses) (id : MsgId) (m : PlainMessage) (w : PlainWhat) → m.what ≡ w → m.id ≡ id → s.bag id ≡ Some m → v.acting ≡ 0 → AtHome P s a
     → bind (manage.takes s.manager s.machines (length s.images) m w) (λ (k : manage.Took). Some (service.manager_took s id k)) ≡ Some t
     → AtHome P t (given a (manager_takes s v a m w (manage.takes s.manager s.machines (length s.images) m w)))
-manager_row P s t v a id m (what.User code channel body links) is name there at h e =
+manager_row P s t v a id m (PlainWhat.User code channel body links) is name there at h e =
     let k = manage.takes_user s.manager s.machines (length s.images) code body links in
     let f : service.manager_took s id k ≡ t = cc in
     let hm = h.messages id m there in
     subst (λ (u : OneKernel). AtHome P u (given a (manager_sends v a m.id code k.message))) f
     (user_home P s v a id m.id code body links (λ n w g. place_as P (ap (λ (i : MsgId). a (Enclosed i n)) name) (hm.enclosed n w (ap (λ (x : PlainWhat). slice_get (links_in x) n) is ∙ g))) at h)
-manager_row P s t v a id m (what.Created child) is name there at h e =
+manager_row P s t v a id m (PlainWhat.Created child) is name there at h e =
     let o = manage.takes_created s.manager m.id.n child (manage.pending_numbered m.id.n s.manager.pending) in
     let (k, took, last) = bind-is o (λ (x : manage.Took). Some (service.manager_took s id x)) t e in
     let f : service.manager_took s id k ≡ t = cc in
-    subst (λ (u : OneKernel). AtHome P u (given a (manager_takes s v a m (what.Created child) o))) f
-    (subst (λ (p : Option manage.Took). AtHome P (service.manager_took s id k) (given a (manager_takes s v a m (what.Created child) p))) (sym took) (created_by P s v a id m child (manage.pending_numbered m.id.n s.manager.pending) k refl took at h))
-manager_row P s t v a id m what.NoRoom is name there at h e =
+    subst (λ (u : OneKernel). AtHome P u (given a (manager_takes s v a m (PlainWhat.Created child) o))) f
+    (subst (λ (p : Option manage.Took). AtHome P (service.manager_took s id k) (given a (manager_takes s v a m (PlainWhat.Created child) p))) (sym took) (created_by P s v a id m child (manage.pending_numbered m.id.n s.manager.pending) k refl took at h))
+manager_row P s t v a id m PlainWhat.NoRoom is name there at h e =
     let o = manage.takes_no_room s.manager m.id.n (manage.pending_numbered m.id.n s.manager.pending) in
     let (k, took, last) = bind-is o (λ (x : manage.Took). Some (service.manager_took s id x)) t e in
     let f : service.manager_took s id k ≡ t = cc in
-    subst (λ (u : OneKernel). AtHome P u (given a (manager_takes s v a m what.NoRoom o))) f
-    (subst (λ (p : Option manage.Took). AtHome P (service.manager_took s id k) (given a (manager_takes s v a m what.NoRoom p))) (sym took) (no_room_by P s v a id m.id.n (manage.pending_numbered m.id.n s.manager.pending) k refl took at h))
-manager_row P s t v a id m what.Stop is name there at h e = cc
-manager_row P s t v a id m what.Resume is name there at h e = cc
-manager_row P s t v a id m what.Kill is name there at h e = cc
-manager_row P s t v a id m (what.Read f g) is name there at h e = cc
-manager_row P s t v a id m (what.Write f g) is name there at h e = cc
-manager_row P s t v a id m (what.Block f) is name there at h e = cc
-manager_row P s t v a id m what.Written is name there at h e = cc
-manager_row P s t v a id m what.Gone is name there at h e = cc
-manager_row P s t v a id m (what.Create f g) is name there at h e = cc
-manager_row P s t v a id m (what.Move f) is name there at h e = cc
-manager_row P s t v a id m (what.Moved f) is name there at h e = cc
+    subst (λ (u : OneKernel). AtHome P u (given a (manager_takes s v a m PlainWhat.NoRoom o))) f
+    (subst (λ (p : Option manage.Took). AtHome P (service.manager_took s id k) (given a (manager_takes s v a m PlainWhat.NoRoom p))) (sym took) (no_room_by P s v a id m.id.n (manage.pending_numbered m.id.n s.manager.pending) k refl took at h))
+manager_row P s t v a id m _ is name there at h e = cc
 
 takes_by : (P : Pid → Place → Type 0) (s t : OneKernel) (v : View) (a : Addresses) (id : MsgId) (m : PlainMessage) (b c : Bool) → pid_eq m.to switchboard ≡ b → pid_eq m.to manager ≡ c → m.id ≡ id → s.bag id ≡ Some m → m.to.home ≡ v.acting → AtHome P s a
     → (if b then bind (board.takes s.switchboard m m.what) (λ (k : board.Took). Some (service.switchboard_took s id k))
@@ -285,7 +251,7 @@ takes_by P s t v a id m true c is as_ name there at h e = board_row P s t v a id
 takes_by P s t v a id m false true is as_ name there at h e = manager_row P s t v a id m m.what refl name there (let f : v.acting ≡ 0 = grind (arith, nat_tests) in f) h e
 takes_by P s t v a id m false false is as_ name there at h e = cc
 
-pub took_home : (P : Pid → Place → Type 0) (s t : OneKernel) (v : View) (a : Addresses) (id : MsgId) → kernel.step s (label.Took id) ≡ Some t → Named s → ReceivedAt s v.acting id → AtHome P s a → AtHome P t (given a (gives s v a (label.Took id)))
+pub took_home : (P : Pid → Place → Type 0) (s t : OneKernel) (v : View) (a : Addresses) (id : MsgId) → kernel.step s (Label.Took id) ≡ Some t → Named s → ReceivedAt s v.acting id → AtHome P s a → AtHome P t (given a (gives s v a (Label.Took id)))
 took_home P s t v a id is named at h =
     let (m, there, rest) = bind-is (s.bag id) (service.takes s id) t is in
     subst (λ (gs : List Gets). AtHome P t (given a gs)) (ap (addresses.takes s v a id) (sym there))

@@ -1,37 +1,11 @@
 -- Receives keep addresses where they may be.
-use Rattle.std.proofs.Common.{◌≡◌, ℕ, zero, suc, ◌+◌, ◌==◌, ◌&&◌, Bool, true, false, List, [], ◌∷◌, ◌++◌, refl, ap, ◌∙◌, sym, subst, inl, inr, arith, nat_lt, length}
-use Rattle.std.specs.Prelude.{if◌then◌else◌, cond, slice_get, slice_set}
-use Rattle.std.specs.Option.{is_none}
-use Rattle.std.specs.List.{position_or_len}
-use Rattle.std.specs.declared.option.Option.{Option}
-use Rattle.std.specs.declared.option.Option.TheVariants.{None, Some}
-use Rattle.std.proofs.lemmas.Bool.{cases_Bool, false≢true}
-use Rattle.std.proofs.lemmas.Bool.Decides.{nat_tests}
-use Rattle.dm_link.specs.declared.Pid.{Pid}
-use Rattle.dm_link.specs.Names.{Place, pid_eq}
-use Rattle.dm_link.specs.Plain.{PlainLink}
-use Rattle.dm_linktable.specs.Slots.{first_empty, link_at}
-use Rattle.dm_message.specs.declared.MsgId.{MsgId}
-use Rattle.dm_message.specs.Plain as what
-use Rattle.dm_message.specs.Plain.{PlainMessage, PlainWhat}
-use Rattle.dm_process.specs.Mail.{on_mask}
-use Rattle.dm_processor.specs.declared.registers.Regs.{Regs}
-use Rattle.dm_onekernel.specs.declared.label.Label.TheVariants as label
-use Rattle.dm_onekernel.specs.declared.label.Reply.{Reply}
-use Rattle.dm_onekernel.specs.Codes.{reply_eq, reply_code}
-use Rattle.dm_onekernel.specs.Options.{bind}
-use Rattle.dm_onekernel.specs.PlainProcess.{PlainProcess, PlainStatus, Ready, Waiting, Moving, setting}
-use Rattle.dm_onekernel.specs.Kernel.{Alive, OneKernel}
+use Rattle.dm_rule.proofs.Names.{◌≡◌, ℕ, zero, suc, ◌+◌, ◌==◌, ◌&&◌, Bool, true, false, List, [], ◌∷◌, ◌++◌, refl, ap, ◌∙◌, sym, subst, inl, inr, arith, nat_lt, length, if◌then◌else◌, cond, slice_get, slice_set, is_none, position_or_len}
+use Rattle.dm_rule.proofs.Names.{Option, None, Some, cases_Bool, false≢true, nat_tests, Pid, Place, pid_eq, PlainLink, first_empty, link_at, MsgId, Label, PlainMessage, PlainWhat, on_mask, Regs, Reply, reply_eq, reply_code, bind}
+use Rattle.dm_rule.proofs.Names.{PlainProcess, PlainStatus, Ready, Waiting, Moving, setting, Alive, OneKernel, first_failed, without_message, pid_eq-same, bind-is, when-is, View, Addresses, Gets, given, gives, Slot, Enclosed, fills}
+use Rattle.dm_rule.proofs.Names.{receives_links, receives_what, slot_after, links_in}
 use Rattle.dm_onekernel.specs.Receiving as receiving
-use Rattle.dm_onekernel.specs.Refusals.{first_failed}
-use Rattle.dm_onekernel.specs.Service.{without_message}
 use Rattle.dm_onekernel.specs.Step as kernel
-use Rattle.dm_laws.proofs.Equal.{pid_eq-same}
-use Rattle.dm_laws.proofs.Steps.{bind-is, when-is}
-use Rattle.dm_rule.specs.View.{View}
 use Rattle.dm_rule.specs.Addresses as addresses
-use Rattle.dm_rule.specs.Addresses.{Addresses, Gets, gets, given, gives, Slot, Owner, Receiver, Sender, Enclosed, unmoved, here, fills, fills_by, made, sends_what, receives_links, receives_what, slot_after, owner_in}
-use Rattle.dm_rule.specs.Homes.{links_in}
 use Rattle.dm_rule.proofs.Homes.{place_as, pid_as, HomeProcess, AtHome}
 use Rattle.dm_rule.proofs.Homes.Rows.{at_home_process, at_home_out, home_goes, alive_on}
 use Rattle.dm_rule.proofs.Homes.Steps.{OnlySlots, only_none}
@@ -149,7 +123,7 @@ ready_home : (P : Pid → Place → Type 0) (a : Addresses) (p : Pid) (x : Plain
 ready_home P a p x regs h = record { slots = h.slots; owner = λ q e. absurd (let f : None ≡ Some q = e in cc) }
 
 completes_home : (P : Pid → Place → Type 0) (a : Addresses) (p : Pid) (id : MsgId) (x : PlainProcess) (base code channel : ℕ) (body : List ℕ) (links : List PlainLink) (o : Option Reply) → HomeProcess P a p x → EnclosedHome P a id 0 links
-    → HomeCompleted P a p id x (what.User code channel body links) (receiving.completes_unless o x (receiving.receives x base code channel body links))
+    → HomeCompleted P a p id x (PlainWhat.User code channel body links) (receiving.completes_unless o x (receiving.receives x base code channel body links))
 completes_home P a p id x base code channel body links (Some c) h en = ready_home P a p x (setting x.regs 0 (reply_code c)) h
 completes_home P a p id x base code channel body links None h en = record {
   process = record {
@@ -166,22 +140,10 @@ completes_if P a p id x false w c d h e = cc
 
 completes_what_home : (P : Pid → Place → Type 0) (a : Addresses) (p : Pid) (id : MsgId) (x : PlainProcess) (m : PlainMessage) (mask base size : ℕ) (w : PlainWhat) (d : receiving.Completed) → HomeProcess P a p x → EnclosedHome P a id 0 (links_in w)
     → receiving.completes_what p x m mask base size w ≡ Some d → HomeCompleted P a p id x w d
-completes_what_home P a p id x m mask base size (what.User code channel body links) d h en e =
-    completes_if P a p id x (pid_eq m.to p && on_mask mask channel) (what.User code channel body links) (receiving.completes x base size code channel body links) d
+completes_what_home P a p id x m mask base size (PlainWhat.User code channel body links) d h en e =
+    completes_if P a p id x (pid_eq m.to p && on_mask mask channel) (PlainWhat.User code channel body links) (receiving.completes x base size code channel body links) d
     (completes_home P a p id x base code channel body links (first_failed (receiving.receive_refusals x size body links)) h en) e
-completes_what_home P a p id x m mask base size what.Stop d h en e = cc
-completes_what_home P a p id x m mask base size what.Resume d h en e = cc
-completes_what_home P a p id x m mask base size what.Kill d h en e = cc
-completes_what_home P a p id x m mask base size (what.Read f g) d h en e = cc
-completes_what_home P a p id x m mask base size (what.Write f g) d h en e = cc
-completes_what_home P a p id x m mask base size (what.Block f) d h en e = cc
-completes_what_home P a p id x m mask base size what.Written d h en e = cc
-completes_what_home P a p id x m mask base size what.Gone d h en e = cc
-completes_what_home P a p id x m mask base size (what.Create f g) d h en e = cc
-completes_what_home P a p id x m mask base size (what.Created f) d h en e = cc
-completes_what_home P a p id x m mask base size what.NoRoom d h en e = cc
-completes_what_home P a p id x m mask base size (what.Move f) d h en e = cc
-completes_what_home P a p id x m mask base size (what.Moved f) d h en e = cc
+completes_what_home P a p id x m mask base size _ d h en e = cc
 
 completes_status_home : (P : Pid → Place → Type 0) (a : Addresses) (p : Pid) (id : MsgId) (x : PlainProcess) (m : PlainMessage) (st : PlainStatus) (d : receiving.Completed) → HomeProcess P a p x → EnclosedHome P a id 0 (links_in m.what)
     → receiving.completes_status p x m st ≡ Some d → HomeCompleted P a p id x m.what d
@@ -214,18 +176,18 @@ completing_home P s a p id d h e =
       home = completes_with_home P a p id x m x.stopped d (h.processes p x alive) (λ k j w f g. let jk : j ≡ k = omega (arith, g) in place_as P (ap (λ (i : ℕ). a (Enclosed id i)) jk) (hm.enclosed k w f)) last;
     }
 
-receive_row : (P : Pid → Place → Type 0) (s t : OneKernel) (v : View) (a : Addresses) (p : Pid) (id : MsgId) (d : receiving.Completed) → Completing P s a p id d → kernel.receives s p id d ≡ Some t → AtHome P s a → AtHome P t (given a (gives s v a (label.Receive p id)))
+receive_row : (P : Pid → Place → Type 0) (s t : OneKernel) (v : View) (a : Addresses) (p : Pid) (id : MsgId) (d : receiving.Completed) → Completing P s a p id d → kernel.receives s p id d ≡ Some t → AtHome P s a → AtHome P t (given a (gives s v a (Label.Receive p id)))
 receive_row P s t v a p id (receiving.Receives y) w e h =
     let eq : kernel.goes_on (without_message s id) p y ≡ t = cc in
     let gs = receives_what a p id w.x w.m.what in
-    let gs_is : gs ≡ gives s v a (label.Receive p id) = ap (addresses.receives a p id (Some w.x)) (sym w.there) ∙ ap (λ (o : Option PlainProcess). addresses.receives a p id o (s.bag id)) (sym w.alive) in
+    let gs_is : gs ≡ gives s v a (Label.Receive p id) = ap (addresses.receives a p id (Some w.x)) (sym w.there) ∙ ap (λ (o : Option PlainProcess). addresses.receives a p id o (s.bag id)) (sym w.alive) in
     let o = w.home.only in
-    subst (λ (u : OneKernel). AtHome P u (given a (gives s v a (label.Receive p id)))) eq
+    subst (λ (u : OneKernel). AtHome P u (given a (gives s v a (Label.Receive p id)))) eq
     (subst (λ (g : List Gets). AtHome P (kernel.goes_on (without_message s id) p y) (given a g)) gs_is
     (at_home_process P (without_message s id) a (given a gs) p (Alive y) (at_home_out P s a id h) o.others (alive_on P (given a gs) p y w.home.process) o.messages o.servers))
 receive_row P s t v a p id (receiving.Refuses c y) w e h = cc
 
-pub receive_home : (P : Pid → Place → Type 0) (s t : OneKernel) (v : View) (a : Addresses) (p : Pid) (id : MsgId) → kernel.step s (label.Receive p id) ≡ Some t → AtHome P s a → AtHome P t (given a (gives s v a (label.Receive p id)))
+pub receive_home : (P : Pid → Place → Type 0) (s t : OneKernel) (v : View) (a : Addresses) (p : Pid) (id : MsgId) → kernel.step s (Label.Receive p id) ≡ Some t → AtHome P s a → AtHome P t (given a (gives s v a (Label.Receive p id)))
 receive_home P s t v a p id is h =
     let (d, c, rest) = bind-is (kernel.completing s p id) (kernel.receives s p id) t is in
     receive_row P s t v a p id d (completing_home P s a p id d h c) rest h
@@ -236,7 +198,7 @@ refuse_row P s t a p id c (receiving.Refuses r y) w e h =
     let k = when-is (reply_eq c r) (kernel.goes_on s p y) t e in
     subst (λ (u : OneKernel). AtHome P u a) k.1 (home_goes P s a p y h w.home)
 
-pub refuse_home : (P : Pid → Place → Type 0) (s t : OneKernel) (a : Addresses) (p : Pid) (id : MsgId) (c : Reply) → kernel.step s (label.Refuse p id c) ≡ Some t → AtHome P s a → AtHome P t a
+pub refuse_home : (P : Pid → Place → Type 0) (s t : OneKernel) (a : Addresses) (p : Pid) (id : MsgId) (c : Reply) → kernel.step s (Label.Refuse p id c) ≡ Some t → AtHome P s a → AtHome P t a
 refuse_home P s t a p id c is h =
     let (d, k, rest) = bind-is (kernel.completing s p id) (kernel.refuses s p c) t is in
     refuse_row P s t a p id c d (completing_home P s a p id d h k) rest h

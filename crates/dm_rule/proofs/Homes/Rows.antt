@@ -1,22 +1,8 @@
 -- What processes do keeps addresses where they may be.
-use Rattle.std.proofs.Common.{◌≡◌, ℕ, zero, suc, ◌+◌, ◌==◌, ◌&&◌, Bool, true, false, List, [], ◌∷◌, refl, ap, ◌∙◌, sym, subst, inl, inr, arith}
-use Rattle.std.specs.Prelude.{if◌then◌else◌, slice_get}
-use Rattle.std.specs.declared.option.Option.TheVariants.{None, Some}
-use Rattle.std.proofs.lemmas.Bool.{cases_Bool}
-use Rattle.std.proofs.lemmas.Bool.Decides.{nat_tests}
-use Rattle.dm_link.specs.declared.Pid.{Pid}
-use Rattle.dm_link.specs.Names.{Place, pid_eq}
-use Rattle.dm_message.specs.declared.MsgId.{MsgId}
-use Rattle.dm_message.specs.Ids.{id_eq}
-use Rattle.dm_message.specs.Plain.{PlainMessage}
-use Rattle.dm_onekernel.specs.PlainProcess.{PlainProcess, PlainStatus, Ready, Waiting, Moving}
-use Rattle.dm_onekernel.specs.Kernel.{Life, Alive, OneKernel, with_process, with_sent}
-use Rattle.dm_onekernel.specs.Service.{without_message}
+use Rattle.dm_rule.proofs.Names.{◌≡◌, ℕ, zero, suc, ◌+◌, ◌==◌, ◌&&◌, Bool, true, false, List, [], ◌∷◌, refl, ap, ◌∙◌, sym, subst, inl, inr, arith, if◌then◌else◌, slice_get, None, Some, cases_Bool, nat_tests, Pid, Place, pid_eq, MsgId}
+use Rattle.dm_rule.proofs.Names.{id_eq, PlainMessage, PlainProcess, PlainStatus, Ready, Waiting, Moving, Life, Alive, OneKernel, with_process, with_sent, without_message, pid_eq-is, id_eq-is, id_eq-same, sent_at, sent_off, stayed, bind-is}
+use Rattle.dm_rule.proofs.Names.{Addresses, given, Slot, Owner, Receiver, Sender, Enclosed, Child, Name, Answer, encloses}
 use Rattle.dm_onekernel.specs.Step as kernel
-use Rattle.dm_laws.proofs.Equal.{pid_eq-is, id_eq-is, id_eq-same}
-use Rattle.dm_laws.proofs.Movers.{sent_at, sent_off, stayed}
-use Rattle.dm_laws.proofs.Steps.{bind-is}
-use Rattle.dm_rule.specs.Addresses.{Addresses, given, Slot, Owner, Receiver, Sender, Enclosed, Child, Name, Answer, encloses}
 use Rattle.dm_rule.proofs.Homes.{place_as, HomeProcess, HomeMessage, AtHome}
 
 -- a process's addresses stay, and a message's

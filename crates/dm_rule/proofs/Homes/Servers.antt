@@ -1,30 +1,10 @@
 -- What servers do keeps addresses where they may be.
-use Rattle.std.proofs.Common.{◌≡◌, ℕ, zero, suc, ◌+◌, ◌==◌, ◌&&◌, Bool, true, false, List, [], ◌∷◌, ◌++◌, refl, ap, ◌∙◌, sym, subst, ◌⊎◌, inl, inr, arith, nat_lt, nat_le, length}
-use Rattle.std.specs.Prelude.{if◌then◌else◌, slice_get}
-use Rattle.std.specs.declared.option.Option.{Option}
-use Rattle.std.specs.declared.option.Option.TheVariants.{None, Some}
-use Rattle.std.proofs.lemmas.Bool.{cases_Bool}
-use Rattle.std.proofs.lemmas.Bool.Decides.{nat_tests}
-use Rattle.dm_link.specs.declared.Pid.{Pid}
-use Rattle.dm_link.specs.Names.{Place}
-use Rattle.dm_link.specs.Plain.{PlainLink}
-use Rattle.dm_message.specs.declared.MsgId.{MsgId}
-use Rattle.dm_message.specs.Ids.{id_eq, id_of}
-use Rattle.dm_message.specs.Plain as what
-use Rattle.dm_message.specs.Plain.{PlainMessage, PlainWhat}
-use Rattle.dm_onekernel.specs.Options.{bind}
-use Rattle.dm_onekernel.specs.Kernel.{OneKernel}
-use Rattle.dm_onekernel.specs.Service.{without_message}
-use Rattle.dm_laws.proofs.Equal.{id_eq-same}
-use Rattle.dm_rule.specs.View.{View}
-use Rattle.dm_rule.specs.Addresses.{Addresses, gets, given, Receiver, Sender, Enclosed, unmoved}
+use Rattle.dm_rule.proofs.Names.{◌≡◌, ℕ, zero, suc, ◌+◌, ◌==◌, ◌&&◌, Bool, true, false, List, [], ◌∷◌, ◌++◌, refl, ap, ◌∙◌, sym, subst, ◌⊎◌, inl, inr, arith, nat_lt, nat_le, length, if◌then◌else◌, slice_get, Option, None, Some, cases_Bool}
+use Rattle.dm_rule.proofs.Names.{nat_tests, Pid, Place, PlainLink, MsgId, id_eq, id_of, PlainMessage, PlainWhat, bind, OneKernel, without_message, id_eq-same, View, Addresses, gets, given, Receiver, Sender, Enclosed, unmoved, NamedLink}
+use Rattle.dm_rule.proofs.Names.{Pending, switchboard, is_general, Child, Name, Answer, place_named, board_finds, board_keeps, board_takes, links_in, ascends}
 use Rattle.dm_onekernel.specs.Service as service
-use Rattle.dm_onekernel.specs.Kernel.{NamedLink, Pending}
-use Rattle.dm_onekernel.specs.Boot.{switchboard, is_general}
 use Rattle.dm_onekernel.specs.Switchboard as board
 use Rattle.dm_onekernel.specs.Manager as manage
-use Rattle.dm_rule.specs.Addresses.{Child, Name, Answer, place_named, board_finds, board_keeps, board_takes}
-use Rattle.dm_rule.specs.Homes.{links_in, ascends}
 use Rattle.dm_rule.proofs.Homes.{place_as, pid_as, acts_at, AtHome}
 use Rattle.dm_rule.proofs.Homes.Rows.{SameProcess, SameMessage, sent_home, at_home_out, process_same}
 use Rattle.dm_rule.proofs.Homes.Serves.{two, two_off}
@@ -259,7 +239,7 @@ asks_home P a id sent names (op ∷ name) ls en h =
     (asks_if P a id sent names (op ∷ name) (op == 2) (board.asks_to_look_up names name ls) (board.bad_request names) (to_look_up P a id sent names op name ls h) (plain_asked P a sent names board.BadRequest refl h))
 
 board_request : (P : Pid → Place → Type 0) (s : OneKernel) (v : View) (a : Addresses) (id : MsgId) (code channel : ℕ) (body : List ℕ) (links : List PlainLink) → ((n : ℕ) (w : PlainLink) → slice_get links n ≡ Some w → P w.to (a (Enclosed id n))) → v.acting ≡ 0 → AtHome P s a
-    → AtHome P (service.switchboard_took s id (board.takes_request s.switchboard body links)) (given a (board_takes s v a id (what.User code channel body links)))
+    → AtHome P (service.switchboard_took s id (board.takes_request s.switchboard body links)) (given a (board_takes s v a id (PlainWhat.User code channel body links)))
 board_request P s v a id code channel body [] en at h =
     let u = at_home_out P s a id h in
     record { processes = u.processes; messages = u.messages; children = u.children; named = u.named; answers = u.answers; rooted = u.rooted; pending = u.pending }
@@ -291,21 +271,9 @@ board_request P s v a id code channel body (l ∷ ls) en at h =
 
 pub board_row : (P : Pid → Place → Type 0) (s t : OneKernel) (v : View) (a : Addresses) (id : MsgId) (m : PlainMessage) (w : PlainWhat) → m.what ≡ w → s.bag id ≡ Some m → v.acting ≡ 0 → AtHome P s a
     → bind (board.takes s.switchboard m w) (λ (k : board.Took). Some (service.switchboard_took s id k)) ≡ Some t → AtHome P t (given a (board_takes s v a id w))
-board_row P s t v a id m (what.User code channel body links) is there at h e =
+board_row P s t v a id m (PlainWhat.User code channel body links) is there at h e =
     let k : service.switchboard_took s id (board.takes_request s.switchboard body links) ≡ t = cc in
     let hm = h.messages id m there in
-    subst (λ (u : OneKernel). AtHome P u (given a (board_takes s v a id (what.User code channel body links)))) k
+    subst (λ (u : OneKernel). AtHome P u (given a (board_takes s v a id (PlainWhat.User code channel body links)))) k
     (board_request P s v a id code channel body links (λ n w f. hm.enclosed n w (ap (λ (x : PlainWhat). slice_get (links_in x) n) is ∙ f)) at h)
-board_row P s t v a id m what.Stop is there at h e = cc
-board_row P s t v a id m what.Resume is there at h e = cc
-board_row P s t v a id m what.Kill is there at h e = cc
-board_row P s t v a id m (what.Read f g) is there at h e = cc
-board_row P s t v a id m (what.Write f g) is there at h e = cc
-board_row P s t v a id m (what.Block f) is there at h e = cc
-board_row P s t v a id m what.Written is there at h e = cc
-board_row P s t v a id m what.Gone is there at h e = cc
-board_row P s t v a id m (what.Create f g) is there at h e = cc
-board_row P s t v a id m (what.Created f) is there at h e = cc
-board_row P s t v a id m what.NoRoom is there at h e = cc
-board_row P s t v a id m (what.Move f) is there at h e = cc
-board_row P s t v a id m (what.Moved f) is there at h e = cc
+board_row P s t v a id m _ is there at h e = cc

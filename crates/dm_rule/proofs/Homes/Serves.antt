@@ -1,43 +1,13 @@
 -- What kernels do with messages keeps addresses where they may be.
-use Rattle.std.proofs.Common.{◌≡◌, ℕ, zero, suc, ◌+◌, ◌==◌, ◌&&◌, Bool, true, false, List, [], ◌∷◌, ◌++◌, refl, ap, ◌∙◌, sym, subst, arith, nat_le, length}
-use Rattle.std.specs.Prelude.{⊤, if◌then◌else◌, map, slice_get}
-use Rattle.std.specs.declared.option.Option.{Option}
-use Rattle.std.specs.declared.option.Option.TheVariants.{None, Some}
-use Rattle.std.proofs.lemmas.Bool.Decides.{nat_tests}
-use Rattle.dm_link.specs.declared.Pid.{Pid}
-use Rattle.dm_link.specs.Names.{Place, pid_eq}
-use Rattle.dm_link.specs.Plain.{PlainLink}
-use Rattle.dm_linktable.specs.Slots.{link_at}
-use Rattle.dm_message.specs.declared.MsgId.{MsgId}
-use Rattle.dm_message.specs.Ids.{id_eq}
-use Rattle.dm_message.specs.Plain as what
-use Rattle.dm_message.specs.Plain.{PlainMessage, PlainWhat}
-use Rattle.dm_onekernel.specs.declared.label.Label.TheVariants as label
-use Rattle.dm_onekernel.specs.declared.label.Reply.{Reply}
-use Rattle.dm_onekernel.specs.declared.label.Reply.TheVariants as reply
-use Rattle.dm_onekernel.specs.declared.label.Why.TheVariants as why
-use Rattle.dm_onekernel.specs.Options.{bind}
-use Rattle.dm_onekernel.specs.PlainProcess.{PlainProcess, PlainStatus, Ready, Waiting, Moving}
-use Rattle.dm_onekernel.specs.Kernel.{Alive, Ended, OneKernel, with_process, with_sent}
-use Rattle.dm_onekernel.specs.Service.{without_message}
+use Rattle.dm_rule.proofs.Names.{◌≡◌, ℕ, zero, suc, ◌+◌, ◌==◌, ◌&&◌, Bool, true, false, List, [], ◌∷◌, ◌++◌, refl, ap, ◌∙◌, sym, subst, arith, nat_le, length, ⊤, if◌then◌else◌, map, slice_get, Option, None, Some, nat_tests, Pid, Place}
+use Rattle.dm_rule.proofs.Names.{pid_eq, PlainLink, link_at, MsgId, id_eq, Label, Why, PlainMessage, PlainWhat, Reply, bind, PlainProcess, PlainStatus, Ready, Waiting, Moving, Alive, OneKernel, with_process, with_sent, without_message}
+use Rattle.dm_rule.proofs.Names.{pid_eq-same, id_eq-same, bind-is, when-is, View, Addresses, Gets, gets, given, gives, Slot, Owner, Receiver, Sender, Enclosed, unmoved, here, made, owner_in, replicate, ◌-◌, take, drop, Direction, BootImage}
+use Rattle.dm_rule.proofs.Names.{slots_of, first_number, answer_id, answer_to, begun, pid_of, answers, serves_what, lands, child_links, links_in}
+use Rattle.dm_onekernel.specs.Kernel.{Ended}
 use Rattle.dm_onekernel.specs.Step as kernel
-use Rattle.dm_laws.proofs.Equal.{pid_eq-same, id_eq-same}
-use Rattle.dm_laws.proofs.Steps.{bind-is, when-is}
-use Rattle.dm_rule.specs.View.{View}
 use Rattle.dm_rule.specs.Addresses as addresses
-use Rattle.dm_rule.specs.Addresses.{Addresses, Gets, gets, given, gives, Slot, Owner, Receiver, Sender, Enclosed, unmoved, here, fills, fills_by, made, sends_what, receives_links, receives_what, slot_after, owner_in}
-use Rattle.std.specs.Prelude.{replicate, ◌-◌, take, drop}
-use Rattle.dm_process.specs.declared.process.Direction.{Direction}
-use Rattle.dm_process.specs.declared.process.Direction.TheVariants as direction
-use Rattle.dm_onekernel.specs.declared.boot.BootImage.{BootImage}
-use Rattle.dm_onekernel.specs.Boot.{slots_of, first_number}
 use Rattle.dm_onekernel.specs.Pieces as pieces
-use Rattle.dm_onekernel.specs.Pieces.{answer_id, answer_to}
 use Rattle.dm_onekernel.specs.Service as service
-use Rattle.dm_onekernel.specs.Start.{begun}
-use Rattle.dm_link.specs.Names.{pid_of}
-use Rattle.dm_rule.specs.Addresses.{answers, serves_what, lands, child_links}
-use Rattle.dm_rule.specs.Homes.{links_in}
 use Rattle.dm_rule.proofs.Homes.{place_as, pid_as, acts_at, HomeProcess, HomeMessage, AtHome}
 use Rattle.dm_rule.proofs.Homes.Rows.{SameProcess, SameMessage, SameServers, sent_home, at_home_process, at_home_out, home_goes, alive_on, process_same}
 use Rattle.dm_rule.proofs.Homes.Steps.{OnlySlots, only_none, at_home_ended}
@@ -86,7 +56,7 @@ answer_sent P s u a id m w from name there h k none is =
     (two_sends P u a (answer_to m w) (a (Sender id)) from k none (h.messages id m there).sender is)
 
 -- dropped
-pub dropped_home : (P : Pid → Place → Type 0) (s t : OneKernel) (a : Addresses) (id : MsgId) → kernel.step s (label.Dropped id) ≡ Some t → AtHome P s a → AtHome P t a
+pub dropped_home : (P : Pid → Place → Type 0) (s t : OneKernel) (a : Addresses) (id : MsgId) → kernel.step s (Label.Dropped id) ≡ Some t → AtHome P s a → AtHome P t a
 dropped_home P s t a id is h =
     let (m, there, rest) = bind-is (s.bag id) (λ (w : PlainMessage). bind (kernel.ended (s.processes w.to)) (kernel.drops s id w)) t is in
     let (y, gone, last) = bind-is (kernel.ended (s.processes m.to)) (kernel.drops s id m) t rest in
@@ -109,37 +79,25 @@ abbrev pub EndedAt : (Pid → Place → Type 0) → OneKernel → View → Addre
 EndedAt P s v a id = (m : PlainMessage) → s.bag id ≡ Some m → P m.to (record { at = v.acting; moves = (a (Receiver id)).moves })
 
 -- gone
-pub gone_home : (P : Pid → Place → Type 0) (s t : OneKernel) (v : View) (a : Addresses) (id : MsgId) → kernel.step s (label.Gone id) ≡ Some t → Named s → EndedAt P s v a id → AtHome P s a → AtHome P t (given a (gives s v a (label.Gone id)))
+pub gone_home : (P : Pid → Place → Type 0) (s t : OneKernel) (v : View) (a : Addresses) (id : MsgId) → kernel.step s (Label.Gone id) ≡ Some t → Named s → EndedAt P s v a id → AtHome P s a → AtHome P t (given a (gives s v a (Label.Gone id)))
 gone_home P s t v a id is named at h =
     let (m, there, rest) = bind-is (s.bag id) (λ (w : PlainMessage). bind (kernel.ended (s.processes w.to)) (kernel.says_gone s id w)) t is in
     let (y, gone, last) = bind-is (kernel.ended (s.processes m.to)) (kernel.says_gone s id m) t rest in
-    let k = when-is (service.is_of_memory m.what) (with_sent (without_message s id) (Some (answer_to m what.Gone))) t last in
+    let k = when-is (service.is_of_memory m.what) (with_sent (without_message s id) (Some (answer_to m PlainWhat.Gone))) t last in
     let from : Place = record { at = v.acting; moves = (a (Receiver id)).moves } in
     subst (λ (u : OneKernel). AtHome P u (given a (answers a id from))) k.1
-    (answer_sent P s (without_message s id) a id m what.Gone from (named id m there) there h (at_home_out P s a id h) refl (at m there))
+    (answer_sent P s (without_message s id) a id m PlainWhat.Gone from (named id m there) there h (at_home_out P s a id h) refl (at m there))
 
 -- no room
 no_room_row : (P : Pid → Place → Type 0) (s t : OneKernel) (v : View) (a : Addresses) (id : MsgId) (m : PlainMessage) (w : PlainWhat) → service.has_no_room s id m w ≡ Some t → s.bag id ≡ Some m → Named s → ReceivedAt s v.acting id → AtHome P s a
     → AtHome P t (given a (answers a id (unmoved v.acting)))
-no_room_row P s t v a id m (what.Create image links) is there named at h =
-    let k = when-is (service.is_kernel s m.to) (with_sent (without_message s id) (Some (answer_to m what.NoRoom))) t is in
+no_room_row P s t v a id m (PlainWhat.Create image links) is there named at h =
+    let k = when-is (service.is_kernel s m.to) (with_sent (without_message s id) (Some (answer_to m PlainWhat.NoRoom))) t is in
     subst (λ (u : OneKernel). AtHome P u (given a (answers a id (unmoved v.acting)))) k.1
-    (answer_sent P s (without_message s id) a id m what.NoRoom (unmoved v.acting) (named id m there) there h (at_home_out P s a id h) refl (acts_at P m.to v.acting (h.rooted m.to) (sym (at m there))))
-no_room_row P s t v a id m (what.User c d f g) is there named at h = cc
-no_room_row P s t v a id m what.Stop is there named at h = cc
-no_room_row P s t v a id m what.Resume is there named at h = cc
-no_room_row P s t v a id m what.Kill is there named at h = cc
-no_room_row P s t v a id m (what.Read c d) is there named at h = cc
-no_room_row P s t v a id m (what.Write c d) is there named at h = cc
-no_room_row P s t v a id m (what.Block c) is there named at h = cc
-no_room_row P s t v a id m what.Written is there named at h = cc
-no_room_row P s t v a id m what.Gone is there named at h = cc
-no_room_row P s t v a id m (what.Created c) is there named at h = cc
-no_room_row P s t v a id m what.NoRoom is there named at h = cc
-no_room_row P s t v a id m (what.Move c) is there named at h = cc
-no_room_row P s t v a id m (what.Moved c) is there named at h = cc
+    (answer_sent P s (without_message s id) a id m PlainWhat.NoRoom (unmoved v.acting) (named id m there) there h (at_home_out P s a id h) refl (acts_at P m.to v.acting (h.rooted m.to) (sym (at m there))))
+no_room_row P s t v a id m _ is there named at h = cc
 
-pub no_space_home : (P : Pid → Place → Type 0) (s t : OneKernel) (v : View) (a : Addresses) (id : MsgId) (f b : ℕ) → kernel.step s (label.NoSpace id f b) ≡ Some t → Named s → ReceivedAt s v.acting id → AtHome P s a → AtHome P t (given a (gives s v a (label.NoSpace id f b)))
+pub no_space_home : (P : Pid → Place → Type 0) (s t : OneKernel) (v : View) (a : Addresses) (id : MsgId) (f b : ℕ) → kernel.step s (Label.NoSpace id f b) ≡ Some t → Named s → ReceivedAt s v.acting id → AtHome P s a → AtHome P t (given a (gives s v a (Label.NoSpace id f b)))
 no_space_home P s t v a id f b is named at h =
     let (m, there, rest) = bind-is (s.bag id) (λ (w : PlainMessage). service.has_no_room s id w w.what) t is in
     no_room_row P s t v a id m m.what rest there named at h
@@ -157,13 +115,13 @@ if_landed P a p true c d h k = h
 if_landed P a p false c d h k = k
 
 next_home : (P : Pid → Place → Type 0) (a : Addresses) (p : Pid) (x : PlainProcess) (dir : Direction) (owner : Pid) (base own left : ℕ) → HomeProcess P a p x → P owner (a (Owner p)) → LandedHome P a p (pieces.next_request (pieces.requests p x dir owner base own left))
-next_home P a p x direction.FromArea owner base own left h at = (record { slots = h.slots; owner = λ q e. let f : owner ≡ q = cc in pid_as P f at }, at, refl, refl)
-next_home P a p x direction.IntoArea owner base own left h at = (record { slots = h.slots; owner = λ q e. let f : owner ≡ q = cc in pid_as P f at }, at, refl, refl)
+next_home P a p x Direction.FromArea owner base own left h at = (record { slots = h.slots; owner = λ q e. let f : owner ≡ q = cc in pid_as P f at }, at, refl, refl)
+next_home P a p x Direction.IntoArea owner base own left h at = (record { slots = h.slots; owner = λ q e. let f : owner ≡ q = cc in pid_as P f at }, at, refl, refl)
 
 goes_on_home : (P : Pid → Place → Type 0) (a : Addresses) (p : Pid) (x : PlainProcess) (dir : Direction) (owner : Pid) (base own left piece : ℕ) → HomeProcess P a p x → P owner (a (Owner p)) → LandedHome P a p (pieces.goes_on p x dir owner base own left piece)
 goes_on_home P a p x dir owner base own left piece h at =
-    if_landed P a p (left - piece == 0) (pieces.done reply.Done x) (pieces.next_request (pieces.requests p x dir owner (base + piece) (own + piece) (left - piece)))
-    (done_home P a p x reply.Done h) (next_home P a p x dir owner (base + piece) (own + piece) (left - piece) h at)
+    if_landed P a p (left - piece == 0) (pieces.done Reply.Done x) (pieces.next_request (pieces.requests p x dir owner (base + piece) (own + piece) (left - piece)))
+    (done_home P a p x Reply.Done h) (next_home P a p x dir owner (base + piece) (own + piece) (left - piece) h at)
 
 some_landed : (P : Pid → Place → Type 0) (a : Addresses) (p : Pid) (b : Bool) (c d : pieces.Landed) → LandedHome P a p c → (if b then Some c else None) ≡ Some d → LandedHome P a p d
 some_landed P a p true c d h e = let f : c ≡ d = cc in subst (LandedHome P a p) f h
@@ -171,38 +129,38 @@ some_landed P a p false c d h e = cc
 
 lands_what_home : (P : Pid → Place → Type 0) (a : Addresses) (p : Pid) (x : PlainProcess) (dir : Direction) (owner : Pid) (base own left : ℕ) (w : PlainWhat) (d : pieces.Landed) → HomeProcess P a p x → P owner (a (Owner p))
     → pieces.lands_what p x dir owner base own left w ≡ Some d → LandedHome P a p d
-lands_what_home P a p x direction.FromArea owner base own left (what.Block bytes) d h at e =
+lands_what_home P a p x Direction.FromArea owner base own left (PlainWhat.Block bytes) d h at e =
     let y = record x { memory = pieces.written_at x.memory own bytes } in
-    some_landed P a p ((length bytes == pieces.piece_of left) && nat_le (own + left) (length x.memory)) (pieces.goes_on p y direction.FromArea owner base own left (pieces.piece_of left)) d
-    (goes_on_home P a p y direction.FromArea owner base own left (pieces.piece_of left) (record { slots = h.slots; owner = h.owner }) at) e
-lands_what_home P a p x direction.IntoArea owner base own left what.Written d h at e =
-    some_landed P a p (nat_le (own + left) (length x.memory)) (pieces.goes_on p x direction.IntoArea owner base own left (pieces.piece_of left)) d (goes_on_home P a p x direction.IntoArea owner base own left (pieces.piece_of left) h at) e
-lands_what_home P a p x direction.FromArea owner base own left what.Gone d h at e = let f : pieces.done reply.Gone x ≡ d = cc in subst (LandedHome P a p) f (done_home P a p x reply.Gone h)
-lands_what_home P a p x direction.FromArea owner base own left (what.User f g i j) d h at e = cc
-lands_what_home P a p x direction.FromArea owner base own left what.Stop d h at e = cc
-lands_what_home P a p x direction.FromArea owner base own left what.Resume d h at e = cc
-lands_what_home P a p x direction.FromArea owner base own left what.Kill d h at e = cc
-lands_what_home P a p x direction.FromArea owner base own left (what.Read f g) d h at e = cc
-lands_what_home P a p x direction.FromArea owner base own left (what.Write f g) d h at e = cc
-lands_what_home P a p x direction.FromArea owner base own left what.Written d h at e = cc
-lands_what_home P a p x direction.FromArea owner base own left (what.Create f g) d h at e = cc
-lands_what_home P a p x direction.FromArea owner base own left (what.Created f) d h at e = cc
-lands_what_home P a p x direction.FromArea owner base own left what.NoRoom d h at e = cc
-lands_what_home P a p x direction.FromArea owner base own left (what.Move f) d h at e = cc
-lands_what_home P a p x direction.FromArea owner base own left (what.Moved f) d h at e = cc
-lands_what_home P a p x direction.IntoArea owner base own left what.Gone d h at e = let f : pieces.done reply.Gone x ≡ d = cc in subst (LandedHome P a p) f (done_home P a p x reply.Gone h)
-lands_what_home P a p x direction.IntoArea owner base own left (what.User f g i j) d h at e = cc
-lands_what_home P a p x direction.IntoArea owner base own left what.Stop d h at e = cc
-lands_what_home P a p x direction.IntoArea owner base own left what.Resume d h at e = cc
-lands_what_home P a p x direction.IntoArea owner base own left what.Kill d h at e = cc
-lands_what_home P a p x direction.IntoArea owner base own left (what.Read f g) d h at e = cc
-lands_what_home P a p x direction.IntoArea owner base own left (what.Write f g) d h at e = cc
-lands_what_home P a p x direction.IntoArea owner base own left (what.Block f) d h at e = cc
-lands_what_home P a p x direction.IntoArea owner base own left (what.Create f g) d h at e = cc
-lands_what_home P a p x direction.IntoArea owner base own left (what.Created f) d h at e = cc
-lands_what_home P a p x direction.IntoArea owner base own left what.NoRoom d h at e = cc
-lands_what_home P a p x direction.IntoArea owner base own left (what.Move f) d h at e = cc
-lands_what_home P a p x direction.IntoArea owner base own left (what.Moved f) d h at e = cc
+    some_landed P a p ((length bytes == pieces.piece_of left) && nat_le (own + left) (length x.memory)) (pieces.goes_on p y Direction.FromArea owner base own left (pieces.piece_of left)) d
+    (goes_on_home P a p y Direction.FromArea owner base own left (pieces.piece_of left) (record { slots = h.slots; owner = h.owner }) at) e
+lands_what_home P a p x Direction.IntoArea owner base own left PlainWhat.Written d h at e =
+    some_landed P a p (nat_le (own + left) (length x.memory)) (pieces.goes_on p x Direction.IntoArea owner base own left (pieces.piece_of left)) d (goes_on_home P a p x Direction.IntoArea owner base own left (pieces.piece_of left) h at) e
+lands_what_home P a p x Direction.FromArea owner base own left PlainWhat.Gone d h at e = let f : pieces.done Reply.Gone x ≡ d = cc in subst (LandedHome P a p) f (done_home P a p x Reply.Gone h)
+lands_what_home P a p x Direction.FromArea owner base own left (PlainWhat.User f g i j) d h at e = cc
+lands_what_home P a p x Direction.FromArea owner base own left PlainWhat.Stop d h at e = cc
+lands_what_home P a p x Direction.FromArea owner base own left PlainWhat.Resume d h at e = cc
+lands_what_home P a p x Direction.FromArea owner base own left PlainWhat.Kill d h at e = cc
+lands_what_home P a p x Direction.FromArea owner base own left (PlainWhat.Read f g) d h at e = cc
+lands_what_home P a p x Direction.FromArea owner base own left (PlainWhat.Write f g) d h at e = cc
+lands_what_home P a p x Direction.FromArea owner base own left PlainWhat.Written d h at e = cc
+lands_what_home P a p x Direction.FromArea owner base own left (PlainWhat.Create f g) d h at e = cc
+lands_what_home P a p x Direction.FromArea owner base own left (PlainWhat.Created f) d h at e = cc
+lands_what_home P a p x Direction.FromArea owner base own left PlainWhat.NoRoom d h at e = cc
+lands_what_home P a p x Direction.FromArea owner base own left (PlainWhat.Move f) d h at e = cc
+lands_what_home P a p x Direction.FromArea owner base own left (PlainWhat.Moved f) d h at e = cc
+lands_what_home P a p x Direction.IntoArea owner base own left PlainWhat.Gone d h at e = let f : pieces.done Reply.Gone x ≡ d = cc in subst (LandedHome P a p) f (done_home P a p x Reply.Gone h)
+lands_what_home P a p x Direction.IntoArea owner base own left (PlainWhat.User f g i j) d h at e = cc
+lands_what_home P a p x Direction.IntoArea owner base own left PlainWhat.Stop d h at e = cc
+lands_what_home P a p x Direction.IntoArea owner base own left PlainWhat.Resume d h at e = cc
+lands_what_home P a p x Direction.IntoArea owner base own left PlainWhat.Kill d h at e = cc
+lands_what_home P a p x Direction.IntoArea owner base own left (PlainWhat.Read f g) d h at e = cc
+lands_what_home P a p x Direction.IntoArea owner base own left (PlainWhat.Write f g) d h at e = cc
+lands_what_home P a p x Direction.IntoArea owner base own left (PlainWhat.Block f) d h at e = cc
+lands_what_home P a p x Direction.IntoArea owner base own left (PlainWhat.Create f g) d h at e = cc
+lands_what_home P a p x Direction.IntoArea owner base own left (PlainWhat.Created f) d h at e = cc
+lands_what_home P a p x Direction.IntoArea owner base own left PlainWhat.NoRoom d h at e = cc
+lands_what_home P a p x Direction.IntoArea owner base own left (PlainWhat.Move f) d h at e = cc
+lands_what_home P a p x Direction.IntoArea owner base own left (PlainWhat.Moved f) d h at e = cc
 
 if_lands_home : (P : Pid → Place → Type 0) (a : Addresses) (p : Pid) (x : PlainProcess) (b : Bool) (dir : Direction) (owner : Pid) (base own left : ℕ) (w : PlainWhat) (d : pieces.Landed) → HomeProcess P a p x → P owner (a (Owner p))
     → (if b then pieces.lands_what p x dir owner base own left w else None) ≡ Some d → LandedHome P a p d
@@ -234,15 +192,15 @@ abbrev NothingNext : pieces.Landed → Type 0
 NothingNext (pieces.Done reply y) = ⊤
 NothingNext (pieces.Next n y) = ⊥
 
-gone_what : (p : Pid) (x : PlainProcess) (dir : Direction) (owner : Pid) (base own left : ℕ) (d : pieces.Landed) → pieces.lands_what p x dir owner base own left what.Gone ≡ Some d → NothingNext d
-gone_what p x direction.FromArea owner base own left d e = let f : pieces.done reply.Gone x ≡ d = cc in subst NothingNext f tt
-gone_what p x direction.IntoArea owner base own left d e = let f : pieces.done reply.Gone x ≡ d = cc in subst NothingNext f tt
+gone_what : (p : Pid) (x : PlainProcess) (dir : Direction) (owner : Pid) (base own left : ℕ) (d : pieces.Landed) → pieces.lands_what p x dir owner base own left PlainWhat.Gone ≡ Some d → NothingNext d
+gone_what p x Direction.FromArea owner base own left d e = let f : pieces.done Reply.Gone x ≡ d = cc in subst NothingNext f tt
+gone_what p x Direction.IntoArea owner base own left d e = let f : pieces.done Reply.Gone x ≡ d = cc in subst NothingNext f tt
 
-gone_if : (p : Pid) (x : PlainProcess) (b : Bool) (dir : Direction) (owner : Pid) (base own left : ℕ) (w : PlainWhat) (d : pieces.Landed) → w ≡ what.Gone → (if b then pieces.lands_what p x dir owner base own left w else None) ≡ Some d → NothingNext d
+gone_if : (p : Pid) (x : PlainProcess) (b : Bool) (dir : Direction) (owner : Pid) (base own left : ℕ) (w : PlainWhat) (d : pieces.Landed) → w ≡ PlainWhat.Gone → (if b then pieces.lands_what p x dir owner base own left w else None) ≡ Some d → NothingNext d
 gone_if p x true dir owner base own left w d is e = gone_what p x dir owner base own left d (ap (pieces.lands_what p x dir owner base own left) (sym is) ∙ e)
 gone_if p x false dir owner base own left w d is e = cc
 
-pub gone_lands : (p : Pid) (x : PlainProcess) (m : PlainMessage) (st : PlainStatus) (d : pieces.Landed) → m.what ≡ what.Gone → pieces.lands p x m st ≡ Some d → NothingNext d
+pub gone_lands : (p : Pid) (x : PlainProcess) (m : PlainMessage) (st : PlainStatus) (d : pieces.Landed) → m.what ≡ PlainWhat.Gone → pieces.lands p x m st ≡ Some d → NothingNext d
 gone_lands p x m (Moving dir owner base own left pending) d is e = gone_if p x (m.id.n == pending) dir owner base own left m.what d is e
 gone_lands p x m Ready d is e = cc
 gone_lands p x m (Waiting mask base size) d is e = cc
@@ -251,7 +209,7 @@ pub nothing_lands : (v : View) (a : Addresses) (p : Pid) (c : pieces.Landed) →
 nothing_lands v a p (pieces.Done reply y) h = refl
 nothing_lands v a p (pieces.Next n y) h = absurd h
 
-gone_row : (P : Pid → Place → Type 0) (s t : OneKernel) (v : View) (a : Addresses) (id : MsgId) (m : PlainMessage) (x : PlainProcess) → m.what ≡ what.Gone → HomeProcess P a m.to x → P m.to (here v m.to) → AtHome P s a
+gone_row : (P : Pid → Place → Type 0) (s t : OneKernel) (v : View) (a : Addresses) (id : MsgId) (m : PlainMessage) (x : PlainProcess) → m.what ≡ PlainWhat.Gone → HomeProcess P a m.to x → P m.to (here v m.to) → AtHome P s a
     → bind (pieces.lands m.to x m x.status) (λ (c : pieces.Landed). Some (service.landed s id m c)) ≡ Some t → AtHome P t a
 gone_row P s t v a id m x what_is hx at h e =
     let (c, is, last) = bind-is (pieces.lands m.to x m x.status) (λ (w : pieces.Landed). Some (service.landed s id m w)) t e in
@@ -259,51 +217,46 @@ gone_row P s t v a id m x what_is hx at h e =
     subst (λ (u : OneKernel). AtHome P u a) k
     (subst (λ (gs : List Gets). AtHome P (service.landed s id m c) (given a gs)) (nothing_lands v a m.to c (gone_lands m.to x m x.status c what_is is)) (landed_home P s v a id m c (lands_home P a m.to x m x.status c refl hx is) at h))
 
-some_is : {A : Type 0} (b : Bool) (x y : A) → (if b then Some x else None) ≡ Some y → x ≡ y
+pub some_is : {A : Type 0} (b : Bool) (x y : A) → (if b then Some x else None) ≡ Some y → x ≡ y
 some_is true x y e = cc
 some_is false x y e = cc
 
 -- a row a kind
 serve_row : (P : Pid → Place → Type 0) (s t : OneKernel) (v : View) (a : Addresses) (id : MsgId) (m : PlainMessage) (x : PlainProcess) (w : PlainWhat) → m.what ≡ w → service.serves s id m x w ≡ Some t → s.bag id ≡ Some m → m.id ≡ id → HomeProcess P a m.to x
     → P m.to (here v m.to) → AtHome P s a → AtHome P t (given a (serves_what v a id m x w))
-serve_row P s t v a id m x what.Stop w is there name hx at h =
+serve_row P s t v a id m x PlainWhat.Stop w is there name hx at h =
     let k : service.changed s id m (record x { stopped = true }) ≡ t = cc in
     subst (λ (u : OneKernel). AtHome P u a) k (home_goes P (without_message s id) a m.to (record x { stopped = true }) (at_home_out P s a id h) (record { slots = hx.slots; owner = hx.owner }))
-serve_row P s t v a id m x what.Resume w is there name hx at h =
+serve_row P s t v a id m x PlainWhat.Resume w is there name hx at h =
     let k : service.changed s id m (record x { stopped = false }) ≡ t = cc in
     subst (λ (u : OneKernel). AtHome P u a) k (home_goes P (without_message s id) a m.to (record x { stopped = false }) (at_home_out P s a id h) (record { slots = hx.slots; owner = hx.owner }))
-serve_row P s t v a id m x what.Kill w is there name hx at h =
-    let k : with_process (without_message s id) m.to (Ended why.Killed) ≡ t = cc in
-    subst (λ (u : OneKernel). AtHome P u a) k (at_home_ended P (without_message s id) a m.to why.Killed (at_home_out P s a id h))
-serve_row P s t v a id m x (what.Read base len) w is there name hx at h =
+serve_row P s t v a id m x PlainWhat.Kill w is there name hx at h =
+    let k : with_process (without_message s id) m.to (Ended Why.Killed) ≡ t = cc in
+    subst (λ (u : OneKernel). AtHome P u a) k (at_home_ended P (without_message s id) a m.to Why.Killed (at_home_out P s a id h))
+serve_row P s t v a id m x (PlainWhat.Read base len) w is there name hx at h =
     let (c, served, last) = bind-is (pieces.reads x m base len) (λ (r : pieces.Served). Some (service.answered s id m r)) t is in
     let bytes = take len (drop base x.memory) in
-    let k = some_is (nat_le (base + len) (length x.memory)) (record { process = x; answer = answer_to m (what.Block bytes) }) c served in
+    let k = some_is (nat_le (base + len) (length x.memory)) (record { process = x; answer = answer_to m (PlainWhat.Block bytes) }) c served in
     let f : service.answered s id m c ≡ t = cc in
     subst (λ (u : OneKernel). AtHome P u (given a (answers a id (here v m.to)))) (ap (service.answered s id m) k ∙ f)
-    (answer_sent P s (service.changed s id m x) a id m (what.Block bytes) (here v m.to) name there h (home_goes P (without_message s id) a m.to x (at_home_out P s a id h) hx) refl at)
-serve_row P s t v a id m x (what.Write base bytes) w is there name hx at h =
+    (answer_sent P s (service.changed s id m x) a id m (PlainWhat.Block bytes) (here v m.to) name there h (home_goes P (without_message s id) a m.to x (at_home_out P s a id h) hx) refl at)
+serve_row P s t v a id m x (PlainWhat.Write base bytes) w is there name hx at h =
     let (c, served, last) = bind-is (pieces.writes x m base bytes) (λ (r : pieces.Served). Some (service.answered s id m r)) t is in
     let y = record x { memory = pieces.written_at x.memory base bytes } in
-    let k = some_is (nat_le (base + length bytes) (length x.memory)) (record { process = y; answer = answer_to m what.Written }) c served in
+    let k = some_is (nat_le (base + length bytes) (length x.memory)) (record { process = y; answer = answer_to m PlainWhat.Written }) c served in
     let f : service.answered s id m c ≡ t = cc in
     subst (λ (u : OneKernel). AtHome P u (given a (answers a id (here v m.to)))) (ap (service.answered s id m) k ∙ f)
-    (answer_sent P s (service.changed s id m y) a id m what.Written (here v m.to) name there h (home_goes P (without_message s id) a m.to y (at_home_out P s a id h) (record { slots = hx.slots; owner = hx.owner })) refl at)
-serve_row P s t v a id m x (what.Block bytes) w is there name hx at h = lands_row P s t v a id m x hx at h is
-serve_row P s t v a id m x what.Written w is there name hx at h = lands_row P s t v a id m x hx at h is
-serve_row P s t v a id m x what.Gone w is there name hx at h = gone_row P s t v a id m x w hx at h is
-serve_row P s t v a id m x (what.User b c d f) w is there name hx at h = cc
-serve_row P s t v a id m x (what.Create b c) w is there name hx at h = cc
-serve_row P s t v a id m x (what.Created b) w is there name hx at h = cc
-serve_row P s t v a id m x what.NoRoom w is there name hx at h = cc
-serve_row P s t v a id m x (what.Move b) w is there name hx at h = cc
-serve_row P s t v a id m x (what.Moved b) w is there name hx at h = cc
+    (answer_sent P s (service.changed s id m y) a id m PlainWhat.Written (here v m.to) name there h (home_goes P (without_message s id) a m.to y (at_home_out P s a id h) (record { slots = hx.slots; owner = hx.owner })) refl at)
+serve_row P s t v a id m x (PlainWhat.Block bytes) w is there name hx at h = lands_row P s t v a id m x hx at h is
+serve_row P s t v a id m x PlainWhat.Written w is there name hx at h = lands_row P s t v a id m x hx at h is
+serve_row P s t v a id m x PlainWhat.Gone w is there name hx at h = gone_row P s t v a id m x w hx at h is
+serve_row P s t v a id m x _ w is there name hx at h = cc
 
-pub served_home : (P : Pid → Place → Type 0) (s t : OneKernel) (v : View) (a : Addresses) (id : MsgId) → kernel.step s (label.Served id) ≡ Some t → Named s → ServedAt P s v id → AtHome P s a → AtHome P t (given a (gives s v a (label.Served id)))
+pub served_home : (P : Pid → Place → Type 0) (s t : OneKernel) (v : View) (a : Addresses) (id : MsgId) → kernel.step s (Label.Served id) ≡ Some t → Named s → ServedAt P s v id → AtHome P s a → AtHome P t (given a (gives s v a (Label.Served id)))
 served_home P s t v a id is named at h =
     let (m, there, rest) = bind-is (s.bag id) (λ (w : PlainMessage). bind (kernel.alive (s.processes w.to)) (λ (p : PlainProcess). service.serves s id w p w.what)) t is in
     let (x, alive, last) = bind-is (kernel.alive (s.processes m.to)) (λ (p : PlainProcess). service.serves s id m p m.what) t rest in
-    let gs_is : serves_what v a id m x m.what ≡ gives s v a (label.Served id) =
+    let gs_is : serves_what v a id m x m.what ≡ gives s v a (Label.Served id) =
     ap (addresses.serves_alive v a id m) (sym alive) ∙ ap (addresses.serves s v a id) (sym there) in
     subst (λ (gs : List Gets). AtHome P t (given a gs)) gs_is
     (serve_row P s t v a id m x m.what refl last there (named id m there) (h.processes m.to x alive) (at m there) h)
@@ -337,10 +290,6 @@ only_child a child id (l ∷ ls) n =
       servers = let w = h.servers in record { child = w.child; name = w.name; answer = w.answer };
     }
 
--- what is given behind an answer's two
-behind_two : (a : Addresses) (i : MsgId) (to from : Place) (gs : List Gets) (h : addresses.Holder) → given a (two i to from ++ gs) h ≡ given (given a gs) (two i to from) h
-behind_two a i to from gs h = refl
-
 begun_at_home : (P : Pid → Place → Type 0) (s : OneKernel) (a : Addresses) (id : MsgId) (m : PlainMessage) (child : Pid) (image : BootImage) (links : List PlainLink) → AtHome P s a → s.bag id ≡ Some m → links_in m.what ≡ links
     → AtHome P (service.with_child (without_message s id) child image links) (given a (child_links a child id 0 links))
 begun_at_home P s a id m child image links h there is =
@@ -362,7 +311,7 @@ created_row : (P : Pid → Place → Type 0) (s t : OneKernel) (v : View) (a : A
 created_row P s t v a id m child links image is there links_are named at h =
     let u = service.with_child (without_message s id) child image links in
     let b = given a (child_links a child id 0 links) in
-    let n = answer_to m (what.Created child) in
+    let n = answer_to m (PlainWhat.Created child) in
     let k = when-is (service.is_kernel s m.to && pid_eq child (pid_of m.to.home (first_number + s.made m.to.home))) (with_sent u (Some n)) t is in
     let name : m.id ≡ id = named id m there in
     let sent : AtHome P (with_sent u (Some n)) (given b (two n.id (a (Sender id)) (unmoved v.acting))) =
@@ -372,24 +321,12 @@ created_row P s t v a id m child links image is there links_are named at h =
 
 creates_row : (P : Pid → Place → Type 0) (s t : OneKernel) (v : View) (a : Addresses) (id : MsgId) (m : PlainMessage) (child : Pid) (w : PlainWhat) → m.what ≡ w → service.creates s id m child w ≡ Some t → s.bag id ≡ Some m → Named s → ReceivedAt s v.acting id → AtHome P s a
     → AtHome P t (given a (answers a id (unmoved v.acting) ++ addresses.creates_what a id child w))
-creates_row P s t v a id m child (what.Create image links) w is there named at h =
+creates_row P s t v a id m child (PlainWhat.Create image links) w is there named at h =
     let (i, image_is, last) = bind-is (slice_get s.images image) (service.creates_of s id m child links) t is in
     created_row P s t v a id m child links i last there (ap links_in w) named at h
-creates_row P s t v a id m child (what.User f g i j) w is there named at h = cc
-creates_row P s t v a id m child what.Stop w is there named at h = cc
-creates_row P s t v a id m child what.Resume w is there named at h = cc
-creates_row P s t v a id m child what.Kill w is there named at h = cc
-creates_row P s t v a id m child (what.Read f g) w is there named at h = cc
-creates_row P s t v a id m child (what.Write f g) w is there named at h = cc
-creates_row P s t v a id m child (what.Block f) w is there named at h = cc
-creates_row P s t v a id m child what.Written w is there named at h = cc
-creates_row P s t v a id m child what.Gone w is there named at h = cc
-creates_row P s t v a id m child (what.Created f) w is there named at h = cc
-creates_row P s t v a id m child what.NoRoom w is there named at h = cc
-creates_row P s t v a id m child (what.Move f) w is there named at h = cc
-creates_row P s t v a id m child (what.Moved f) w is there named at h = cc
+creates_row P s t v a id m child _ w is there named at h = cc
 
-pub created_home : (P : Pid → Place → Type 0) (s t : OneKernel) (v : View) (a : Addresses) (id : MsgId) (child : Pid) → kernel.step s (label.Created id child) ≡ Some t → Named s → ReceivedAt s v.acting id → AtHome P s a → AtHome P t (given a (gives s v a (label.Created id child)))
+pub created_home : (P : Pid → Place → Type 0) (s t : OneKernel) (v : View) (a : Addresses) (id : MsgId) (child : Pid) → kernel.step s (Label.Created id child) ≡ Some t → Named s → ReceivedAt s v.acting id → AtHome P s a → AtHome P t (given a (gives s v a (Label.Created id child)))
 created_home P s t v a id child is named at h =
     let (m, there, rest) = bind-is (s.bag id) (λ (w : PlainMessage). service.creates s id w child w.what) t is in
     subst (λ (gs : List Gets). AtHome P t (given a gs)) (ap (addresses.creates v a id child) (sym there)) (creates_row P s t v a id m child m.what refl rest there named at h)

@@ -1,18 +1,7 @@
 -- Lists of slots and links, and the registers of a call.
-use Rattle.std.proofs.Common.{◌≡◌, ℕ, zero, suc, ◌+◌, ◌%◌, ◌==◌, Bool, true, false, List, [], ◌∷◌, length, refl, ◌⊎◌, inl, inr, arith, nat_lt, nat_le}
-use Rattle.std.specs.Prelude.{if◌then◌else◌, slice_set, slice_index}
-use Rattle.std.specs.declared.option.Option.{Option}
-use Rattle.std.specs.declared.option.Option.TheVariants.{None, Some}
-use Rattle.std.proofs.lemmas.Bool.Decides.{nat_tests}
-use Rattle.dm_link.specs.Plain.{PlainLink}
-use Rattle.dm_linktable.specs.Slots.{link_at}
-use Rattle.dm_processor.specs.declared.registers.Regs.{Regs}
-use Rattle.dm_processor.specs.declared.opcodes.Opcode.{Opcode}
-use Rattle.dm_processor.specs.declared.opcodes.Opcode.TheVariants as op
+use Rattle.dm_rule.proofs.Names.{◌≡◌, ℕ, zero, suc, ◌+◌, ◌%◌, ◌==◌, Bool, true, false, List, [], ◌∷◌, length, refl, ◌⊎◌, inl, inr, arith, nat_lt, nat_le, if◌then◌else◌, slice_set, slice_index, Option, None, Some, nat_tests, PlainLink}
+use Rattle.dm_rule.proofs.Names.{link_at, Regs, Opcode, Fault, opcode_of, Row, instruction, past}
 use Rattle.dm_processor.specs.Instructions as row
-use Rattle.dm_processor.specs.declared.registers.Fault.TheVariants as fault
-use Rattle.dm_processor.specs.Opcodes.{opcode_of}
-use Rattle.dm_processor.specs.Instructions.{Row, instruction, past}
 use Rattle.dm_onekernel.specs.Calls as calls
 
 -- a slot that was set holds what it was set to, and the others what they held
@@ -50,36 +39,21 @@ past_if true w f n r q h e = h e
 past_if false w f n r q h e = cc
 
 past_word : (bytes : List ℕ) (at n : ℕ) (w : Row) (r q : Regs) → (w ≡ row.Calls n r → r ≡ q) → row.word_row bytes at w ≡ row.Calls n r → r ≡ q
-past_word bytes at n w r q h e = past_if (nat_le (at + 4) (length bytes)) (if at % 4 == 0 then w else row.Faults fault.Unaligned) fault.OutOfRange n r q (λ f. past_if (at % 4 == 0) w fault.Unaligned n r q h f) e
+past_word bytes at n w r q h e = past_if (nat_le (at + 4) (length bytes)) (if at % 4 == 0 then w else row.Faults Fault.Unaligned) Fault.OutOfRange n r q (λ f. past_if (at % 4 == 0) w Fault.Unaligned n r q h f) e
 
 plain_no : (x : Regs) (y : List ℕ) (n : ℕ) (r q : Regs) → row.Plain x y ≡ row.Calls n r → r ≡ q
 plain_no x y n r q e = cc
 
 past_effect : (o : Opcode) (regs : Regs) (m : List ℕ) (a b c n : ℕ) (r : Regs) → row.effect o regs m a b c ≡ row.Calls n r → r ≡ past regs
-past_effect op.Li regs m a b c n r e = cc
-past_effect op.Lih regs m a b c n r e = cc
-past_effect op.Mov regs m a b c n r e = cc
-past_effect op.Add regs m a b c n r e = cc
-past_effect op.Sub regs m a b c n r e = cc
-past_effect op.Mul regs m a b c n r e = cc
-past_effect op.And regs m a b c n r e = cc
-past_effect op.Or regs m a b c n r e = cc
-past_effect op.Xor regs m a b c n r e = cc
-past_effect op.Shl regs m a b c n r e = cc
-past_effect op.Shr regs m a b c n r e = cc
-past_effect op.Lw regs m a b c n r e =
+past_effect Opcode.Lw regs m a b c n r e =
     past_word m (row.reg regs b + c) n (row.Plain (row.with_reg regs a (row.word_at m (row.reg regs b + c))) m) r (past regs) (plain_no (row.with_reg regs a (row.word_at m (row.reg regs b + c))) m n r (past regs)) e
-past_effect op.Sw regs m a b c n r e =
+past_effect Opcode.Sw regs m a b c n r e =
     past_word m (row.reg regs b + c) n (row.Plain (past regs) (row.with_word m (row.reg regs b + c) (row.reg regs a))) r (past regs) (plain_no (past regs) (row.with_word m (row.reg regs b + c) (row.reg regs a)) n r (past regs)) e
-past_effect op.Lb regs m a b c n r e =
+past_effect Opcode.Lb regs m a b c n r e =
     past_if (nat_lt (row.reg regs b + c) (length m)) (row.Plain (row.with_reg regs a (slice_index m (row.reg regs b + c))) m) _ n r (past regs) (plain_no (row.with_reg regs a (slice_index m (row.reg regs b + c))) m n r (past regs)) e
-past_effect op.Sb regs m a b c n r e =
+past_effect Opcode.Sb regs m a b c n r e =
     past_if (nat_lt (row.reg regs b + c) (length m)) (row.Plain (past regs) (slice_set m (row.reg regs b + c) (row.reg regs a % 256))) _ n r (past regs) (plain_no (past regs) (slice_set m (row.reg regs b + c) (row.reg regs a % 256)) n r (past regs)) e
-past_effect op.Jmp regs m a b c n r e = cc
-past_effect op.Beq regs m a b c n r e = cc
-past_effect op.Bne regs m a b c n r e = cc
-past_effect op.Bltu regs m a b c n r e = cc
-past_effect op.Sys regs m a b c n r e = cc
+past_effect _ regs m a b c n r e = cc
 
 past_operation : (o : Option Opcode) (regs : Regs) (m : List ℕ) (a b c n : ℕ) (r : Regs) → row.operation_row o regs m a b c ≡ row.Calls n r → r ≡ past regs
 past_operation None regs m a b c n r e = cc

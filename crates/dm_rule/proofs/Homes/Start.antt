@@ -1,30 +1,11 @@
 -- Where a run begins, each address names the home of its process.
-use Rattle.std.proofs.Common.{◌≡◌, ℕ, zero, suc, ◌+◌, ◌-◌, ◌==◌, ◌&&◌, ◌||◌, Bool, true, false, List, [], ◌∷◌, ◌++◌, length, refl, ap, ◌∙◌, sym, arith, nat_lt, nat_le, inl, inr}
-use Rattle.std.specs.Prelude.{if◌then◌else◌, map, option_map, slice_get, replicate}
-use Rattle.std.specs.declared.option.Option.{Option}
-use Rattle.std.specs.declared.option.Option.TheVariants.{None, Some}
-use Rattle.std.proofs.lemmas.Bool.{cases_Bool}
-use Rattle.std.proofs.lemmas.Bool.Decides.{nat_tests}
-use Rattle.dm_link.specs.declared.Pid.{Pid}
-use Rattle.dm_link.specs.declared.Link.{Link}
-use Rattle.dm_link.specs.Names.{place_of, pid_eq}
-use Rattle.dm_link.specs.Plain.{PlainLink, plain_link}
-use Rattle.dm_linktable.specs.Slots.{link_at}
-use Rattle.dm_onekernel.specs.declared.boot.BootProcess.{BootProcess}
-use Rattle.dm_onekernel.specs.declared.boot.BootImage.{BootImage}
-use Rattle.dm_onekernel.specs.declared.boot.Boot.{Boot}
+use Rattle.dm_rule.proofs.Names.{◌≡◌, ℕ, zero, suc, ◌+◌, ◌-◌, ◌==◌, ◌&&◌, ◌||◌, Bool, true, false, List, [], ◌∷◌, ◌++◌, length, refl, ap, ◌∙◌, sym, arith, nat_lt, nat_le, inl, inr, if◌then◌else◌, map, option_map, slice_get, replicate}
+use Rattle.dm_rule.proofs.Names.{Option, None, Some, cases_Bool, nat_tests, Pid, Link, place_of, pid_eq, PlainLink, plain_link, link_at, BootProcess, BootImage, Boot, IsValid, switchboard, manager, processes_are_valid, starting_at}
+use Rattle.dm_rule.proofs.Names.{slots_of, PlainProcess, start, life_at, first_life, begun, slots_with, Alive, pid_eq-is, ring_at, first_point, unmoved, place_in, links_at, home_of, nth_child, first_addresses, owner_in, Homes, are_home}
+use Rattle.dm_rule.proofs.Names.{left_true, right_true}
 use Rattle.dm_onekernel.specs.Boot as boot
-use Rattle.dm_onekernel.specs.Boot.{IsValid, switchboard, manager, processes_are_valid, starting_at, slots_of}
-use Rattle.dm_onekernel.specs.PlainProcess.{PlainProcess}
-use Rattle.dm_onekernel.specs.Start.{start, life_at, first_life, begun, slots_with}
-use Rattle.dm_onekernel.specs.Kernel.{Alive}
 use Rattle.dm_onekernel.specs.Manager as manage
 use Rattle.dm_onekernel.specs.Step as kernel
-use Rattle.dm_laws.proofs.Equal.{pid_eq-is}
-use Rattle.dm_rule.specs.View.{ring_at}
-use Rattle.dm_rule.specs.Point.{first_point}
-use Rattle.dm_rule.specs.Addresses.{unmoved, place_in, links_at, home_of, nth_child, first_addresses, owner_in}
-use Rattle.dm_rule.specs.Homes.{Homes, are_home}
 use Rattle.dm_rule.proofs.Homes.{IsHome, HomeProcess, AtHome, homes_are}
 
 -- a link of the boot file leads to a home
@@ -49,19 +30,11 @@ somewhere_by b l false true is as_ e =
     ]
 somewhere_by b l false false is as_ e = process_at b l (boot.process_named l.addr.pid b.processes) (named_is l.addr.pid b.processes) e
 
-and-left : (b c : Bool) → (b && c) ≡ true → b ≡ true
-and-left true c e = refl
-and-left false c e = cc
-
-and-right : (b c : Bool) → (b && c) ≡ true → c ≡ true
-and-right true c e = e
-and-right false c e = cc
-
 link_home : (b : Boot) (l : Link) → boot.link_is_valid b l ≡ true → place_of l.addr ≡ unmoved l.addr.pid.home
 link_home b l e =
-    let first : (l.addr.moves == 0) ≡ true = and-left (l.addr.moves == 0) _ e in
+    let first : (l.addr.moves == 0) ≡ true = left_true (l.addr.moves == 0) _ e in
     let none : l.addr.moves ≡ 0 = grind (arith, nat_tests) in
-    let rest : boot.leads_somewhere b l ≡ true = and-right (nat_le l.channel 31) (boot.leads_somewhere b l) (and-right _ _ (and-right (l.addr.moves == 0) _ e)) in
+    let rest : boot.leads_somewhere b l ≡ true = right_true (nat_le l.channel 31) (boot.leads_somewhere b l) (right_true _ _ (right_true (l.addr.moves == 0) _ e)) in
     let at : l.addr.at ≡ l.addr.pid.home = somewhere_by b l (pid_eq l.addr.pid switchboard) (pid_eq l.addr.pid manager) refl refl rest in
     ap (λ (n : ℕ). record { at = n; moves = l.addr.moves }) at ∙ ap (λ (n : ℕ). record { at = l.addr.pid.home; moves = n }) none
 
@@ -76,8 +49,8 @@ first_link b [] n k l valid e = absurd (empty_slot n k l e)
 first_link b (x ∷ xs) n zero l valid e =
     let f : plain_link x ≡ l = cc in
     let g : x.addr.pid.home ≡ l.to.home = ap (λ (v : PlainLink). v.to.home) f in
-    link_home b x (and-left (boot.link_is_valid b x) (boot.links_are_valid b xs) valid) ∙ ap unmoved g
-first_link b (x ∷ xs) n (suc k) l valid e = first_link b xs n k l (and-right (boot.link_is_valid b x) (boot.links_are_valid b xs) valid) e
+    link_home b x (left_true (boot.link_is_valid b x) (boot.links_are_valid b xs) valid) ∙ ap unmoved g
+first_link b (x ∷ xs) n (suc k) l valid e = first_link b xs n k l (right_true (boot.link_is_valid b x) (boot.links_are_valid b xs) valid) e
 
 begun_home_of : (b : Boot) (p : BootProcess) (q : Pid) (x : PlainProcess) (o : Option BootImage) → boot.links_are_valid b p.links ≡ true → links_at b.processes q ≡ p.links
     → kernel.alive (option_map (λ image. Alive (begun b.format image (map plain_link p.links))) o) ≡ Some x → HomeProcess IsHome (first_addresses b) q x
@@ -96,19 +69,19 @@ links_valid b n p e =
     let few = nat_le (length p.links) (slots_of b.format) in
     let image = nat_lt p.image (length b.images) in
     let number = p.pid.num == boot.first_number + n in
-    and-right few last (and-right image (few && last) (and-right number (image && (few && last)) (and-right (nat_lt p.pid.home (length b.machines)) (number && (image && (few && last))) e)))
+    right_true few last (right_true image (few && last) (right_true number (image && (few && last)) (right_true (nat_lt p.pid.home (length b.machines)) (number && (image && (few && last))) e)))
 
 begun_home : (b : Boot) (earlier ps : List BootProcess) (q : Pid) (x : PlainProcess) → processes_are_valid b earlier ps ≡ true → links_at b.processes q ≡ links_at ps q
     → kernel.alive (life_at b ps q) ≡ Some x → HomeProcess IsHome (first_addresses b) q x
 begun_home b earlier [] q x valid at e = cc
 begun_home b earlier (p ∷ ps) q x valid at e =
-    let mine : boot.process_is_valid b (starting_at p.pid.home earlier) p ≡ true = and-left _ _ valid in
+    let mine : boot.process_is_valid b (starting_at p.pid.home earlier) p ≡ true = left_true _ _ valid in
     elim (cases_Bool (pid_eq p.pid q)) [
       | inl same ↦
           begun_home_of b p q x (slice_get b.images p.image) (links_valid b (starting_at p.pid.home earlier) p mine) (at ∙ ap (λ (c : Bool). if c then p.links else links_at ps q) same)
           (sym (ap (λ (c : Bool). kernel.alive (if c then first_life b p else life_at b ps q)) same) ∙ e)
       | inr apart ↦
-          begun_home b (earlier ++ p ∷ []) ps q x (and-right _ _ valid) (at ∙ ap (λ (c : Bool). if c then p.links else links_at ps q) apart)
+          begun_home b (earlier ++ p ∷ []) ps q x (right_true _ _ valid) (at ∙ ap (λ (c : Bool). if c then p.links else links_at ps q) apart)
           (sym (ap (λ (c : Bool). kernel.alive (if c then first_life b p else life_at b ps q)) apart) ∙ e)
     ]
 

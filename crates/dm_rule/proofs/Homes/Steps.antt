@@ -1,37 +1,17 @@
 -- Each label of a process keeps addresses where they may be.
-use Rattle.std.proofs.Common.{◌≡◌, ℕ, ◌==◌, ◌&&◌, Bool, true, false, List, [], refl, ap, ◌∙◌, sym, subst, arith}
-use Rattle.std.specs.Prelude.{if◌then◌else◌}
-use Rattle.std.specs.declared.option.Option.{Option}
-use Rattle.std.specs.declared.option.Option.TheVariants.{None, Some}
-use Rattle.std.proofs.lemmas.Bool.Decides.{nat_tests}
-use Rattle.dm_link.specs.declared.Pid.{Pid}
-use Rattle.dm_link.specs.Names.{Place, pid_eq}
-use Rattle.dm_linktable.specs.Slots.{first_empty}
-use Rattle.dm_message.specs.declared.MsgId.{MsgId}
-use Rattle.dm_message.specs.Ids.{id_eq}
-use Rattle.dm_onekernel.specs.declared.label.Label.TheVariants as label
-use Rattle.dm_onekernel.specs.declared.label.Reply.{Reply}
-use Rattle.dm_onekernel.specs.declared.label.Reply.TheVariants as reply
-use Rattle.dm_onekernel.specs.declared.label.Why.{Why}
-use Rattle.dm_onekernel.specs.declared.label.Why.TheVariants as why
-use Rattle.dm_onekernel.specs.Codes.{reply_eq, reply_code, why_eq}
-use Rattle.dm_onekernel.specs.Options.{bind}
-use Rattle.dm_onekernel.specs.PlainProcess.{PlainProcess, reg}
-use Rattle.dm_onekernel.specs.Kernel.{Alive, Ended, OneKernel, with_process, with_sent}
+use Rattle.dm_rule.proofs.Names.{◌≡◌, ℕ, ◌==◌, ◌&&◌, Bool, true, false, List, [], refl, ap, ◌∙◌, sym, subst, arith, if◌then◌else◌, Option, None, Some, nat_tests, Pid, Place, pid_eq, first_empty, MsgId, id_eq, Label, Reply, Why, reply_eq}
+use Rattle.dm_rule.proofs.Names.{reply_code, why_eq, bind, PlainProcess, reg, Alive, OneKernel, with_process, with_sent, Replies, Sends, Waits, Outputs, Ends, id_eq-is, bind-is, when-is, View, Addresses, Gets, given, gives, Slot, here}
+use Rattle.dm_rule.proofs.Names.{fills, fills_by, made, sends_what}
+use Rattle.dm_onekernel.specs.Kernel.{Ended}
 use Rattle.dm_onekernel.specs.Calls as calls
-use Rattle.dm_onekernel.specs.Calls.{Called, Replies, Sends, Waits, Outputs, Ends}
 use Rattle.dm_onekernel.specs.Step as kernel
-use Rattle.dm_laws.proofs.Equal.{id_eq-is}
-use Rattle.dm_laws.proofs.Steps.{bind-is, when-is}
-use Rattle.dm_rule.specs.View.{View}
 use Rattle.dm_rule.specs.Addresses as addresses
-use Rattle.dm_rule.specs.Addresses.{Addresses, Gets, gets, given, gives, Slot, Owner, Receiver, Sender, Enclosed, unmoved, here, fills, fills_by, made, sends_what, receives_links, receives_what, slot_after, owner_in}
 use Rattle.dm_rule.proofs.Homes.{AtHome}
 use Rattle.dm_rule.proofs.Homes.Rows.{SameProcess, SameMessage, SameServers, running_home, at_home_process, at_home_sends, home_goes, at_home_goes, alive_on}
 use Rattle.dm_rule.proofs.Homes.Calls.{Nexts, next_home, gives_by}
 
 -- ran
-pub ran_home : (P : Pid → Place → Type 0) (s t : OneKernel) (v : View) (a : Addresses) (p : Pid) (k : ℕ) → kernel.step s (label.Ran p k) ≡ Some t → AtHome P s a → AtHome P t a
+pub ran_home : (P : Pid → Place → Type 0) (s t : OneKernel) (v : View) (a : Addresses) (p : Pid) (k : ℕ) → kernel.step s (Label.Ran p k) ≡ Some t → AtHome P s a → AtHome P t a
 ran_home P s t v a p k is h =
     let (x, running, rest) = bind-is (kernel.running s p) (λ (w : PlainProcess). bind (kernel.plain_steps k (kernel.machine_of w)) (λ (m : kernel.Machine). Some (kernel.goes_on s p (kernel.with_machine w m)))) t is in
     let (m, plain, last) = bind-is (kernel.plain_steps k (kernel.machine_of x)) (λ (m : kernel.Machine). Some (kernel.goes_on s p (kernel.with_machine x m))) t rest in
@@ -39,31 +19,13 @@ ran_home P s t v a p k is h =
     let w = running_home P s a p x h running in
     subst (λ (u : OneKernel). AtHome P u a) eq (home_goes P s a p (kernel.with_machine x m) h (record { slots = w.slots; owner = w.owner }))
 
--- a call
-is_done : Reply → Bool
-is_done c = reply_code c == 0
-
 pub made_is : (v : View) (a : Addresses) (p : Pid) (n : ℕ) (c : Reply) (x : PlainProcess) → made v a p n c (Some x) ≡ gives_by v a p x (calls.call_number n) c
-made_is v a p n reply.Done x = refl
-made_is v a p n reply.NoLink x = refl
-made_is v a p n reply.TableFull x = refl
-made_is v a p n reply.BadKind x = refl
-made_is v a p n reply.BadRange x = refl
-made_is v a p n reply.NoRight x = refl
-made_is v a p n reply.TooLong x = refl
-made_is v a p n reply.Gone x = refl
-made_is v a p n reply.NotCopyable x = refl
+made_is v a p n Reply.Done x = refl
+made_is v a p n _ x = refl
 
 gives_code : (v : View) (a : Addresses) (p : Pid) (x : PlainProcess) (n : calls.CallNumber) (c : Reply) → gives_by v a p x n c ≡ (if reply_code c == 0 then fills_by v a p x n else [])
-gives_code v a p x n reply.Done = refl
-gives_code v a p x n reply.NoLink = refl
-gives_code v a p x n reply.TableFull = refl
-gives_code v a p x n reply.BadKind = refl
-gives_code v a p x n reply.BadRange = refl
-gives_code v a p x n reply.NoRight = refl
-gives_code v a p x n reply.TooLong = refl
-gives_code v a p x n reply.Gone = refl
-gives_code v a p x n reply.NotCopyable = refl
+gives_code v a p x n Reply.Done = refl
+gives_code v a p x n _ = refl
 
 pub gives_same : (v : View) (a : Addresses) (p : Pid) (x : PlainProcess) (n : calls.CallNumber) (c d : Reply) → reply_eq c d ≡ true → gives_by v a p x n c ≡ gives_by v a p x n d
 gives_same v a p x n c d e =
@@ -99,13 +61,7 @@ only_fills a p (Some slot) place = record {
 only_fills_by : (v : View) (a : Addresses) (p : Pid) (x : PlainProcess) (n : calls.CallNumber) → OnlySlots a (given a (fills_by v a p x n)) p
 only_fills_by v a p x calls.Make = only_fills a p (first_empty x.links) (here v p)
 only_fills_by v a p x calls.Copy = only_fills a p (first_empty x.links) (a (Slot p (reg x.regs 1)))
-only_fills_by v a p x calls.Exit = only_none a p
-only_fills_by v a p x calls.Out = only_none a p
-only_fills_by v a p x calls.Drop = only_none a p
-only_fills_by v a p x calls.Send = only_none a p
-only_fills_by v a p x calls.Receive = only_none a p
-only_fills_by v a p x calls.Move = only_none a p
-only_fills_by v a p x calls.Unknown = only_none a p
+only_fills_by v a p x _ = only_none a p
 
 only_if : (a : Addresses) (p : Pid) (c : Bool) (gs : List Gets) → OnlySlots a (given a gs) p → OnlySlots a (given a (if c then gs else [])) p
 only_if a p true gs h = h
@@ -135,23 +91,23 @@ reply_row P s t v a p n c (kernel.Calls number (calls.Outputs word y)) w is h = 
 reply_row P s t v a p n c (kernel.Calls number (calls.Ends because)) w is h = cc
 reply_row P s t v a p n c (kernel.Faults fault) w is h = cc
 
-pub call_home : (P : Pid → Place → Type 0) (s t : OneKernel) (v : View) (a : Addresses) (p : Pid) (n : ℕ) (c : Reply) → kernel.step s (label.Call p n c) ≡ Some t → P p (here v p) → AtHome P s a → AtHome P t (given a (gives s v a (label.Call p n c)))
+pub call_home : (P : Pid → Place → Type 0) (s t : OneKernel) (v : View) (a : Addresses) (p : Pid) (n : ℕ) (c : Reply) → kernel.step s (Label.Call p n c) ≡ Some t → P p (here v p) → AtHome P s a → AtHome P t (given a (gives s v a (Label.Call p n c)))
 call_home P s t v a p n c is at h =
     let (x, next, rest) = bind-is (kernel.next s p) (kernel.replies s p n c) t is in
     reply_row P s t v a p n c x (next_home P v s a p x h at next) rest h
 
 -- a sending
 send_row : (P : Pid → Place → Type 0) (s t : OneKernel) (v : View) (a : Addresses) (p : Pid) (id : MsgId) (next : kernel.Next) → kernel.next s p ≡ Some next → Nexts P v s a p next → kernel.sends s p id next ≡ Some t → AtHome P s a
-    → AtHome P t (given a (gives s v a (label.Send p id)))
+    → AtHome P t (given a (gives s v a (Label.Send p id)))
 send_row P s t v a p id (kernel.Calls number (calls.Sends m y)) nx w is h =
     let k = when-is (id_eq id m.id) (with_sent (kernel.goes_on s p y) (Some m)) t is in
     let name : m.id ≡ id = sym (id_eq-is id m.id k.0) in
     let x = w.x in
     let gs = sends_what v a p x m.id m.what in
-    let gs_is : gs ≡ gives s v a (label.Send p id) =
+    let gs_is : gs ≡ gives s v a (Label.Send p id) =
     ap (λ (i : MsgId). sends_what v a p x i m.what) name ∙ ap (addresses.sends_next v a p x id) (sym nx) ∙ ap (addresses.sends s v a p id) (sym w.running) in
     let o = w.home in
-    subst (λ (u : OneKernel). AtHome P u (given a (gives s v a (label.Send p id)))) k.1
+    subst (λ (u : OneKernel). AtHome P u (given a (gives s v a (Label.Send p id)))) k.1
     (subst (λ (g : List Gets). AtHome P (with_sent (kernel.goes_on s p y) (Some m)) (given a g)) gs_is
     (at_home_sends P s a (given a gs) p (Alive y) m h o.others (alive_on P (given a gs) p y o.process) o.messages o.message o.servers))
 send_row P s t v a p id (kernel.Calls number (calls.Replies d y)) nx w is h = cc
@@ -160,7 +116,7 @@ send_row P s t v a p id (kernel.Calls number (calls.Outputs word y)) nx w is h =
 send_row P s t v a p id (kernel.Calls number (calls.Ends because)) nx w is h = cc
 send_row P s t v a p id (kernel.Faults fault) nx w is h = cc
 
-pub send_home : (P : Pid → Place → Type 0) (s t : OneKernel) (v : View) (a : Addresses) (p : Pid) (id : MsgId) → kernel.step s (label.Send p id) ≡ Some t → P p (here v p) → AtHome P s a → AtHome P t (given a (gives s v a (label.Send p id)))
+pub send_home : (P : Pid → Place → Type 0) (s t : OneKernel) (v : View) (a : Addresses) (p : Pid) (id : MsgId) → kernel.step s (Label.Send p id) ≡ Some t → P p (here v p) → AtHome P s a → AtHome P t (given a (gives s v a (Label.Send p id)))
 send_home P s t v a p id is at h =
     let (x, next, rest) = bind-is (kernel.next s p) (kernel.sends s p id) t is in
     send_row P s t v a p id x next (next_home P v s a p x h at next) rest h
@@ -176,7 +132,7 @@ wait_row P s t v a p (kernel.Calls number (calls.Outputs word y)) w is h = cc
 wait_row P s t v a p (kernel.Calls number (calls.Ends because)) w is h = cc
 wait_row P s t v a p (kernel.Faults fault) w is h = cc
 
-pub wait_home : (P : Pid → Place → Type 0) (s t : OneKernel) (v : View) (a : Addresses) (p : Pid) → kernel.step s (label.Wait p) ≡ Some t → P p (here v p) → AtHome P s a → AtHome P t a
+pub wait_home : (P : Pid → Place → Type 0) (s t : OneKernel) (v : View) (a : Addresses) (p : Pid) → kernel.step s (Label.Wait p) ≡ Some t → P p (here v p) → AtHome P s a → AtHome P t a
 wait_home P s t v a p is at h =
     let (x, next, rest) = bind-is (kernel.next s p) (kernel.waits s p) t is in
     wait_row P s t v a p x (next_home P v s a p x h at next) rest h
@@ -191,7 +147,7 @@ out_row P s t v a p word (kernel.Calls number (calls.Waits y)) w is h = cc
 out_row P s t v a p word (kernel.Calls number (calls.Ends because)) w is h = cc
 out_row P s t v a p word (kernel.Faults fault) w is h = cc
 
-pub out_home : (P : Pid → Place → Type 0) (s t : OneKernel) (v : View) (a : Addresses) (p : Pid) (word : ℕ) → kernel.step s (label.Out p word) ≡ Some t → P p (here v p) → AtHome P s a → AtHome P t a
+pub out_home : (P : Pid → Place → Type 0) (s t : OneKernel) (v : View) (a : Addresses) (p : Pid) (word : ℕ) → kernel.step s (Label.Out p word) ≡ Some t → P p (here v p) → AtHome P s a → AtHome P t a
 out_home P s t v a p word is at h =
     let (x, next, rest) = bind-is (kernel.next s p) (kernel.outputs s p word) t is in
     out_row P s t v a p word x (next_home P v s a p x h at next) rest h
@@ -205,14 +161,14 @@ end_row P s t a p y (kernel.Calls number (calls.Ends because)) is h =
     let k = when-is (why_eq y because) (with_process s p (Ended y)) t is in
     subst (λ (u : OneKernel). AtHome P u a) k.1 (at_home_ended P s a p y h)
 end_row P s t a p y (kernel.Faults fault) is h =
-    let k = when-is (why_eq y (why.Fault fault)) (with_process s p (Ended y)) t is in
+    let k = when-is (why_eq y (Why.Fault fault)) (with_process s p (Ended y)) t is in
     subst (λ (u : OneKernel). AtHome P u a) k.1 (at_home_ended P s a p y h)
 end_row P s t a p y (kernel.Calls number (calls.Replies d z)) is h = cc
 end_row P s t a p y (kernel.Calls number (calls.Sends m z)) is h = cc
 end_row P s t a p y (kernel.Calls number (calls.Waits z)) is h = cc
 end_row P s t a p y (kernel.Calls number (calls.Outputs word z)) is h = cc
 
-pub end_home : (P : Pid → Place → Type 0) (s t : OneKernel) (a : Addresses) (p : Pid) (y : Why) → kernel.step s (label.End p y) ≡ Some t → AtHome P s a → AtHome P t a
+pub end_home : (P : Pid → Place → Type 0) (s t : OneKernel) (a : Addresses) (p : Pid) (y : Why) → kernel.step s (Label.End p y) ≡ Some t → AtHome P s a → AtHome P t a
 end_home P s t a p y is h =
     let (x, next, rest) = bind-is (kernel.next s p) (kernel.ends s p y) t is in
     end_row P s t a p y x rest h

@@ -1,29 +1,10 @@
 -- A turn keeps all of it.
-use Rattle.std.proofs.Common.{◌≡◌, ℕ, ◌+◌, ◌==◌, ◌&&◌, Bool, true, false, List, [], ◌∷◌, length, refl, ap, ◌∙◌, sym, subst, inl, inr, arith, nat_le}
-use Rattle.std.specs.Prelude.{⊤, if◌then◌else◌}
-use Rattle.std.specs.declared.option.Option.{Option}
-use Rattle.std.specs.declared.option.Option.TheVariants.{None, Some}
-use Rattle.std.proofs.lemmas.Bool.Decides.{nat_tests}
-use Rattle.dm_link.specs.declared.Pid.{Pid}
-use Rattle.dm_message.specs.declared.MsgId.{MsgId}
-use Rattle.dm_message.specs.Plain.{PlainMessage}
-use Rattle.dm_onekernel.specs.declared.boot.Boot.{Boot}
-use Rattle.dm_onekernel.specs.declared.label.Label.{Label}
-use Rattle.dm_onekernel.specs.declared.label.Label.TheVariants as label
-use Rattle.dm_onekernel.specs.Kernel.{OneKernel}
-use Rattle.dm_onekernel.specs.Options.{bind}
+use Rattle.dm_rule.proofs.Names.{◌≡◌, ℕ, ◌+◌, ◌==◌, ◌&&◌, Bool, true, false, List, [], ◌∷◌, length, refl, ap, ◌∙◌, sym, subst, inl, inr, arith, nat_le, ⊤, if◌then◌else◌, Option, None, Some, nat_tests, Pid, MsgId, PlainMessage, Boot, Label}
+use Rattle.dm_rule.proofs.Names.{OneKernel, bind, after_step, Point, first_point, Part, Routes, Spelled, Homes, is_for_home, are_home, slice_get, IsStill, AreStill, Leads, LeadHomeAlways, ◌≤◌, false≢true, is_kernels, Step, PlainProcess}
+use Rattle.dm_rule.proofs.Names.{PlainStatus, Ready, Waiting, Moving, actor, instruction, group_of, pid_of, pid_eq, PlainWhat, BootImage, switchboard, manager, first_number, Known, Unknown, Here, Ended}
 use Rattle.dm_onekernel.specs.Step as kernel
-use Rattle.dm_laws.proofs.Runs.{after_step}
-use Rattle.dm_rule.specs.Point.{Point, first_point}
-use Rattle.dm_rule.specs.Parts.{Part, Routes, Spelled}
-use Rattle.dm_rule.specs.Homes.{Homes, is_for_home, are_home}
 use Rattle.dm_rule.proofs.Homes.Labels.{SaidAt}
 use Rattle.dm_rule.proofs.Homes.Lists.{stands, all_stand}
-use Rattle.std.specs.Prelude.{slice_get}
-use Rattle.dm_rule.specs.Laws.{IsStill, AreStill, Leads, LeadHomeAlways}
-use Rattle.std.proofs.Common.{◌≤◌}
-use Rattle.std.proofs.lemmas.Bool.{false≢true}
-use Rattle.dm_rule.specs.View.{is_kernels}
 use Rattle.dm_rule.proofs.Homes.Labels.{RingsHome, is_still}
 use Rattle.dm_rule.proofs.States.{State}
 use Rattle.dm_rule.proofs.Letters.{kernels_fresh}
@@ -31,25 +12,13 @@ use Rattle.dm_rule.proofs.Moves.States.{inbox_way, kernels_by}
 use Rattle.dm_rule.proofs.Pairs.{Pairs, Pairs-start, Pairs-group}
 use Rattle.dm_rule.proofs.Groups.{State-start, State-group, fits}
 use Rattle.dm_rule.proofs.Homes.Lines.{NoneReplaced, homes_of, home_start, Home, Kept}
-use Rattle.dm_schedule.specs.declared.Step.{Step}
-use Rattle.dm_schedule.specs.declared.Step.TheVariants as directive
 use Rattle.dm_onekernel.specs.Calls as calls
-use Rattle.dm_onekernel.specs.PlainProcess.{PlainProcess, PlainStatus, Ready, Waiting, Moving}
-use Rattle.dm_rule.specs.View.{actor}
 use Rattle.dm_rule.specs.Rule as rule
-use Rattle.dm_processor.specs.Instructions.{instruction}
-use Rattle.dm_rule.specs.Rule.{group_of, outcome, headed}
 use Rattle.dm_rule.proofs.Homes.Parts.{PartsAnywhere}
-use Rattle.dm_link.specs.Names.{pid_of, pid_eq}
-use Rattle.dm_message.specs.Plain as what
-use Rattle.dm_message.specs.Plain.{PlainWhat}
-use Rattle.dm_onekernel.specs.declared.boot.BootImage.{BootImage}
-use Rattle.dm_onekernel.specs.Boot.{switchboard, manager, first_number}
 use Rattle.dm_onekernel.specs.Pieces as pieces
 use Rattle.dm_onekernel.specs.Receiving as receiving
 use Rattle.dm_onekernel.specs.Switchboard as board
 use Rattle.dm_onekernel.specs.Manager as manage
-use Rattle.dm_rule.specs.View.{Known, Unknown, Here, Frozen, Incoming, Forward, Ended}
 use Rattle.dm_rule.proofs.Homes.Serves.{ReceivedAt}
 use Rattle.dm_rule.proofs.Homes.Groups.{PartsGood, group_keeps, if_parts, tick_keeps, deliver_keeps}
 
@@ -77,7 +46,7 @@ both : (b c : Bool) → (b && c) ≡ true → (b ≡ true) × (c ≡ true)
 both true c e = (refl, e)
 both false c e = cc
 
-runnable_home : (s : OneKernel) (queue : Pid → List MsgId) (m : ℕ) (ps : List Pid) (q : Pid) → are_home m ps ≡ true → rule.first_runnable s queue ps ≡ Some q → q.home ≡ m
+pub runnable_home : (s : OneKernel) (queue : Pid → List MsgId) (m : ℕ) (ps : List Pid) (q : Pid) → are_home m ps ≡ true → rule.first_runnable s queue ps ≡ Some q → q.home ≡ m
 runnable_home s queue m [] q h is = cc
 runnable_home s queue m (p ∷ ps) q h is =
     let k = both (p.home == m) (are_home m ps) h in
@@ -85,11 +54,9 @@ runnable_home s queue m (p ∷ ps) q h is =
     runnable_if m (rule.can_go s (queue p) (kernel.alive (s.processes p))) p (rule.first_runnable s queue ps) q (let f : p.home ≡ m = grind (arith, nat_tests) in f) (runnable_home s queue m ps q k.1) is
 
 called_good : (m : ℕ) (p : Pid) (n : ℕ) (queue : List MsgId) (c : calls.Called) → p.home ≡ m → PartsAnywhere m (rule.called p n queue c)
-called_good m p n queue (calls.Replies reply x) at = (at, tt)
 called_good m p n queue (calls.Sends k x) at = (at, (tt, tt))
-called_good m p n queue (calls.Waits x) at = (at, tt)
-called_good m p n queue (calls.Outputs word x) at = (at, tt)
 called_good m p n queue (calls.Ends because) at = (at, drops_good m queue)
+called_good m p n queue _ at = (at, tt)
 
 stops_good : (m : ℕ) (p : Pid) (queue : List MsgId) (o : Option kernel.Next) → p.home ≡ m → PartsAnywhere m (rule.stops p queue o)
 stops_good m p queue None at = tt
@@ -97,8 +64,8 @@ stops_good m p queue (Some (kernel.Calls n c)) at = called_good m p n queue c at
 stops_good m p queue (Some (kernel.Faults fault)) at = (at, drops_good m queue)
 
 executes_good : (s : OneKernel) (e : MsgId → ℕ) (m quantum : ℕ) (p : Pid) (queue : List MsgId) (x : PlainProcess) (r : rule.Ran) (o : Option kernel.Next) → p.home ≡ m
-    → PartsGood s e m (rule.says (label.Ran p r.count) ∷ (if r.count == quantum then [] else rule.stops p queue o))
-executes_good s e m quantum p queue x r o at = says_first s e m (label.Ran p r.count) (if r.count == quantum then [] else rule.stops p queue o) at (if_parts m (r.count == quantum) [] (rule.stops p queue o) tt (stops_good m p queue o at))
+    → PartsGood s e m (rule.says (Label.Ran p r.count) ∷ (if r.count == quantum then [] else rule.stops p queue o))
+executes_good s e m quantum p queue x r o at = says_first s e m (Label.Ran p r.count) (if r.count == quantum then [] else rule.stops p queue o) at (if_parts m (r.count == quantum) [] (rule.stops p queue o) tt (stops_good m p queue o at))
 
 completes_good : (s : OneKernel) (e : MsgId → ℕ) (m : ℕ) (p : Pid) (id : MsgId) (o : Option receiving.Completed) → p.home ≡ m → GoodOf s e m (bind o (λ (c : receiving.Completed). Some (rule.completes p id c)))
 completes_good s e m p id None at = tt
@@ -134,9 +101,9 @@ abbrev Front : OneKernel → (MsgId → ℕ) → ℕ → MsgId → Type 0
 Front s e m id = ReceivedAt s m id × (stands s e m id ≡ true)
 
 creates_good : (e : MsgId → ℕ) (pt : Point) (m : ℕ) (id : MsgId) (r : rule.Room) (b : Bool) (blocks : ℕ) → Front pt.kernel e m id
-    → PartsGood pt.kernel e m ((if b then rule.says (label.Created id (pid_of m (first_number + pt.kernel.made m))) else rule.says (label.NoSpace id r.slots r.blocks)) ∷ Routes (pieces.answer_id id) ∷ [])
-creates_good e pt m id r true blocks f = says_first pt.kernel e m (label.Created id (pid_of m (first_number + pt.kernel.made m))) (Routes (pieces.answer_id id) ∷ []) (f.0, refl) (tt, tt)
-creates_good e pt m id r false blocks f = says_first pt.kernel e m (label.NoSpace id r.slots r.blocks) (Routes (pieces.answer_id id) ∷ []) f.0 (tt, tt)
+    → PartsGood pt.kernel e m ((if b then rule.says (Label.Created id (pid_of m (first_number + pt.kernel.made m))) else rule.says (Label.NoSpace id r.slots r.blocks)) ∷ Routes (pieces.answer_id id) ∷ [])
+creates_good e pt m id r true blocks f = says_first pt.kernel e m (Label.Created id (pid_of m (first_number + pt.kernel.made m))) (Routes (pieces.answer_id id) ∷ []) (f.0, refl) (tt, tt)
+creates_good e pt m id r false blocks f = says_first pt.kernel e m (Label.NoSpace id r.slots r.blocks) (Routes (pieces.answer_id id) ∷ []) f.0 (tt, tt)
 
 image_good : (e : MsgId → ℕ) (pt : Point) (m : ℕ) (id : MsgId) (r : rule.Room) (o : Option BootImage) → Front pt.kernel e m id → GoodOf pt.kernel e m (rule.creates pt m id r o)
 image_good e pt m id r None f = tt
@@ -148,64 +115,42 @@ routes_good m (Some k) = (tt, tt)
 
 board_good : (s : OneKernel) (e : MsgId → ℕ) (m : ℕ) (id : MsgId) (o : Option board.Took) → Front s e m id → GoodOf s e m (rule.board_took id o)
 board_good s e m id None f = tt
-board_good s e m id (Some k) f = says_first s e m (label.Took id) (rule.routes k.answer) f.0 (routes_good m k.answer)
+board_good s e m id (Some k) f = says_first s e m (Label.Took id) (rule.routes k.answer) f.0 (routes_good m k.answer)
 
 manager_good : (s : OneKernel) (e : MsgId → ℕ) (m : ℕ) (id : MsgId) (o : Option manage.Took) → Front s e m id → GoodOf s e m (rule.manager_took id o)
 manager_good s e m id None f = tt
-manager_good s e m id (Some k) f = says_first s e m (label.Took id) (rule.routes k.message) f.0 (routes_good m k.message)
+manager_good s e m id (Some k) f = says_first s e m (Label.Took id) (rule.routes k.message) f.0 (routes_good m k.message)
 
 lands_good : (s : OneKernel) (e : MsgId → ℕ) (m : ℕ) (id : MsgId) (o : Option pieces.Landed) → Front s e m id → GoodOf s e m (rule.lands id o)
 lands_good s e m id None f = tt
-lands_good s e m id (Some (pieces.Next request x)) f = says_first s e m (label.Served id) (Routes request.id ∷ []) f.0 (tt, tt)
-lands_good s e m id (Some (pieces.Done reply x)) f = says_first s e m (label.Served id) [] f.0 tt
+lands_good s e m id (Some (pieces.Next request x)) f = says_first s e m (Label.Served id) (Routes request.id ∷ []) f.0 (tt, tt)
+lands_good s e m id (Some (pieces.Done reply x)) f = says_first s e m (Label.Served id) [] f.0 tt
 
 kernel_good : (b : Boot) (e : MsgId → ℕ) (pt : Point) (m : ℕ) (id : MsgId) (w : PlainWhat) → Front pt.kernel e m id → GoodOf pt.kernel e m (rule.kernel_handles b pt m id w)
-kernel_good b e pt m id (what.Create image links) f = image_good e pt m id (rule.free_room b pt m) (slice_get b.images image) f
-kernel_good b e pt m id (what.User x1 x2 x3 x4) f = tt
-kernel_good b e pt m id what.Stop f = tt
-kernel_good b e pt m id what.Resume f = tt
-kernel_good b e pt m id what.Kill f = tt
-kernel_good b e pt m id (what.Read x1 x2) f = tt
-kernel_good b e pt m id (what.Write x1 x2) f = tt
-kernel_good b e pt m id (what.Block x1) f = tt
-kernel_good b e pt m id what.Written f = tt
-kernel_good b e pt m id what.Gone f = tt
-kernel_good b e pt m id (what.Created x1) f = tt
-kernel_good b e pt m id what.NoRoom f = tt
-kernel_good b e pt m id (what.Move x1) f = tt
-kernel_good b e pt m id (what.Moved x1) f = tt
+kernel_good b e pt m id (PlainWhat.Create image links) f = image_good e pt m id (rule.free_room b pt m) (slice_get b.images image) f
+kernel_good b e pt m id _ f = tt
 
 here_good : (e : MsgId → ℕ) (pt : Point) (m : ℕ) (id : MsgId) (k : PlainMessage) (x : PlainProcess) (w : PlainWhat) → Front pt.kernel e m id → GoodOf pt.kernel e m (rule.here_handles pt m id k x w)
-here_good e pt m id k x (what.User x1 x2 x3 x4) f = (inr (inr (id, refl, f.1)), tt)
-here_good e pt m id k x what.Stop f = says_first pt.kernel e m (label.Served id) [] f.0 tt
-here_good e pt m id k x what.Resume f = says_first pt.kernel e m (label.Served id) [] f.0 tt
-here_good e pt m id k x what.Kill f = says_first pt.kernel e m (label.Served id) (rule.drops (pt.view.queue m k.to)) f.0 (drops_good m (pt.view.queue m k.to))
-here_good e pt m id k x (what.Read x1 x2) f = says_first pt.kernel e m (label.Served id) (Routes (pieces.answer_id id) ∷ []) f.0 (tt, tt)
-here_good e pt m id k x (what.Write x1 x2) f = says_first pt.kernel e m (label.Served id) (Routes (pieces.answer_id id) ∷ []) f.0 (tt, tt)
-here_good e pt m id k x (what.Block x1) f = lands_good pt.kernel e m id (pieces.lands k.to x k x.status) f
-here_good e pt m id k x what.Written f = lands_good pt.kernel e m id (pieces.lands k.to x k x.status) f
-here_good e pt m id k x what.Gone f = lands_good pt.kernel e m id (pieces.lands k.to x k x.status) f
-here_good e pt m id k x (what.Create x1 x2) f = tt
-here_good e pt m id k x (what.Created x1) f = tt
-here_good e pt m id k x what.NoRoom f = tt
-here_good e pt m id k x (what.Move x1) f = tt
-here_good e pt m id k x (what.Moved x1) f = tt
+here_good e pt m id k x (PlainWhat.User x1 x2 x3 x4) f = (inr (inr (id, refl, f.1)), tt)
+here_good e pt m id k x PlainWhat.Stop f = says_first pt.kernel e m (Label.Served id) [] f.0 tt
+here_good e pt m id k x PlainWhat.Resume f = says_first pt.kernel e m (Label.Served id) [] f.0 tt
+here_good e pt m id k x PlainWhat.Kill f = says_first pt.kernel e m (Label.Served id) (rule.drops (pt.view.queue m k.to)) f.0 (drops_good m (pt.view.queue m k.to))
+here_good e pt m id k x (PlainWhat.Read x1 x2) f = says_first pt.kernel e m (Label.Served id) (Routes (pieces.answer_id id) ∷ []) f.0 (tt, tt)
+here_good e pt m id k x (PlainWhat.Write x1 x2) f = says_first pt.kernel e m (Label.Served id) (Routes (pieces.answer_id id) ∷ []) f.0 (tt, tt)
+here_good e pt m id k x (PlainWhat.Block x1) f = lands_good pt.kernel e m id (pieces.lands k.to x k x.status) f
+here_good e pt m id k x PlainWhat.Written f = lands_good pt.kernel e m id (pieces.lands k.to x k x.status) f
+here_good e pt m id k x PlainWhat.Gone f = lands_good pt.kernel e m id (pieces.lands k.to x k x.status) f
+here_good e pt m id k x _ f = tt
 
 ended_good : (s : OneKernel) (e : MsgId → ℕ) (m : ℕ) (id : MsgId) (w : PlainWhat) → Front s e m id → GoodOf s e m (rule.ended_handles id w)
-ended_good s e m id (what.User x1 x2 x3 x4) f = (inl tt, tt)
-ended_good s e m id what.Stop f = (inl tt, tt)
-ended_good s e m id what.Resume f = (inl tt, tt)
-ended_good s e m id what.Kill f = (inl tt, tt)
-ended_good s e m id (what.Read x1 x2) f = says_first s e m (label.Gone id) (Routes (pieces.answer_id id) ∷ []) f.0 (tt, tt)
-ended_good s e m id (what.Write x1 x2) f = says_first s e m (label.Gone id) (Routes (pieces.answer_id id) ∷ []) f.0 (tt, tt)
-ended_good s e m id (what.Block x1) f = (inl tt, tt)
-ended_good s e m id what.Written f = (inl tt, tt)
-ended_good s e m id what.Gone f = (inl tt, tt)
-ended_good s e m id (what.Create x1 x2) f = tt
-ended_good s e m id (what.Created x1) f = tt
-ended_good s e m id what.NoRoom f = tt
-ended_good s e m id (what.Move x1) f = tt
-ended_good s e m id (what.Moved x1) f = tt
+ended_good s e m id (PlainWhat.Read x1 x2) f = says_first s e m (Label.Gone id) (Routes (pieces.answer_id id) ∷ []) f.0 (tt, tt)
+ended_good s e m id (PlainWhat.Write x1 x2) f = says_first s e m (Label.Gone id) (Routes (pieces.answer_id id) ∷ []) f.0 (tt, tt)
+ended_good s e m id (PlainWhat.Create x1 x2) f = tt
+ended_good s e m id (PlainWhat.Created x1) f = tt
+ended_good s e m id PlainWhat.NoRoom f = tt
+ended_good s e m id (PlainWhat.Move x1) f = tt
+ended_good s e m id (PlainWhat.Moved x1) f = tt
+ended_good s e m id _ f = (inl tt, tt)
 
 alive_handles : (e : MsgId → ℕ) (pt : Point) (m : ℕ) (id : MsgId) (k : PlainMessage) (o : Option PlainProcess) → Front pt.kernel e m id → GoodOf pt.kernel e m (bind o (λ (x : PlainProcess). rule.here_handles pt m id k x k.what))
 alive_handles e pt m id k None f = tt
@@ -214,10 +159,8 @@ alive_handles e pt m id k (Some x) f = here_good e pt m id k x k.what f
 process_good : (e : MsgId → ℕ) (pt : Point) (m : ℕ) (id : MsgId) (k : PlainMessage) (w : Known) → is_still w ≡ true → Front pt.kernel e m id → GoodOf pt.kernel e m (rule.process_handles pt m id k w)
 process_good e pt m id k Unknown s f = tt
 process_good e pt m id k Here s f = alive_handles e pt m id k (kernel.alive (pt.kernel.processes k.to)) f
-process_good e pt m id k (Frozen to) s f = absurd (false≢true s)
-process_good e pt m id k (Incoming from) s f = absurd (false≢true s)
-process_good e pt m id k (Forward at moves) s f = absurd (false≢true s)
 process_good e pt m id k Ended s f = ended_good pt.kernel e m id k.what f
+process_good e pt m id k _ s f = absurd (false≢true s)
 
 if_good : (s : OneKernel) (e : MsgId → ℕ) (m : ℕ) (b : Bool) (o p : Option (List Part)) → GoodOf s e m o → GoodOf s e m p → GoodOf s e m (if b then o else p)
 if_good s e m true o p h k = h
@@ -236,7 +179,7 @@ handles_good b e pt m id (Some k) h there f =
     (if_good pt.kernel e m (pid_eq k.to switchboard) two last (board_good pt.kernel e m id (board.takes pt.kernel.switchboard k k.what) f)
     (if_good pt.kernel e m (pid_eq k.to manager) three four (manager_good pt.kernel e m id (manage.takes pt.kernel.manager pt.kernel.machines (length pt.kernel.images) k k.what) f) (process_good e pt m id k (pt.view.known m k.to) (h.known m k.to) f)))
 
-for_home : (m : ℕ) (o : Option PlainMessage) (x : PlainMessage) → is_for_home m o ≡ true → o ≡ Some x → x.to.home ≡ m
+pub for_home : (m : ℕ) (o : Option PlainMessage) (x : PlainMessage) → is_for_home m o ≡ true → o ≡ Some x → x.to.home ≡ m
 for_home m None x h is = cc
 for_home m (Some y) x h is = let f : y ≡ x = cc in let g : y.to.home ≡ m = grind (arith, nat_tests) in ap (λ (v : PlainMessage). v.to.home) (sym f) ∙ g
 
@@ -257,16 +200,16 @@ in_bag_at r e pt m i js front entered state h none =
     let zero_ : e i ≡ 0 = kernels_fresh r e pt.kernel i h.sound mine in
     absurd (omega (arith, least, zero_))
 
-pub turn_keeps : NoneReplaced → (b : Boot) (r e : MsgId → ℕ) (pt : Point) (m : ℕ) (w : Spelled) → group_of b pt (directive.Turn m) ≡ Some w → State None pt → Home r e pt → Kept m w.point
+pub turn_keeps : NoneReplaced → (b : Boot) (r e : MsgId → ℕ) (pt : Point) (m : ℕ) (w : Spelled) → group_of b pt (Step.Turn m) ≡ Some w → State None pt → Home r e pt → Kept m w.point
 turn_keeps none b r e pt m w is state h =
-    group_keeps none b r e pt (directive.Turn m) w tt is h (λ ps comes. good_of pt.kernel e m (rule.turns b pt m (pt.view.inbox m)) ps (turns_good b r e pt m (pt.view.inbox m) (λ i js front entered. in_bag_at r e pt m i js front entered state h) (h.lists.inbox m) h) comes)
+    group_keeps none b r e pt (Step.Turn m) w tt is h (λ ps comes. good_of pt.kernel e m (rule.turns b pt m (pt.view.inbox m)) ps (turns_good b r e pt m (pt.view.inbox m) (λ i js front entered. in_bag_at r e pt m i js front entered state h) (h.lists.inbox m) h) comes)
 
 -- each group keeps all of it
 pub home_group : NoneReplaced → (b : Boot) (r e : MsgId → ℕ) (pt : Point) (d : Step) (w : Spelled) → IsStill d → group_of b pt d ≡ Some w → State None pt → Home r e pt → Kept (actor d) w.point
-home_group none b r e pt (directive.Turn m) w still is state h = turn_keeps none b r e pt m w is state h
-home_group none b r e pt (directive.Tick m) w still is state h = tick_keeps none b r e pt m w is h
-home_group none b r e pt (directive.Deliver a c k) w still is state h = deliver_keeps none b r e pt a c k w is h
-home_group none b r e pt (directive.Migrate p m) w still is state h = absurd still
+home_group none b r e pt (Step.Turn m) w still is state h = turn_keeps none b r e pt m w is state h
+home_group none b r e pt (Step.Tick m) w still is state h = tick_keeps none b r e pt m w is h
+home_group none b r e pt (Step.Deliver a c k) w still is state h = deliver_keeps none b r e pt a c k w is h
+home_group none b r e pt (Step.Migrate p m) w still is state h = absurd still
 
 pub none_replaced : NoneReplaced
 none_replaced r e s t l is h i x y was there = (after_step r e s t l is h).only i x y was there

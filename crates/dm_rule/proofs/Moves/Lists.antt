@@ -1,26 +1,14 @@
 -- Messages that are held, come back from a held list, or leave a queue and a held list together.
-use Rattle.std.proofs.Common.{◌≡◌, ◌≢◌, ℕ, zero, suc, ◌+◌, ◌≤◌, ◌==◌, ◌&&◌, Bool, true, false, List, [], ◌∷◌, ◌++◌, refl, ap, ◌∙◌, sym, subst, arith, ◌⊎◌, inl, inr}
-use Rattle.std.specs.Prelude.{if◌then◌else◌}
-use Rattle.std.specs.declared.option.Option.{Option}
-use Rattle.std.specs.declared.option.Option.TheVariants.{None, Some}
-use Rattle.std.proofs.lemmas.Bool.{cases_Bool, false≢true}
-use Rattle.dm_link.specs.declared.Pid.{Pid}
-use Rattle.dm_link.specs.Names.{pid_eq}
-use Rattle.dm_message.specs.declared.MsgId.{MsgId}
-use Rattle.dm_message.specs.Ids.{id_eq}
-use Rattle.dm_line.specs.Sets.{at_machine, at_record}
-use Rattle.dm_rule.specs.View.{View, handled, handled_first, without_first, receiver_of, held_for, released}
-use Rattle.dm_rule.specs.Spots.{Spot, Queue, Held, Inbox, Untaken, times, ids_at, standing, StandsOnce, StandsNowhere, StandsAsBag}
-use Rattle.dm_laws.proofs.Equal.{pid_eq-is, id_eq-is, id_eq-same, id_eq-swap}
+use Rattle.dm_rule.proofs.Names.{◌≡◌, ◌≢◌, ℕ, zero, suc, ◌+◌, ◌≤◌, ◌==◌, ◌&&◌, Bool, true, false, List, [], ◌∷◌, ◌++◌, refl, ap, ◌∙◌, sym, subst, arith, ◌⊎◌, inl, inr, if◌then◌else◌, Option, None, Some, cases_Bool, false≢true, Pid, pid_eq}
+use Rattle.dm_rule.proofs.Names.{MsgId, id_eq, at_machine, at_record, View, handled, handled_first, without_first, receiver_of, held_for, released, Spot, Queue, Held, Inbox, Untaken, times, ids_at, standing, StandsOnce, StandsNowhere}
+use Rattle.dm_rule.proofs.Names.{StandsAsBag, pid_eq-is, id_eq-is, id_eq-same, id_eq-swap}
 use Rattle.dm_rule.proofs.Standing.{times-append, spot_cases, StandsAsBag-same, StandsAsBag-one, StandsAsBag-elsewhere}
 use Rattle.dm_rule.proofs.Once.{Kept, one_of, once_moves}
 use Rattle.dm_rule.proofs.Lines.{Bag, Stands, Stands-stays, at_machine_at, at_machine_off, at_record_off, at_record_at, eq_is, not_true, inbox_apart, parts, front_goes, handled_off, handled_at, one_more}
 
 abbrev is_held : Spot → Bool
-is_held (Queue m p) = false
 is_held (Held m p) = true
-is_held (Inbox m) = false
-is_held (Untaken a b) = false
+is_held _ = false
 
 pub inbox_held : (m n : ℕ) (p : Pid) → Inbox m ≢ Held n p
 inbox_held m n p e = false≢true (ap is_held e)
@@ -107,10 +95,9 @@ gathers_as (Some k) f g x y apart gone all same h = gathers f g x y apart gone a
 
 -- the held messages of a process come to the front of the inbox
 released_off : (v : View) (p : Pid) (z : Spot) → z ≢ Held v.acting p → z ≢ Inbox v.acting → ids_at (released v p) z ≡ ids_at v z
-released_off v p (Queue m q) a b = refl
 released_off v p (Held m q) a b = at_record_off v.held v.acting m p q [] (held_apart v.acting m p q a)
 released_off v p (Inbox m) a b = at_machine_off v.inbox v.acting m (v.held v.acting p ++ v.inbox v.acting) (inbox_apart v.acting m b)
-released_off v p (Untaken c d) a b = refl
+released_off v p _ a b = refl
 
 pub Stands-released : (bag : Bag) (v w : View) (p : Pid) → ((z : Spot) → ids_at w z ≡ ids_at (released v p) z) → ((i : MsgId) → w.told i ≡ v.told i) → Stands bag v → Stands bag w
 Stands-released bag v w p same told h =
@@ -129,7 +116,7 @@ abbrev pub without_all : List MsgId → Bag → Bag
 without_all [] bag i = bag i
 without_all (j ∷ js) bag i = if id_eq j i then None else without_all js bag i
 
-flip_zero : (i j : MsgId) → one_of i j ≡ 0 → id_eq j i ≡ false
+pub flip_zero : (i j : MsgId) → one_of i j ≡ 0 → id_eq j i ≡ false
 flip_zero i j e = not_true (id_eq j i) (λ k. let is : j ≡ i = id_eq-is j i k in absurd (let one : one_of i j ≡ 1 = ap (λ x. one_of i x) is ∙ ap (λ (c : Bool). if c then 1 else 0) (id_eq-same i) in omega (arith, e, one)))
 
 pub without_off : (js : List MsgId) (bag : Bag) (i : MsgId) → times i js ≡ 0 → without_all js bag i ≡ bag i
@@ -172,8 +159,7 @@ queue_apart_ m n p q apart = not_true ((m == n) && pid_eq p q) (λ e. let k = pa
 emptied_off : (v : View) (p : Pid) (z : Spot) → z ≢ Queue v.acting p → z ≢ Held v.acting p → ids_at (emptied v p) z ≡ ids_at v z
 emptied_off v p (Queue m q) a b = at_record_off v.queue v.acting m p q [] (queue_apart_ v.acting m p q a)
 emptied_off v p (Held m q) a b = at_record_off v.held v.acting m p q [] (held_apart v.acting m p q b)
-emptied_off v p (Inbox m) a b = refl
-emptied_off v p (Untaken c d) a b = refl
+emptied_off v p _ a b = refl
 
 emptied_queue : (v : View) (p : Pid) (i : MsgId) → times i (ids_at (emptied v p) (Queue v.acting p)) ≡ 0
 emptied_queue v p i = ap (times i) (at_record_at v.queue v.acting p [])
@@ -181,7 +167,7 @@ emptied_queue v p i = ap (times i) (at_record_at v.queue v.acting p [])
 emptied_held : (v : View) (p : Pid) (i : MsgId) → times i (ids_at (emptied v p) (Held v.acting p)) ≡ 0
 emptied_held v p i = ap (times i) (at_record_at v.held v.acting p [])
 
-zero_cases : (n : ℕ) → (n ≡ 0) ⊎ (1 ≤ n)
+pub zero_cases : (n : ℕ) → (n ≡ 0) ⊎ (1 ≤ n)
 zero_cases zero = inl refl
 zero_cases (suc n) = inr (omega arith)
 
@@ -260,7 +246,5 @@ first_is : (v : View) (i : MsgId) (is : List MsgId) → v.inbox v.acting ≡ i �
 first_is v i is e = ap without_first e
 
 pub first_off : (v : View) (i : MsgId) (is : List MsgId) → v.inbox v.acting ≡ i ∷ is → (z : Spot) → ids_at (handled_first v) z ≡ ids_at (handled v i) z
-first_off v i is e (Queue m q) = refl
-first_off v i is e (Held m q) = refl
 first_off v i is e (Inbox m) = ap (λ x. at_machine v.inbox v.acting x m) (first_is v i is e ∙ sym (front_goes v i is e))
-first_off v i is e (Untaken c d) = refl
+first_off v i is e _ = refl

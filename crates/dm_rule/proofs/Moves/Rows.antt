@@ -1,29 +1,11 @@
 -- The rows of migration keep that each message stands once.
-use Rattle.std.proofs.Common.{◌≡◌, ℕ, ◌==◌, Bool, true, false, List, [], ◌∷◌, ◌++◌, refl, ap, ◌∙◌, sym, subst, length}
-use Rattle.std.specs.Prelude.{◌/◌, if◌then◌else◌}
-use Rattle.std.specs.declared.option.Option.{Option}
-use Rattle.std.specs.declared.option.Option.TheVariants.{None, Some}
-use Rattle.dm_link.specs.declared.Pid.{Pid}
-use Rattle.dm_link.specs.Names.{pid_of, pid_eq}
-use Rattle.dm_message.specs.declared.MsgId.{MsgId}
-use Rattle.dm_message.specs.declared.kind.MessageKind.{MessageKind}
-use Rattle.dm_message.specs.declared.kind.MessageKind.TheVariants as kind
-use Rattle.dm_onekernel.specs.declared.boot.Boot.{Boot}
-use Rattle.dm_onekernel.specs.Boot.{switchboard, manager}
-use Rattle.dm_onekernel.specs.PlainProcess.{PlainProcess}
+use Rattle.dm_rule.proofs.Names.{◌≡◌, ℕ, ◌==◌, Bool, true, false, List, [], ◌∷◌, ◌++◌, refl, ap, ◌∙◌, sym, subst, length, ◌/◌, if◌then◌else◌, Option, None, Some, Pid, pid_of, pid_eq, MsgId, MessageKind, Stage, Boot, switchboard, manager}
+use Rattle.dm_rule.proofs.Names.{PlainProcess, Line, View, Told, About, NothingElse, Of, Known, Unknown, Here, Frozen, Forward, Ended, view_after, handled, handled_first, receiver_of, is_kernels, target_of, with_ring, knowing, released}
+use Rattle.dm_rule.proofs.Names.{after_proto, follows_up, asks_on, held_for, Addresses, Sender, Child, is_told_back, child_number, Point, moved, Part, Says, Again, Owns, Spelled, spelled, to_kernel, forwards_on, moves_to, accepts}
+use Rattle.dm_rule.proofs.Names.{takes_chunk, takes_block, gives_piece, sends_on, leaves, kernel_told, chunks_of, pieces_of, here_told, ended_told, process_told, server_told, migrates_child, migrates, fits, free_room, kernel_hears, hears}
+use Rattle.dm_rule.proofs.Names.{Spot, Queue, Held, Inbox, Untaken, ids_at, bind-is}
 use Rattle.dm_onekernel.specs.Step as kernel
-use Rattle.dm_line.specs.declared.line.Line.{Line}
-use Rattle.dm_line.specs.declared.line.Line.TheVariants as line
-use Rattle.dm_line.specs.declared.line.Stage.TheVariants as stage
-use Rattle.dm_rule.specs.View.{View, Told, About, NothingElse, Target, Of, Known, Unknown, Here, Frozen, Incoming, Forward, Ended, view_after, handled, handled_first, receiver_of, is_kernels, target_of, with_ring, knowing, released, after_proto, follows_up, asks_on, held_for}
 use Rattle.dm_rule.specs.View as view
-use Rattle.dm_rule.specs.Addresses.{Addresses, Sender, Child, is_told_back, child_number}
-use Rattle.dm_rule.specs.Point.{Point, moved}
-use Rattle.dm_rule.specs.Parts.{Part, Says, Again, Owns, Spelled, spelled}
-use Rattle.dm_rule.specs.Migrating.{to_kernel, forwards_on, moves_to, accepts, takes_chunk, takes_block, gives_piece, sends_on, leaves, kernel_told, chunks_of, pieces_of, here_told, ended_told, process_told, server_told, migrates_child, migrates}
-use Rattle.dm_rule.specs.Rule.{fits, free_room, kernel_hears, hears}
-use Rattle.dm_rule.specs.Spots.{Spot, Queue, Held, Inbox, Untaken, ids_at}
-use Rattle.dm_laws.proofs.Steps.{bind-is}
 use Rattle.dm_rule.proofs.Lines.{hidden, Stands-stays}
 use Rattle.dm_rule.proofs.Letters.{letters}
 use Rattle.dm_rule.proofs.Hushed.{is_put, hushed}
@@ -45,23 +27,23 @@ held_told : (v : View) (i : MsgId) (o : Option Pid) (j : MsgId) → (held_for (h
 held_told v i None j = refl
 held_told v i (Some p) j = refl
 
-pub held_row : (pt : Point) (i : MsgId) (is : List MsgId) (w : Spelled) → State None pt → pt.view.inbox pt.view.acting ≡ i ∷ is → spelled pt (Says (line.Held i) ∷ []) ≡ Some w → State None w.point
+pub held_row : (pt : Point) (i : MsgId) (is : List MsgId) (w : Spelled) → State None pt → pt.view.inbox pt.view.acting ≡ i ∷ is → spelled pt (Says (Line.Held i) ∷ []) ≡ Some w → State None w.point
 held_row pt i is w h front e =
     let (q, way) = front_way pt i is h front in
-    line_ends pt (line.Held i) w refl
-    (by_line None pt (line.Held i) refl h (Stands-held (letters h.own pt.kernel.bag) pt.view (view_after pt.view (line.Held i)) i is q front way refl h.stands) (λ j. held_told pt.view i (receiver_of (pt.view.told i)) j)) e
+    line_ends pt (Line.Held i) w refl
+    (by_line None pt (Line.Held i) refl h (Stands-held (letters h.own pt.kernel.bag) pt.view (view_after pt.view (Line.Held i)) i is q front way refl h.stands) (λ j. held_told pt.view i (receiver_of (pt.view.told i)) j)) e
 
 -- forwarded
-told_back : (pt : Point) (b : Bool) (q : Pid) (to : ℕ) (w : Spelled) → Steady pt → spelled pt (if b then Owns kind.Update q to ∷ [] else []) ≡ Some w → State None w.point
-told_back pt true q to w h e = owns_ends pt kind.Update q to w h e
+told_back : (pt : Point) (b : Bool) (q : Pid) (to : ℕ) (w : Spelled) → Steady pt → spelled pt (if b then Owns MessageKind.Update q to ∷ [] else []) ≡ Some w → State None w.point
+told_back pt true q to w h e = owns_ends pt MessageKind.Update q to w h e
 told_back pt false q to w h e = State-at None pt w.point (said pt w e) h.state
 
 pub forwards_row : (pt : Point) (a : Addresses) (i : MsgId) (is : List MsgId) (k : MessageKind) (sender : Pid) (to : ℕ) (w : Spelled) → State None pt → PairsFit pt.view → pt.view.inbox pt.view.acting ≡ i ∷ is → spelled pt (forwards_on a i k sender to) ≡ Some w → State None w.point
 forwards_row pt a i is k sender to w h fit front e =
-    let tells = if is_told_back k then Owns kind.Update sender (a (Sender i)).at ∷ [] else [] in
-    let n = line_next pt (line.Forwarded i to) (Again i to ∷ tells) w refl e in
-    let fit' = fits_as pt.view (view_after pt.view (line.Forwarded i to)) (pair_same pt.view (line.Forwarded i to) refl) fit in
-    let m = again_next (moved pt (line.Forwarded i to) pt.kernel) to i [] tells n.rest (record { between = forwarded_way pt i is to h front; fits = fit' }) n.more in
+    let tells = if is_told_back k then Owns MessageKind.Update sender (a (Sender i)).at ∷ [] else [] in
+    let n = line_next pt (Line.Forwarded i to) (Again i to ∷ tells) w refl e in
+    let fit' = fits_as pt.view (view_after pt.view (Line.Forwarded i to)) (pair_same pt.view (Line.Forwarded i to) refl) fit in
+    let m = again_next (moved pt (Line.Forwarded i to) pt.kernel) to i [] tells n.rest (record { between = forwarded_way pt i is to h front; fits = fit' }) n.more in
     State-at None n.rest.point w.point n.point (State-at None m.rest.point n.rest.point m.point (told_back m.next (is_told_back k) sender (a (Sender i)).at m.rest (steadied m.next m.stands) m.more))
 
 -- lines that handle a kernel's own message, and move no other
@@ -72,88 +54,49 @@ goes_first pt l i is quiet h front mine off =
 pub goes_front : (pt : Point) (l : Line) (i : MsgId) (is : List MsgId) → is_put l ≡ false → State None pt → pt.view.inbox pt.view.acting ≡ i ∷ is → is_kernels i ≡ true → ((z : Spot) → ids_at (view_after pt.view l) z ≡ ids_at (handled pt.view i) z) → State None (moved pt l pt.kernel)
 goes_front pt l i is quiet h front mine off = goes_first pt l i is quiet h front mine (λ z. off z ∙ sym (first_off pt.view i is front z))
 
-asks_off : (v : View) (a : About) (z : Spot) → ids_at (asks_on v a) z ≡ ids_at v z
-asks_off v NothingElse z = refl
-asks_off v (Target m) z = refl
+pub asks_off : (v : View) (a : About) (z : Spot) → ids_at (asks_on v a) z ≡ ids_at v z
 asks_off v (Of p) (Queue m q) = refl
 asks_off v (Of p) (Held m q) = refl
 asks_off v (Of p) (Inbox m) = refl
 asks_off v (Of p) (Untaken c d) = refl
-asks_off v (view.Place p at moves) z = refl
+asks_off v _ z = refl
 
 follows_off : (v : View) (a : About) (k : MessageKind) (z : Spot) → ids_at (follows_up v a k) z ≡ ids_at v z
-follows_off v a kind.Ask z = refl
-follows_off v a kind.Refuse z = refl
-follows_off v a kind.PullState z = refl
-follows_off v a kind.State z = asks_off v a z
-follows_off v a kind.PullBlock z = refl
-follows_off v a kind.Memory z = asks_off v a z
-follows_off v a kind.AllTaken z = refl
-follows_off v a kind.Restart z = refl
-follows_off v a kind.User z = refl
-follows_off v a kind.Stop z = refl
-follows_off v a kind.Resume z = refl
-follows_off v a kind.Kill z = refl
-follows_off v a kind.Read z = refl
-follows_off v a kind.Write z = refl
-follows_off v a kind.Block z = refl
-follows_off v a kind.Written z = refl
-follows_off v a kind.Gone z = refl
-follows_off v a kind.Create z = refl
-follows_off v a kind.Created z = refl
-follows_off v a kind.NoRoom z = refl
-follows_off v a kind.Migrate z = refl
-follows_off v a kind.Update z = refl
-follows_off v a kind.Move z = refl
-follows_off v a kind.Moved z = refl
-follows_off v a kind.CallOff z = refl
-follows_off v a kind.Bury z = refl
+follows_off v a MessageKind.State z = asks_off v a z
+follows_off v a MessageKind.Memory z = asks_off v a z
+follows_off v a _ z = refl
 
 about_off : (v : View) (a : About) (z : Spot) → ids_at (view.about v a) z ≡ ids_at v z
 about_off v a (Queue m q) = refl
-about_off v a (Held m q) = refl
-about_off v a (Inbox m) = refl
-about_off v a (Untaken c d) = refl
+about_off v a _ = refl
 
 pub proto_off : (v : View) (o : Option Told) (z : Spot) → ids_at (after_proto v o) z ≡ ids_at v z
 proto_off v None z = about_off v NothingElse z
 proto_off v (Some t) z = about_off (follows_up v t.about t.kind) t.about z ∙ follows_off v t.about t.kind z
 
-pub frozen_off : (v : View) (p : Pid) (z : Spot) → ids_at (view_after v (line.Migration stage.Frozen p)) z ≡ ids_at (handled_first v) z
+pub frozen_off : (v : View) (p : Pid) (z : Spot) → ids_at (view_after v (Line.Migration Stage.Frozen p)) z ≡ ids_at (handled_first v) z
 frozen_off v p (Queue m q) = refl
-frozen_off v p (Held m q) = refl
-frozen_off v p (Inbox m) = refl
-frozen_off v p (Untaken c d) = refl
+frozen_off v p _ = refl
 
-pub accepted_off : (v : View) (p : Pid) (z : Spot) → ids_at (view_after v (line.Migration stage.Accepted p)) z ≡ ids_at (handled_first v) z
+pub accepted_off : (v : View) (p : Pid) (z : Spot) → ids_at (view_after v (Line.Migration Stage.Accepted p)) z ≡ ids_at (handled_first v) z
 accepted_off v p (Queue m q) = refl
-accepted_off v p (Held m q) = refl
-accepted_off v p (Inbox m) = refl
-accepted_off v p (Untaken c d) = refl
+accepted_off v p _ = refl
 
-pub state_off : (v : View) (p : Pid) (z : Spot) → ids_at (view_after v (line.Migration stage.StateTaken p)) z ≡ ids_at (handled_first v) z
+pub state_off : (v : View) (p : Pid) (z : Spot) → ids_at (view_after v (Line.Migration Stage.StateTaken p)) z ≡ ids_at (handled_first v) z
 state_off v p (Queue m q) = refl
-state_off v p (Held m q) = refl
-state_off v p (Inbox m) = refl
-state_off v p (Untaken c d) = refl
+state_off v p _ = refl
 
-pub memory_off : (v : View) (p : Pid) (z : Spot) → ids_at (view_after v (line.Migration stage.MemoryTaken p)) z ≡ ids_at (handled_first v) z
+pub memory_off : (v : View) (p : Pid) (z : Spot) → ids_at (view_after v (Line.Migration Stage.MemoryTaken p)) z ≡ ids_at (handled_first v) z
 memory_off v p (Queue m q) = refl
-memory_off v p (Held m q) = refl
-memory_off v p (Inbox m) = refl
-memory_off v p (Untaken c d) = refl
+memory_off v p _ = refl
 
-pub lacks_off : (v : View) (p : Pid) (slots blocks : ℕ) (z : Spot) → ids_at (view_after v (line.Lacks p slots blocks)) z ≡ ids_at (handled_first v) z
+pub lacks_off : (v : View) (p : Pid) (slots blocks : ℕ) (z : Spot) → ids_at (view_after v (Line.Lacks p slots blocks)) z ≡ ids_at (handled_first v) z
 lacks_off v p slots blocks (Queue m q) = refl
-lacks_off v p slots blocks (Held m q) = refl
-lacks_off v p slots blocks (Inbox m) = refl
-lacks_off v p slots blocks (Untaken c d) = refl
+lacks_off v p slots blocks _ = refl
 
-pub left_off : (v : View) (p : Pid) (z : Spot) → ids_at (view_after v (line.Migration stage.Left p)) z ≡ ids_at v z
+pub left_off : (v : View) (p : Pid) (z : Spot) → ids_at (view_after v (Line.Migration Stage.Left p)) z ≡ ids_at v z
 left_off v p (Queue m q) = refl
-left_off v p (Held m q) = refl
-left_off v p (Inbox m) = refl
-left_off v p (Untaken c d) = refl
+left_off v p _ = refl
 
 -- a process is here again: its held messages come to the front of the inbox
 abbrev pub home_again : View → Pid → View
@@ -161,15 +104,11 @@ home_again v p = with_ring (knowing v p Here) (v.ring v.acting ++ p ∷ [])
 
 pub home_off : (v : View) (p : Pid) (z : Spot) → ids_at (home_again v p) z ≡ ids_at v z
 home_off v p (Queue m q) = refl
-home_off v p (Held m q) = refl
-home_off v p (Inbox m) = refl
-home_off v p (Untaken c d) = refl
+home_off v p _ = refl
 
-pub restarted_off : (v : View) (p : Pid) (z : Spot) → ids_at (view_after v (line.Migration stage.Restarted p)) z ≡ ids_at (released (home_again (handled_first v) p) p) z
+pub restarted_off : (v : View) (p : Pid) (z : Spot) → ids_at (view_after v (Line.Migration Stage.Restarted p)) z ≡ ids_at (released (home_again (handled_first v) p) p) z
 restarted_off v p (Queue m q) = refl
-restarted_off v p (Held m q) = refl
-restarted_off v p (Inbox m) = refl
-restarted_off v p (Untaken c d) = refl
+restarted_off v p _ = refl
 
 pub comes_back : (pt : Point) (l : Line) (i : MsgId) (is : List MsgId) (p : Pid) → is_put l ≡ false → State None pt → pt.view.inbox pt.view.acting ≡ i ∷ is → is_kernels i ≡ true
     → ((z : Spot) → ids_at (view_after pt.view l) z ≡ ids_at (released (home_again (handled_first pt.view) p) p) z) → State None (moved pt l pt.kernel)
@@ -181,51 +120,49 @@ comes_back pt l i is p quiet h front mine off =
 
 -- a process is asked to move
 moves_row : (pt : Point) (i : MsgId) (is : List MsgId) (p : Pid) (to : ℕ) (same : Bool) (w : Spelled) → State None pt → PairsFit pt.view → pt.view.inbox pt.view.acting ≡ i ∷ is → is_kernels i ≡ true
-    → spelled pt (if same then Says (line.Here i) ∷ [] else Says (line.Migration stage.Frozen p) ∷ Says (line.Migration stage.Asked p) ∷ to_kernel kind.Ask to ∷ []) ≡ Some w → State None w.point
-moves_row pt i is p to true w h fit front mine e = line_ends pt (line.Here i) w refl (goes_front pt (line.Here i) i is refl h front mine (λ z. refl)) e
+    → spelled pt (if same then Says (Line.Here i) ∷ [] else Says (Line.Migration Stage.Frozen p) ∷ Says (Line.Migration Stage.Asked p) ∷ to_kernel MessageKind.Ask to ∷ []) ≡ Some w → State None w.point
+moves_row pt i is p to true w h fit front mine e = line_ends pt (Line.Here i) w refl (goes_front pt (Line.Here i) i is refl h front mine (λ z. refl)) e
 moves_row pt i is p to false w h fit front mine e =
-    let l = line.Migration stage.Frozen p in
+    let l = Line.Migration Stage.Frozen p in
     let next = moved pt l pt.kernel in
-    let n = line_next pt l (Says (line.Migration stage.Asked p) ∷ to_kernel kind.Ask to ∷ []) w refl e in
+    let n = line_next pt l (Says (Line.Migration Stage.Asked p) ∷ to_kernel MessageKind.Ask to ∷ []) w refl e in
     let there : State None next = goes_first pt l i is refl h front mine (λ z. frozen_off pt.view p z) in
     let fit' : PairsFit next.view = fits_as pt.view next.view (pair_same pt.view l refl) fit in
     State-at None n.rest.point w.point n.point
-    (line_owns next (line.Migration stage.Asked p) kind.Ask (pid_of to 0) to n.rest refl refl fit' (by_line None next (line.Migration stage.Asked p) refl there there.stands (λ j. refl)) n.more)
+    (line_owns next (Line.Migration Stage.Asked p) MessageKind.Ask (pid_of to 0) to n.rest refl refl fit' (by_line None next (Line.Migration Stage.Asked p) refl there there.stands (λ j. refl)) n.more)
 
 accepts_row : (pt : Point) (i : MsgId) (is : List MsgId) (p : Pid) (from : ℕ) (room : Bool) (slots blocks : ℕ) (w : Spelled) → State None pt → PairsFit pt.view → pt.view.inbox pt.view.acting ≡ i ∷ is → is_kernels i ≡ true → spelled pt (accepts from p room slots blocks) ≡ Some w → State None w.point
 accepts_row pt i is p from true slots blocks w h fit front mine e =
-    line_owns pt (line.Migration stage.Accepted p) kind.PullState (pid_of from 0) from w refl refl fit (goes_first pt (line.Migration stage.Accepted p) i is refl h front mine (λ z. accepted_off pt.view p z)) e
+    line_owns pt (Line.Migration Stage.Accepted p) MessageKind.PullState (pid_of from 0) from w refl refl fit (goes_first pt (Line.Migration Stage.Accepted p) i is refl h front mine (λ z. accepted_off pt.view p z)) e
 accepts_row pt i is p from false slots blocks w h fit front mine e =
-    line_owns pt (line.Lacks p slots blocks) kind.Refuse (pid_of from 0) from w refl refl fit (goes_first pt (line.Lacks p slots blocks) i is refl h front mine (λ z. lacks_off pt.view p slots blocks z)) e
+    line_owns pt (Line.Lacks p slots blocks) MessageKind.Refuse (pid_of from 0) from w refl refl fit (goes_first pt (Line.Lacks p slots blocks) i is refl h front mine (λ z. lacks_off pt.view p slots blocks z)) e
 
-proto_row : (pt : Point) (i : MsgId) (is : List MsgId) (k : MessageKind) (w : Spelled) → State None pt → PairsFit pt.view → pt.view.inbox pt.view.acting ≡ i ∷ is → is_kernels i ≡ true → spelled pt (Says (line.Proto i) ∷ to_kernel k i.from.home ∷ []) ≡ Some w → State None w.point
+proto_row : (pt : Point) (i : MsgId) (is : List MsgId) (k : MessageKind) (w : Spelled) → State None pt → PairsFit pt.view → pt.view.inbox pt.view.acting ≡ i ∷ is → is_kernels i ≡ true → spelled pt (Says (Line.Proto i) ∷ to_kernel k i.from.home ∷ []) ≡ Some w → State None w.point
 proto_row pt i is k w h fit front mine e =
-    line_owns pt (line.Proto i) k (pid_of i.from.home 0) i.from.home w refl (refl) fit (goes_front pt (line.Proto i) i is refl h front mine (λ z. proto_off (handled pt.view i) (pt.view.told i) z)) e
+    line_owns pt (Line.Proto i) k (pid_of i.from.home 0) i.from.home w refl (refl) fit (goes_front pt (Line.Proto i) i is refl h front mine (λ z. proto_off (handled pt.view i) (pt.view.told i) z)) e
 
 chunk_row : (pt : Point) (i : MsgId) (is : List MsgId) (p : Pid) (last : Bool) (w : Spelled) → State None pt → PairsFit pt.view → pt.view.inbox pt.view.acting ≡ i ∷ is → is_kernels i ≡ true → spelled pt (takes_chunk i p last) ≡ Some w → State None w.point
 chunk_row pt i is p true w h fit front mine e =
-    line_owns pt (line.Migration stage.StateTaken p) kind.PullBlock (pid_of i.from.home 0) i.from.home w refl refl fit (goes_first pt (line.Migration stage.StateTaken p) i is refl h front mine (λ z. state_off pt.view p z)) e
-chunk_row pt i is p false w h fit front mine e = proto_row pt i is kind.PullState w h fit front mine e
+    line_owns pt (Line.Migration Stage.StateTaken p) MessageKind.PullBlock (pid_of i.from.home 0) i.from.home w refl refl fit (goes_first pt (Line.Migration Stage.StateTaken p) i is refl h front mine (λ z. state_off pt.view p z)) e
+chunk_row pt i is p false w h fit front mine e = proto_row pt i is MessageKind.PullState w h fit front mine e
 
 block_row : (pt : Point) (i : MsgId) (is : List MsgId) (p : Pid) (last : Bool) (w : Spelled) → State None pt → PairsFit pt.view → pt.view.inbox pt.view.acting ≡ i ∷ is → is_kernels i ≡ true → spelled pt (takes_block i p last) ≡ Some w → State None w.point
 block_row pt i is p true w h fit front mine e =
-    line_owns pt (line.Migration stage.MemoryTaken p) kind.AllTaken (pid_of i.from.home 0) i.from.home w refl refl fit (goes_first pt (line.Migration stage.MemoryTaken p) i is refl h front mine (λ z. memory_off pt.view p z)) e
-block_row pt i is p false w h fit front mine e = proto_row pt i is kind.PullBlock w h fit front mine e
+    line_owns pt (Line.Migration Stage.MemoryTaken p) MessageKind.AllTaken (pid_of i.from.home 0) i.from.home w refl refl fit (goes_first pt (Line.Migration Stage.MemoryTaken p) i is refl h front mine (λ z. memory_off pt.view p z)) e
+block_row pt i is p false w h fit front mine e = proto_row pt i is MessageKind.PullBlock w h fit front mine e
 
 -- a process has left, and may be restarted
-left_row : (pt : Point) (i : MsgId) (p : Pid) (w : Spelled) → Steady pt → spelled pt (Says (line.Migration stage.Left p) ∷ to_kernel kind.Restart i.from.home ∷ []) ≡ Some w → State None w.point
+left_row : (pt : Point) (i : MsgId) (p : Pid) (w : Spelled) → Steady pt → spelled pt (Says (Line.Migration Stage.Left p) ∷ to_kernel MessageKind.Restart i.from.home ∷ []) ≡ Some w → State None w.point
 left_row pt i p w h e =
-    let l = line.Migration stage.Left p in
-    line_owns pt l kind.Restart (pid_of i.from.home 0) i.from.home w refl refl h.fits
+    let l = Line.Migration Stage.Left p in
+    line_owns pt l MessageKind.Restart (pid_of i.from.home 0) i.from.home w refl refl h.fits
     (by_line None pt l refl h.state (Stands-stays (letters h.state.own pt.kernel.bag) pt.view (view_after pt.view l) (λ z. left_off pt.view p z) (λ j. refl) h.state.stands) (λ j. refl)) e
 
 -- the lists of a process that has left go on
 leaves_row : (pt : Point) (i : MsgId) (is : List MsgId) (p : Pid) (ids : List MsgId) (k : Known) (parts : List Part) (w : Spelled) → State None pt → PairsFit pt.view → pt.view.inbox pt.view.acting ≡ i ∷ is → is_kernels i ≡ true → both_lists pt.view p ≡ ids → leaves i p ids k ≡ Some parts → spelled pt parts ≡ Some w → State None w.point
-leaves_row pt i is p ids Unknown parts w h fit front mine same e n = cc
-leaves_row pt i is p ids Here parts w h fit front mine same e n = cc
 leaves_row pt i is p ids (Frozen to) parts w h fit front mine same e n =
-    let end = Says (line.Migration stage.Left p) ∷ to_kernel kind.Restart i.from.home ∷ [] in
-    let l = line.SentOn p (length ids) in
+    let end = Says (Line.Migration Stage.Left p) ∷ to_kernel MessageKind.Restart i.from.home ∷ [] in
+    let l = Line.SentOn p (length ids) in
     let f : Says l ∷ sends_on to ids ++ end ≡ parts = cc in
     let k = line_next pt l (sends_on to ids ++ end) w refl (ap (spelled pt) f ∙ n) in
     let next = moved pt l pt.kernel in
@@ -233,9 +170,7 @@ leaves_row pt i is p ids (Frozen to) parts w h fit front mine same e n =
     let way : Way ids next = record { between = subst (λ (js : List MsgId). Between js next) same (sent_way pt p (length ids) i is h front mine); fits = fit' } in
     let a = all_again ids next to end k.rest way k.more in
     State-at None k.rest.point w.point k.point (State-at None a.rest.point k.rest.point a.point (left_row a.next i p a.rest (steadied a.next a.stands) a.more))
-leaves_row pt i is p ids (Incoming from) parts w h fit front mine same e n = cc
-leaves_row pt i is p ids (Forward at moves) parts w h fit front mine same e n = cc
-leaves_row pt i is p ids Ended parts w h fit front mine same e n = cc
+leaves_row pt i is p ids _ parts w h fit front mine same e n = cc
 
 -- what a kernel is told
 pub given : (pt : Point) (qs ps : List Part) (w : Spelled) → Some qs ≡ Some ps → spelled pt ps ≡ Some w → spelled pt qs ≡ Some w
@@ -246,139 +181,49 @@ both_same o pt m p sees = sym (ap (λ (q : List MsgId). q ++ o.view.held m p) (s
 
 told_row : (o pt : Point) (m : ℕ) (i : MsgId) (is : List MsgId) (p : Pid) (room : Bool × ℕ × ℕ) (x : PlainProcess) (k : MessageKind) (parts : List Part) (w : Spelled) → State None pt → PairsFit pt.view → pt.view.inbox pt.view.acting ≡ i ∷ is → is_kernels i ≡ true → SeesSame o pt m
     → kernel_told o m i p room x k ≡ Some parts → spelled pt parts ≡ Some w → State None w.point
-told_row o pt m i is p room x kind.Ask parts w h fit front mine sees e n = accepts_row pt i is p i.from.home room.0 room.1 room.2 w h fit front mine (given pt (accepts i.from.home p room.0 room.1 room.2) parts w e n)
-told_row o pt m i is p room x kind.Refuse parts w h fit front mine sees e n = line_ends pt (line.Stays p) w refl (comes_back pt (line.Stays p) i is p refl h front mine (λ z. refl)) (given pt (Says (line.Stays p) ∷ []) parts w e n)
-told_row o pt m i is p room x kind.PullState parts w h fit front mine sees e n = proto_row pt i is kind.State w h fit front mine (given pt (gives_piece i kind.State) parts w e n)
-told_row o pt m i is p room x kind.State parts w h fit front mine sees e n = chunk_row pt i is p (o.view.asked p == chunks_of x) w h fit front mine (given pt (takes_chunk i p (o.view.asked p == chunks_of x)) parts w e n)
-told_row o pt m i is p room x kind.PullBlock parts w h fit front mine sees e n = proto_row pt i is kind.Memory w h fit front mine (given pt (gives_piece i kind.Memory) parts w e n)
-told_row o pt m i is p room x kind.Memory parts w h fit front mine sees e n = block_row pt i is p (o.view.asked p == pieces_of x) w h fit front mine (given pt (takes_block i p (o.view.asked p == pieces_of x)) parts w e n)
-told_row o pt m i is p room x kind.AllTaken parts w h fit front mine sees e n = leaves_row pt i is p (o.view.queue m p ++ o.view.held m p) (o.view.known m p) parts w h fit front mine (both_same o pt m p sees) e n
-told_row o pt m i is p room x kind.Restart parts w h fit front mine sees e n = line_ends pt (line.Migration stage.Restarted p) w refl (comes_back pt (line.Migration stage.Restarted p) i is p refl h front mine (λ z. restarted_off pt.view p z)) (given pt (Says (line.Migration stage.Restarted p) ∷ []) parts w e n)
-told_row o pt m i is p room x kind.User parts w h fit front mine sees e n = cc
-told_row o pt m i is p room x kind.Stop parts w h fit front mine sees e n = cc
-told_row o pt m i is p room x kind.Resume parts w h fit front mine sees e n = cc
-told_row o pt m i is p room x kind.Kill parts w h fit front mine sees e n = cc
-told_row o pt m i is p room x kind.Read parts w h fit front mine sees e n = cc
-told_row o pt m i is p room x kind.Write parts w h fit front mine sees e n = cc
-told_row o pt m i is p room x kind.Block parts w h fit front mine sees e n = cc
-told_row o pt m i is p room x kind.Written parts w h fit front mine sees e n = cc
-told_row o pt m i is p room x kind.Gone parts w h fit front mine sees e n = cc
-told_row o pt m i is p room x kind.Create parts w h fit front mine sees e n = cc
-told_row o pt m i is p room x kind.Created parts w h fit front mine sees e n = cc
-told_row o pt m i is p room x kind.NoRoom parts w h fit front mine sees e n = cc
-told_row o pt m i is p room x kind.Migrate parts w h fit front mine sees e n = cc
-told_row o pt m i is p room x kind.Update parts w h fit front mine sees e n = cc
-told_row o pt m i is p room x kind.Move parts w h fit front mine sees e n = cc
-told_row o pt m i is p room x kind.Moved parts w h fit front mine sees e n = cc
-told_row o pt m i is p room x kind.CallOff parts w h fit front mine sees e n = cc
-told_row o pt m i is p room x kind.Bury parts w h fit front mine sees e n = cc
+told_row o pt m i is p room x MessageKind.Ask parts w h fit front mine sees e n = accepts_row pt i is p i.from.home room.0 room.1 room.2 w h fit front mine (given pt (accepts i.from.home p room.0 room.1 room.2) parts w e n)
+told_row o pt m i is p room x MessageKind.Refuse parts w h fit front mine sees e n = line_ends pt (Line.Stays p) w refl (comes_back pt (Line.Stays p) i is p refl h front mine (λ z. refl)) (given pt (Says (Line.Stays p) ∷ []) parts w e n)
+told_row o pt m i is p room x MessageKind.PullState parts w h fit front mine sees e n = proto_row pt i is MessageKind.State w h fit front mine (given pt (gives_piece i MessageKind.State) parts w e n)
+told_row o pt m i is p room x MessageKind.State parts w h fit front mine sees e n = chunk_row pt i is p (o.view.asked p == chunks_of x) w h fit front mine (given pt (takes_chunk i p (o.view.asked p == chunks_of x)) parts w e n)
+told_row o pt m i is p room x MessageKind.PullBlock parts w h fit front mine sees e n = proto_row pt i is MessageKind.Memory w h fit front mine (given pt (gives_piece i MessageKind.Memory) parts w e n)
+told_row o pt m i is p room x MessageKind.Memory parts w h fit front mine sees e n = block_row pt i is p (o.view.asked p == pieces_of x) w h fit front mine (given pt (takes_block i p (o.view.asked p == pieces_of x)) parts w e n)
+told_row o pt m i is p room x MessageKind.AllTaken parts w h fit front mine sees e n = leaves_row pt i is p (o.view.queue m p ++ o.view.held m p) (o.view.known m p) parts w h fit front mine (both_same o pt m p sees) e n
+told_row o pt m i is p room x MessageKind.Restart parts w h fit front mine sees e n = line_ends pt (Line.Migration Stage.Restarted p) w refl (comes_back pt (Line.Migration Stage.Restarted p) i is p refl h front mine (λ z. restarted_off pt.view p z)) (given pt (Says (Line.Migration Stage.Restarted p) ∷ []) parts w e n)
+told_row o pt m i is p room x _ parts w h fit front mine sees e n = cc
 
-updated_row : (o pt : Point) (i : MsgId) (is : List MsgId) (n : ℕ) (parts : List Part) (w : Spelled) → State None pt → pt.view.inbox pt.view.acting ≡ i ∷ is → is_kernels i ≡ true → Some (Says (line.Updated i n) ∷ []) ≡ Some parts → spelled pt parts ≡ Some w → State None w.point
-updated_row o pt i is n parts w h front mine e k = line_ends pt (line.Updated i n) w refl (goes_front pt (line.Updated i n) i is refl h front mine (λ z. refl)) (given pt (Says (line.Updated i n) ∷ []) parts w e k)
+updated_row : (o pt : Point) (i : MsgId) (is : List MsgId) (n : ℕ) (parts : List Part) (w : Spelled) → State None pt → pt.view.inbox pt.view.acting ≡ i ∷ is → is_kernels i ≡ true → Some (Says (Line.Updated i n) ∷ []) ≡ Some parts → spelled pt parts ≡ Some w → State None w.point
+updated_row o pt i is n parts w h front mine e k = line_ends pt (Line.Updated i n) w refl (goes_front pt (Line.Updated i n) i is refl h front mine (λ z. refl)) (given pt (Says (Line.Updated i n) ∷ []) parts w e k)
 
 here_row : (o pt : Point) (m : ℕ) (i : MsgId) (is : List MsgId) (t : Told) (k : MessageKind) (parts : List Part) (w : Spelled) → State None pt → PairsFit pt.view → pt.view.inbox pt.view.acting ≡ i ∷ is → is_kernels i ≡ true
     → here_told o m i t k ≡ Some parts → spelled pt parts ≡ Some w → State None w.point
-here_row o pt m i is t kind.Ask parts w h fit front mine e n = cc
-here_row o pt m i is t kind.Refuse parts w h fit front mine e n = cc
-here_row o pt m i is t kind.PullState parts w h fit front mine e n = cc
-here_row o pt m i is t kind.State parts w h fit front mine e n = cc
-here_row o pt m i is t kind.PullBlock parts w h fit front mine e n = cc
-here_row o pt m i is t kind.Memory parts w h fit front mine e n = cc
-here_row o pt m i is t kind.AllTaken parts w h fit front mine e n = cc
-here_row o pt m i is t kind.Restart parts w h fit front mine e n = cc
-here_row o pt m i is t kind.User parts w h fit front mine e n = cc
-here_row o pt m i is t kind.Stop parts w h fit front mine e n = cc
-here_row o pt m i is t kind.Resume parts w h fit front mine e n = cc
-here_row o pt m i is t kind.Kill parts w h fit front mine e n = cc
-here_row o pt m i is t kind.Read parts w h fit front mine e n = cc
-here_row o pt m i is t kind.Write parts w h fit front mine e n = cc
-here_row o pt m i is t kind.Block parts w h fit front mine e n = cc
-here_row o pt m i is t kind.Written parts w h fit front mine e n = cc
-here_row o pt m i is t kind.Gone parts w h fit front mine e n = cc
-here_row o pt m i is t kind.Create parts w h fit front mine e n = cc
-here_row o pt m i is t kind.Created parts w h fit front mine e n = cc
-here_row o pt m i is t kind.NoRoom parts w h fit front mine e n = cc
-here_row o pt m i is t kind.Migrate parts w h fit front mine e n = moves_row pt i is t.receiver (target_of (Some t)) (m == target_of (Some t)) w h fit front mine (given pt (moves_to m i t.receiver (target_of (Some t))) parts w e n)
-here_row o pt m i is t kind.Update parts w h fit front mine e n = updated_row o pt i is _ parts w h front mine e n
-here_row o pt m i is t kind.Move parts w h fit front mine e n = cc
-here_row o pt m i is t kind.Moved parts w h fit front mine e n = cc
-here_row o pt m i is t kind.CallOff parts w h fit front mine e n = cc
-here_row o pt m i is t kind.Bury parts w h fit front mine e n = cc
+here_row o pt m i is t MessageKind.Migrate parts w h fit front mine e n = moves_row pt i is t.receiver (target_of (Some t)) (m == target_of (Some t)) w h fit front mine (given pt (moves_to m i t.receiver (target_of (Some t))) parts w e n)
+here_row o pt m i is t MessageKind.Update parts w h fit front mine e n = updated_row o pt i is _ parts w h front mine e n
+here_row o pt m i is t _ parts w h fit front mine e n = cc
 
 ended_row : (pt : Point) (i : MsgId) (is : List MsgId) (k : MessageKind) (parts : List Part) (w : Spelled) → State None pt → pt.view.inbox pt.view.acting ≡ i ∷ is → is_kernels i ≡ true → ended_told i k ≡ Some parts → spelled pt parts ≡ Some w → State None w.point
-ended_row pt i is kind.Ask parts w h front mine e n = cc
-ended_row pt i is kind.Refuse parts w h front mine e n = cc
-ended_row pt i is kind.PullState parts w h front mine e n = cc
-ended_row pt i is kind.State parts w h front mine e n = cc
-ended_row pt i is kind.PullBlock parts w h front mine e n = cc
-ended_row pt i is kind.Memory parts w h front mine e n = cc
-ended_row pt i is kind.AllTaken parts w h front mine e n = cc
-ended_row pt i is kind.Restart parts w h front mine e n = cc
-ended_row pt i is kind.User parts w h front mine e n = cc
-ended_row pt i is kind.Stop parts w h front mine e n = cc
-ended_row pt i is kind.Resume parts w h front mine e n = cc
-ended_row pt i is kind.Kill parts w h front mine e n = cc
-ended_row pt i is kind.Read parts w h front mine e n = cc
-ended_row pt i is kind.Write parts w h front mine e n = cc
-ended_row pt i is kind.Block parts w h front mine e n = cc
-ended_row pt i is kind.Written parts w h front mine e n = cc
-ended_row pt i is kind.Gone parts w h front mine e n = cc
-ended_row pt i is kind.Create parts w h front mine e n = cc
-ended_row pt i is kind.Created parts w h front mine e n = cc
-ended_row pt i is kind.NoRoom parts w h front mine e n = cc
-ended_row pt i is kind.Migrate parts w h front mine e n = line_ends pt (line.NoMove i) w refl (goes_front pt (line.NoMove i) i is refl h front mine (λ z. refl)) (given pt (Says (line.NoMove i) ∷ []) parts w e n)
-ended_row pt i is kind.Update parts w h front mine e n = updated_row pt pt i is 0 parts w h front mine e n
-ended_row pt i is kind.Move parts w h front mine e n = cc
-ended_row pt i is kind.Moved parts w h front mine e n = cc
-ended_row pt i is kind.CallOff parts w h front mine e n = cc
-ended_row pt i is kind.Bury parts w h front mine e n = cc
+ended_row pt i is MessageKind.Migrate parts w h front mine e n = line_ends pt (Line.NoMove i) w refl (goes_front pt (Line.NoMove i) i is refl h front mine (λ z. refl)) (given pt (Says (Line.NoMove i) ∷ []) parts w e n)
+ended_row pt i is MessageKind.Update parts w h front mine e n = updated_row pt pt i is 0 parts w h front mine e n
+ended_row pt i is _ parts w h front mine e n = cc
 
 server_row : (o pt : Point) (i : MsgId) (is : List MsgId) (t : Told) (k : MessageKind) (parts : List Part) (w : Spelled) → State None pt → pt.view.inbox pt.view.acting ≡ i ∷ is → is_kernels i ≡ true → server_told o i t k ≡ Some parts → spelled pt parts ≡ Some w → State None w.point
-server_row o pt i is t kind.Ask parts w h front mine e n = cc
-server_row o pt i is t kind.Refuse parts w h front mine e n = cc
-server_row o pt i is t kind.PullState parts w h front mine e n = cc
-server_row o pt i is t kind.State parts w h front mine e n = cc
-server_row o pt i is t kind.PullBlock parts w h front mine e n = cc
-server_row o pt i is t kind.Memory parts w h front mine e n = cc
-server_row o pt i is t kind.AllTaken parts w h front mine e n = cc
-server_row o pt i is t kind.Restart parts w h front mine e n = cc
-server_row o pt i is t kind.User parts w h front mine e n = cc
-server_row o pt i is t kind.Stop parts w h front mine e n = cc
-server_row o pt i is t kind.Resume parts w h front mine e n = cc
-server_row o pt i is t kind.Kill parts w h front mine e n = cc
-server_row o pt i is t kind.Read parts w h front mine e n = cc
-server_row o pt i is t kind.Write parts w h front mine e n = cc
-server_row o pt i is t kind.Block parts w h front mine e n = cc
-server_row o pt i is t kind.Written parts w h front mine e n = cc
-server_row o pt i is t kind.Gone parts w h front mine e n = cc
-server_row o pt i is t kind.Create parts w h front mine e n = cc
-server_row o pt i is t kind.Created parts w h front mine e n = cc
-server_row o pt i is t kind.NoRoom parts w h front mine e n = cc
-server_row o pt i is t kind.Migrate parts w h front mine e n = cc
-server_row o pt i is t kind.Update parts w h front mine e n = updated_row o pt i is _ parts w h front mine e n
-server_row o pt i is t kind.Move parts w h front mine e n = cc
-server_row o pt i is t kind.Moved parts w h front mine e n = cc
-server_row o pt i is t kind.CallOff parts w h front mine e n = cc
-server_row o pt i is t kind.Bury parts w h front mine e n = cc
+server_row o pt i is t MessageKind.Update parts w h front mine e n = updated_row o pt i is _ parts w h front mine e n
+server_row o pt i is t _ parts w h front mine e n = cc
 
 process_row : (o pt : Point) (m : ℕ) (i : MsgId) (is : List MsgId) (t : Told) (k : Known) (parts : List Part) (w : Spelled) → State None pt → PairsFit pt.view → pt.view.inbox pt.view.acting ≡ i ∷ is → is_kernels i ≡ true
     → process_told o m i t k ≡ Some parts → spelled pt parts ≡ Some w → State None w.point
 process_row o pt m i is t Unknown parts w h fit front mine e n = cc
 process_row o pt m i is t Here parts w h fit front mine e n = here_row o pt m i is t t.kind parts w h fit front mine e n
-process_row o pt m i is t (Frozen to) parts w h fit front mine e n = held_row pt i is w h front (given pt (Says (line.Held i) ∷ []) parts w e n)
-process_row o pt m i is t (Incoming from) parts w h fit front mine e n = held_row pt i is w h front (given pt (Says (line.Held i) ∷ []) parts w e n)
 process_row o pt m i is t (Forward at moves) parts w h fit front mine e n =
     forwards_row pt o.addresses i is t.kind manager at w h fit front (given pt (forwards_on o.addresses i t.kind manager at) parts w e n)
 process_row o pt m i is t Ended parts w h fit front mine e n = ended_row pt i is t.kind parts w h front mine e n
+process_row o pt m i is t _ parts w h fit front mine e n = held_row pt i is w h front (given pt (Says (Line.Held i) ∷ []) parts w e n)
 
 kernel_row : (b : Boot) (o pt : Point) (m : ℕ) (i : MsgId) (is : List MsgId) (k : MessageKind) (a : About) (parts : List Part) (w : Spelled) → State None pt → PairsFit pt.view → pt.view.inbox pt.view.acting ≡ i ∷ is → is_kernels i ≡ true → SeesSame o pt m
     → kernel_hears b o m i k a ≡ Some parts → spelled pt parts ≡ Some w → State None w.point
-kernel_row b o pt m i is k NothingElse parts w h fit front mine sees e n = cc
-kernel_row b o pt m i is k (Target to) parts w h fit front mine sees e n = cc
 kernel_row b o pt m i is k (Of p) parts w h fit front mine sees e n =
     let (x, there, last) = bind-is (kernel.alive (o.kernel.processes p)) (λ x. kernel_told o m i p (fits (free_room b o m) (length x.memory / 256)) x k) parts e in
     told_row o pt m i is p (fits (free_room b o m) (length x.memory / 256)) x k parts w h fit front mine sees last n
-kernel_row b o pt m i is k (view.Place p at moves) parts w h fit front mine sees e n = cc
+kernel_row b o pt m i is k _ parts w h fit front mine sees e n = cc
 
 hears_by : (b : Boot) (o pt : Point) (m : ℕ) (i : MsgId) (is : List MsgId) (t : Told) (c d g : Bool) (parts : List Part) (w : Spelled) → State None pt → PairsFit pt.view → pt.view.inbox pt.view.acting ≡ i ∷ is → is_kernels i ≡ true → SeesSame o pt m
     → (if c then kernel_hears b o m i t.kind t.about else if d then server_told o i t t.kind else if g then server_told o i t t.kind else process_told o m i t (o.view.known m t.receiver)) ≡ Some parts → spelled pt parts ≡ Some w → State None w.point
@@ -395,13 +240,13 @@ hears_row b o pt m i is (Some t) parts w h fit front none sees e n =
 
 -- the directive to migrate
 pub child_row : (pt : Point) (a : Addresses) (p : Pid) (o : Option ℕ) (w : Spelled) → State None pt → PairsFit pt.view → spelled pt (migrates_child a p o) ≡ Some w → State None w.point
-child_row pt a p None w h fit e = line_ends pt (line.NoChild p) w refl (by_line None pt (line.NoChild p) refl h h.stands (λ j. refl)) e
-child_row pt a p (Some n) w h fit e = owns_ends pt kind.Migrate p (a (Child n)).at w (record { state = h; fits = fit }) e
+child_row pt a p None w h fit e = line_ends pt (Line.NoChild p) w refl (by_line None pt (Line.NoChild p) refl h h.stands (λ j. refl)) e
+child_row pt a p (Some n) w h fit e = owns_ends pt MessageKind.Migrate p (a (Child n)).at w (record { state = h; fits = fit }) e
 
 migrates_by : (o pt : Point) (p : Pid) (c d : Bool) (w : Spelled) → State None pt → PairsFit pt.view
-    → spelled pt (if c then Says (line.Pinned p) ∷ [] else if d then Says (line.Pinned p) ∷ [] else migrates_child o.addresses p (child_number o.kernel p)) ≡ Some w → State None w.point
-migrates_by o pt p true d w h fit e = line_ends pt (line.Pinned p) w refl (by_line None pt (line.Pinned p) refl h h.stands (λ j. refl)) e
-migrates_by o pt p false true w h fit e = line_ends pt (line.Pinned p) w refl (by_line None pt (line.Pinned p) refl h h.stands (λ j. refl)) e
+    → spelled pt (if c then Says (Line.Pinned p) ∷ [] else if d then Says (Line.Pinned p) ∷ [] else migrates_child o.addresses p (child_number o.kernel p)) ≡ Some w → State None w.point
+migrates_by o pt p true d w h fit e = line_ends pt (Line.Pinned p) w refl (by_line None pt (Line.Pinned p) refl h h.stands (λ j. refl)) e
+migrates_by o pt p false true w h fit e = line_ends pt (Line.Pinned p) w refl (by_line None pt (Line.Pinned p) refl h h.stands (λ j. refl)) e
 migrates_by o pt p false false w h fit e = child_row pt o.addresses p (child_number o.kernel p) w h fit e
 
 pub migrates_row : (o pt : Point) (p : Pid) (w : Spelled) → State None pt → PairsFit pt.view → spelled pt (migrates o p) ≡ Some w → State None w.point

@@ -1,27 +1,8 @@
 -- Messages that go on: one that is forwarded, and all that stand in the lists of a process that has left.
-use Rattle.std.proofs.Common.{◌≡◌, ℕ, zero, suc, ◌+◌, ◌≤◌, ◌==◌, ◌&&◌, Bool, true, false, List, [], ◌∷◌, ◌++◌, refl, ap, ◌∙◌, sym, subst, arith, length, length-append, ◌⊎◌, inl, inr}
-use Rattle.std.specs.Prelude.{if◌then◌else◌}
-use Rattle.std.specs.declared.option.Option.{Option}
-use Rattle.std.specs.declared.option.Option.TheVariants.{None, Some}
-use Rattle.std.proofs.lemmas.Bool.{cases_Bool}
-use Rattle.std.proofs.lemmas.Bool.Decides.{nat_tests}
-use Rattle.dm_link.specs.declared.Pid.{Pid}
-use Rattle.dm_message.specs.declared.MsgId.{MsgId}
-use Rattle.dm_message.specs.declared.kind.MessageKind.{MessageKind}
-use Rattle.dm_message.specs.Ids.{id_eq}
-use Rattle.dm_onekernel.specs.Options.{bind}
-use Rattle.dm_onekernel.specs.declared.label.Label.{Label}
-use Rattle.dm_onekernel.specs.Kernel.{OneKernel}
-use Rattle.dm_line.specs.declared.line.Line.{Line}
-use Rattle.dm_line.specs.declared.line.Line.TheVariants as line
-use Rattle.dm_line.specs.declared.line.Load.{Load}
-use Rattle.dm_rule.specs.View.{View, Pair, Told, view_after, handled, handled_first, receiver_of, is_kernels, own_id, forwarded_for, routed_on, after_put}
-use Rattle.dm_rule.specs.Point.{Point, label_of, kernel_after, moved, after}
-use Rattle.dm_rule.specs.Parts.{Part, Says, Again, Owns, Spelled, lines_of, puts, behind, spelled}
-use Rattle.dm_rule.specs.Migrating.{sends_on}
-use Rattle.dm_rule.specs.Spots.{Spot, Queue, Held, Inbox, Untaken, times, ids_at, standing}
-use Rattle.dm_laws.proofs.Equal.{id_eq-is}
-use Rattle.dm_laws.proofs.Steps.{bind-is}
+use Rattle.dm_rule.proofs.Names.{◌≡◌, ℕ, zero, suc, ◌+◌, ◌≤◌, ◌==◌, ◌&&◌, Bool, true, false, List, [], ◌∷◌, ◌++◌, refl, ap, ◌∙◌, sym, subst, arith, length, ◌⊎◌, inl, inr, if◌then◌else◌, Option, None, Some, cases_Bool, nat_tests, Pid, MsgId}
+use Rattle.dm_rule.proofs.Names.{MessageKind, id_eq, bind, Label, OneKernel, Line, Load, View, Pair, Told, view_after, handled, handled_first, receiver_of, is_kernels, own_id, forwarded_for, routed_on, after_put, Point, label_of}
+use Rattle.dm_rule.proofs.Names.{kernel_after, moved, after, Part, Says, Again, Owns, Spelled, lines_of, puts, behind, spelled, sends_on, Spot, Queue, Held, Inbox, Untaken, times, ids_at, standing, id_eq-is, bind-is}
+use Rattle.std.proofs.Common.{length-append}
 use Rattle.dm_rule.proofs.Once.{one_of}
 use Rattle.dm_rule.proofs.Lines.{Bag, hidden, Stands, Stands-same, Stands-handled}
 use Rattle.dm_rule.proofs.Letters.{letters}
@@ -71,7 +52,7 @@ fits_put v a b i k q h = record {
   ];
 }
 
-pub fits_packet : (v : View) (a b k : ℕ) (l : Load) → PairsFit v → PairsFit (view_after v (line.Packet a b k l))
+pub fits_packet : (v : View) (a b k : ℕ) (l : Load) → PairsFit v → PairsFit (view_after v (Line.Packet a b k l))
 fits_packet v a b k l h = record {
   within = λ c d. elim (cases_Bool ((a == c) && (b == d))) [
     | inl same ↦ subst (λ (p : Pair). p.taken ≤ length p.ids) (sym (set_is v.pair a b _ c d same)) (h.within a b)
@@ -95,10 +76,10 @@ pub record Steady (pt : Point) : Type 0 where
   pub state : State None pt
   pub fits : PairsFit pt.view
 
-pub way_packet : (gone : List MsgId) (q : Point) (a b k : ℕ) (l : Load) → Way gone q → Way gone (moved q (line.Packet a b k l) q.kernel)
+pub way_packet : (gone : List MsgId) (q : Point) (a b k : ℕ) (l : Load) → Way gone q → Way gone (moved q (Line.Packet a b k l) q.kernel)
 way_packet gone q a b k l h = record { between = between_packet gone q a b k l h.between; fits = fits_packet q.view a b k l h.fits }
 
-steady_packet : (q : Point) (a b k : ℕ) (l : Load) → Steady q → Steady (moved q (line.Packet a b k l) q.kernel)
+steady_packet : (q : Point) (a b k : ℕ) (l : Load) → Steady q → Steady (moved q (Line.Packet a b k l) q.kernel)
 steady_packet q a b k l h = record { state = by_packet None q a b k l h.state; fits = fits_packet q.view a b k l h.fits }
 
 kernel_by : (s t : OneKernel) (o : Option Label) → o ≡ None → kernel_after s o ≡ Some t → s ≡ t
@@ -179,10 +160,10 @@ one_most : (i j : MsgId) (c : Bool) → (if c then 1 else 0) + 0 ≤ 1
 one_most i j true = omega arith
 one_most i j false = omega arith
 
-pub forwarded_way : (pt : Point) (i : MsgId) (is : List MsgId) (to : ℕ) → State None pt → pt.view.inbox pt.view.acting ≡ i ∷ is → Between (i ∷ []) (moved pt (line.Forwarded i to) pt.kernel)
+pub forwarded_way : (pt : Point) (i : MsgId) (is : List MsgId) (to : ℕ) → State None pt → pt.view.inbox pt.view.acting ≡ i ∷ is → Between (i ∷ []) (moved pt (Line.Forwarded i to) pt.kernel)
 forwarded_way pt i is to h front =
     let v = pt.view in
-    let l = line.Forwarded i to in
+    let l = Line.Forwarded i to in
     let hush = hushed v l refl in
     let bag = letters h.own pt.kernel.bag in
     let told : (j : MsgId) → (view_after v l).told j ≡ v.told j = λ j. ap (λ (f : MsgId → Option Told). f j) hush.told in
@@ -206,13 +187,11 @@ without_same : (js : List MsgId) (bag other : Bag) → ((i : MsgId) → other i 
 without_same [] bag other e i = e i
 without_same (j ∷ js) bag other e i = ap (λ (x : Option Pid). if id_eq j i then None else x) (without_same js bag other e i)
 
-pub sent_off : (v : View) (p : Pid) (n : ℕ) (z : Spot) → ids_at (view_after v (line.SentOn p n)) z ≡ ids_at (emptied (handled_first v) p) z
+pub sent_off : (v : View) (p : Pid) (n : ℕ) (z : Spot) → ids_at (view_after v (Line.SentOn p n)) z ≡ ids_at (emptied (handled_first v) p) z
 sent_off v p n (Queue m q) = refl
-sent_off v p n (Held m q) = refl
-sent_off v p n (Inbox m) = refl
-sent_off v p n (Untaken a b) = refl
+sent_off v p n _ = refl
 
-least_of : (m n : ℕ) → 1 ≤ m + n → (1 ≤ m) ⊎ (1 ≤ n)
+pub least_of : (m n : ℕ) → 1 ≤ m + n → (1 ≤ m) ⊎ (1 ≤ n)
 least_of zero n le = inr (omega (arith, le))
 least_of (suc m) n le = inl (omega arith)
 
@@ -224,10 +203,10 @@ lists_way bag v p j least h =
       | inr y ↦ under_way (bag j) (standing v j) (Held v.acting p) y (h.kept j)
     ]
 
-pub sent_way : (pt : Point) (p : Pid) (n : ℕ) (i : MsgId) (is : List MsgId) → State None pt → pt.view.inbox pt.view.acting ≡ i ∷ is → is_kernels i ≡ true → Between (both_lists pt.view p) (moved pt (line.SentOn p n) pt.kernel)
+pub sent_way : (pt : Point) (p : Pid) (n : ℕ) (i : MsgId) (is : List MsgId) → State None pt → pt.view.inbox pt.view.acting ≡ i ∷ is → is_kernels i ≡ true → Between (both_lists pt.view p) (moved pt (Line.SentOn p n) pt.kernel)
 sent_way pt p n i is h front mine =
     let v = pt.view in
-    let l = line.SentOn p n in
+    let l = Line.SentOn p n in
     let bag = letters h.own pt.kernel.bag in
     let own = hidden (Some i) h.own in
     let left : Bag = hidden (Some i) bag in

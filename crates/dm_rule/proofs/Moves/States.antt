@@ -1,27 +1,8 @@
 -- What migration says keeps that each message stands once: the kernels' own messages come and go, and messages go on.
-use Rattle.std.proofs.Common.{◌≡◌, ℕ, suc, ◌+◌, ◌≤◌, ◌==◌, Bool, true, false, List, [], ◌∷◌, refl, ap, ◌∙◌, sym, subst, arith, inl, inr}
-use Rattle.std.specs.Prelude.{if◌then◌else◌}
-use Rattle.std.specs.declared.option.Option.{Option}
-use Rattle.std.specs.declared.option.Option.TheVariants.{None, Some}
-use Rattle.std.proofs.lemmas.Bool.{cases_Bool, false≢true}
-use Rattle.std.proofs.lemmas.Bool.Decides.{nat_tests}
-use Rattle.dm_link.specs.declared.Pid.{Pid}
-use Rattle.dm_link.specs.Names.{pid_of}
-use Rattle.dm_message.specs.declared.MsgId.{MsgId}
-use Rattle.dm_message.specs.declared.kind.MessageKind.{MessageKind}
-use Rattle.dm_message.specs.Ids.{id_eq, id_of}
-use Rattle.dm_message.specs.Plain.{PlainMessage}
-use Rattle.dm_line.specs.declared.line.Line.{Line}
-use Rattle.dm_line.specs.declared.line.Line.TheVariants as line
-use Rattle.dm_line.specs.declared.line.Load.{Load}
-use Rattle.dm_line.specs.Sets.{at_machine}
-use Rattle.dm_rule.specs.View.{View, Told, view_after, handled, handled_first, receiver_of, is_kernels, own_id}
+use Rattle.dm_rule.proofs.Names.{◌≡◌, ℕ, suc, ◌+◌, ◌≤◌, ◌==◌, Bool, true, false, List, [], ◌∷◌, refl, ap, ◌∙◌, sym, subst, arith, inl, inr, if◌then◌else◌, Option, None, Some, cases_Bool, false≢true, nat_tests, Pid, pid_of, MsgId}
+use Rattle.dm_rule.proofs.Names.{MessageKind, id_eq, id_of, PlainMessage, Line, Load, at_machine, View, Told, view_after, handled_first, receiver_of, is_kernels, own_id, to_of, Point, moved, Spot, Inbox, Untaken, times, ids_at, standing}
+use Rattle.dm_rule.proofs.Names.{id_eq-is, id_eq-same, Sound}
 use Rattle.dm_rule.specs.View as view
-use Rattle.dm_rule.specs.Homes.{to_of}
-use Rattle.dm_rule.specs.Point.{Point, moved}
-use Rattle.dm_rule.specs.Spots.{Spot, Queue, Held, Inbox, Untaken, times, ids_at, standing}
-use Rattle.dm_laws.proofs.Equal.{id_eq-is, id_eq-same}
-use Rattle.dm_laws.proofs.Sound.{Sound}
 use Rattle.dm_rule.proofs.Once.{one_of}
 use Rattle.dm_rule.proofs.Lines.{Bag, hidden, having, Stands, Stands-same, Stands-stays, Stands-handled, untold_tells, having_off, pair_keeps, not_true}
 use Rattle.dm_rule.proofs.Letters.{letters, letters_own, letters_bag}
@@ -40,7 +21,7 @@ hidden_letters own bag i k j = elim (cases_Bool (id_eq i j)) [
 ]
 
 -- the message at the front of the inbox stands there
-front_one : (v : View) (m : ℕ) (i : MsgId) (is : List MsgId) → v.inbox m ≡ i ∷ is → 1 ≤ standing v i (Inbox m)
+pub front_one : (v : View) (m : ℕ) (i : MsgId) (is : List MsgId) → v.inbox m ≡ i ∷ is → 1 ≤ standing v i (Inbox m)
 front_one v m i is front =
     let a : times i (v.inbox m) ≡ times i (i ∷ is) = ap (times i) front in
     let b : one_of i i ≡ 1 = ap (λ (c : Bool). if c then 1 else 0) (id_eq-same i) in
@@ -95,19 +76,17 @@ pub arrived : (pt : Point) → Between [] pt → State None pt
 arrived pt h = record { r = h.r; e = h.e; sound = h.sound; own = h.own; stands = h.stands; untold = h.untold; numbered = h.numbered; pending = λ j k. cc; there = λ j k. cc }
 
 -- a packet moves no message
-packet_off : (v : View) (a b k : ℕ) (l : Load) (z : Spot) → ids_at (view_after v (line.Packet a b k l)) z ≡ ids_at v z
-packet_off v a b k l (Queue m p) = refl
-packet_off v a b k l (Held m p) = refl
-packet_off v a b k l (Inbox m) = refl
+pub packet_off : (v : View) (a b k : ℕ) (l : Load) (z : Spot) → ids_at (view_after v (Line.Packet a b k l)) z ≡ ids_at v z
 packet_off v a b k l (Untaken c d) = pair_keeps v.pair a b _ refl c d
+packet_off v a b k l _ = refl
 
-pub between_packet : (gone : List MsgId) (q : Point) (a b k : ℕ) (l : Load) → Between gone q → Between gone (moved q (line.Packet a b k l) q.kernel)
+pub between_packet : (gone : List MsgId) (q : Point) (a b k : ℕ) (l : Load) → Between gone q → Between gone (moved q (Line.Packet a b k l) q.kernel)
 between_packet gone q a b k l h = record {
   r = h.r;
   e = h.e;
   sound = h.sound;
   own = h.own;
-  stands = Stands-stays (without_all gone (letters h.own q.kernel.bag)) q.view (view_after q.view (line.Packet a b k l)) (λ z. packet_off q.view a b k l z) (λ i. refl) h.stands;
+  stands = Stands-stays (without_all gone (letters h.own q.kernel.bag)) q.view (view_after q.view (Line.Packet a b k l)) (λ z. packet_off q.view a b k l z) (λ i. refl) h.stands;
   untold = h.untold;
   numbered = h.numbered;
   way = h.way;
@@ -123,7 +102,7 @@ pub not_first : (i : MsgId) (o : Option Told) (t : Told) → o ≡ Some t → vi
 not_first i None t e = cc
 not_first i (Some s) t e = refl
 
-again_told : (v : View) (a b : ℕ) (i : MsgId) (t : Told) → v.told i ≡ Some t → (j : MsgId) → (view.after_put v a b i t.kind t.receiver).told j ≡ v.told j
+pub again_told : (v : View) (a b : ℕ) (i : MsgId) (t : Told) → v.told i ≡ Some t → (j : MsgId) → (view.after_put v a b i t.kind t.receiver).told j ≡ v.told j
 again_told v a b i t is j = elim (cases_Bool (id_eq i j)) [
   | inl same ↦
       let ij : i ≡ j = id_eq-is i j same in
@@ -140,10 +119,10 @@ again_bag i is q bag there none j = elim (cases_Bool (id_eq i j)) [
   | inr apart ↦ sym (ap (λ (c : Bool). if c then None else without_all is bag j) apart) ∙ sym (having_off i q (without_all (i ∷ is) bag) j apart)
 ]
 
-pub again : (pt : Point) (b : ℕ) (i : MsgId) (is : List MsgId) (t : Told) → PairsFit pt.view → pt.view.told i ≡ Some t → Between (i ∷ is) pt → Between is (moved pt (line.Put pt.view.acting b i t.kind t.receiver) pt.kernel)
+pub again : (pt : Point) (b : ℕ) (i : MsgId) (is : List MsgId) (t : Told) → PairsFit pt.view → pt.view.told i ≡ Some t → Between (i ∷ is) pt → Between is (moved pt (Line.Put pt.view.acting b i t.kind t.receiver) pt.kernel)
 again pt b i is t fits told h =
     let v = pt.view in
-    let l = line.Put v.acting b i t.kind t.receiver in
+    let l = Line.Put v.acting b i t.kind t.receiver in
     let bag = letters h.own pt.kernel.bag in
     let mine : one_of i i ≡ 1 = ap (λ (c : Bool). if c then 1 else 0) (id_eq-same i) in
     let (q, there, tells) = h.way i (omega (arith, mine)) in
@@ -209,11 +188,11 @@ own_numbered v a b k q none h m n le =
           put_told_off v a b (own_id v) (id_of (pid_of m 0) n) k q (other_home v.acting (v.count v.acting) m n off) ∙ h m n left
     ]
 
-pub by_own_put : (pt : Point) (b : ℕ) (k : MessageKind) (q : Pid) → PairsFit pt.view → State None pt → State None (moved pt (line.Put pt.view.acting b (own_id pt.view) k q) pt.kernel)
+pub by_own_put : (pt : Point) (b : ℕ) (k : MessageKind) (q : Pid) → PairsFit pt.view → State None pt → State None (moved pt (Line.Put pt.view.acting b (own_id pt.view) k q) pt.kernel)
 by_own_put pt b k q fits h =
     let v = pt.view in
     let i = own_id v in
-    let l = line.Put v.acting b i k q in
+    let l = Line.Put v.acting b i k q in
     let bag = letters h.own pt.kernel.bag in
     let untold : v.told i ≡ None = h.numbered v.acting (v.count v.acting) (omega arith) in
     let none : bag i ≡ None = receiver_none bag v i (bag i) refl h.stands untold in

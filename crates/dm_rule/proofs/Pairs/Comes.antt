@@ -1,18 +1,8 @@
 -- A delivery keeps the pairs of machines.
-use Rattle.std.proofs.Common.{◌≡◌, ℕ, zero, suc, ◌+◌, ◌-◌, ◌<◌, ◌≤◌, ◌==◌, ◌&&◌, Bool, true, false, List, [], ◌∷◌, ◌++◌, refl, ap, ◌∙◌, sym, subst, nat_lt, inl, inr, arith, length}
-use Rattle.std.specs.Prelude.{◌≢◌, if◌then◌else◌, slice_get}
-use Rattle.std.specs.declared.option.Option.{Option}
-use Rattle.std.specs.declared.option.Option.TheVariants.{None, Some}
-use Rattle.std.proofs.lemmas.Bool.{cases_Bool, false≢true}
-use Rattle.std.proofs.lemmas.Bool.Decides.{nat_tests}
-use Rattle.dm_line.specs.declared.line.Line.TheVariants as line
-use Rattle.dm_line.specs.declared.line.Load.{Load}
-use Rattle.dm_line.specs.declared.line.Load.TheVariants as load
-use Rattle.dm_line.specs.Sets.{at_pair}
-use Rattle.dm_rule.specs.View.{View, Pair, Sent, with_pair, oldest, at_least, marked}
-use Rattle.dm_rule.specs.Point.{Point}
-use Rattle.dm_rule.specs.Parts.{Part, Says, Transmits, Spelled, spelled, window}
-use Rattle.dm_rule.specs.Rule.{has, kept_from, takes, takes_on, less, more, let_go, comes, arrives, numbers_from, repeats}
+use Rattle.dm_rule.proofs.Names.{◌≡◌, ℕ, zero, suc, ◌+◌, ◌-◌, ◌<◌, ◌≤◌, ◌==◌, ◌&&◌, Bool, true, false, List, [], ◌∷◌, ◌++◌, refl, ap, ◌∙◌, sym, subst, nat_lt, inl, inr, arith, length, ◌≢◌, if◌then◌else◌, slice_get, Option, None, Some}
+use Rattle.dm_rule.proofs.Names.{cases_Bool, false≢true, nat_tests, Line, Load, at_pair, View, Pair, Sent, with_pair, oldest, at_least, marked, Point, Part, Says, Transmits, Spelled, spelled, window, has, kept_from, takes, takes_on, less}
+use Rattle.dm_rule.proofs.Names.{more, let_go, arrives, numbers_from, repeats}
+use Rattle.dm_rule.specs.Rule.{comes}
 use Rattle.dm_rule.proofs.Pairs.Stand.{LoadStands, Apart, KeptStands, Stand, WireStands-at, set_same, set_other, two_of, Stand-set}
 use Rattle.dm_rule.proofs.Pairs.Moves.{Paired, Goes, changed, packed, next_goes, acked_goes, off, off_has, or_cases}
 use Rattle.dm_rule.proofs.Pairs.Lines.{Onward, onward, says_view, transmits_view, taken_pair, keeps}
@@ -96,9 +86,9 @@ record Took (a b end : ℕ) (tail : List Part) (w : Spelled) : Type 0 where
 Took-to : (a b end end' : ℕ) (tail : List Part) (w w' : Spelled) → end ≡ end' → w.point ≡ w'.point → Took a b end tail w → Took a b end' tail w'
 Took-to a b end end' tail w w' e f t = record { at = t.at; paired = t.paired; taken = t.taken ∙ e; rest = t.rest; on = t.on; leads = t.leads ∙ f }
 
-took_pair : (pt : Point) (a b n : ℕ) (ps : List Part) (w : Spelled) (o : Onward pt (Says (line.Taken a b n)) ps w) → o.next.view.pair ≡ at_pair pt.view.pair a b (took n (pt.view.pair a b))
+took_pair : (pt : Point) (a b n : ℕ) (ps : List Part) (w : Spelled) (o : Onward pt (Says (Line.Taken a b n)) ps w) → o.next.view.pair ≡ at_pair pt.view.pair a b (took n (pt.view.pair a b))
 took_pair pt a b n ps w o =
-    ap (λ (v : View). v.pair) (says_view pt (line.Taken a b n) ps w o) ∙ taken_pair (with_pair pt.view a b (took n (pt.view.pair a b))) b (oldest (pt.view.pair a b))
+    ap (λ (v : View). v.pair) (says_view pt (Line.Taken a b n) ps w o) ∙ taken_pair (with_pair pt.view a b (took n (pt.view.pair a b))) b (oldest (pt.view.pair a b))
 
 at_two : (f g : ℕ → ℕ → Pair) (a b : ℕ) (p : Pair) → g ≡ at_pair f a b p → g a b ≡ p
 at_two f g a b p e = ap (λ (h : ℕ → ℕ → Pair). h a b) e ∙ set_same f a b p
@@ -119,8 +109,8 @@ takes_keep zero m a b ks tail pt w ab is gone h e = record {
 takes_keep (suc fuel) m a b ks tail pt w ab is gone h e = elim (cases_Bool (has m ks)) [
   | inl found ↦
       let others = kept_from ks (m + 1) fuel in
-      let e' : spelled pt (Says (line.Taken a b m) ∷ (takes a b others ++ tail)) ≡ Some w = subst (λ (c : Bool). spelled pt (takes a b (if c then m ∷ others else []) ++ tail) ≡ Some w) found e in
-      let o = onward pt (Says (line.Taken a b m)) (takes a b others ++ tail) w e' in
+      let e' : spelled pt (Says (Line.Taken a b m) ∷ (takes a b others ++ tail)) ≡ Some w = subst (λ (c : Bool). spelled pt (takes a b (if c then m ∷ others else []) ++ tail) ≡ Some w) found e in
+      let o = onward pt (Says (Line.Taken a b m)) (takes a b others ++ tail) w e' in
       let pair = took_pair pt a b m (takes a b others ++ tail) w o in
       let here : o.next.view.pair a b ≡ took m (pt.view.pair a b) = at_two pt.view.pair o.next.view.pair a b (took m (pt.view.pair a b)) pair in
       let taken : (o.next.view.pair a b).taken ≡ (pt.view.pair a b).taken + 1 = ap (λ (p : Pair). p.taken) here in
@@ -137,9 +127,9 @@ takes_keep (suc fuel) m a b ks tail pt w ab is gone h e = elim (cases_Bool (has 
 ]
 
 -- then the count is acknowledged
-then_acked : (a b end : ℕ) (w : Spelled) → (b == a) ≡ false → Took a b end (Transmits b a (load.Ack end) ∷ []) w → Paired w.point.view.pair
+then_acked : (a b end : ℕ) (w : Spelled) → (b == a) ≡ false → Took a b end (Transmits b a (Load.Ack end) ∷ []) w → Paired w.point.view.pair
 then_acked a b end w ba t =
-    let k : Paired t.rest.point.view.pair = keeps (Transmits b a (load.Ack end) ∷ []) t.at t.rest ((ba, let y = t.taken in omega (arith, y)), tt) t.paired t.on in
+    let k : Paired t.rest.point.view.pair = keeps (Transmits b a (Load.Ack end) ∷ []) t.at t.rest ((ba, let y = t.taken in omega (arith, y)), tt) t.paired t.on in
     subst (λ (q : Point). Paired q.view.pair) t.leads k
 
 -- data that comes in order
@@ -147,8 +137,8 @@ in_order : (pt : Point) (a b n : ℕ) (ks : List ℕ) (w : Spelled) → (a == b)
     → spelled pt (takes_on a b n (kept_from ks (n + 1) window)) ≡ Some w → Paired w.point.view.pair
 in_order pt a b n ks w ab ba is below kept h e =
     let others = kept_from ks (n + 1) window in
-    let tail = Transmits b a (load.Ack (n + 1 + length others)) ∷ [] in
-    let o = onward pt (Says (line.Taken a b n)) (takes a b others ++ tail) w e in
+    let tail = Transmits b a (Load.Ack (n + 1 + length others)) ∷ [] in
+    let o = onward pt (Says (Line.Taken a b n)) (takes a b others ++ tail) w e in
     let pair = took_pair pt a b n (takes a b others ++ tail) w o in
     let here : o.next.view.pair a b ≡ took n (pt.view.pair a b) = at_two pt.view.pair o.next.view.pair a b (took n (pt.view.pair a b)) pair in
     let taken : (o.next.view.pair a b).taken ≡ (pt.view.pair a b).taken + 1 = ap (λ (p : Pair). p.taken) here in
@@ -164,17 +154,17 @@ in_order pt a b n ks w ab ba is below kept h e =
 -- data comes
 data_by : (pt : Point) (a b n : ℕ) (p : Pair) (w : Spelled) (old ahead : Bool) → nat_lt n p.taken ≡ old → nat_lt p.taken n ≡ ahead → (a == b) ≡ false → (b == a) ≡ false
     → (pt.view.pair a b).taken ≡ p.taken → n < (pt.view.pair a b).gone → (pt.view.pair a b).kept ≡ p.kept → Paired pt.view.pair
-    → spelled pt (if old then Says (line.Old a b n) ∷ Transmits b a (load.Ack p.taken) ∷ []
-    else if ahead then Says (line.Early a b n) ∷ Transmits b a (load.Ack p.taken) ∷ []
+    → spelled pt (if old then Says (Line.Old a b n) ∷ Transmits b a (Load.Ack p.taken) ∷ []
+    else if ahead then Says (Line.Early a b n) ∷ Transmits b a (Load.Ack p.taken) ∷ []
     else takes_on a b n (kept_from p.kept (n + 1) window)) ≡ Some w → Paired w.point.view.pair
 data_by pt a b n p w true ahead f g ab ba is below kept h e =
-    keeps (Says (line.Old a b n) ∷ Transmits b a (load.Ack p.taken) ∷ []) pt w (refl, ((ba, omega arith), tt)) h e
+    keeps (Says (Line.Old a b n) ∷ Transmits b a (Load.Ack p.taken) ∷ []) pt w (refl, ((ba, omega arith), tt)) h e
 data_by pt a b n p w false true f g ab ba is below kept h e =
-    let tail = Transmits b a (load.Ack p.taken) ∷ [] in
-    let o = onward pt (Says (line.Early a b n)) tail w e in
+    let tail = Transmits b a (Load.Ack p.taken) ∷ [] in
+    let o = onward pt (Says (Line.Early a b n)) tail w e in
     let above : (pt.view.pair a b).taken < n = grind (arith, nat_tests) in
     let goes : Goes pt.view.pair o.next.view.pair =
-    subst (λ (v : View). Goes pt.view.pair v.pair) (sym (says_view pt (line.Early a b n) tail w o)) (early_goes pt.view.pair a b n ab above below h) in
+    subst (λ (v : View). Goes pt.view.pair v.pair) (sym (says_view pt (Line.Early a b n) tail w o)) (early_goes pt.view.pair a b n ab above below h) in
     let later = goes.later.taken a b in
     let k : Paired o.rest.point.view.pair = keeps tail o.next o.rest ((ba, omega (arith, later, is)), tt) goes.paired o.on in
     subst (λ (q : Point). Paired q.view.pair) o.end k
@@ -188,10 +178,10 @@ go_keep : (k n a b : ℕ) (pt : Point) (w : Spelled) → (a == b) ≡ false → 
 go_keep zero n a b pt w ab is ids full h e = keeps [] pt w tt h e
 go_keep (suc k) n a b pt w ab is ids full h e =
     let others = repeats a b (numbers_from (n + 1) k) in
-    let o = onward pt (Transmits a b (load.Data n)) others w e in
-    let pair : o.next.view.pair ≡ at_pair pt.view.pair a b (packed (load.Data n) (pt.view.pair a b)) = ap (λ (v : View). v.pair) (transmits_view pt a b (load.Data n) others w o) in
+    let o = onward pt (Transmits a b (Load.Data n)) others w e in
+    let pair : o.next.view.pair ≡ at_pair pt.view.pair a b (packed (Load.Data n) (pt.view.pair a b)) = ap (λ (v : View). v.pair) (transmits_view pt a b (Load.Data n) others w o) in
     let goes : Goes pt.view.pair o.next.view.pair = subst (Goes pt.view.pair) (sym pair) (next_goes pt.view.pair a b n ab (sym is) (omega arith) (omega arith) h) in
-    let here : o.next.view.pair a b ≡ packed (load.Data n) (pt.view.pair a b) = at_two pt.view.pair o.next.view.pair a b (packed (load.Data n) (pt.view.pair a b)) pair in
+    let here : o.next.view.pair a b ≡ packed (Load.Data n) (pt.view.pair a b) = at_two pt.view.pair o.next.view.pair a b (packed (Load.Data n) (pt.view.pair a b)) pair in
     let out : (o.next.view.pair a b).gone ≡ (if n == (pt.view.pair a b).gone then (pt.view.pair a b).gone + 1 else (pt.view.pair a b).gone) = ap (λ (p : Pair). p.gone) here in
     let out' : (o.next.view.pair a b).gone ≡ n + 1 = grind (arith, nat_tests) in
     let long : length (o.next.view.pair a b).ids ≡ length (pt.view.pair a b).ids = ap (λ (p : Pair). length p.ids) here in
@@ -199,24 +189,24 @@ go_keep (suc k) n a b pt w ab is ids full h e =
     let r : Paired o.rest.point.view.pair = go_keep k (n + 1) a b o.next o.rest ab out' (omega arith) (omega arith) goes.paired o.on in
     subst (λ (q : Point). Paired q.view.pair) o.end r
 
-less-left : (m n : ℕ) → less m n ≤ m
+pub less-left : (m n : ℕ) → less m n ≤ m
 less-left m n = grind (arith, nat_tests)
 
-less-right : (m n : ℕ) → less m n ≤ n
+pub less-right : (m n : ℕ) → less m n ≤ n
 less-right m n = grind (arith, nat_tests)
 
-more-is : (m n : ℕ) → more n m ≡ at_least m n
+pub more-is : (m n : ℕ) → more n m ≡ at_least m n
 more-is m n = grind (arith, nat_tests)
 
 -- an acknowledgement comes: p is the pair that leads back
 ack_comes : (pt : Point) (a b n : ℕ) (p : Pair) (w : Spelled) → (b == a) ≡ false → pt.view.pair b a ≡ p → n ≤ p.taken → Paired pt.view.pair
-    → spelled pt (Says (line.Acked a b n) ∷ repeats b a (let_go p (more n p.acked))) ≡ Some w → Paired w.point.view.pair
+    → spelled pt (Says (Line.Acked a b n) ∷ repeats b a (let_go p (more n p.acked))) ≡ Some w → Paired w.point.view.pair
 ack_comes pt a b n p w ba is le h e =
     let top = more n p.acked in
     let k = less (length p.ids - p.gone) (top + window - p.gone) in
     let others = repeats b a (numbers_from p.gone k) in
-    let o = onward pt (Says (line.Acked a b n)) others w e in
-    let pair : o.next.view.pair ≡ at_pair pt.view.pair b a (record (pt.view.pair b a) { acked = at_least (pt.view.pair b a).acked n }) = ap (λ (v : View). v.pair) (says_view pt (line.Acked a b n) others w o) in
+    let o = onward pt (Says (Line.Acked a b n)) others w e in
+    let pair : o.next.view.pair ≡ at_pair pt.view.pair b a (record (pt.view.pair b a) { acked = at_least (pt.view.pair b a).acked n }) = ap (λ (v : View). v.pair) (says_view pt (Line.Acked a b n) others w o) in
     let taken : (pt.view.pair b a).taken ≡ p.taken = ap (λ (q : Pair). q.taken) is in
     let goes : Goes pt.view.pair o.next.view.pair = subst (Goes pt.view.pair) (sym pair) (acked_goes pt.view.pair b a n ba (omega arith) h) in
     let here : o.next.view.pair b a ≡ record p { acked = at_least p.acked n } =
@@ -235,13 +225,13 @@ ack_comes pt a b n p w ba is le h e =
 -- what comes, where the marked packet's pair is otherwise as it was
 comes_keep : (pt : Point) (a b k : ℕ) (p back : Pair) (l : Load) (w : Spelled) → (a == b) ≡ false → (b == a) ≡ false → pt.view.pair a b ≡ marked p k → pt.view.pair b a ≡ back → LoadStands p.gone back.taken l → Paired pt.view.pair
     → spelled pt (comes a b p back l) ≡ Some w → Paired w.point.view.pair
-comes_keep pt a b k p back (load.Data n) w ab ba is other stands h e =
+comes_keep pt a b k p back (Load.Data n) w ab ba is other stands h e =
     let out : (pt.view.pair a b).gone ≡ p.gone = ap (λ (q : Pair). q.gone) is in
     data_by pt a b n p w (nat_lt n p.taken) (nat_lt p.taken n) refl refl ab ba (ap (λ (q : Pair). q.taken) is) (omega (arith, out, stands)) (ap (λ (q : Pair). q.kept) is) h e
-comes_keep pt a b k p back (load.Ack n) w ab ba is other stands h e = ack_comes pt a b n back w ba other stands h e
+comes_keep pt a b k p back (Load.Ack n) w ab ba is other stands h e = ack_comes pt a b n back w ba other stands h e
 
 pub arrives_keep : (pt : Point) (a b k : ℕ) (p back : Pair) (o : Option Sent) (w : Spelled) → slice_get p.wire k ≡ o → (a == b) ≡ false → (b == a) ≡ false → pt.view.pair a b ≡ marked p k → pt.view.pair b a ≡ back → Apart p back → Paired pt.view.pair
     → spelled pt (arrives a b p back o) ≡ Some w → Paired w.point.view.pair
-arrives_keep pt a b k p back None w f ab ba is other x h e = keeps (Says line.Nothing ∷ []) pt w (refl, tt) h e
+arrives_keep pt a b k p back None w f ab ba is other x h e = keeps (Says Line.Nothing ∷ []) pt w (refl, tt) h e
 arrives_keep pt a b k p back (Some s) w f ab ba is other x h e =
     comes_keep pt a b k p back s.load w ab ba is other (WireStands-at p.gone back.taken p.wire k s f x.wire) h e

@@ -1,57 +1,35 @@
 -- What lines and parts keep of the pairs of machines.
-use Rattle.std.proofs.Common.{◌≡◌, ℕ, ◌<◌, ◌≤◌, ◌==◌, Bool, true, false, List, [], ◌∷◌, ◌++◌, refl, ap, ◌∙◌, sym, subst, arith, length}
-use Rattle.std.specs.Prelude.{⊤, if◌then◌else◌}
-use Rattle.std.specs.declared.option.Option.{Option}
-use Rattle.std.specs.declared.option.Option.TheVariants.{None, Some}
-use Rattle.dm_link.specs.declared.Pid.{Pid}
-use Rattle.dm_message.specs.declared.MsgId.{MsgId}
-use Rattle.dm_message.specs.declared.kind.MessageKind.{MessageKind}
-use Rattle.dm_message.specs.declared.kind.MessageKind.TheVariants as kind
-use Rattle.dm_message.specs.Kinds.{plain_kind}
-use Rattle.dm_onekernel.specs.declared.label.Label.{Label}
-use Rattle.dm_onekernel.specs.declared.label.Label.TheVariants as label
-use Rattle.dm_onekernel.specs.Options.{bind}
-use Rattle.dm_line.specs.declared.line.Line.{Line}
-use Rattle.dm_line.specs.declared.line.Line.TheVariants as line
-use Rattle.dm_line.specs.declared.line.Load.{Load}
-use Rattle.dm_line.specs.declared.line.Load.TheVariants as load
-use Rattle.dm_line.specs.declared.line.Stage.{Stage}
-use Rattle.dm_line.specs.declared.line.Stage.TheVariants as stage
-use Rattle.dm_rule.specs.View.{View, Pair, Told, view_after, after_label, after_stage, after_packet, queued_for, held_for, dropped_for, forwarded_for, served_told, kills, receiver_of, taken_id, handled, own_id, after_proto, follows_up, asks_on, About, NothingElse, Target, Of, Place}
-use Rattle.dm_rule.specs.Addresses.{Receiver}
-use Rattle.dm_rule.specs.Point.{Point, kernel_after, label_of, moved, after_line, after}
-use Rattle.dm_rule.specs.Parts.{Part, Says, Routes, Again, Owns, Transmits, Spelled, spelled, behind, lines_of, puts, packet_line, goes_out}
+use Rattle.dm_rule.proofs.Names.{◌≡◌, ℕ, ◌<◌, ◌≤◌, ◌==◌, Bool, true, false, List, [], ◌∷◌, ◌++◌, refl, ap, ◌∙◌, sym, subst, arith, length, ⊤, if◌then◌else◌, Option, None, Some, Pid, MsgId, MessageKind, plain_kind, Label, bind, Line, Load}
+use Rattle.dm_rule.proofs.Names.{Stage, View, Pair, Told, view_after, after_label, after_stage, after_packet, queued_for, held_for, dropped_for, forwarded_for, served_told, kills, receiver_of, taken_id, handled, own_id, after_proto}
+use Rattle.dm_rule.proofs.Names.{follows_up, asks_on, About, NothingElse, Receiver, Point, kernel_after, label_of, moved, after_line, after, Part, Says, Routes, Again, Owns, Transmits, Spelled, spelled, behind, lines_of, puts, packet_line}
+use Rattle.dm_rule.proofs.Names.{goes_out}
 use Rattle.dm_rule.proofs.Pairs.Stand.{Later}
 use Rattle.dm_rule.proofs.Pairs.Moves.{Paired, Goes, Goes-same, again_goes, ack_goes, route_out, route_packed, route_home}
-
--- what there is where a chain of steps gave something
-pub bind-is : {A B : Type 0} (o : Option A) (go : A → Option B) (t : B) → bind o go ≡ Some t → (x : A) × (o ≡ Some x) × (go x ≡ Some t)
-bind-is None go t e = cc
-bind-is (Some x) go t e = (x, refl, e)
+pub use Rattle.dm_laws.proofs.Steps.{bind-is}
 
 -- lines that say something of a pair
 abbrev pub touches : Line → Bool
-touches (line.Head s) = true
-touches (line.Put a b id k q) = true
-touches (line.Packet a b k l) = true
-touches (line.Taken a b n) = true
-touches (line.Early a b n) = true
-touches (line.Acked a b n) = true
+touches (Line.Head s) = true
+touches (Line.Put a b id k q) = true
+touches (Line.Packet a b k l) = true
+touches (Line.Taken a b n) = true
+touches (Line.Early a b n) = true
+touches (Line.Acked a b n) = true
 touches l = false
 
-queued_pair : (v : View) (id : MsgId) (o : Option Pid) → (queued_for v id o).pair ≡ v.pair
+pub queued_pair : (v : View) (id : MsgId) (o : Option Pid) → (queued_for v id o).pair ≡ v.pair
 queued_pair v id None = refl
 queued_pair v id (Some p) = refl
 
-held_pair : (v : View) (id : MsgId) (o : Option Pid) → (held_for v id o).pair ≡ v.pair
+pub held_pair : (v : View) (id : MsgId) (o : Option Pid) → (held_for v id o).pair ≡ v.pair
 held_pair v id None = refl
 held_pair v id (Some p) = refl
 
-dropped_pair : (v : View) (id : MsgId) (o : Option Pid) → (dropped_for v id o).pair ≡ v.pair
+pub dropped_pair : (v : View) (id : MsgId) (o : Option Pid) → (dropped_for v id o).pair ≡ v.pair
 dropped_pair v id None = refl
 dropped_pair v id (Some p) = refl
 
-forwarded_pair : (v : View) (o : Option Pid) → (forwarded_for v o).pair ≡ v.pair
+pub forwarded_pair : (v : View) (o : Option Pid) → (forwarded_for v o).pair ≡ v.pair
 forwarded_pair v None = refl
 forwarded_pair v (Some p) = refl
 
@@ -60,103 +38,51 @@ taken_pair v b None = refl
 taken_pair v b (Some id) = refl
 
 kills_pair : (k : MessageKind) (v : View) (o : Option Pid) → (kills k v o).pair ≡ v.pair
-kills_pair kind.Kill v None = refl
-kills_pair kind.Kill v (Some p) = refl
+kills_pair MessageKind.Kill v None = refl
+kills_pair MessageKind.Kill v (Some p) = refl
 kills_pair k v o = refl
 
 served_pair : (v : View) (o : Option Told) → (served_told v o).pair ≡ v.pair
 served_pair v None = refl
 served_pair v (Some t) = kills_pair t.kind v (Some t.receiver)
 
-label_pair : (v : View) (l : Label) → (after_label v l).pair ≡ v.pair
-label_pair v (label.Ran p k) = refl
-label_pair v (label.Call p n c) = refl
-label_pair v (label.Send p id) = refl
-label_pair v (label.Wait p) = refl
-label_pair v (label.Out p w) = refl
-label_pair v (label.End p y) = refl
-label_pair v (label.Receive p id) = refl
-label_pair v (label.Refuse p id c) = refl
-label_pair v (label.Dropped id) = dropped_pair (handled v id) id (receiver_of (v.told id))
-label_pair v (label.Served id) = served_pair (handled v id) (v.told id)
-label_pair v (label.Gone id) = refl
-label_pair v (label.Took id) = refl
-label_pair v (label.Created id p) = refl
-label_pair v (label.NoSpace id s b) = refl
+pub label_pair : (v : View) (l : Label) → (after_label v l).pair ≡ v.pair
+label_pair v (Label.Dropped id) = dropped_pair (handled v id) id (receiver_of (v.told id))
+label_pair v (Label.Served id) = served_pair (handled v id) (v.told id)
+label_pair v _ = refl
 
-stage_pair : (v : View) (p : Pid) (s : Stage) → (after_stage v p s).pair ≡ v.pair
-stage_pair v p stage.Frozen = refl
-stage_pair v p stage.Asked = refl
-stage_pair v p stage.Accepted = refl
-stage_pair v p stage.StateTaken = refl
-stage_pair v p stage.MemoryTaken = refl
-stage_pair v p stage.Left = refl
-stage_pair v p stage.Restarted = refl
+pub stage_pair : (v : View) (p : Pid) (s : Stage) → (after_stage v p s).pair ≡ v.pair
+stage_pair v p Stage.Frozen = refl
+stage_pair v p _ = refl
 
-asks_pair : (v : View) (a : About) → (asks_on v a).pair ≡ v.pair
+pub asks_pair : (v : View) (a : About) → (asks_on v a).pair ≡ v.pair
 asks_pair v NothingElse = refl
-asks_pair v (Target m) = refl
-asks_pair v (Of p) = refl
-asks_pair v (Place p at moves) = refl
+asks_pair v _ = refl
 
-follows_pair : (v : View) (a : About) (k : MessageKind) → (follows_up v a k).pair ≡ v.pair
-follows_pair v a kind.Ask = refl
-follows_pair v a kind.Refuse = refl
-follows_pair v a kind.PullState = refl
-follows_pair v a kind.State = asks_pair v a
-follows_pair v a kind.PullBlock = refl
-follows_pair v a kind.Memory = asks_pair v a
-follows_pair v a kind.AllTaken = refl
-follows_pair v a kind.Restart = refl
-follows_pair v a kind.User = refl
-follows_pair v a kind.Stop = refl
-follows_pair v a kind.Resume = refl
-follows_pair v a kind.Kill = refl
-follows_pair v a kind.Read = refl
-follows_pair v a kind.Write = refl
-follows_pair v a kind.Block = refl
-follows_pair v a kind.Written = refl
-follows_pair v a kind.Gone = refl
-follows_pair v a kind.Create = refl
-follows_pair v a kind.Created = refl
-follows_pair v a kind.NoRoom = refl
-follows_pair v a kind.Migrate = refl
-follows_pair v a kind.Update = refl
-follows_pair v a kind.Move = refl
-follows_pair v a kind.Moved = refl
-follows_pair v a kind.CallOff = refl
-follows_pair v a kind.Bury = refl
+pub follows_pair : (v : View) (a : About) (k : MessageKind) → (follows_up v a k).pair ≡ v.pair
+follows_pair v a MessageKind.State = asks_pair v a
+follows_pair v a MessageKind.Memory = asks_pair v a
+follows_pair v a _ = refl
 
-proto_pair : (v : View) (o : Option Told) → (after_proto v o).pair ≡ v.pair
+pub proto_pair : (v : View) (o : Option Told) → (after_proto v o).pair ≡ v.pair
 proto_pair v None = refl
 proto_pair v (Some t) = follows_pair v t.about t.kind
 
 -- the other lines leave the pairs as they are
 pub pair_same : (v : View) (l : Line) → touches l ≡ false → (view_after v l).pair ≡ v.pair
-pair_same v (line.Head s) e = cc
-pair_same v (line.Idle m) e = refl
-pair_same v (line.Label l) e = label_pair v l
-pair_same v (line.Put a b id k q) e = cc
-pair_same v (line.Packet a b k l) e = cc
-pair_same v (line.Taken a b n) e = cc
-pair_same v (line.Old a b n) e = refl
-pair_same v (line.Early a b n) e = cc
-pair_same v (line.Acked a b n) e = cc
-pair_same v line.Nothing e = refl
-pair_same v (line.Resent m n) e = refl
-pair_same v (line.Queued id) e = queued_pair (handled v id) id (receiver_of (v.told id))
-pair_same v (line.Held id) e = held_pair (handled v id) id (receiver_of (v.told id))
-pair_same v (line.Forwarded id m) e = forwarded_pair (handled v id) (receiver_of (v.told id))
-pair_same v (line.Updated id n) e = refl
-pair_same v (line.Migration s p) e = stage_pair v p s
-pair_same v (line.SentOn p n) e = refl
-pair_same v (line.Lacks p s b) e = refl
-pair_same v (line.Stays p) e = refl
-pair_same v (line.Here id) e = refl
-pair_same v (line.NoMove id) e = refl
-pair_same v (line.Proto id) e = proto_pair (handled v id) (v.told id)
-pair_same v (line.NoChild p) e = refl
-pair_same v (line.Pinned p) e = refl
+pair_same v (Line.Head s) e = cc
+pair_same v (Line.Label l) e = label_pair v l
+pair_same v (Line.Put a b id k q) e = cc
+pair_same v (Line.Packet a b k l) e = cc
+pair_same v (Line.Taken a b n) e = cc
+pair_same v (Line.Early a b n) e = cc
+pair_same v (Line.Acked a b n) e = cc
+pair_same v (Line.Queued id) e = queued_pair (handled v id) id (receiver_of (v.told id))
+pair_same v (Line.Held id) e = held_pair (handled v id) id (receiver_of (v.told id))
+pair_same v (Line.Forwarded id m) e = forwarded_pair (handled v id) (receiver_of (v.told id))
+pair_same v (Line.Migration s p) e = stage_pair v p s
+pair_same v (Line.Proto id) e = proto_pair (handled v id) (v.told id)
+pair_same v _ e = refl
 
 -- the view after a line
 pub line_view : (pt next : Point) (l : Line) → after_line pt l ≡ Some next → next.view ≡ view_after pt.view l
@@ -206,15 +132,15 @@ transmits_view pt a b l ps w o =
 
 -- a route keeps
 puts_goes : (pt next : Point) (b : ℕ) (id : MsgId) (k : MessageKind) (q : Pid) (home out : Bool) → (pt.view.acting == b) ≡ home → goes_out (pt.view.pair pt.view.acting b) ≡ out
-    → after pt (line.Put pt.view.acting b id k q ∷ (if home then [] else if out then packet_line pt.view pt.view.acting b (load.Data (length (pt.view.pair pt.view.acting b).ids)) ∷ [] else [])) ≡ Some next
+    → after pt (Line.Put pt.view.acting b id k q ∷ (if home then [] else if out then packet_line pt.view pt.view.acting b (Load.Data (length (pt.view.pair pt.view.acting b).ids)) ∷ [] else [])) ≡ Some next
     → Paired pt.view.pair → Goes pt.view.pair next.view.pair
 puts_goes pt next b id k q true out e f is h =
-    subst (λ (v : View). Goes pt.view.pair v.pair) (sym (one_view pt next (line.Put pt.view.acting b id k q) is)) (route_home pt.view.pair pt.view.acting b id e h)
+    subst (λ (v : View). Goes pt.view.pair v.pair) (sym (one_view pt next (Line.Put pt.view.acting b id k q) is)) (route_home pt.view.pair pt.view.acting b id e h)
 puts_goes pt next b id k q false false e f is h =
-    subst (λ (v : View). Goes pt.view.pair v.pair) (sym (one_view pt next (line.Put pt.view.acting b id k q) is)) (route_out pt.view.pair pt.view.acting b id e h)
+    subst (λ (v : View). Goes pt.view.pair v.pair) (sym (one_view pt next (Line.Put pt.view.acting b id k q) is)) (route_out pt.view.pair pt.view.acting b id e h)
 puts_goes pt next b id k q false true e f is h =
-    let p = packet_line pt.view pt.view.acting b (load.Data (length (pt.view.pair pt.view.acting b).ids)) in
-    subst (λ (v : View). Goes pt.view.pair v.pair) (sym (two_views pt next (line.Put pt.view.acting b id k q) p is)) (route_packed pt.view.pair pt.view.acting b id e f h)
+    let p = packet_line pt.view pt.view.acting b (Load.Data (length (pt.view.pair pt.view.acting b).ids)) in
+    subst (λ (v : View). Goes pt.view.pair v.pair) (sym (two_views pt next (Line.Put pt.view.acting b id k q) p is)) (route_packed pt.view.pair pt.view.acting b id e f h)
 
 puts_lead : (pt next : Point) (b : ℕ) (id : MsgId) (k : MessageKind) (q : Pid) (ls : List Line) → Some (puts pt.view b id k q) ≡ Some ls → after pt ls ≡ Some next → Paired pt.view.pair → Goes pt.view.pair next.view.pair
 puts_lead pt next b id k q ls is leads h =
@@ -236,23 +162,18 @@ again_puts pt id at ps w o h =
 -- acknowledgement of what was taken
 abbrev pub Fits : (ℕ → ℕ → Pair) → Part → Type 0
 Fits f (Says l) = touches l ≡ false
-Fits f (Routes id) = ⊤
-Fits f (Again id b) = ⊤
-Fits f (Owns k q b) = ⊤
-Fits f (Transmits a b (load.Data n)) = ((a == b) ≡ false) × (n < (f a b).gone)
-Fits f (Transmits a b (load.Ack n)) = ((a == b) ≡ false) × (n ≤ (f b a).taken)
+Fits f (Transmits a b (Load.Data n)) = ((a == b) ≡ false) × (n < (f a b).gone)
+Fits f (Transmits a b (Load.Ack n)) = ((a == b) ≡ false) × (n ≤ (f b a).taken)
+Fits f _ = ⊤
 
 abbrev pub AllFit : (ℕ → ℕ → Pair) → List Part → Type 0
 AllFit f [] = ⊤
 AllFit f (p ∷ ps) = Fits f p × AllFit f ps
 
 Fits-later : (f g : ℕ → ℕ → Pair) (p : Part) → Later f g → Fits f p → Fits g p
-Fits-later f g (Says l) k h = h
-Fits-later f g (Routes id) k h = h
-Fits-later f g (Again id b) k h = h
-Fits-later f g (Owns kn q b) k h = h
-Fits-later f g (Transmits a b (load.Data n)) k h = (h.0, let x = k.gone a b in omega (arith, x, h.1))
-Fits-later f g (Transmits a b (load.Ack n)) k h = (h.0, let x = k.taken b a in omega (arith, x, h.1))
+Fits-later f g (Transmits a b (Load.Data n)) k h = (h.0, let x = k.gone a b in omega (arith, x, h.1))
+Fits-later f g (Transmits a b (Load.Ack n)) k h = (h.0, let x = k.taken b a in omega (arith, x, h.1))
+Fits-later f g _ k h = h
 
 pub AllFit-later : (f g : ℕ → ℕ → Pair) (ps : List Part) → Later f g → AllFit f ps → AllFit g ps
 AllFit-later f g [] k h = h
@@ -269,10 +190,10 @@ fitting_goes pt (Says l) ps w o fits h =
 fitting_goes pt (Routes id) ps w o fits h = routes_goes pt id ps w o h
 fitting_goes pt (Again id b) ps w o fits h = again_puts pt id b ps w o h
 fitting_goes pt (Owns k q b) ps w o fits h = puts_lead pt o.next b (own_id pt.view) k q o.lines o.lines_are o.leads h
-fitting_goes pt (Transmits a b (load.Data n)) ps w o fits h =
-    subst (λ (v : View). Goes pt.view.pair v.pair) (sym (transmits_view pt a b (load.Data n) ps w o)) (again_goes pt.view.pair a b n fits.0 fits.1 h)
-fitting_goes pt (Transmits a b (load.Ack n)) ps w o fits h =
-    subst (λ (v : View). Goes pt.view.pair v.pair) (sym (transmits_view pt a b (load.Ack n) ps w o)) (ack_goes pt.view.pair a b n fits.0 fits.1 h)
+fitting_goes pt (Transmits a b (Load.Data n)) ps w o fits h =
+    subst (λ (v : View). Goes pt.view.pair v.pair) (sym (transmits_view pt a b (Load.Data n) ps w o)) (again_goes pt.view.pair a b n fits.0 fits.1 h)
+fitting_goes pt (Transmits a b (Load.Ack n)) ps w o fits h =
+    subst (λ (v : View). Goes pt.view.pair v.pair) (sym (transmits_view pt a b (Load.Ack n) ps w o)) (ack_goes pt.view.pair a b n fits.0 fits.1 h)
 
 pub keeps : (ps : List Part) (pt : Point) (w : Spelled) → AllFit pt.view.pair ps → Paired pt.view.pair → spelled pt ps ≡ Some w → Paired w.point.view.pair
 keeps [] pt w fits h e =

@@ -1,16 +1,7 @@
 -- What each change of a pair keeps.
-use Rattle.std.proofs.Common.{◌≡◌, ℕ, ◌+◌, ◌-◌, ◌<◌, ◌≤◌, ◌==◌, ◌||◌, not, Bool, true, false, List, [], ◌∷◌, ◌++◌, refl, ap, ◌∙◌, sym, subst, ◌⊎◌, inl, inr, arith, length, length-append}
-use Rattle.std.specs.Prelude.{◌≢◌, if◌then◌else◌, filter, slice_get}
-use Rattle.std.proofs.lemmas.Bool.{false≢true}
-use Rattle.std.proofs.lemmas.Bool.Decides.{nat_tests}
-use Rattle.dm_message.specs.declared.MsgId.{MsgId}
-use Rattle.dm_line.specs.declared.line.Load.{Load}
-use Rattle.dm_line.specs.declared.line.Load.TheVariants as load
-use Rattle.dm_line.specs.Sets.{at_pair}
-use Rattle.dm_rule.specs.View.{Pair, routed_on, gone_after, marked, at_least}
-use Rattle.dm_rule.specs.Parts.{goes_out}
-use Rattle.dm_rule.specs.Rule.{has}
-use Rattle.dm_rule.specs.Pairs.{HomeStands}
+use Rattle.dm_rule.proofs.Names.{◌≡◌, ℕ, ◌+◌, ◌-◌, ◌<◌, ◌≤◌, ◌==◌, ◌||◌, not, Bool, true, false, List, [], ◌∷◌, ◌++◌, refl, ap, ◌∙◌, sym, subst, ◌⊎◌, inl, inr, arith, length, ◌≢◌, if◌then◌else◌, filter, slice_get, false≢true, nat_tests}
+use Rattle.dm_rule.proofs.Names.{MsgId, Load, at_pair, Pair, routed_on, gone_after, marked, at_least, goes_out, has, HomeStands}
+use Rattle.std.proofs.Common.{length-append}
 use Rattle.dm_rule.proofs.Pairs.Stand.{LoadStands, Apart, KeptStands, Kept, Stand, Later, Later-same, Later-trans, WireStands-more, WireStands-put, WireStands-marked, set_same, Stand-set, Stand-home, Kept-set, Later-set}
 
 pub record Paired (f : ℕ → ℕ → Pair) : Type 0 where
@@ -57,22 +48,22 @@ packed_goes f a b l ab stands more ids full h =
     changed f a b (packed l (f a b)) ab (packed_apart l (f a b) (f b a) stands more ids full (h.stand.apart a b ab)) (omega arith) more (packed_kept l (f a b) more (h.kept a b)) h
 
 -- data that has gone out goes out again; the next data goes out; how many were taken is acknowledged
-pub again_goes : (f : ℕ → ℕ → Pair) (a b n : ℕ) → (a == b) ≡ false → n < (f a b).gone → Paired f → Goes f (at_pair f a b (packed (load.Data n) (f a b)))
+pub again_goes : (f : ℕ → ℕ → Pair) (a b n : ℕ) → (a == b) ≡ false → n < (f a b).gone → Paired f → Goes f (at_pair f a b (packed (Load.Data n) (f a b)))
 again_goes f a b n ab less h =
-    let same : gone_after (load.Data n) (f a b).gone ≡ (f a b).gone = grind (arith, nat_tests) in
+    let same : gone_after (Load.Data n) (f a b).gone ≡ (f a b).gone = grind (arith, nat_tests) in
     let x = h.stand.apart a b ab in
     let ids = x.gone in
     let full = x.full in
-    packed_goes f a b (load.Data n) ab (omega (arith, same, less)) (omega (arith, same)) (omega (arith, same, ids)) (omega (arith, same, full)) h
+    packed_goes f a b (Load.Data n) ab (omega (arith, same, less)) (omega (arith, same)) (omega (arith, same, ids)) (omega (arith, same, full)) h
 
-pub next_goes : (f : ℕ → ℕ → Pair) (a b n : ℕ) → (a == b) ≡ false → n ≡ (f a b).gone → n + 1 ≤ length (f a b).ids → n + 1 ≤ (f a b).acked + 8 → Paired f → Goes f (at_pair f a b (packed (load.Data n) (f a b)))
+pub next_goes : (f : ℕ → ℕ → Pair) (a b n : ℕ) → (a == b) ≡ false → n ≡ (f a b).gone → n + 1 ≤ length (f a b).ids → n + 1 ≤ (f a b).acked + 8 → Paired f → Goes f (at_pair f a b (packed (Load.Data n) (f a b)))
 next_goes f a b n ab is ids full h =
-    let same : gone_after (load.Data n) (f a b).gone ≡ n + 1 = grind (arith, nat_tests) in
-    packed_goes f a b (load.Data n) ab (omega (arith, same)) (omega (arith, same, is)) (omega (arith, same, ids)) (omega (arith, same, full)) h
+    let same : gone_after (Load.Data n) (f a b).gone ≡ n + 1 = grind (arith, nat_tests) in
+    packed_goes f a b (Load.Data n) ab (omega (arith, same)) (omega (arith, same, is)) (omega (arith, same, ids)) (omega (arith, same, full)) h
 
-pub ack_goes : (f : ℕ → ℕ → Pair) (a b n : ℕ) → (a == b) ≡ false → n ≤ (f b a).taken → Paired f → Goes f (at_pair f a b (packed (load.Ack n) (f a b)))
+pub ack_goes : (f : ℕ → ℕ → Pair) (a b n : ℕ) → (a == b) ≡ false → n ≤ (f b a).taken → Paired f → Goes f (at_pair f a b (packed (Load.Ack n) (f a b)))
 ack_goes f a b n ab le h =
-    let x = h.stand.apart a b ab in packed_goes f a b (load.Ack n) ab le (omega arith) x.gone x.full h
+    let x = h.stand.apart a b ab in packed_goes f a b (Load.Ack n) ab le (omega arith) x.gone x.full h
 
 -- a route
 abbrev pub routed_out : Pair → MsgId → Pair
@@ -100,7 +91,7 @@ route_out f a b id ab h =
 
 -- a route, and the message goes out at once
 pub route_packed : (f : ℕ → ℕ → Pair) (a b : ℕ) (id : MsgId) → (a == b) ≡ false → goes_out (f a b) ≡ true → Paired f
-    → Goes f (at_pair (at_pair f a b (routed_on a b (f a b) id)) a b (packed (load.Data (length (f a b).ids)) (at_pair f a b (routed_on a b (f a b) id) a b)))
+    → Goes f (at_pair (at_pair f a b (routed_on a b (f a b) id)) a b (packed (Load.Data (length (f a b).ids)) (at_pair f a b (routed_on a b (f a b) id) a b)))
 route_packed f a b id ab out h =
     let g = at_pair f a b (routed_on a b (f a b) id) in
     let first : Goes f g = route_out f a b id ab h in
@@ -110,7 +101,7 @@ route_packed f a b id ab out h =
     let ids : length (g a b).ids ≡ length (f a b).ids + 1 = ap (λ (p : Pair). length p.ids) is ∙ one_more (f a b) id in
     let all : (f a b).gone ≡ length (f a b).ids = grind (arith, nat_tests) in
     let room : (f a b).gone - (f a b).acked < 8 = grind (arith, nat_tests) in
-    Goes-on f g (at_pair g a b (packed (load.Data (length (f a b).ids)) (g a b))) first
+    Goes-on f g (at_pair g a b (packed (Load.Data (length (f a b).ids)) (g a b))) first
     (next_goes g a b (length (f a b).ids) ab (sym all ∙ sym gone) (omega (arith, ids)) (omega (arith, all, room, acked)) first.paired)
 
 home_routed : (p : Pair) (id : MsgId) → HomeStands p → HomeStands (routed_home p id)
@@ -146,7 +137,7 @@ route_home f a b id e h =
 at_least-fits : (m n top : ℕ) → m ≤ top → n ≤ top → at_least m n ≤ top
 at_least-fits m n top x y = grind (arith, nat_tests)
 
-at_least-more : (m n : ℕ) → m ≤ at_least m n
+pub at_least-more : (m n : ℕ) → m ≤ at_least m n
 at_least-more m n = grind (arith, nat_tests)
 
 pub acked_goes : (f : ℕ → ℕ → Pair) (a b n : ℕ) → (a == b) ≡ false → n ≤ (f a b).taken → Paired f → Goes f (at_pair f a b (record (f a b) { acked = at_least (f a b).acked n }))
@@ -173,7 +164,7 @@ marked_goes f a b k ab h =
 abbrev pub off : ℕ → List ℕ → List ℕ
 off n ks = filter (λ k. not (k == n)) ks
 
-or_first : (b c : Bool) → c ≡ true → (b || c) ≡ true
+pub or_first : (b c : Bool) → c ≡ true → (b || c) ≡ true
 or_first true c e = refl
 or_first false c e = e
 

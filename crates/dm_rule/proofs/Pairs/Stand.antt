@@ -1,21 +1,11 @@
 -- The pairs of machines stand, and what keeps them so.
-use Rattle.std.proofs.Common.{◌≡◌, ℕ, zero, suc, ◌+◌, ◌<◌, ◌≤◌, ◌==◌, ◌&&◌, Bool, true, false, List, [], ◌∷◌, ◌++◌, ap, ◌∙◌, sym, subst, inl, inr, arith, length}
-use Rattle.std.specs.Prelude.{⊤, if◌then◌else◌, slice_get, slice_set}
-use Rattle.std.specs.declared.option.Option.{Option}
-use Rattle.std.specs.declared.option.Option.TheVariants.{None, Some}
-use Rattle.std.proofs.lemmas.Bool.{cases_Bool}
-use Rattle.std.proofs.lemmas.Bool.Decides.{nat_tests}
-use Rattle.dm_line.specs.declared.line.Load.{Load}
-use Rattle.dm_line.specs.declared.line.Load.TheVariants as load
-use Rattle.dm_line.specs.Sets.{at_pair}
-use Rattle.dm_rule.specs.View.{Pair, Sent, marked_at}
-use Rattle.dm_rule.specs.Rule.{has}
-use Rattle.dm_rule.specs.Pairs.{HomeStands}
+use Rattle.dm_rule.proofs.Names.{◌≡◌, ℕ, zero, suc, ◌+◌, ◌<◌, ◌≤◌, ◌==◌, ◌&&◌, Bool, true, false, List, [], ◌∷◌, ◌++◌, ap, ◌∙◌, sym, subst, inl, inr, arith, length, ⊤, if◌then◌else◌, slice_get, slice_set, Option, None, Some, cases_Bool}
+use Rattle.dm_rule.proofs.Names.{nat_tests, Load, at_pair, Pair, Sent, marked_at, has, HomeStands}
 
 -- what a packet carries: data that has gone out, or a count of messages that were taken on the pair that leads back
 abbrev pub LoadStands : ℕ → ℕ → Load → Type 0
-LoadStands gone back (load.Data n) = n < gone
-LoadStands gone back (load.Ack n) = n ≤ back
+LoadStands gone back (Load.Data n) = n < gone
+LoadStands gone back (Load.Ack n) = n ≤ back
 
 abbrev pub WireStands : ℕ → ℕ → List Sent → Type 0
 WireStands gone back [] = ⊤
@@ -55,8 +45,8 @@ Later-trans f g h k l = record {
 }
 
 LoadStands-more : (g b g' b' : ℕ) (l : Load) → g ≤ g' → b ≤ b' → LoadStands g b l → LoadStands g' b' l
-LoadStands-more g b g' b' (load.Data n) x y h = omega (arith, h)
-LoadStands-more g b g' b' (load.Ack n) x y h = omega (arith, h)
+LoadStands-more g b g' b' (Load.Data n) x y h = omega (arith, h)
+LoadStands-more g b g' b' (Load.Ack n) x y h = omega (arith, h)
 
 pub WireStands-more : (g b g' b' : ℕ) (ss : List Sent) → g ≤ g' → b ≤ b' → WireStands g b ss → WireStands g' b' ss
 WireStands-more g b g' b' [] x y h = h

@@ -1,36 +1,15 @@
 -- The parts of turns and ticks keep the pairs of machines wherever they stand.
-use Rattle.std.proofs.Common.{◌≡◌, ℕ, zero, suc, ◌+◌, ◌-◌, ◌≤◌, ◌==◌, Bool, true, false, List, [], ◌∷◌, refl, subst, arith, length}
-use Rattle.std.specs.Prelude.{if◌then◌else◌, slice_get}
-use Rattle.std.specs.declared.option.Option.{Option}
-use Rattle.std.specs.declared.option.Option.TheVariants.{None, Some}
-use Rattle.dm_link.specs.declared.Pid.{Pid}
-use Rattle.dm_link.specs.Names.{pid_of, pid_eq}
-use Rattle.dm_message.specs.declared.MsgId.{MsgId}
-use Rattle.dm_message.specs.Kinds.{plain_kind}
-use Rattle.dm_message.specs.Plain as what
-use Rattle.dm_message.specs.Plain.{PlainMessage, PlainWhat}
-use Rattle.dm_processor.specs.Instructions.{instruction}
-use Rattle.dm_onekernel.specs.declared.boot.BootImage.{BootImage}
-use Rattle.dm_onekernel.specs.declared.boot.Boot.{Boot}
-use Rattle.dm_onekernel.specs.declared.label.Label.TheVariants as label
-use Rattle.dm_onekernel.specs.Boot.{first_number, switchboard, manager}
-use Rattle.dm_onekernel.specs.Options.{bind}
-use Rattle.dm_onekernel.specs.PlainProcess.{PlainProcess, PlainStatus, Ready, Waiting, Moving}
-use Rattle.dm_onekernel.specs.Kernel.{OneKernel}
+use Rattle.dm_rule.proofs.Names.{◌≡◌, ℕ, zero, suc, ◌+◌, ◌-◌, ◌≤◌, ◌==◌, Bool, true, false, List, [], ◌∷◌, refl, subst, arith, length, if◌then◌else◌, slice_get, Option, None, Some, Pid, pid_of, pid_eq, MsgId, plain_kind, Label, Line}
+use Rattle.dm_rule.proofs.Names.{PlainMessage, PlainWhat, instruction, BootImage, Boot, first_number, switchboard, manager, bind, PlainProcess, PlainStatus, Ready, Waiting, Moving, OneKernel, answer_id, machine_of, with_machine, View, Pair}
+use Rattle.dm_rule.proofs.Names.{Known, Unknown, Here, Forward, Ended, Point, Part, Says, Routes, Ran, Room, says, drops, called, stops, executes, ran, completes, receives, first_awaited, first_runnable, serves_status, goes_round, has_room}
+use Rattle.dm_rule.proofs.Names.{free_room, creates, kernel_handles, routes, board_took, manager_took, here_handles, ended_handles, process_handles, comes_to, turns, numbers_from, repeats, resends, forwards_on}
 use Rattle.dm_onekernel.specs.Calls as calls
 use Rattle.dm_onekernel.specs.Pieces as pieces
-use Rattle.dm_onekernel.specs.Pieces.{answer_id}
 use Rattle.dm_onekernel.specs.Receiving as receiving
 use Rattle.dm_onekernel.specs.Switchboard as board
 use Rattle.dm_onekernel.specs.Manager as manage
 use Rattle.dm_onekernel.specs.Step as kernel
-use Rattle.dm_onekernel.specs.Step.{machine_of, with_machine}
-use Rattle.dm_line.specs.declared.line.Line.TheVariants as line
-use Rattle.dm_rule.specs.View.{View, Pair, Known, Unknown, Here, Frozen, Incoming, Forward, Ended}
-use Rattle.dm_rule.specs.Point.{Point}
-use Rattle.dm_rule.specs.Parts.{Part, Says, Routes}
-use Rattle.dm_rule.specs.Rule.{Ran, Room, says, drops, called, stops, executes, ran, completes, receives, first_awaited, first_runnable, serves_status, goes_round, has_room, free_room, creates, kernel_handles, routes, board_took, manager_took, lands, here_handles, ended_handles, process_handles, comes_to, turns, numbers_from, repeats, resends}
-use Rattle.dm_rule.specs.Migrating.{forwards_on}
+use Rattle.dm_rule.specs.Rule.{lands}
 use Rattle.dm_rule.proofs.Pairs.Lines.{bind-is, Fits, AllFit, AllFit-both}
 use Rattle.dm_rule.proofs.Pairs.Migrating.{forwards_fit, hears_fit}
 
@@ -42,11 +21,9 @@ drops_fit f [] = tt
 drops_fit f (i ∷ is) = (refl, drops_fit f is)
 
 called_fit : (f : ℕ → ℕ → Pair) (p : Pid) (n : ℕ) (queue : List MsgId) (c : calls.Called) → AllFit f (called p n queue c)
-called_fit f p n queue (calls.Replies reply x) = (refl, tt)
 called_fit f p n queue (calls.Sends m x) = (refl, (tt, tt))
-called_fit f p n queue (calls.Waits x) = (refl, tt)
-called_fit f p n queue (calls.Outputs word x) = (refl, tt)
 called_fit f p n queue (calls.Ends because) = (refl, drops_fit f queue)
+called_fit f p n queue _ = (refl, tt)
 
 stops_fit : (f : ℕ → ℕ → Pair) (p : Pid) (queue : List MsgId) (o : Option kernel.Next) → AllFit f (stops p queue o)
 stops_fit f p queue None = tt
@@ -80,7 +57,7 @@ serves_fit f quantum s p queue x (Waiting mask base cap_) ps e = receives_fit f 
 serves_fit f quantum s p queue x (Moving dir owner base own left pending) ps e = cc
 
 round_fit : (f : ℕ → ℕ → Pair) (b : Boot) (pt : Point) (m : ℕ) (o : Option Pid) (ps : List Part) → goes_round b pt m o ≡ Some ps → AllFit f ps
-round_fit f b pt m None ps e = given f (Says (line.Idle m) ∷ []) ps (refl, tt) e
+round_fit f b pt m None ps e = given f (Says (Line.Idle m) ∷ []) ps (refl, tt) e
 round_fit f b pt m (Some p) ps e =
     let (x, there, is) = bind-is (kernel.alive (pt.kernel.processes p)) (λ x. serves_status b.quantum pt.kernel p (pt.view.queue m p) x x.status) ps e in
     serves_fit f b.quantum pt.kernel p (pt.view.queue m p) x x.status ps is
@@ -92,25 +69,13 @@ says_if_fit f false p q h k = k
 creates_fit : (f : ℕ → ℕ → Pair) (pt : Point) (m : ℕ) (id : MsgId) (r : Room) (o : Option BootImage) (ps : List Part) → creates pt m id r o ≡ Some ps → AllFit f ps
 creates_fit f pt m id r None ps e = cc
 creates_fit f pt m id r (Some i) ps e =
-    let yes = says (label.Created id (pid_of m (first_number + pt.kernel.made m))) in
-    let no = says (label.NoSpace id r.slots r.blocks) in
+    let yes = says (Label.Created id (pid_of m (first_number + pt.kernel.made m))) in
+    let no = says (Label.NoSpace id r.slots r.blocks) in
     given f ((if has_room r i.blocks then yes else no) ∷ Routes (answer_id id) ∷ []) ps (says_if_fit f (has_room r i.blocks) yes no refl refl, (tt, tt)) e
 
 kernel_fit : (f : ℕ → ℕ → Pair) (b : Boot) (pt : Point) (m : ℕ) (id : MsgId) (w : PlainWhat) (ps : List Part) → kernel_handles b pt m id w ≡ Some ps → AllFit f ps
-kernel_fit f b pt m id (what.Create image links) ps e = creates_fit f pt m id (free_room b pt m) (slice_get b.images image) ps e
-kernel_fit f b pt m id (what.User code channel body links) ps e = cc
-kernel_fit f b pt m id what.Stop ps e = cc
-kernel_fit f b pt m id what.Resume ps e = cc
-kernel_fit f b pt m id what.Kill ps e = cc
-kernel_fit f b pt m id (what.Read base len) ps e = cc
-kernel_fit f b pt m id (what.Write base bytes) ps e = cc
-kernel_fit f b pt m id (what.Block bytes) ps e = cc
-kernel_fit f b pt m id what.Written ps e = cc
-kernel_fit f b pt m id what.Gone ps e = cc
-kernel_fit f b pt m id (what.Created pid) ps e = cc
-kernel_fit f b pt m id what.NoRoom ps e = cc
-kernel_fit f b pt m id (what.Move machine) ps e = cc
-kernel_fit f b pt m id (what.Moved outcome) ps e = cc
+kernel_fit f b pt m id (PlainWhat.Create image links) ps e = creates_fit f pt m id (free_room b pt m) (slice_get b.images image) ps e
+kernel_fit f b pt m id _ ps e = cc
 
 routes_fit : (f : ℕ → ℕ → Pair) (o : Option PlainMessage) → AllFit f (routes o)
 routes_fit f None = tt
@@ -118,65 +83,54 @@ routes_fit f (Some m) = (tt, tt)
 
 board_fit : (f : ℕ → ℕ → Pair) (id : MsgId) (o : Option board.Took) (ps : List Part) → board_took id o ≡ Some ps → AllFit f ps
 board_fit f id None ps e = cc
-board_fit f id (Some t) ps e = given f (says (label.Took id) ∷ routes t.answer) ps (refl, routes_fit f t.answer) e
+board_fit f id (Some t) ps e = given f (says (Label.Took id) ∷ routes t.answer) ps (refl, routes_fit f t.answer) e
 
 manager_fit : (f : ℕ → ℕ → Pair) (id : MsgId) (o : Option manage.Took) (ps : List Part) → manager_took id o ≡ Some ps → AllFit f ps
 manager_fit f id None ps e = cc
-manager_fit f id (Some t) ps e = given f (says (label.Took id) ∷ routes t.message) ps (refl, routes_fit f t.message) e
+manager_fit f id (Some t) ps e = given f (says (Label.Took id) ∷ routes t.message) ps (refl, routes_fit f t.message) e
 
 lands_fit : (f : ℕ → ℕ → Pair) (id : MsgId) (o : Option pieces.Landed) (ps : List Part) → lands id o ≡ Some ps → AllFit f ps
 lands_fit f id None ps e = cc
-lands_fit f id (Some (pieces.Next request x)) ps e = given f (says (label.Served id) ∷ Routes request.id ∷ []) ps (refl, (tt, tt)) e
-lands_fit f id (Some (pieces.Done reply x)) ps e = given f (says (label.Served id) ∷ []) ps (refl, tt) e
+lands_fit f id (Some (pieces.Next request x)) ps e = given f (says (Label.Served id) ∷ Routes request.id ∷ []) ps (refl, (tt, tt)) e
+lands_fit f id (Some (pieces.Done reply x)) ps e = given f (says (Label.Served id) ∷ []) ps (refl, tt) e
 
 here_fit : (f : ℕ → ℕ → Pair) (pt : Point) (m : ℕ) (id : MsgId) (msg : PlainMessage) (x : PlainProcess) (w : PlainWhat) (ps : List Part) → here_handles pt m id msg x w ≡ Some ps → AllFit f ps
-here_fit f pt m id msg x (what.User code channel body links) ps e = given f (Says (line.Queued id) ∷ []) ps (refl, tt) e
-here_fit f pt m id msg x what.Stop ps e = given f (says (label.Served id) ∷ []) ps (refl, tt) e
-here_fit f pt m id msg x what.Resume ps e = given f (says (label.Served id) ∷ []) ps (refl, tt) e
-here_fit f pt m id msg x what.Kill ps e = given f (says (label.Served id) ∷ drops (pt.view.queue m msg.to)) ps (refl, drops_fit f (pt.view.queue m msg.to)) e
-here_fit f pt m id msg x (what.Read base len) ps e = given f (says (label.Served id) ∷ Routes (answer_id id) ∷ []) ps (refl, (tt, tt)) e
-here_fit f pt m id msg x (what.Write base bytes) ps e = given f (says (label.Served id) ∷ Routes (answer_id id) ∷ []) ps (refl, (tt, tt)) e
-here_fit f pt m id msg x (what.Block bytes) ps e = lands_fit f id (pieces.lands msg.to x msg x.status) ps e
-here_fit f pt m id msg x what.Written ps e = lands_fit f id (pieces.lands msg.to x msg x.status) ps e
-here_fit f pt m id msg x what.Gone ps e = lands_fit f id (pieces.lands msg.to x msg x.status) ps e
-here_fit f pt m id msg x (what.Create image links) ps e = cc
-here_fit f pt m id msg x (what.Created pid) ps e = cc
-here_fit f pt m id msg x what.NoRoom ps e = cc
-here_fit f pt m id msg x (what.Move machine) ps e = cc
-here_fit f pt m id msg x (what.Moved outcome) ps e = cc
+here_fit f pt m id msg x (PlainWhat.User code channel body links) ps e = given f (Says (Line.Queued id) ∷ []) ps (refl, tt) e
+here_fit f pt m id msg x PlainWhat.Stop ps e = given f (says (Label.Served id) ∷ []) ps (refl, tt) e
+here_fit f pt m id msg x PlainWhat.Resume ps e = given f (says (Label.Served id) ∷ []) ps (refl, tt) e
+here_fit f pt m id msg x PlainWhat.Kill ps e = given f (says (Label.Served id) ∷ drops (pt.view.queue m msg.to)) ps (refl, drops_fit f (pt.view.queue m msg.to)) e
+here_fit f pt m id msg x (PlainWhat.Read base len) ps e = given f (says (Label.Served id) ∷ Routes (answer_id id) ∷ []) ps (refl, (tt, tt)) e
+here_fit f pt m id msg x (PlainWhat.Write base bytes) ps e = given f (says (Label.Served id) ∷ Routes (answer_id id) ∷ []) ps (refl, (tt, tt)) e
+here_fit f pt m id msg x (PlainWhat.Block bytes) ps e = lands_fit f id (pieces.lands msg.to x msg x.status) ps e
+here_fit f pt m id msg x PlainWhat.Written ps e = lands_fit f id (pieces.lands msg.to x msg x.status) ps e
+here_fit f pt m id msg x PlainWhat.Gone ps e = lands_fit f id (pieces.lands msg.to x msg x.status) ps e
+here_fit f pt m id msg x _ ps e = cc
 
-gone_fit : (f : ℕ → ℕ → Pair) (id : MsgId) (ps : List Part) → Some (says (label.Gone id) ∷ Routes (answer_id id) ∷ []) ≡ Some ps → AllFit f ps
-gone_fit f id ps e = given f (says (label.Gone id) ∷ Routes (answer_id id) ∷ []) ps (refl, (tt, tt)) e
+gone_fit : (f : ℕ → ℕ → Pair) (id : MsgId) (ps : List Part) → Some (says (Label.Gone id) ∷ Routes (answer_id id) ∷ []) ≡ Some ps → AllFit f ps
+gone_fit f id ps e = given f (says (Label.Gone id) ∷ Routes (answer_id id) ∷ []) ps (refl, (tt, tt)) e
 
-dropped_fit : (f : ℕ → ℕ → Pair) (id : MsgId) (ps : List Part) → Some (says (label.Dropped id) ∷ []) ≡ Some ps → AllFit f ps
-dropped_fit f id ps e = given f (says (label.Dropped id) ∷ []) ps (refl, tt) e
+dropped_fit : (f : ℕ → ℕ → Pair) (id : MsgId) (ps : List Part) → Some (says (Label.Dropped id) ∷ []) ≡ Some ps → AllFit f ps
+dropped_fit f id ps e = given f (says (Label.Dropped id) ∷ []) ps (refl, tt) e
 
 ended_fit : (f : ℕ → ℕ → Pair) (id : MsgId) (w : PlainWhat) (ps : List Part) → ended_handles id w ≡ Some ps → AllFit f ps
-ended_fit f id (what.Read base len) ps e = gone_fit f id ps e
-ended_fit f id (what.Write base bytes) ps e = gone_fit f id ps e
-ended_fit f id (what.User code channel body links) ps e = dropped_fit f id ps e
-ended_fit f id what.Stop ps e = dropped_fit f id ps e
-ended_fit f id what.Resume ps e = dropped_fit f id ps e
-ended_fit f id what.Kill ps e = dropped_fit f id ps e
-ended_fit f id (what.Block bytes) ps e = dropped_fit f id ps e
-ended_fit f id what.Written ps e = dropped_fit f id ps e
-ended_fit f id what.Gone ps e = dropped_fit f id ps e
-ended_fit f id (what.Create image links) ps e = cc
-ended_fit f id (what.Created pid) ps e = cc
-ended_fit f id what.NoRoom ps e = cc
-ended_fit f id (what.Move machine) ps e = cc
-ended_fit f id (what.Moved outcome) ps e = cc
+ended_fit f id (PlainWhat.Read base len) ps e = gone_fit f id ps e
+ended_fit f id (PlainWhat.Write base bytes) ps e = gone_fit f id ps e
+ended_fit f id (PlainWhat.Create image links) ps e = cc
+ended_fit f id (PlainWhat.Created pid) ps e = cc
+ended_fit f id PlainWhat.NoRoom ps e = cc
+ended_fit f id (PlainWhat.Move machine) ps e = cc
+ended_fit f id (PlainWhat.Moved outcome) ps e = cc
+ended_fit f id _ ps e = dropped_fit f id ps e
 
 process_fit : (f : ℕ → ℕ → Pair) (pt : Point) (m : ℕ) (id : MsgId) (msg : PlainMessage) (k : Known) (ps : List Part) → process_handles pt m id msg k ≡ Some ps → AllFit f ps
 process_fit f pt m id msg Unknown ps e = cc
 process_fit f pt m id msg Here ps e =
     let (x, there, is) = bind-is (kernel.alive (pt.kernel.processes msg.to)) (λ x. here_handles pt m id msg x msg.what) ps e in
     here_fit f pt m id msg x msg.what ps is
-process_fit f pt m id msg (Frozen to) ps e = given f (Says (line.Held id) ∷ []) ps (refl, tt) e
-process_fit f pt m id msg (Incoming from) ps e = given f (Says (line.Held id) ∷ []) ps (refl, tt) e
 process_fit f pt m id msg (Forward at moves) ps e =
     given f (forwards_on pt.addresses id (plain_kind msg.what) msg.sender at) ps (forwards_fit f pt.addresses id (plain_kind msg.what) msg.sender at) e
 process_fit f pt m id msg Ended ps e = ended_fit f id msg.what ps e
+process_fit f pt m id msg _ ps e = given f (Says (Line.Held id) ∷ []) ps (refl, tt) e
 
 handles_by : (f : ℕ → ℕ → Pair) (b : Boot) (pt : Point) (m : ℕ) (id : MsgId) (msg : PlainMessage) (c d g : Bool) (ps : List Part)
     → (if c then kernel_handles b pt m id msg.what

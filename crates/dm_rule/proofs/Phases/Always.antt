@@ -1,34 +1,13 @@
 -- Wherever the rule leads, each process is in a phase.
-use Rattle.std.proofs.Common.{◌≡◌, ℕ, ◌<◌, ◌≤◌, ◌==◌, ◌&&◌, ◌||◌, Bool, true, false, List, [], ◌∷◌, ◌++◌, length, refl, ap, ◌∙◌, sym, subst, inl, inr, arith}
-use Rattle.std.specs.Prelude.{if◌then◌else◌, map, option_map}
-use Rattle.std.specs.declared.option.Option.{Option}
-use Rattle.std.specs.declared.option.Option.TheVariants.{None, Some}
-use Rattle.std.proofs.lemmas.Bool.{cases_Bool}
-use Rattle.std.proofs.lemmas.Option.{slice_get_cases}
-use Rattle.std.proofs.lemmas.Bool.Decides.{nat_tests}
-use Rattle.dm_link.specs.declared.Pid.{Pid}
-use Rattle.dm_link.specs.Names.{pid_eq}
-use Rattle.dm_link.specs.Plain.{plain_link}
-use Rattle.dm_onekernel.specs.declared.boot.BootImage.{BootImage}
-use Rattle.dm_onekernel.specs.declared.boot.BootProcess.{BootProcess}
-use Rattle.dm_onekernel.specs.declared.boot.Boot.{Boot}
-use Rattle.dm_onekernel.specs.Boot.{IsValid, processes_are_valid, switchboard, manager}
-use Rattle.dm_onekernel.specs.Kernel.{Life, Alive}
-use Rattle.dm_onekernel.specs.Start.{begun, first_life, life_at}
-use Rattle.dm_schedule.specs.declared.Step.{Step}
-use Rattle.dm_rule.specs.View.{Known, Unknown, Here, known_at, ring_at}
-use Rattle.dm_rule.specs.Point.{Point, first_point}
-use Rattle.dm_rule.specs.Phases.{Rests, knows, is_due}
-use Rattle.dm_rule.specs.Laws.{IsStep, Leads, PhasesAlways}
-use Rattle.dm_rule.specs.Parts.{Spelled}
-use Rattle.dm_rule.specs.Rule.{group_of}
+use Rattle.dm_rule.proofs.Names.{◌≡◌, ℕ, ◌<◌, ◌≤◌, ◌==◌, ◌&&◌, ◌||◌, Bool, true, false, List, [], ◌∷◌, ◌++◌, length, refl, ap, ◌∙◌, sym, subst, inl, inr, arith, if◌then◌else◌, map, option_map, Option, None, Some, cases_Bool}
+use Rattle.dm_rule.proofs.Names.{slice_get_cases, nat_tests, Pid, pid_eq, plain_link, BootImage, BootProcess, Boot, IsValid, processes_are_valid, switchboard, manager, Life, Alive, begun, first_life, life_at, Step, Known, Unknown, Here}
+use Rattle.dm_rule.proofs.Names.{known_at, ring_at, Point, first_point, is_due, IsStep, Leads, PhasesAlways, Spelled, group_of}
 use Rattle.dm_rule.proofs.Lines.{not_true}
 use Rattle.dm_rule.proofs.Pairs.{Pairs, Pairs-start, Pairs-group}
 use Rattle.dm_rule.proofs.States.{State}
 use Rattle.dm_rule.proofs.Groups.{fits, State-start, State-group}
 use Rattle.dm_rule.proofs.Telling.{Sane, sane_start, sane_group}
 use Rattle.dm_rule.proofs.Phases.Stand.{InPhases}
-use Rattle.dm_rule.proofs.Phases.Rests.{rests_here}
 use Rattle.dm_rule.proofs.Phases.Start.{phases_start}
 use Rattle.dm_rule.proofs.Phases.Groups.{phases_group}
 use Rattle.dm_rule.proofs.Rings.{AllHere}
@@ -110,18 +89,6 @@ phased_group b pt d w fit is h =
 pub phased_on : (b : Boot) (es : List Step) (pt end : Point) → Leads b pt es end → Phased pt → Phased end
 phased_on b [] pt end leads h = subst Phased leads h
 phased_on b (d ∷ es) pt end (w, fit, is, rest) h = phased_on b es w.point end rest (phased_group b pt d w fit is h)
-
--- a process is here on one machine at most
-rests_at : (m n : ℕ) → Rests m ≡ Rests n → m ≡ n
-rests_at m n e = cc
-
-pub here_once : (pt : Point) (p : Pid) (m n : ℕ) → InPhases pt.view → pt.view.known m p ≡ Here → pt.view.known n p ≡ Here → m ≡ n
-here_once pt p m n h at_m at_n =
-    let phase = h.of p in
-    let known = (h.each p).known in
-    let first : phase ≡ Rests m = rests_here phase m (sym (ap (knows phase m) at_m) ∙ known m) in
-    let other : phase ≡ Rests n = rests_here phase n (sym (ap (knows phase n) at_n) ∙ known n) in
-    rests_at m n (sym first ∙ other)
 
 -- wherever the rule leads
 pub phases_always : PhasesAlways

@@ -1,23 +1,7 @@
 -- The message about a process that moves is handled, and the next one is put.
-use Rattle.std.proofs.Common.{◌≡◌, ◌⊎◌, ℕ, ◌≤◌, ◌==◌, ◌&&◌, Bool, true, false, not, List, [], ◌∷◌, refl, ap, ◌∙◌, sym, subst, inl, inr, arith}
-use Rattle.std.specs.Prelude.{if◌then◌else◌}
-use Rattle.std.specs.declared.option.Option.{Option}
-use Rattle.std.specs.declared.option.Option.TheVariants.{None, Some}
-use Rattle.std.proofs.lemmas.Bool.{cases_Bool, false≢true}
-use Rattle.dm_link.specs.declared.Pid.{Pid}
-use Rattle.dm_link.specs.Names.{pid_of, pid_eq}
-use Rattle.dm_message.specs.declared.MsgId.{MsgId}
-use Rattle.dm_message.specs.declared.kind.MessageKind.{MessageKind}
-use Rattle.dm_message.specs.Ids.{id_eq}
-use Rattle.dm_line.specs.declared.line.Line.{Line}
-use Rattle.dm_line.specs.declared.line.Line.TheVariants as line
-use Rattle.dm_line.specs.declared.line.Load.{Load}
-use Rattle.dm_rule.specs.View.{View, Told, Of, view_after, handled_first, own_id}
-use Rattle.dm_rule.specs.Point.{Point, label_of, moved}
-use Rattle.dm_rule.specs.Parts.{Says, Owns, Spelled, spelled}
-use Rattle.dm_rule.specs.Spots.{Spot, Inbox, Untaken, times, ids_at, standing, StandsNowhere, StandsAsBag}
-use Rattle.dm_rule.specs.Phases.{is_between, is_apart, Phase, Moves, knows, token_in, sender_in, receiver_in, told_between}
-use Rattle.dm_laws.proofs.Equal.{id_eq-is, id_eq-same, pid_eq-same}
+use Rattle.dm_rule.proofs.Names.{◌≡◌, ◌⊎◌, ℕ, ◌≤◌, ◌==◌, ◌&&◌, Bool, true, false, not, List, [], ◌∷◌, refl, ap, ◌∙◌, sym, subst, inl, inr, arith, if◌then◌else◌, Option, None, Some, cases_Bool, false≢true, Pid, pid_of, pid_eq, MsgId}
+use Rattle.dm_rule.proofs.Names.{MessageKind, id_eq, Line, Load, View, Told, Of, view_after, handled_first, own_id, Point, label_of, moved, Says, Owns, Spelled, spelled, Spot, Inbox, Untaken, times, ids_at, standing, StandsNowhere}
+use Rattle.dm_rule.proofs.Names.{StandsAsBag, is_between, is_apart, Phase, Moves, knows, token_in, sender_in, receiver_in, told_between, id_eq-is, id_eq-same, pid_eq-same, both_true}
 use Rattle.dm_rule.proofs.Standing.{StandsAsBag-once}
 use Rattle.dm_rule.proofs.Once.{one_of}
 use Rattle.dm_rule.proofs.Lines.{Bag, hidden, Stands-handled}
@@ -32,6 +16,7 @@ use Rattle.dm_rule.proofs.Moves.Sent.{line_next, fits_put, fits_packet}
 use Rattle.dm_rule.proofs.Phases.Lines.{handled_spots, packet_calm}
 use Rattle.dm_rule.proofs.Phases.Stand.{PhasesBut, InPhases, none_only, calm_phases, token_is, token_at, Learns, learns_phases}
 use Rattle.dm_rule.proofs.Phases.Put.{own_put_phases, put_there, put_spot}
+pub use Rattle.dm_line.proofs.Below.{right_true as second}
 
 -- what stands between the lines of a group
 pub record WholeBut (o : Option Pid) (pt : Point) : Type 0 where
@@ -42,8 +27,8 @@ pub record WholeBut (o : Option Pid) (pt : Point) : Type 0 where
 abbrev pub Whole : Point → Type 0
 Whole pt = WholeBut None pt
 
-pub whole_packet : (q : Point) (a b k : ℕ) (l : Load) → Whole q → Whole (moved q (line.Packet a b k l) q.kernel)
-whole_packet q a b k l h = record { state = by_packet None q a b k l h.state; fits = fits_packet q.view a b k l h.fits; phases = calm_phases q.view (view_after q.view (line.Packet a b k l)) (packet_calm q.view a b k l) h.phases }
+pub whole_packet : (q : Point) (a b k : ℕ) (l : Load) → Whole q → Whole (moved q (Line.Packet a b k l) q.kernel)
+whole_packet q a b k l h = record { state = by_packet None q a b k l h.state; fits = fits_packet q.view a b k l h.fits; phases = calm_phases q.view (view_after q.view (Line.Packet a b k l)) (packet_calm q.view a b k l) h.phases }
 
 pub whole_ends : (pt : Point) (w : Spelled) → Whole pt → spelled pt [] ≡ Some w → Whole w.point
 whole_ends pt w h e = subst Whole (said pt w e) h
@@ -54,7 +39,7 @@ pub owns_whole : (pt : Point) (p : Pid) (k : MessageKind) (s d b : ℕ) (w : Spe
 owns_whole pt p k s d b w h phase topic acting to e =
     let v = pt.view in
     let c = receiver_in k s d in
-    let next = moved pt (line.Put v.acting c (own_id v) k (pid_of c 0)) pt.kernel in
+    let next = moved pt (Line.Put v.acting c (own_id v) k (pid_of c 0)) pt.kernel in
     let there : State None next = by_own_put pt c k (pid_of c 0) h.fits h.state in
     let untold : v.told (own_id v) ≡ None = h.state.numbered v.acting (v.count v.acting) (omega arith) in
     let once = StandsAsBag-once (letters there.own next.kernel.bag (own_id v)) (standing next.view (own_id v)) (put_spot v.acting c) (put_there v v.acting c (own_id v) k (pid_of c 0) h.fits) (there.stands.kept (own_id v)) in
@@ -79,7 +64,7 @@ front_one v m i is front =
     let b : one_of i i ≡ 1 = ap (λ (c : Bool). if c then 1 else 0) (id_eq-same i) in
     omega (arith, a, b)
 
-inbox_is : (m from to : ℕ) → (Inbox m ≡ Inbox to) ⊎ (Inbox m ≡ Untaken from to) → m ≡ to
+pub inbox_is : (m from to : ℕ) → (Inbox m ≡ Inbox to) ⊎ (Inbox m ≡ Untaken from to) → m ≡ to
 inbox_is m from to e = elim e [
   | inl x ↦ cc
   | inr x ↦ cc
@@ -107,7 +92,7 @@ front_gone pt l i is h quiet front off =
 first_spots : (pt : Point) (l : Line) (i : MsgId) (is : List MsgId) → pt.view.inbox pt.view.acting ≡ i ∷ is → ((z : Spot) → ids_at (view_after pt.view l) z ≡ ids_at (handled_first pt.view) z) → (j : MsgId) → id_eq i j ≡ false → (z : Spot) → standing (view_after pt.view l) j z ≡ standing pt.view j z
 first_spots pt l i is front off j apart z = ap (times j) (off z ∙ first_off pt.view i is front z) ∙ handled_spots pt.view i j apart z
 
-about_same : (p q : Pid) → Of p ≡ Of q → p ≡ q
+pub about_same : (p q : Pid) → Of p ≡ Of q → p ≡ q
 about_same p q e = cc
 
 pub first_learns : (pt : Point) (l : Line) (i : MsgId) (is : List MsgId) (t : Told) (p : Pid) (h : State None pt) → is_put l ≡ false → pt.view.inbox pt.view.acting ≡ i ∷ is → pt.view.told i ≡ Some t → (is_between t.kind ≡ true → t.about ≡ Of p)
@@ -138,18 +123,10 @@ first_learns pt l i is t p h quiet front told about off known =
 pub token_one : (phase : Phase) (k : MessageKind) (s d : ℕ) (i j : MsgId) → phase ≡ Moves k s d (Some i) → token_in phase ≡ Some j → i ≡ j
 token_one phase k s d i j e f = let g : Some i ≡ Some j = sym (ap token_in e) ∙ f in cc
 
-and_hold : (b c : Bool) → b ≡ true → c ≡ true → (b && c) ≡ true
-and_hold true c e f = f
-and_hold false c e f = absurd (false≢true e)
-
-pub second : (b c : Bool) → (b && c) ≡ true → c ≡ true
-second true c e = e
-second false c e = absurd (false≢true e)
-
 pub still_apart : (v : View) (h : InPhases v) (p : Pid) (k j : MessageKind) (s d : ℕ) (i : MsgId) → h.of p ≡ Moves k s d (Some i) → is_between j ≡ true → (is_between j && not (s == d)) ≡ true
 still_apart v h p k j s d i e b =
     let was : (is_between k && not (s == d)) ≡ true = sym (ap is_apart e) ∙ (h.each p).apart in
-    and_hold (is_between j) (not (s == d)) b (second (is_between k) (not (s == d)) was)
+    both_true (is_between j) (not (s == d)) b (second (is_between k) (not (s == d)) was)
 
 -- a line handles it, and the next message about the process is put
 pub answer_row : (pt : Point) (l : Line) (i : MsgId) (is : List MsgId) (t : Told) (k : MessageKind) (b : ℕ) (w : Spelled) (h : Whole pt) (u : Due pt i t h.phases) → label_of l ≡ None → is_put l ≡ false → touches l ≡ false

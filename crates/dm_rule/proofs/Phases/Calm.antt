@@ -1,17 +1,7 @@
 -- What leaves the migrations of all processes as they are.
-use Rattle.std.proofs.Common.{◌≡◌, ◌⊎◌, ℕ, ◌≤◌, ◌==◌, ◌&&◌, not, Bool, true, false, refl, ap, ◌∙◌, sym, subst, inl, inr}
-use Rattle.std.specs.declared.option.Option.{Option}
-use Rattle.std.specs.declared.option.Option.TheVariants.{None, Some}
-use Rattle.std.proofs.lemmas.Bool.{cases_Bool, false≢true}
-use Rattle.dm_link.specs.declared.Pid.{Pid}
-use Rattle.dm_message.specs.declared.MsgId.{MsgId}
-use Rattle.dm_message.specs.declared.kind.MessageKind.{MessageKind}
-use Rattle.dm_message.specs.Ids.{id_eq}
-use Rattle.dm_rule.specs.View.{View, Told}
-use Rattle.dm_rule.specs.Spots.{Spot, Queue, Held, Inbox, Untaken, standing}
-use Rattle.dm_laws.proofs.Equal.{id_eq-is}
+use Rattle.dm_rule.proofs.Names.{◌≡◌, ◌⊎◌, ℕ, ◌≤◌, ◌==◌, ◌&&◌, not, true, false, refl, ap, ◌∙◌, sym, subst, inl, inr, Option, None, Some, cases_Bool, false≢true, Pid, MsgId, MessageKind, id_eq, View, Told, Spot, Queue, Held, Inbox, Untaken}
+use Rattle.dm_rule.proofs.Names.{standing, id_eq-is, is_between, is_apart, told_between, Phase, Moves, knows, token_in, sender_in, receiver_in, IsToken, HasToken, Alone, IsIn, left_true}
 use Rattle.dm_rule.proofs.Lines.{not_true}
-use Rattle.dm_rule.specs.Phases.{is_between, is_apart, told_between, Phase, Nowhere, Rests, Over, Moves, knows, token_in, sender_in, receiver_in, IsToken, HasToken, Alone, IsIn}
 
 -- the machine that a spot is on, or leads to
 abbrev pub machine_of : Spot → ℕ
@@ -64,13 +54,9 @@ stands_where v i from to z h c = elim c [
   ]
 ]
 
-first_of_two : (b c : Bool) → (b && c) ≡ true → b ≡ true
-first_of_two true c e = refl
-first_of_two false c e = cc
-
 -- the kind of a token is one of the protocol
 pub between_of : (k : MessageKind) (s d : ℕ) → (is_between k && not (s == d)) ≡ true → is_between k ≡ true
-between_of k s d e = first_of_two (is_between k) (not (s == d)) e
+between_of k s d e = left_true (is_between k) (not (s == d)) e
 
 calm_token : (v w : View) (p : Pid) (k : MessageKind) (s d : ℕ) (id : MsgId) → is_between k ≡ true → Calm v w → IsToken v p k s d id → IsToken w p k s d id
 calm_token v w p k s d id b c h =
@@ -84,11 +70,9 @@ calm_token v w p k s d id b c h =
     }
 
 calm_has : (v w : View) (p : Pid) (phase : Phase) → is_apart phase ≡ true → Calm v w → HasToken v p phase → HasToken w p phase
-calm_has v w p Nowhere a c h = tt
-calm_has v w p (Rests at) a c h = tt
-calm_has v w p (Over at) a c h = tt
 calm_has v w p (Moves k s d None) a c h = tt
 calm_has v w p (Moves k s d (Some id)) a c h = calm_token v w p k s d id (between_of k s d a) c h
+calm_has v w p _ a c h = tt
 
 calm_alone : (v w : View) (p : Pid) (o : Option MsgId) → Calm v w → Alone v p o → Alone w p o
 calm_alone v w p o c h i t z told b about st =
@@ -116,7 +100,7 @@ pub record Others (v w : View) (i : MsgId) : Type 0 where
 abbrev pub Plain : View → MsgId → Type 0
 Plain v i = (t : Told) → v.told i ≡ Some t → is_between t.kind ≡ false
 
-other_than : (v : View) (i j : MsgId) (t : Told) → Plain v i → v.told j ≡ Some t → is_between t.kind ≡ true → id_eq i j ≡ false
+pub other_than : (v : View) (i j : MsgId) (t : Told) → Plain v i → v.told j ≡ Some t → is_between t.kind ≡ true → id_eq i j ≡ false
 other_than v i j t plain told b = not_true (id_eq i j) (λ e. let is : i ≡ j = id_eq-is i j e in false≢true (sym (plain t (ap v.told is ∙ told)) ∙ b))
 
 pub calm_others : (v w : View) (i : MsgId) → Plain v i → Plain w i → ((t : Told) → v.told i ≡ Some t → w.told i ≡ Some t) → Others v w i → Calm v w

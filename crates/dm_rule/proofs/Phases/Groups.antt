@@ -1,23 +1,7 @@
 -- A group keeps each process in a phase, where what a machine's ring lists is here, and nothing is known of what is made next.
-use Rattle.std.proofs.Common.{◌≡◌, ℕ, ◌+◌, List, [], ◌∷◌, refl, ap, ◌∙◌, subst}
-use Rattle.std.specs.Prelude.{slice_get}
-use Rattle.std.specs.declared.option.Option.{Option}
-use Rattle.std.specs.declared.option.Option.TheVariants.{None, Some}
-use Rattle.dm_link.specs.declared.Pid.{Pid}
-use Rattle.dm_link.specs.Names.{pid_of}
-use Rattle.dm_message.specs.declared.MsgId.{MsgId}
-use Rattle.dm_message.specs.Plain.{PlainMessage}
-use Rattle.dm_onekernel.specs.declared.boot.Boot.{Boot}
-use Rattle.dm_onekernel.specs.Boot.{first_number}
-use Rattle.dm_schedule.specs.declared.Step.{Step}
-use Rattle.dm_schedule.specs.declared.Step.TheVariants as step
-use Rattle.dm_line.specs.declared.line.Line.TheVariants as line
-use Rattle.dm_rule.specs.View.{Unknown, Here, after_head}
-use Rattle.dm_rule.specs.Point.{Point, moved}
-use Rattle.dm_rule.specs.Parts.{Part, Says, Spelled, spelled}
-use Rattle.dm_rule.specs.Migrating.{migrates}
+use Rattle.dm_rule.proofs.Names.{◌≡◌, ℕ, ◌+◌, List, [], ◌∷◌, refl, ap, ◌∙◌, subst, slice_get, Option, None, Some, Pid, pid_of, MsgId, PlainMessage, Boot, first_number, Step, Line, Unknown, Here, after_head, Point, moved, Part, Says}
+use Rattle.dm_rule.proofs.Names.{Spelled, spelled, migrates, group_of}
 use Rattle.dm_rule.specs.Rule as rule
-use Rattle.dm_rule.specs.Rule.{group_of}
 use Rattle.dm_rule.proofs.States.{State, PairsFit}
 use Rattle.dm_rule.proofs.Groups.{group_is, begun, turn_off, arrives_net, resends_net}
 use Rattle.dm_rule.proofs.Moves.States.{front_way}
@@ -37,17 +21,17 @@ pub record Rooted (pt : Point) : Type 0 where
 
 -- behind the head of a turn
 abbrev turned : Point → ℕ → Point
-turned pt m = moved pt (line.Head (step.Turn m)) pt.kernel
+turned pt m = moved pt (Line.Head (Step.Turn m)) pt.kernel
 
 turn_fit : (pt : Point) (m : ℕ) → InPhases pt.view → Sane pt → PairsFit pt.view → Fit (turned pt m)
 turn_fit pt m h sane fits = record {
-  phases = calm_phases pt.view (after_head pt.view (step.Turn m)) (head_calm pt.view (step.Turn m)) h;
-  sane = sane_line pt (turned pt m) (line.Head (step.Turn m)) refl refl sane;
+  phases = calm_phases pt.view (after_head pt.view (Step.Turn m)) (head_calm pt.view (Step.Turn m)) h;
+  sane = sane_line pt (turned pt m) (Line.Head (Step.Turn m)) refl refl sane;
   fits = record { within = fits.within; home = fits.home };
 }
 
 turn_state : (pt : Point) (m : ℕ) → State None pt → State None (turned pt m)
-turn_state pt m h = begun pt (step.Turn m) h (λ z. turn_off pt.view m z) (λ i. refl)
+turn_state pt m h = begun pt (Step.Turn m) h (λ z. turn_off pt.view m z) (λ i. refl)
 
 comes_row : (b : Boot) (pt : Point) (m : ℕ) (i : MsgId) (is : List MsgId) (o : Option PlainMessage) (parts : List Part) (w : Spelled) → InPhases pt.view → State None pt → Sane pt → PairsFit pt.view → Rooted pt → pt.view.inbox m ≡ i ∷ is → pt.kernel.bag i ≡ o
     → rule.comes_to b pt m i o ≡ Some parts → spelled (turned pt m) parts ≡ Some w → InPhases w.point.view
@@ -70,30 +54,30 @@ turn_row b pt m [] parts w h state sane fits rooted front e n =
 turn_row b pt m (i ∷ is) parts w h state sane fits rooted front e n = comes_row b pt m i is (pt.kernel.bag i) parts w h state sane fits rooted front refl e n
 
 pub phases_group : (b : Boot) (pt : Point) (d : Step) (w : Spelled) → group_of b pt d ≡ Some w → InPhases pt.view → State None pt → Sane pt → PairsFit pt.view → Rooted pt → InPhases w.point.view
-phases_group b pt (step.Turn m) w e h state sane fits rooted =
-    let g = group_is b pt (step.Turn m) w e in
+phases_group b pt (Step.Turn m) w e h state sane fits rooted =
+    let g = group_is b pt (Step.Turn m) w e in
     subst (λ (q : Point). InPhases q.view) g.point (turn_row b pt m (pt.view.inbox m) g.parts g.rest h state sane fits rooted refl g.is g.said)
-phases_group b pt (step.Tick m) w e h state sane fits rooted =
-    let g = group_is b pt (step.Tick m) w e in
-    let qs = Says (line.Resent m (rule.outstanding pt.view m pt.kernel.machines)) ∷ rule.resends pt.view m pt.kernel.machines in
+phases_group b pt (Step.Tick m) w e h state sane fits rooted =
+    let g = group_is b pt (Step.Tick m) w e in
+    let qs = Says (Line.Resent m (rule.outstanding pt.view m pt.kernel.machines)) ∷ rule.resends pt.view m pt.kernel.machines in
     let f : qs ≡ g.parts = let k = g.is in cc in
-    let start = moved pt (line.Head (step.Tick m)) pt.kernel in
+    let start = moved pt (Line.Head (Step.Tick m)) pt.kernel in
     subst (λ (q : Point). InPhases q.view) g.point
-    (calm_phases pt.view g.rest.point.view (calm_trans pt.view start.view g.rest.point.view (head_calm pt.view (step.Tick m)) (net_parts qs start g.rest (tt, resends_net pt.view m pt.kernel.machines) (ap (spelled start) f ∙ g.said))) h)
-phases_group b pt (step.Deliver a c k) w e h state sane fits rooted =
-    let g = group_is b pt (step.Deliver a c k) w e in
+    (calm_phases pt.view g.rest.point.view (calm_trans pt.view start.view g.rest.point.view (head_calm pt.view (Step.Tick m)) (net_parts qs start g.rest (tt, resends_net pt.view m pt.kernel.machines) (ap (spelled start) f ∙ g.said))) h)
+phases_group b pt (Step.Deliver a c k) w e h state sane fits rooted =
+    let g = group_is b pt (Step.Deliver a c k) w e in
     let qs = rule.arrives a c (pt.view.pair a c) (pt.view.pair c a) (slice_get (pt.view.pair a c).wire k) in
     let f : qs ≡ g.parts = let t = g.is in cc in
-    let start = moved pt (line.Head (step.Deliver a c k)) pt.kernel in
+    let start = moved pt (Line.Head (Step.Deliver a c k)) pt.kernel in
     subst (λ (q : Point). InPhases q.view) g.point
-    (calm_phases pt.view g.rest.point.view (calm_trans pt.view start.view g.rest.point.view (head_calm pt.view (step.Deliver a c k)) (net_parts qs start g.rest (arrives_net a c (pt.view.pair a c) (pt.view.pair c a) (slice_get (pt.view.pair a c).wire k)) (ap (spelled start) f ∙ g.said))) h)
-phases_group b pt (step.Migrate p m) w e h state sane fits rooted =
-    let g = group_is b pt (step.Migrate p m) w e in
+    (calm_phases pt.view g.rest.point.view (calm_trans pt.view start.view g.rest.point.view (head_calm pt.view (Step.Deliver a c k)) (net_parts qs start g.rest (arrives_net a c (pt.view.pair a c) (pt.view.pair c a) (slice_get (pt.view.pair a c).wire k)) (ap (spelled start) f ∙ g.said))) h)
+phases_group b pt (Step.Migrate p m) w e h state sane fits rooted =
+    let g = group_is b pt (Step.Migrate p m) w e in
     let f : migrates pt p ≡ g.parts = let k = g.is in cc in
-    let start = moved pt (line.Head (step.Migrate p m)) pt.kernel in
+    let start = moved pt (Line.Head (Step.Migrate p m)) pt.kernel in
     let fit : Fit start = record {
-      phases = calm_phases pt.view (after_head pt.view (step.Migrate p m)) (head_calm pt.view (step.Migrate p m)) h;
-      sane = sane_line pt start (line.Head (step.Migrate p m)) refl refl sane;
+      phases = calm_phases pt.view (after_head pt.view (Step.Migrate p m)) (head_calm pt.view (Step.Migrate p m)) h;
+      sane = sane_line pt start (Line.Head (Step.Migrate p m)) refl refl sane;
       fits = record { within = fits.within; home = fits.home };
     } in
     subst (λ (q : Point). InPhases q.view) g.point (quiet_parts (migrates pt p) start g.rest fit (migrates_quiet start.view pt p) (ap (spelled start) f ∙ g.said))

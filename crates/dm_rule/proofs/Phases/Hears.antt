@@ -1,30 +1,9 @@
 -- A kernel's own message is handled: each process stays in a phase.
-use Rattle.std.proofs.Common.{◌≡◌, ℕ, ◌==◌, Bool, true, false, List, [], ◌∷◌, ◌++◌, refl, ap, ◌∙◌, sym, subst, length, arith}
-use Rattle.std.specs.Prelude.{◌/◌, if◌then◌else◌}
-use Rattle.std.specs.declared.option.Option.{Option}
-use Rattle.std.specs.declared.option.Option.TheVariants.{None, Some}
-use Rattle.std.proofs.lemmas.Bool.{false≢true}
-use Rattle.std.proofs.lemmas.Bool.Decides.{nat_tests}
-use Rattle.dm_link.specs.declared.Pid.{Pid}
-use Rattle.dm_link.specs.Names.{pid_eq}
-use Rattle.dm_message.specs.declared.MsgId.{MsgId}
-use Rattle.dm_message.specs.declared.kind.MessageKind.{MessageKind}
-use Rattle.dm_message.specs.declared.kind.MessageKind.TheVariants as kind
-use Rattle.dm_onekernel.specs.declared.boot.Boot.{Boot}
-use Rattle.dm_onekernel.specs.Boot.{switchboard, manager}
-use Rattle.dm_onekernel.specs.PlainProcess.{PlainProcess}
+use Rattle.dm_rule.proofs.Names.{◌≡◌, ℕ, ◌==◌, Bool, true, false, List, [], ◌∷◌, ◌++◌, refl, ap, ◌∙◌, sym, subst, length, arith, ◌/◌, if◌then◌else◌, Option, None, Some, false≢true, nat_tests, Pid, pid_eq, MsgId, MessageKind, Line, Stage}
+use Rattle.dm_rule.proofs.Names.{Boot, switchboard, manager, PlainProcess, View, Told, About, Of, Known, Unknown, Here, Frozen, Forward, Ended, is_kernels, target_of, Addresses, Sender, is_told_back, Point, Part, Says, Owns, Spelled}
+use Rattle.dm_rule.proofs.Names.{spelled, to_kernel, forwards_on, moves_to, accepts, takes_chunk, takes_block, gives_piece, kernel_told, chunks_of, pieces_of, updates, here_told, ended_told, process_told, server_told, fits, free_room}
+use Rattle.dm_rule.proofs.Names.{kernel_hears, hears, is_between, bind-is}
 use Rattle.dm_onekernel.specs.Step as kernel
-use Rattle.dm_line.specs.declared.line.Line.TheVariants as line
-use Rattle.dm_line.specs.declared.line.Stage.TheVariants as stage
-use Rattle.dm_rule.specs.View.{View, Told, About, NothingElse, Target, Of, Known, Unknown, Here, Frozen, Incoming, Forward, Ended, is_kernels, target_of}
-use Rattle.dm_rule.specs.View as view
-use Rattle.dm_rule.specs.Addresses.{Addresses, Sender, is_told_back}
-use Rattle.dm_rule.specs.Point.{Point}
-use Rattle.dm_rule.specs.Parts.{Part, Says, Owns, Spelled, spelled}
-use Rattle.dm_rule.specs.Migrating.{to_kernel, forwards_on, moves_to, accepts, takes_chunk, takes_block, gives_piece, kernel_told, chunks_of, pieces_of, updates, here_told, ended_told, process_told, server_told}
-use Rattle.dm_rule.specs.Rule.{fits, free_room, kernel_hears, hears}
-use Rattle.dm_rule.specs.Phases.{is_between}
-use Rattle.dm_laws.proofs.Steps.{bind-is}
 use Rattle.dm_rule.proofs.States.{State}
 use Rattle.dm_rule.proofs.Moves.States.{front_kernels}
 use Rattle.dm_rule.proofs.Moves.Rows.{SeesSame, given, both_same, hears_row}
@@ -49,7 +28,7 @@ quiet_row parts pt w h sane state quiet e =
     let s = parts_settle parts pt.view pt w quiet (record { calm = calm_same pt.view; sane = sane; fits = h.fits }) e in
     record { state = state; fits = s.fits; phases = calm_phases pt.view w.point.view s.calm h.phases }
 
-told_quiet : (v : View) (c : Bool) (q : Pid) (to : ℕ) → AllQuiet v (if c then Owns kind.Update q to ∷ [] else [])
+told_quiet : (v : View) (c : Bool) (q : Pid) (to : ℕ) → AllQuiet v (if c then Owns MessageKind.Update q to ∷ [] else [])
 told_quiet v true q to = (refl, tt)
 told_quiet v false q to = tt
 
@@ -62,72 +41,55 @@ about_same p q e = cc
 -- a message of the protocol, by its kind
 told_row : (o pt : Point) (m : ℕ) (i : MsgId) (is : List MsgId) (t : Told) (p : Pid) (room : Bool × ℕ × ℕ) (x : PlainProcess) (k : MessageKind) (parts : List Part) (w : Spelled) (h : Whole pt) → pt.view.inbox pt.view.acting ≡ i ∷ is → pt.view.told i ≡ Some t → is_kernels i ≡ true → SeesAll o pt m
     → t.kind ≡ k → t.about ≡ Of p → kernel_told o m i p room x k ≡ Some parts → spelled pt parts ≡ Some w → Whole w.point
-told_row o pt m i is t p room x kind.Ask parts w h front told mine sees e about g n =
+told_row o pt m i is t p room x MessageKind.Ask parts w h front told mine sees e about g n =
     let u = due pt i is t h.phases front told (ap is_between e) in
     let pu : u.p ≡ p = about_same u.p p (sym (ap (λ (y : Told). y.about) u.told) ∙ about) in
-    let ku : u.k ≡ kind.Ask = sym (ap (λ (y : Told). y.kind) u.told) ∙ e in
-    let mine_ : kernel_told o m i u.p room x kind.Ask ≡ Some parts = subst (λ (q : Pid). kernel_told o m i q room x kind.Ask ≡ Some parts) (sym pu) g in
+    let ku : u.k ≡ MessageKind.Ask = sym (ap (λ (y : Told). y.kind) u.told) ∙ e in
+    let mine_ : kernel_told o m i u.p room x MessageKind.Ask ≡ Some parts = subst (λ (q : Pid). kernel_told o m i q room x MessageKind.Ask ≡ Some parts) (sym pu) g in
     ask_row pt i is t room.0 room.1 room.2 w h u ku front told mine (given pt (accepts i.from.home u.p room.0 room.1 room.2) parts w mine_ n)
-told_row o pt m i is t p room x kind.Refuse parts w h front told mine sees e about g n =
+told_row o pt m i is t p room x MessageKind.Refuse parts w h front told mine sees e about g n =
     let u = due pt i is t h.phases front told (ap is_between e) in
     let pu : u.p ≡ p = about_same u.p p (sym (ap (λ (y : Told). y.about) u.told) ∙ about) in
-    let ku : u.k ≡ kind.Refuse = sym (ap (λ (y : Told). y.kind) u.told) ∙ e in
-    let mine_ : kernel_told o m i u.p room x kind.Refuse ≡ Some parts = subst (λ (q : Pid). kernel_told o m i q room x kind.Refuse ≡ Some parts) (sym pu) g in
-    stays_row pt i is t w h u ku front told mine (given pt (Says (line.Stays u.p) ∷ []) parts w mine_ n)
-told_row o pt m i is t p room x kind.PullState parts w h front told mine sees e about g n =
+    let ku : u.k ≡ MessageKind.Refuse = sym (ap (λ (y : Told). y.kind) u.told) ∙ e in
+    let mine_ : kernel_told o m i u.p room x MessageKind.Refuse ≡ Some parts = subst (λ (q : Pid). kernel_told o m i q room x MessageKind.Refuse ≡ Some parts) (sym pu) g in
+    stays_row pt i is t w h u ku front told mine (given pt (Says (Line.Stays u.p) ∷ []) parts w mine_ n)
+told_row o pt m i is t p room x MessageKind.PullState parts w h front told mine sees e about g n =
     let u = due pt i is t h.phases front told (ap is_between e) in
     let pu : u.p ≡ p = about_same u.p p (sym (ap (λ (y : Told). y.about) u.told) ∙ about) in
-    let ku : u.k ≡ kind.PullState = sym (ap (λ (y : Told). y.kind) u.told) ∙ e in
-    let mine_ : kernel_told o m i u.p room x kind.PullState ≡ Some parts = subst (λ (q : Pid). kernel_told o m i q room x kind.PullState ≡ Some parts) (sym pu) g in
-    pull_state_row pt i is t w h u ku front told mine (given pt (gives_piece i kind.State) parts w mine_ n)
-told_row o pt m i is t p room x kind.State parts w h front told mine sees e about g n =
+    let ku : u.k ≡ MessageKind.PullState = sym (ap (λ (y : Told). y.kind) u.told) ∙ e in
+    let mine_ : kernel_told o m i u.p room x MessageKind.PullState ≡ Some parts = subst (λ (q : Pid). kernel_told o m i q room x MessageKind.PullState ≡ Some parts) (sym pu) g in
+    pull_state_row pt i is t w h u ku front told mine (given pt (gives_piece i MessageKind.State) parts w mine_ n)
+told_row o pt m i is t p room x MessageKind.State parts w h front told mine sees e about g n =
     let u = due pt i is t h.phases front told (ap is_between e) in
     let pu : u.p ≡ p = about_same u.p p (sym (ap (λ (y : Told). y.about) u.told) ∙ about) in
-    let ku : u.k ≡ kind.State = sym (ap (λ (y : Told). y.kind) u.told) ∙ e in
-    let mine_ : kernel_told o m i u.p room x kind.State ≡ Some parts = subst (λ (q : Pid). kernel_told o m i q room x kind.State ≡ Some parts) (sym pu) g in
+    let ku : u.k ≡ MessageKind.State = sym (ap (λ (y : Told). y.kind) u.told) ∙ e in
+    let mine_ : kernel_told o m i u.p room x MessageKind.State ≡ Some parts = subst (λ (q : Pid). kernel_told o m i q room x MessageKind.State ≡ Some parts) (sym pu) g in
     chunk_row pt i is t (o.view.asked u.p == chunks_of x) w h u ku front told mine (given pt (takes_chunk i u.p (o.view.asked u.p == chunks_of x)) parts w mine_ n)
-told_row o pt m i is t p room x kind.PullBlock parts w h front told mine sees e about g n =
+told_row o pt m i is t p room x MessageKind.PullBlock parts w h front told mine sees e about g n =
     let u = due pt i is t h.phases front told (ap is_between e) in
     let pu : u.p ≡ p = about_same u.p p (sym (ap (λ (y : Told). y.about) u.told) ∙ about) in
-    let ku : u.k ≡ kind.PullBlock = sym (ap (λ (y : Told). y.kind) u.told) ∙ e in
-    let mine_ : kernel_told o m i u.p room x kind.PullBlock ≡ Some parts = subst (λ (q : Pid). kernel_told o m i q room x kind.PullBlock ≡ Some parts) (sym pu) g in
-    pull_block_row pt i is t w h u ku front told mine (given pt (gives_piece i kind.Memory) parts w mine_ n)
-told_row o pt m i is t p room x kind.Memory parts w h front told mine sees e about g n =
+    let ku : u.k ≡ MessageKind.PullBlock = sym (ap (λ (y : Told). y.kind) u.told) ∙ e in
+    let mine_ : kernel_told o m i u.p room x MessageKind.PullBlock ≡ Some parts = subst (λ (q : Pid). kernel_told o m i q room x MessageKind.PullBlock ≡ Some parts) (sym pu) g in
+    pull_block_row pt i is t w h u ku front told mine (given pt (gives_piece i MessageKind.Memory) parts w mine_ n)
+told_row o pt m i is t p room x MessageKind.Memory parts w h front told mine sees e about g n =
     let u = due pt i is t h.phases front told (ap is_between e) in
     let pu : u.p ≡ p = about_same u.p p (sym (ap (λ (y : Told). y.about) u.told) ∙ about) in
-    let ku : u.k ≡ kind.Memory = sym (ap (λ (y : Told). y.kind) u.told) ∙ e in
-    let mine_ : kernel_told o m i u.p room x kind.Memory ≡ Some parts = subst (λ (q : Pid). kernel_told o m i q room x kind.Memory ≡ Some parts) (sym pu) g in
+    let ku : u.k ≡ MessageKind.Memory = sym (ap (λ (y : Told). y.kind) u.told) ∙ e in
+    let mine_ : kernel_told o m i u.p room x MessageKind.Memory ≡ Some parts = subst (λ (q : Pid). kernel_told o m i q room x MessageKind.Memory ≡ Some parts) (sym pu) g in
     block_row pt i is t (o.view.asked u.p == pieces_of x) w h u ku front told mine (given pt (takes_block i u.p (o.view.asked u.p == pieces_of x)) parts w mine_ n)
-told_row o pt m i is t p room x kind.AllTaken parts w h front told mine sees e about g n =
+told_row o pt m i is t p room x MessageKind.AllTaken parts w h front told mine sees e about g n =
     let u = due pt i is t h.phases front told (ap is_between e) in
     let pu : u.p ≡ p = about_same u.p p (sym (ap (λ (y : Told). y.about) u.told) ∙ about) in
-    let ku : u.k ≡ kind.AllTaken = sym (ap (λ (y : Told). y.kind) u.told) ∙ e in
-    let mine_ : kernel_told o m i u.p room x kind.AllTaken ≡ Some parts = subst (λ (q : Pid). kernel_told o m i q room x kind.AllTaken ≡ Some parts) (sym pu) g in
+    let ku : u.k ≡ MessageKind.AllTaken = sym (ap (λ (y : Told). y.kind) u.told) ∙ e in
+    let mine_ : kernel_told o m i u.p room x MessageKind.AllTaken ≡ Some parts = subst (λ (q : Pid). kernel_told o m i q room x MessageKind.AllTaken ≡ Some parts) (sym pu) g in
     leaves_row pt i is t (o.view.queue m u.p ++ o.view.held m u.p) (o.view.known m u.p) parts w h u ku front told mine (both_same o pt m u.p sees.same) mine_ n
-told_row o pt m i is t p room x kind.Restart parts w h front told mine sees e about g n =
+told_row o pt m i is t p room x MessageKind.Restart parts w h front told mine sees e about g n =
     let u = due pt i is t h.phases front told (ap is_between e) in
     let pu : u.p ≡ p = about_same u.p p (sym (ap (λ (y : Told). y.about) u.told) ∙ about) in
-    let ku : u.k ≡ kind.Restart = sym (ap (λ (y : Told). y.kind) u.told) ∙ e in
-    let mine_ : kernel_told o m i u.p room x kind.Restart ≡ Some parts = subst (λ (q : Pid). kernel_told o m i q room x kind.Restart ≡ Some parts) (sym pu) g in
-    restart_row pt i is t w h u ku front told mine (given pt (Says (line.Migration stage.Restarted u.p) ∷ []) parts w mine_ n)
-told_row o pt m i is t p room x kind.User parts w h front told mine sees e about g n = cc
-told_row o pt m i is t p room x kind.Stop parts w h front told mine sees e about g n = cc
-told_row o pt m i is t p room x kind.Resume parts w h front told mine sees e about g n = cc
-told_row o pt m i is t p room x kind.Kill parts w h front told mine sees e about g n = cc
-told_row o pt m i is t p room x kind.Read parts w h front told mine sees e about g n = cc
-told_row o pt m i is t p room x kind.Write parts w h front told mine sees e about g n = cc
-told_row o pt m i is t p room x kind.Block parts w h front told mine sees e about g n = cc
-told_row o pt m i is t p room x kind.Written parts w h front told mine sees e about g n = cc
-told_row o pt m i is t p room x kind.Gone parts w h front told mine sees e about g n = cc
-told_row o pt m i is t p room x kind.Create parts w h front told mine sees e about g n = cc
-told_row o pt m i is t p room x kind.Created parts w h front told mine sees e about g n = cc
-told_row o pt m i is t p room x kind.NoRoom parts w h front told mine sees e about g n = cc
-told_row o pt m i is t p room x kind.Migrate parts w h front told mine sees e about g n = cc
-told_row o pt m i is t p room x kind.Update parts w h front told mine sees e about g n = cc
-told_row o pt m i is t p room x kind.Move parts w h front told mine sees e about g n = cc
-told_row o pt m i is t p room x kind.Moved parts w h front told mine sees e about g n = cc
-told_row o pt m i is t p room x kind.CallOff parts w h front told mine sees e about g n = cc
-told_row o pt m i is t p room x kind.Bury parts w h front told mine sees e about g n = cc
+    let ku : u.k ≡ MessageKind.Restart = sym (ap (λ (y : Told). y.kind) u.told) ∙ e in
+    let mine_ : kernel_told o m i u.p room x MessageKind.Restart ≡ Some parts = subst (λ (q : Pid). kernel_told o m i q room x MessageKind.Restart ≡ Some parts) (sym pu) g in
+    restart_row pt i is t w h u ku front told mine (given pt (Says (Line.Migration Stage.Restarted u.p) ∷ []) parts w mine_ n)
+told_row o pt m i is t p room x _ parts w h front told mine sees e about g n = cc
 
 -- the others, at a process or a server
 tame_of : (v : View) (i : MsgId) (t : Told) → v.told i ≡ Some t → is_between t.kind ≡ false → Tame v i
@@ -138,120 +100,47 @@ one_quiet pt p parts w h sane state quiet e n = quiet_row p pt w h sane state qu
 
 moves_row : (o pt : Point) (m : ℕ) (i : MsgId) (is : List MsgId) (t : Told) (same : Bool) (w : Spelled) (h : Whole pt) → Sane pt → State None w.point → is_between t.kind ≡ false → pt.view.inbox pt.view.acting ≡ i ∷ is → pt.view.told i ≡ Some t → is_kernels i ≡ true → SeesAll o pt m
     → pt.view.known pt.view.acting t.receiver ≡ Here → (m == target_of (Some t)) ≡ same
-    → spelled pt (if same then Says (line.Here i) ∷ [] else Says (line.Migration stage.Frozen t.receiver) ∷ Says (line.Migration stage.Asked t.receiver) ∷ to_kernel kind.Ask (target_of (Some t)) ∷ []) ≡ Some w → Whole w.point
-moves_row o pt m i is t true w h sane state plain front told mine sees here e n = quiet_row (Says (line.Here i) ∷ []) pt w h sane state (tame_of pt.view i t told plain, tt) n
+    → spelled pt (if same then Says (Line.Here i) ∷ [] else Says (Line.Migration Stage.Frozen t.receiver) ∷ Says (Line.Migration Stage.Asked t.receiver) ∷ to_kernel MessageKind.Ask (target_of (Some t)) ∷ []) ≡ Some w → Whole w.point
+moves_row o pt m i is t true w h sane state plain front told mine sees here e n = quiet_row (Says (Line.Here i) ∷ []) pt w h sane state (tame_of pt.view i t told plain, tt) n
 moves_row o pt m i is t false w h sane state plain front told mine sees here e n =
     frozen_row pt i is t t.receiver (target_of (Some t)) w h plain front told mine here refl (ap (λ (a : ℕ). a == target_of (Some t)) sees.acting ∙ e) n
 
 here_row : (o pt : Point) (m : ℕ) (i : MsgId) (is : List MsgId) (t : Told) (k : MessageKind) (parts : List Part) (w : Spelled) (h : Whole pt) → Sane pt → State None w.point → is_between t.kind ≡ false → pt.view.inbox pt.view.acting ≡ i ∷ is → pt.view.told i ≡ Some t → is_kernels i ≡ true → SeesAll o pt m
     → pt.view.known pt.view.acting t.receiver ≡ Here → here_told o m i t k ≡ Some parts → spelled pt parts ≡ Some w → Whole w.point
-here_row o pt m i is t kind.Ask parts w h sane state plain front told mine sees here g n = cc
-here_row o pt m i is t kind.Refuse parts w h sane state plain front told mine sees here g n = cc
-here_row o pt m i is t kind.PullState parts w h sane state plain front told mine sees here g n = cc
-here_row o pt m i is t kind.State parts w h sane state plain front told mine sees here g n = cc
-here_row o pt m i is t kind.PullBlock parts w h sane state plain front told mine sees here g n = cc
-here_row o pt m i is t kind.Memory parts w h sane state plain front told mine sees here g n = cc
-here_row o pt m i is t kind.AllTaken parts w h sane state plain front told mine sees here g n = cc
-here_row o pt m i is t kind.Restart parts w h sane state plain front told mine sees here g n = cc
-here_row o pt m i is t kind.User parts w h sane state plain front told mine sees here g n = cc
-here_row o pt m i is t kind.Stop parts w h sane state plain front told mine sees here g n = cc
-here_row o pt m i is t kind.Resume parts w h sane state plain front told mine sees here g n = cc
-here_row o pt m i is t kind.Kill parts w h sane state plain front told mine sees here g n = cc
-here_row o pt m i is t kind.Read parts w h sane state plain front told mine sees here g n = cc
-here_row o pt m i is t kind.Write parts w h sane state plain front told mine sees here g n = cc
-here_row o pt m i is t kind.Block parts w h sane state plain front told mine sees here g n = cc
-here_row o pt m i is t kind.Written parts w h sane state plain front told mine sees here g n = cc
-here_row o pt m i is t kind.Gone parts w h sane state plain front told mine sees here g n = cc
-here_row o pt m i is t kind.Create parts w h sane state plain front told mine sees here g n = cc
-here_row o pt m i is t kind.Created parts w h sane state plain front told mine sees here g n = cc
-here_row o pt m i is t kind.NoRoom parts w h sane state plain front told mine sees here g n = cc
-here_row o pt m i is t kind.Migrate parts w h sane state plain front told mine sees here g n = moves_row o pt m i is t (m == target_of (Some t)) w h sane state plain front told mine sees here refl (given pt (moves_to m i t.receiver (target_of (Some t))) parts w g n)
-here_row o pt m i is t kind.Update parts w h sane state plain front told mine sees here g n = one_quiet pt (updates o i t) parts w h sane state (tame_of pt.view i t told plain, tt) g n
-here_row o pt m i is t kind.Move parts w h sane state plain front told mine sees here g n = cc
-here_row o pt m i is t kind.Moved parts w h sane state plain front told mine sees here g n = cc
-here_row o pt m i is t kind.CallOff parts w h sane state plain front told mine sees here g n = cc
-here_row o pt m i is t kind.Bury parts w h sane state plain front told mine sees here g n = cc
+here_row o pt m i is t MessageKind.Migrate parts w h sane state plain front told mine sees here g n = moves_row o pt m i is t (m == target_of (Some t)) w h sane state plain front told mine sees here refl (given pt (moves_to m i t.receiver (target_of (Some t))) parts w g n)
+here_row o pt m i is t MessageKind.Update parts w h sane state plain front told mine sees here g n = one_quiet pt (updates o i t) parts w h sane state (tame_of pt.view i t told plain, tt) g n
+here_row o pt m i is t _ parts w h sane state plain front told mine sees here g n = cc
 
 ended_row : (pt : Point) (i : MsgId) (t : Told) (k : MessageKind) (parts : List Part) (w : Spelled) (h : Whole pt) → Sane pt → State None w.point → Tame pt.view i → ended_told i k ≡ Some parts → spelled pt parts ≡ Some w → Whole w.point
-ended_row pt i t kind.Ask parts w h sane state tame g n = cc
-ended_row pt i t kind.Refuse parts w h sane state tame g n = cc
-ended_row pt i t kind.PullState parts w h sane state tame g n = cc
-ended_row pt i t kind.State parts w h sane state tame g n = cc
-ended_row pt i t kind.PullBlock parts w h sane state tame g n = cc
-ended_row pt i t kind.Memory parts w h sane state tame g n = cc
-ended_row pt i t kind.AllTaken parts w h sane state tame g n = cc
-ended_row pt i t kind.Restart parts w h sane state tame g n = cc
-ended_row pt i t kind.User parts w h sane state tame g n = cc
-ended_row pt i t kind.Stop parts w h sane state tame g n = cc
-ended_row pt i t kind.Resume parts w h sane state tame g n = cc
-ended_row pt i t kind.Kill parts w h sane state tame g n = cc
-ended_row pt i t kind.Read parts w h sane state tame g n = cc
-ended_row pt i t kind.Write parts w h sane state tame g n = cc
-ended_row pt i t kind.Block parts w h sane state tame g n = cc
-ended_row pt i t kind.Written parts w h sane state tame g n = cc
-ended_row pt i t kind.Gone parts w h sane state tame g n = cc
-ended_row pt i t kind.Create parts w h sane state tame g n = cc
-ended_row pt i t kind.Created parts w h sane state tame g n = cc
-ended_row pt i t kind.NoRoom parts w h sane state tame g n = cc
-ended_row pt i t kind.Migrate parts w h sane state tame g n = one_quiet pt (Says (line.NoMove i) ∷ []) parts w h sane state (tame, tt) g n
-ended_row pt i t kind.Update parts w h sane state tame g n = one_quiet pt (Says (line.Updated i 0) ∷ []) parts w h sane state (tame, tt) g n
-ended_row pt i t kind.Move parts w h sane state tame g n = cc
-ended_row pt i t kind.Moved parts w h sane state tame g n = cc
-ended_row pt i t kind.CallOff parts w h sane state tame g n = cc
-ended_row pt i t kind.Bury parts w h sane state tame g n = cc
+ended_row pt i t MessageKind.Migrate parts w h sane state tame g n = one_quiet pt (Says (Line.NoMove i) ∷ []) parts w h sane state (tame, tt) g n
+ended_row pt i t MessageKind.Update parts w h sane state tame g n = one_quiet pt (Says (Line.Updated i 0) ∷ []) parts w h sane state (tame, tt) g n
+ended_row pt i t _ parts w h sane state tame g n = cc
 
 server_row : (o pt : Point) (i : MsgId) (t : Told) (k : MessageKind) (parts : List Part) (w : Spelled) (h : Whole pt) → Sane pt → State None w.point → Tame pt.view i → server_told o i t k ≡ Some parts → spelled pt parts ≡ Some w → Whole w.point
-server_row o pt i t kind.Ask parts w h sane state tame g n = cc
-server_row o pt i t kind.Refuse parts w h sane state tame g n = cc
-server_row o pt i t kind.PullState parts w h sane state tame g n = cc
-server_row o pt i t kind.State parts w h sane state tame g n = cc
-server_row o pt i t kind.PullBlock parts w h sane state tame g n = cc
-server_row o pt i t kind.Memory parts w h sane state tame g n = cc
-server_row o pt i t kind.AllTaken parts w h sane state tame g n = cc
-server_row o pt i t kind.Restart parts w h sane state tame g n = cc
-server_row o pt i t kind.User parts w h sane state tame g n = cc
-server_row o pt i t kind.Stop parts w h sane state tame g n = cc
-server_row o pt i t kind.Resume parts w h sane state tame g n = cc
-server_row o pt i t kind.Kill parts w h sane state tame g n = cc
-server_row o pt i t kind.Read parts w h sane state tame g n = cc
-server_row o pt i t kind.Write parts w h sane state tame g n = cc
-server_row o pt i t kind.Block parts w h sane state tame g n = cc
-server_row o pt i t kind.Written parts w h sane state tame g n = cc
-server_row o pt i t kind.Gone parts w h sane state tame g n = cc
-server_row o pt i t kind.Create parts w h sane state tame g n = cc
-server_row o pt i t kind.Created parts w h sane state tame g n = cc
-server_row o pt i t kind.NoRoom parts w h sane state tame g n = cc
-server_row o pt i t kind.Migrate parts w h sane state tame g n = cc
-server_row o pt i t kind.Update parts w h sane state tame g n = one_quiet pt (updates o i t) parts w h sane state (tame, tt) g n
-server_row o pt i t kind.Move parts w h sane state tame g n = cc
-server_row o pt i t kind.Moved parts w h sane state tame g n = cc
-server_row o pt i t kind.CallOff parts w h sane state tame g n = cc
-server_row o pt i t kind.Bury parts w h sane state tame g n = cc
+server_row o pt i t MessageKind.Update parts w h sane state tame g n = one_quiet pt (updates o i t) parts w h sane state (tame, tt) g n
+server_row o pt i t _ parts w h sane state tame g n = cc
 
 process_row : (o pt : Point) (m : ℕ) (i : MsgId) (is : List MsgId) (t : Told) (k : Known) (parts : List Part) (w : Spelled) (h : Whole pt) → Sane pt → State None w.point → is_between t.kind ≡ false → pt.view.inbox pt.view.acting ≡ i ∷ is → pt.view.told i ≡ Some t → is_kernels i ≡ true → SeesAll o pt m
     → pt.view.known pt.view.acting t.receiver ≡ k → process_told o m i t k ≡ Some parts → spelled pt parts ≡ Some w → Whole w.point
 process_row o pt m i is t Unknown parts w h sane state plain front told mine sees here g n = cc
 process_row o pt m i is t Here parts w h sane state plain front told mine sees here g n = here_row o pt m i is t t.kind parts w h sane state plain front told mine sees here g n
-process_row o pt m i is t (Frozen to) parts w h sane state plain front told mine sees here g n = one_quiet pt (Says (line.Held i) ∷ []) parts w h sane state (tame_of pt.view i t told plain, tt) g n
-process_row o pt m i is t (Incoming from) parts w h sane state plain front told mine sees here g n = one_quiet pt (Says (line.Held i) ∷ []) parts w h sane state (tame_of pt.view i t told plain, tt) g n
 process_row o pt m i is t (Forward at moves) parts w h sane state plain front told mine sees here g n =
     one_quiet pt (forwards_on o.addresses i t.kind manager at) parts w h sane state (forwards_quiet pt.view o.addresses i t.kind manager at (tame_of pt.view i t told plain)) g n
 process_row o pt m i is t Ended parts w h sane state plain front told mine sees here g n = ended_row pt i t t.kind parts w h sane state (tame_of pt.view i t told plain) g n
+process_row o pt m i is t _ parts w h sane state plain front told mine sees here g n = one_quiet pt (Says (Line.Held i) ∷ []) parts w h sane state (tame_of pt.view i t told plain, tt) g n
 
 kernel_row : (b : Boot) (o pt : Point) (m : ℕ) (i : MsgId) (is : List MsgId) (t : Told) (a : About) (parts : List Part) (w : Spelled) (h : Whole pt) → pt.view.inbox pt.view.acting ≡ i ∷ is → pt.view.told i ≡ Some t → is_kernels i ≡ true → SeesAll o pt m
     → t.about ≡ a → kernel_hears b o m i t.kind a ≡ Some parts → spelled pt parts ≡ Some w → Whole w.point
-kernel_row b o pt m i is t NothingElse parts w h front told mine sees about g n = cc
-kernel_row b o pt m i is t (Target to) parts w h front told mine sees about g n = cc
 kernel_row b o pt m i is t (Of p) parts w h front told mine sees about g n =
     let (x, there, last) = bind-is (kernel.alive (o.kernel.processes p)) (λ x. kernel_told o m i p (fits (free_room b o m) (length x.memory / 256)) x t.kind) parts g in
     told_row o pt m i is t p (fits (free_room b o m) (length x.memory / 256)) x t.kind parts w h front told mine sees refl about last n
-kernel_row b o pt m i is t (view.Place p at moves) parts w h front told mine sees about g n = cc
+kernel_row b o pt m i is t _ parts w h front told mine sees about g n = cc
 
 -- what isn't for a kernel is none of the protocol
-zero_num : (n : ℕ) → n ≡ 0 → (n == 0) ≡ true
+pub zero_num : (n : ℕ) → n ≡ 0 → (n == 0) ≡ true
 zero_num n e = grind (arith, nat_tests)
 
-plain_by : (pt : Point) (i : MsgId) (is : List MsgId) (t : Told) (h : InPhases pt.view) (b : Bool) → is_between t.kind ≡ b → pt.view.inbox pt.view.acting ≡ i ∷ is → pt.view.told i ≡ Some t → (t.receiver.num == 0) ≡ false → b ≡ false
+pub plain_by : (pt : Point) (i : MsgId) (is : List MsgId) (t : Told) (h : InPhases pt.view) (b : Bool) → is_between t.kind ≡ b → pt.view.inbox pt.view.acting ≡ i ∷ is → pt.view.told i ≡ Some t → (t.receiver.num == 0) ≡ false → b ≡ false
 plain_by pt i is t h true e front told off =
     let u = due pt i is t h front told e in
     absurd (false≢true (sym off ∙ zero_num t.receiver.num (ap (λ (y : Told). y.receiver.num) u.told)))

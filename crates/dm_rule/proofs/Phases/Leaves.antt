@@ -1,30 +1,10 @@
 -- All of a process is taken: its lists go on, it has left, and the other machine may restart it.
-use Rattle.std.proofs.Common.{◌≡◌, ◌⊎◌, ℕ, zero, suc, ◌+◌, ◌≤◌, ◌==◌, ◌&&◌, Bool, true, false, not, List, [], ◌∷◌, ◌++◌, length, refl, ap, ◌∙◌, sym, subst, inl, inr, arith}
-use Rattle.std.specs.Prelude.{if◌then◌else◌}
-use Rattle.std.specs.declared.option.Option.{Option}
-use Rattle.std.specs.declared.option.Option.TheVariants.{None, Some}
-use Rattle.std.proofs.lemmas.Bool.{cases_Bool, false≢true}
-use Rattle.dm_link.specs.declared.Pid.{Pid}
-use Rattle.dm_link.specs.Names.{pid_eq}
-use Rattle.dm_message.specs.declared.MsgId.{MsgId}
-use Rattle.dm_message.specs.declared.kind.MessageKind.{MessageKind}
-use Rattle.dm_message.specs.declared.kind.MessageKind.TheVariants as kind
-use Rattle.dm_message.specs.Ids.{id_eq}
-use Rattle.dm_onekernel.specs.Options.{bind}
-use Rattle.dm_line.specs.declared.line.Line.TheVariants as line
-use Rattle.dm_line.specs.declared.line.Load.{Load}
-use Rattle.dm_line.specs.declared.line.Stage.TheVariants as stage
-use Rattle.dm_line.specs.Sets.{at_record}
-use Rattle.dm_rule.specs.View.{View, Told, About, Of, Known, Unknown, Here, Frozen, Incoming, Forward, Ended, view_after, handled_first, gone_to, receiver_of, is_kernels}
+use Rattle.dm_rule.proofs.Names.{◌≡◌, ◌⊎◌, ℕ, zero, suc, ◌+◌, ◌≤◌, ◌==◌, ◌&&◌, Bool, true, false, not, List, [], ◌∷◌, ◌++◌, length, refl, ap, ◌∙◌, sym, subst, inl, inr, arith, if◌then◌else◌, Option, None, Some, cases_Bool, false≢true, Pid}
+use Rattle.dm_rule.proofs.Names.{pid_eq, MsgId, MessageKind, Line, Stage, id_eq, bind, Load, at_record, View, Told, Of, Known, Unknown, Frozen, view_after, handled_first, gone_to, receiver_of, is_kernels, Point, moved, after, Part, Says}
+use Rattle.dm_rule.proofs.Names.{Again, Spelled, lines_of, puts, behind, spelled, to_kernel, sends_on, leaves, Spot, Queue, Held, Inbox, Untaken, times, standing, is_between, is_away, comes, Phase, Moves, knows, token_in, sender_in}
+use Rattle.dm_rule.proofs.Names.{receiver_in, id_eq-is, id_eq-same, pid_eq-same, bind-is}
 use Rattle.dm_rule.specs.View as view
-use Rattle.dm_rule.specs.Point.{Point, moved, after}
-use Rattle.dm_rule.specs.Parts.{Part, Says, Again, Spelled, lines_of, puts, behind, spelled}
-use Rattle.dm_rule.specs.Migrating.{to_kernel, sends_on, leaves}
-use Rattle.dm_rule.specs.Spots.{Spot, Queue, Held, Inbox, Untaken, times, standing}
-use Rattle.dm_rule.specs.Phases.{is_between, is_apart, is_away, comes, Phase, Moves, knows, token_in, sender_in, receiver_in, told_between, IsIn}
 use Rattle.dm_rule.specs.Phases as phase
-use Rattle.dm_laws.proofs.Equal.{id_eq-is, id_eq-same, pid_eq-same}
-use Rattle.dm_laws.proofs.Steps.{bind-is}
 use Rattle.dm_rule.proofs.Once.{one_of}
 use Rattle.dm_rule.proofs.Lines.{Stands-handled, eq_is}
 use Rattle.dm_rule.proofs.Letters.{letters}
@@ -54,18 +34,18 @@ pub record WayIn (p : Pid) (ph : Phase) (a : ℕ) (gone : List MsgId) (pt : Poin
 tame_on : (v w : View) (i : MsgId) → Calm v w → Tame v i → Tame w i
 tame_on v w i c h = record { what = h.what; told = c.kept i h.what h.told; plain = h.plain }
 
-in_packet : (p : Pid) (ph : Phase) (a : ℕ) (gone : List MsgId) (q : Point) (x y k : ℕ) (l : Load) → WayIn p ph a gone q → WayIn p ph a gone (moved q (line.Packet x y k l) q.kernel)
+in_packet : (p : Pid) (ph : Phase) (a : ℕ) (gone : List MsgId) (q : Point) (x y k : ℕ) (l : Load) → WayIn p ph a gone q → WayIn p ph a gone (moved q (Line.Packet x y k l) q.kernel)
 in_packet p ph a gone q x y k l h =
     let c = packet_calm q.view x y k l in
     record {
       way = way_packet gone q x y k l h.way;
-      phases = calm_phases q.view (view_after q.view (line.Packet x y k l)) c h.phases;
+      phases = calm_phases q.view (view_after q.view (Line.Packet x y k l)) c h.phases;
       now = h.now;
       acting = h.acting;
-      tame = λ i least. tame_on q.view (view_after q.view (line.Packet x y k l)) i c (h.tame i least);
+      tame = λ i least. tame_on q.view (view_after q.view (Line.Packet x y k l)) i c (h.tame i least);
     }
 
-first_of : (i : MsgId) (is : List MsgId) → 1 ≤ times i (i ∷ is)
+pub first_of : (i : MsgId) (is : List MsgId) → 1 ≤ times i (i ∷ is)
 first_of i is = let one : one_of i i ≡ 1 = ap (λ (c : Bool). if c then 1 else 0) (id_eq-same i) in omega (arith, one)
 
 tame_is : (v : View) (i : MsgId) (t : Told) → Tame v i → v.told i ≡ Some t → is_between t.kind ≡ false
@@ -95,7 +75,7 @@ all_again p ph a (i ∷ is) pt b ps w h e =
     record { next = m.next; stands = m.stands; rest = m.rest; more = m.more; point = m.point ∙ n.point }
 
 -- the lists are emptied
-fewer_record : (f : ℕ → Pid → List MsgId) (a : ℕ) (p : Pid) (j : MsgId) (m : ℕ) (q : Pid) → 1 ≤ times j (at_record f a p [] m q) → 1 ≤ times j (f m q)
+pub fewer_record : (f : ℕ → Pid → List MsgId) (a : ℕ) (p : Pid) (j : MsgId) (m : ℕ) (q : Pid) → 1 ≤ times j (at_record f a p [] m q) → 1 ≤ times j (f m q)
 fewer_record f a p j m q st = elim (cases_Bool ((a == m) && pid_eq p q)) [
   | inl same ↦ absurd (let none : times j (at_record f a p [] m q) ≡ 0 = ap (λ (c : Bool). times j (if c then [] else f m q)) same in omega (arith, st, none))
   | inr off ↦ subst (λ n. 1 ≤ n) (ap (λ (c : Bool). times j (if c then [] else f m q)) off) st
@@ -104,14 +84,13 @@ fewer_record f a p j m q st = elim (cases_Bool ((a == m) && pid_eq p q)) [
 emptied_back : (v : View) (p : Pid) (j : MsgId) (z : Spot) → 1 ≤ standing (emptied v p) j z → 1 ≤ standing v j z
 emptied_back v p j (Queue m q) st = fewer_record v.queue v.acting p j m q st
 emptied_back v p j (Held m q) st = fewer_record v.held v.acting p j m q st
-emptied_back v p j (Inbox m) st = st
-emptied_back v p j (Untaken a b) st = st
+emptied_back v p j _ st = st
 
 zero_or : (n : ℕ) → (1 ≤ n → ⊥) → n ≡ 0
 zero_or zero h = refl
 zero_or (suc n) h = absurd (h (omega arith))
 
-sent_spot : (pt : Point) (p : Pid) (n : ℕ) (j : MsgId) (z : Spot) → 1 ≤ standing (view_after pt.view (line.SentOn p n)) j z → 1 ≤ standing (handled_first pt.view) j z
+sent_spot : (pt : Point) (p : Pid) (n : ℕ) (j : MsgId) (z : Spot) → 1 ≤ standing (view_after pt.view (Line.SentOn p n)) j z → 1 ≤ standing (handled_first pt.view) j z
 sent_spot pt p n j z st = emptied_back (handled_first pt.view) p j z (subst (λ x. 1 ≤ x) (ap (times j) (sent_off pt.view p n z)) st)
 
 first_gone : (pt : Point) (i : MsgId) (is : List MsgId) (h : State None pt) → pt.view.inbox pt.view.acting ≡ i ∷ is → (z : Spot) → standing (handled_first pt.view) i z ≡ 0
@@ -122,11 +101,11 @@ first_gone pt i is h front =
 first_same : (v : View) (i : MsgId) (is : List MsgId) (j : MsgId) → v.inbox v.acting ≡ i ∷ is → id_eq i j ≡ false → (z : Spot) → standing (handled_first v) j z ≡ standing v j z
 first_same v i is j front apart z = ap (times j) (first_off v i is front z) ∙ handled_spots v i j apart z
 
-sent_gone : (pt : Point) (p : Pid) (n : ℕ) (i : MsgId) (is : List MsgId) (h : State None pt) → pt.view.inbox pt.view.acting ≡ i ∷ is → (z : Spot) → standing (view_after pt.view (line.SentOn p n)) i z ≡ 0
-sent_gone pt p n i is h front z = zero_or (standing (view_after pt.view (line.SentOn p n)) i z) (λ st. let none = first_gone pt i is h front z in let some = sent_spot pt p n i z st in absurd (omega (arith, none, some)))
+sent_gone : (pt : Point) (p : Pid) (n : ℕ) (i : MsgId) (is : List MsgId) (h : State None pt) → pt.view.inbox pt.view.acting ≡ i ∷ is → (z : Spot) → standing (view_after pt.view (Line.SentOn p n)) i z ≡ 0
+sent_gone pt p n i is h front z = zero_or (standing (view_after pt.view (Line.SentOn p n)) i z) (λ st. let none = first_gone pt i is h front z in let some = sent_spot pt p n i z st in absurd (omega (arith, none, some)))
 
 -- what is of the protocol stands in no list, and stays where it is
-sent_on : (pt : Point) (p : Pid) (n : ℕ) (i : MsgId) (is : List MsgId) (h : InPhases pt.view) (j : MsgId) (t : Told) (z : Spot) → pt.view.inbox pt.view.acting ≡ i ∷ is → id_eq i j ≡ false → pt.view.told j ≡ Some t → is_between t.kind ≡ true → 1 ≤ standing pt.view j z → 1 ≤ standing (view_after pt.view (line.SentOn p n)) j z
+sent_on : (pt : Point) (p : Pid) (n : ℕ) (i : MsgId) (is : List MsgId) (h : InPhases pt.view) (j : MsgId) (t : Told) (z : Spot) → pt.view.inbox pt.view.acting ≡ i ∷ is → id_eq i j ≡ false → pt.view.told j ≡ Some t → is_between t.kind ≡ true → 1 ≤ standing pt.view j z → 1 ≤ standing (view_after pt.view (Line.SentOn p n)) j z
 sent_on pt p n i is h j t (Queue m q) front apart told b st = absurd (false≢true (sym (queued_plain pt.view m q j t h told st) ∙ b))
 sent_on pt p n i is h j t (Held m q) front apart told b st = absurd (false≢true (sym (held_plain pt.view m q j t h told st) ∙ b))
 sent_on pt p n i is h j t (Inbox m) front apart told b st = subst (λ x. 1 ≤ x) (sym (first_same pt.view i is j front apart (Inbox m))) st
@@ -135,10 +114,10 @@ sent_on pt p n i is h j t (Untaken c d) front apart told b st = st
 about_same : (p q : Pid) → Of p ≡ Of q → p ≡ q
 about_same p q e = cc
 
-sent_learns : (pt : Point) (n : ℕ) (i : MsgId) (is : List MsgId) (t : Told) (h : Whole pt) (u : Due pt i t h.phases) → pt.view.inbox pt.view.acting ≡ i ∷ is → pt.view.told i ≡ Some t → Learns pt.view (view_after pt.view (line.SentOn u.p n)) u.p
+sent_learns : (pt : Point) (n : ℕ) (i : MsgId) (is : List MsgId) (t : Told) (h : Whole pt) (u : Due pt i t h.phases) → pt.view.inbox pt.view.acting ≡ i ∷ is → pt.view.told i ≡ Some t → Learns pt.view (view_after pt.view (Line.SentOn u.p n)) u.p
 sent_learns pt n i is t h u front told =
     let v = pt.view in
-    let w = view_after v (line.SentOn u.p n) in
+    let w = view_after v (Line.SentOn u.p n) in
     record {
       calm = λ m q off. refl;
       fresh = λ j x e b. e;
@@ -181,30 +160,22 @@ lists_tame v p j q h least told =
     }
 
 -- it has left: the source forwards
-left_if : (d : ℕ) (y : Known) (n : ℕ) → phase.leaves kind.AllTaken d y ≡ true → phase.leaves kind.Restart d (gone_to y n) ≡ true
-left_if d Unknown n e = absurd (false≢true e)
-left_if d Here n e = absurd (false≢true e)
+left_if : (d : ℕ) (y : Known) (n : ℕ) → phase.leaves MessageKind.AllTaken d y ≡ true → phase.leaves MessageKind.Restart d (gone_to y n) ≡ true
 left_if d (Frozen to) n e = e
-left_if d (Incoming from) n e = absurd (false≢true e)
-left_if d (Forward at moves) n e = absurd (false≢true e)
-left_if d Ended n e = absurd (false≢true e)
+left_if d _ n e = absurd (false≢true e)
 
-comes_same : (s : ℕ) (y : Known) → comes kind.Restart s y ≡ comes kind.AllTaken s y
+comes_same : (s : ℕ) (y : Known) → comes MessageKind.Restart s y ≡ comes MessageKind.AllTaken s y
 comes_same s Unknown = refl
-comes_same s Here = refl
-comes_same s (Frozen to) = refl
-comes_same s (Incoming from) = refl
-comes_same s (Forward at moves) = refl
-comes_same s Ended = refl
+comes_same s _ = refl
 
-left_known : (s d m n : ℕ) (b : Bool) (y : Known) → (s == m) ≡ b → knows (Moves kind.AllTaken s d None) m y ≡ true → knows (Moves kind.Restart s d None) m (if b then gone_to y n else y) ≡ true
+left_known : (s d m n : ℕ) (b : Bool) (y : Known) → (s == m) ≡ b → knows (Moves MessageKind.AllTaken s d None) m y ≡ true → knows (Moves MessageKind.Restart s d None) m (if b then gone_to y n else y) ≡ true
 left_known s d m n true y e h =
-    ap (λ (c : Bool). if c then phase.leaves kind.Restart d (gone_to y n) else if d == m then comes kind.Restart s (gone_to y n) else is_away (gone_to y n)) e
-    ∙ left_if d y n (sym (ap (λ (c : Bool). if c then phase.leaves kind.AllTaken d y else if d == m then comes kind.AllTaken s y else is_away y) e) ∙ h)
+    ap (λ (c : Bool). if c then phase.leaves MessageKind.Restart d (gone_to y n) else if d == m then comes MessageKind.Restart s (gone_to y n) else is_away (gone_to y n)) e
+    ∙ left_if d y n (sym (ap (λ (c : Bool). if c then phase.leaves MessageKind.AllTaken d y else if d == m then comes MessageKind.AllTaken s y else is_away y) e) ∙ h)
 left_known s d m n false y e h =
-    ap (λ (c : Bool). if c then phase.leaves kind.Restart d y else if d == m then comes kind.Restart s y else is_away y) e
+    ap (λ (c : Bool). if c then phase.leaves MessageKind.Restart d y else if d == m then comes MessageKind.Restart s y else is_away y) e
     ∙ ap (λ (c : Bool). if d == m then c else is_away y) (comes_same s y)
-    ∙ sym (ap (λ (c : Bool). if c then phase.leaves kind.AllTaken d y else if d == m then comes kind.AllTaken s y else is_away y) e) ∙ h
+    ∙ sym (ap (λ (c : Bool). if c then phase.leaves MessageKind.AllTaken d y else if d == m then comes MessageKind.AllTaken s y else is_away y) e) ∙ h
 
 left_by : (v : View) (a m : ℕ) (p : Pid) (n : ℕ) (b : Bool) → (a == m) ≡ b → (if b && true then gone_to (v.known a p) n else v.known m p) ≡ (if b then gone_to (v.known m p) n else v.known m p)
 left_by v a m p n true e = ap (λ (x : ℕ). gone_to (v.known x p) n) (eq_is a m e)
@@ -215,7 +186,7 @@ left_at v s m p n e =
     ap (λ (c : Bool). if (v.acting == m) && c then gone_to (v.known v.acting p) n else v.known m p) (pid_eq-same p)
     ∙ left_by v v.acting m p n (v.acting == m) refl ∙ ap (λ (x : ℕ). if x == m then gone_to (v.known m p) n else v.known m p) e
 
-left_calm : (v : View) (p : Pid) → Learns v (view_after v (line.Migration stage.Left p)) p
+left_calm : (v : View) (p : Pid) → Learns v (view_after v (Line.Migration Stage.Left p)) p
 left_calm v p = record {
   calm = λ m q off. record_off v.known v.acting p (gone_to (v.known v.acting p) (v.moves p + 1)) m q off;
   fresh = λ j x e b. e;
@@ -224,44 +195,39 @@ left_calm v p = record {
   on = λ j x q apart e b ab z st. (z, subst (λ n. 1 ≤ n) (sym (ap (times j) (left_off v p z))) st);
 }
 
-left_row : (pt : Point) (p : Pid) (s d b : ℕ) (w : Spelled) (h : WayIn p (Moves kind.AllTaken s d None) s [] pt) → (is_between kind.AllTaken && not (s == d)) ≡ true → b ≡ d → spelled pt (Says (line.Migration stage.Left p) ∷ to_kernel kind.Restart b ∷ []) ≡ Some w → Whole w.point
+left_row : (pt : Point) (p : Pid) (s d b : ℕ) (w : Spelled) (h : WayIn p (Moves MessageKind.AllTaken s d None) s [] pt) → (is_between MessageKind.AllTaken && not (s == d)) ≡ true → b ≡ d → spelled pt (Says (Line.Migration Stage.Left p) ∷ to_kernel MessageKind.Restart b ∷ []) ≡ Some w → Whole w.point
 left_row pt p s d b w h apart to e =
     let v = pt.view in
-    let l = line.Migration stage.Left p in
+    let l = Line.Migration Stage.Left p in
     let next = moved pt l pt.kernel in
-    let n = line_next pt l (to_kernel kind.Restart b ∷ []) w refl e in
+    let n = line_next pt l (to_kernel MessageKind.Restart b ∷ []) w refl e in
     let steady = steadied pt h.way in
-    let was : (m : ℕ) → knows (Moves kind.AllTaken s d None) m (v.known m p) ≡ true = λ m. subst (λ (x : Phase). knows x m (v.known m p) ≡ true) h.now ((h.phases.each p).known m) in
-    let turned = learns_phases v next.view p (Moves kind.Restart s d None) h.phases (some_only p) (left_calm v p) refl apart
-    (λ m. ap (knows (Moves kind.Restart s d None) m) (left_at v s m p (v.moves p + 1) h.acting) ∙ left_known s d m (v.moves p + 1) (s == m) (v.known m p) refl (was m))
+    let was : (m : ℕ) → knows (Moves MessageKind.AllTaken s d None) m (v.known m p) ≡ true = λ m. subst (λ (x : Phase). knows x m (v.known m p) ≡ true) h.now ((h.phases.each p).known m) in
+    let turned = learns_phases v next.view p (Moves MessageKind.Restart s d None) h.phases (some_only p) (left_calm v p) refl apart
+    (λ m. ap (knows (Moves MessageKind.Restart s d None) m) (left_at v s m p (v.moves p + 1) h.acting) ∙ left_known s d m (v.moves p + 1) (s == m) (v.known m p) refl (was m))
     (λ j x z. absurd (let f : None ≡ Some j = sym (ap token_in h.now) ∙ x in cc)) in
     let whole : WholeBut (Some p) next = record {
       state = by_line None pt l refl steady.state (Stands-stays (letters steady.state.own pt.kernel.bag) v next.view (λ z. left_off v p z) (λ j. refl) steady.state.stands) (λ j. refl);
       fits = fits_as v next.view (pair_same v l refl) h.way.fits;
       phases = turned.phases;
     } in
-    subst Whole n.point (owns_whole next p kind.Restart s d b n.rest whole turned.now refl h.acting to n.more)
+    subst Whole n.point (owns_whole next p MessageKind.Restart s d b n.rest whole turned.now refl h.acting to n.more)
 
-pub leaves_row : (pt : Point) (i : MsgId) (is : List MsgId) (t : Told) (ids : List MsgId) (k : Known) (parts : List Part) (w : Spelled) (h : Whole pt) (u : Due pt i t h.phases) → u.k ≡ kind.AllTaken → pt.view.inbox pt.view.acting ≡ i ∷ is → pt.view.told i ≡ Some t → is_kernels i ≡ true
+pub leaves_row : (pt : Point) (i : MsgId) (is : List MsgId) (t : Told) (ids : List MsgId) (k : Known) (parts : List Part) (w : Spelled) (h : Whole pt) (u : Due pt i t h.phases) → u.k ≡ MessageKind.AllTaken → pt.view.inbox pt.view.acting ≡ i ∷ is → pt.view.told i ≡ Some t → is_kernels i ≡ true
     → both_lists pt.view u.p ≡ ids → leaves i u.p ids k ≡ Some parts → spelled pt parts ≡ Some w → Whole w.point
-leaves_row pt i is t ids Unknown parts w h u e front told mine same f n = cc
-leaves_row pt i is t ids Here parts w h u e front told mine same f n = cc
-leaves_row pt i is t ids (Incoming from) parts w h u e front told mine same f n = cc
-leaves_row pt i is t ids (Forward at moves) parts w h u e front told mine same f n = cc
-leaves_row pt i is t ids Ended parts w h u e front told mine same f n = cc
 leaves_row pt i is t ids (Frozen to) parts w h u e front told mine same f n =
     let v = pt.view in
-    let end = Says (line.Migration stage.Left u.p) ∷ to_kernel kind.Restart i.from.home ∷ [] in
-    let l = line.SentOn u.p (length ids) in
+    let end = Says (Line.Migration Stage.Left u.p) ∷ to_kernel MessageKind.Restart i.from.home ∷ [] in
+    let l = Line.SentOn u.p (length ids) in
     let g : Says l ∷ sends_on to ids ++ end ≡ parts = cc in
     let k = line_next pt l (sends_on to ids ++ end) w refl (ap (spelled pt) g ∙ n) in
     let next = moved pt l pt.kernel in
-    let ph = Moves kind.AllTaken u.s u.d None in
+    let ph = Moves MessageKind.AllTaken u.s u.d None in
     let at : v.acting ≡ u.s = u.acting ∙ ap (λ (k : MessageKind). receiver_in k u.s u.d) e in
     let from : i.from.home ≡ u.d = to_sender pt i t h.phases u ∙ ap (λ (k : MessageKind). sender_in k u.s u.d) e in
-    let apart : (is_between kind.AllTaken && not (u.s == u.d)) ≡ true = ap (λ (k : MessageKind). is_between k && not (u.s == u.d)) (sym e) ∙ due_apart pt i t h.phases u in
+    let apart : (is_between MessageKind.AllTaken && not (u.s == u.d)) ≡ true = ap (λ (k : MessageKind). is_between k && not (u.s == u.d)) (sym e) ∙ due_apart pt i t h.phases u in
     let turned = learns_phases v next.view u.p ph h.phases (none_only u.p) (sent_learns pt (length ids) i is t h u front told) refl apart
-    (same_row pt i t h.phases u kind.AllTaken next.view (λ m. refl) (ap phase.is_restart e) (ap phase.is_early e))
+    (same_row pt i t h.phases u MessageKind.AllTaken next.view (λ m. refl) (ap phase.is_restart e) (ap phase.is_early e))
     (λ j x z. subst (λ (y : MsgId). standing next.view y z ≡ 0) (token_one (h.phases.of u.p) u.k u.s u.d i j u.phase x) (sent_gone pt u.p (length ids) i is h.state front z)) in
     let sent : Between ids next = subst (λ (js : List MsgId). Between js next) same (sent_way pt u.p (length ids) i is h.state front mine) in
     let way : WayIn u.p ph u.s ids next = record {
@@ -273,3 +239,4 @@ leaves_row pt i is t ids (Frozen to) parts w h u e front told mine same f n =
     } in
     let a = all_again u.p ph u.s ids next to end k.rest way k.more in
     subst Whole k.point (subst Whole a.point (left_row a.next u.p u.s u.d i.from.home a.rest a.stands apart from a.more))
+leaves_row pt i is t ids _ parts w h u e front told mine same f n = cc

@@ -1,24 +1,8 @@
 -- Lines that leave the migrations of all processes as they are.
-use Rattle.std.proofs.Common.{◌≡◌, ℕ, zero, suc, ◌+◌, ◌==◌, ◌&&◌, Bool, true, false, List, [], ◌∷◌, ◌++◌, drop, length, refl, ap, ◌∙◌, sym, subst, inl, inr, arith}
-use Rattle.std.specs.Prelude.{if◌then◌else◌}
-use Rattle.std.specs.declared.option.Option.{Option}
-use Rattle.std.specs.declared.option.Option.TheVariants.{None, Some}
-use Rattle.std.proofs.lemmas.Bool.{cases_Bool}
-use Rattle.std.proofs.lemmas.List.{length-append}
-use Rattle.std.proofs.Math.Seq.{drop-length}
-use Rattle.dm_link.specs.declared.Pid.{Pid}
-use Rattle.dm_link.specs.Names.{pid_eq}
-use Rattle.dm_message.specs.declared.MsgId.{MsgId}
-use Rattle.dm_message.specs.declared.kind.MessageKind.{MessageKind}
-use Rattle.dm_message.specs.Ids.{id_eq}
-use Rattle.dm_line.specs.declared.line.Load.{Load}
-use Rattle.dm_line.specs.declared.line.Line.TheVariants as line
-use Rattle.dm_line.specs.Sets.{at_machine, at_pair, at_record, without_id, without_front}
-use Rattle.dm_rule.specs.View.{View, Pair, Told, handled, queued_for, held_for, dropped_for, forwarded_for, served_told, kills, view_after, after_put, after_taken, taken_id, with_pair, routed_on}
+use Rattle.dm_rule.proofs.Names.{◌≡◌, ℕ, zero, suc, ◌+◌, ◌==◌, ◌&&◌, Bool, true, false, List, [], ◌∷◌, ◌++◌, drop, length, refl, ap, ◌∙◌, sym, subst, inl, inr, arith, if◌then◌else◌, Option, None, Some, cases_Bool, length-append}
+use Rattle.dm_rule.proofs.Names.{drop-length, Pid, pid_eq, MsgId, MessageKind, id_eq, Load, Line, at_machine, at_pair, at_record, without_id, without_front, View, Pair, Told, handled, queued_for, held_for, dropped_for, forwarded_for}
+use Rattle.dm_rule.proofs.Names.{view_after, after_put, routed_on, Spot, Queue, Held, Inbox, Untaken, times, untaken, standing, is_between, pid_eq-is, id_eq-is, id_eq-same, id_eq-swap}
 use Rattle.dm_rule.specs.View as view
-use Rattle.dm_rule.specs.Spots.{Spot, Queue, Held, Inbox, Untaken, times, untaken, standing}
-use Rattle.dm_rule.specs.Phases.{is_between}
-use Rattle.dm_laws.proofs.Equal.{pid_eq-is, id_eq-is, id_eq-same, id_eq-swap}
 use Rattle.dm_rule.proofs.Standing.{times-append}
 use Rattle.dm_rule.proofs.Once.{one_of}
 use Rattle.dm_rule.proofs.Lines.{parts, eq_is, pair_keeps}
@@ -26,7 +10,7 @@ use Rattle.dm_rule.proofs.States.{PairsFit, put_told_off}
 use Rattle.dm_rule.proofs.Phases.Calm.{Calm, Plain, calm_others, calm_still}
 
 -- lists with one message more or less count the others alike
-off_zero : (i j : MsgId) → id_eq i j ≡ false → one_of j i ≡ 0
+pub off_zero : (i j : MsgId) → id_eq i j ≡ false → one_of j i ≡ 0
 off_zero i j e = ap (λ (c : Bool). if c then 1 else 0) (id_eq-swap j i ∙ e)
 
 pub last_times : (i j : MsgId) (xs : List MsgId) → id_eq i j ≡ false → times j (xs ++ i ∷ []) ≡ times j xs
@@ -81,10 +65,8 @@ pair_times f a b p j e c d = elim (cases_Bool ((a == c) && (b == d))) [
 
 -- the front of an inbox goes, and may come to a queue or a held list, or go from a queue
 pub handled_spots : (v : View) (i j : MsgId) → id_eq i j ≡ false → (z : Spot) → standing (handled v i) j z ≡ standing v j z
-handled_spots v i j e (Queue m p) = refl
-handled_spots v i j e (Held m p) = refl
 handled_spots v i j e (Inbox m) = machine_times v.inbox v.acting (without_front i (v.inbox v.acting)) j (front_times i j (v.inbox v.acting) e) m
-handled_spots v i j e (Untaken a b) = refl
+handled_spots v i j e _ = refl
 
 pub queued_spots : (v : View) (i j : MsgId) (o : Option Pid) → id_eq i j ≡ false → (z : Spot) → standing (queued_for v i o) j z ≡ standing v j z
 queued_spots v i j None e z = refl
@@ -148,14 +130,13 @@ put_pair a b p i j true is e full =
 put_pair a b p i j false is e full =
     ap (λ (x : Bool). times j (drop (if x then p.taken + 1 else p.taken) (p.ids ++ i ∷ []))) is ∙ drop_times i j p.taken p.ids e
 
-home_full : (v : View) (a b : ℕ) → PairsFit v → (a == b) ≡ true → (v.pair a b).taken ≡ length (v.pair a b).ids
+pub home_full : (v : View) (a b : ℕ) → PairsFit v → (a == b) ≡ true → (v.pair a b).taken ≡ length (v.pair a b).ids
 home_full v a b fits is = let e : a ≡ b = eq_is a b is in subst (λ n. (v.pair a n).taken ≡ length (v.pair a n).ids) e (fits.home a)
 
 pub put_spots : (v : View) (a b : ℕ) (i j : MsgId) (k : MessageKind) (q : Pid) → PairsFit v → id_eq i j ≡ false → (z : Spot) → standing (after_put v a b i k q) j z ≡ standing v j z
-put_spots v a b i j k q fits e (Queue m p) = refl
-put_spots v a b i j k q fits e (Held m p) = refl
 put_spots v a b i j k q fits e (Inbox m) = put_inbox v a b i j (a == b) e m
 put_spots v a b i j k q fits e (Untaken c d) = pair_times v.pair a b (routed_on a b (v.pair a b) i) j (put_pair a b (v.pair a b) i j (a == b) refl e (home_full v a b fits)) c d
+put_spots v a b i j k q fits e _ = refl
 
 pub put_at : (v : View) (a b : ℕ) (i : MsgId) (k : MessageKind) (q : Pid) → (after_put v a b i k q).told i ≡ Some (view.first_told (v.told i) (record { kind = k; receiver = q; about = v.topic }))
 put_at v a b i k q = ap (λ (c : Bool). if c then Some (view.first_told (v.told i) (record { kind = k; receiver = q; about = v.topic })) else v.told i) (id_eq-same i)
@@ -164,7 +145,7 @@ first_plain : (v : View) (i : MsgId) (k : MessageKind) (q : Pid) (o : Option Tol
 first_plain v i k q None is e plain = e
 first_plain v i k q (Some t) is e plain = plain t is
 
-first_kept : (o : Option Told) (u t : Told) → o ≡ Some t → Some (view.first_told o u) ≡ Some t
+pub first_kept : (o : Option Told) (u t : Told) → o ≡ Some t → Some (view.first_told o u) ≡ Some t
 first_kept None u t e = cc
 first_kept (Some s) u t e = e
 
@@ -178,11 +159,9 @@ put_calm v a b i k q fits e plain =
     (record { known = λ m p. refl; told = λ j apart. put_told_off v a b i j k q apart; spots = λ j apart z. put_spots v a b i j k q fits apart z })
 
 -- a packet
-packet_spots : (v : View) (a b k : ℕ) (l : Load) (j : MsgId) (z : Spot) → standing (view_after v (line.Packet a b k l)) j z ≡ standing v j z
-packet_spots v a b k l j (Queue m p) = refl
-packet_spots v a b k l j (Held m p) = refl
-packet_spots v a b k l j (Inbox m) = refl
+packet_spots : (v : View) (a b k : ℕ) (l : Load) (j : MsgId) (z : Spot) → standing (view_after v (Line.Packet a b k l)) j z ≡ standing v j z
 packet_spots v a b k l j (Untaken c d) = ap (times j) (pair_keeps v.pair a b _ refl c d)
+packet_spots v a b k l j _ = refl
 
-pub packet_calm : (v : View) (a b k : ℕ) (l : Load) → Calm v (view_after v (line.Packet a b k l))
-packet_calm v a b k l = calm_still v (view_after v (line.Packet a b k l)) (λ m p. refl) (λ i. refl) (λ i z. packet_spots v a b k l i z)
+pub packet_calm : (v : View) (a b k : ℕ) (l : Load) → Calm v (view_after v (Line.Packet a b k l))
+packet_calm v a b k l = calm_still v (view_after v (Line.Packet a b k l)) (λ m p. refl) (λ i. refl) (λ i z. packet_spots v a b k l i z)

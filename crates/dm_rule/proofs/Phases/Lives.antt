@@ -1,24 +1,9 @@
 -- A process ends, and one is made.
-use Rattle.std.proofs.Common.{◌≡◌, ℕ, ◌≤◌, ◌==◌, ◌&&◌, Bool, true, false, refl, ap, ◌∙◌, sym, subst, inl, arith}
-use Rattle.std.specs.Prelude.{if◌then◌else◌}
-use Rattle.std.specs.declared.option.Option.{Option}
-use Rattle.std.specs.declared.option.Option.TheVariants.{None, Some}
-use Rattle.std.proofs.lemmas.Bool.{false≢true}
-use Rattle.std.proofs.lemmas.Bool.Decides.{nat_tests}
-use Rattle.dm_link.specs.declared.Pid.{Pid}
-use Rattle.dm_message.specs.declared.MsgId.{MsgId}
-use Rattle.dm_message.specs.declared.kind.MessageKind.{MessageKind}
-use Rattle.dm_message.specs.declared.kind.MessageKind.TheVariants as kind
-use Rattle.dm_message.specs.Ids.{id_eq}
-use Rattle.dm_onekernel.specs.declared.label.Label.TheVariants as label
-use Rattle.dm_onekernel.specs.declared.label.Why.{Why}
-use Rattle.dm_line.specs.declared.line.Line.TheVariants as line
-use Rattle.dm_line.specs.Sets.{at_record}
-use Rattle.dm_rule.specs.View.{View, Told, Known, Unknown, Here, Frozen, Incoming, Forward, Ended, view_after, handled, served_told, kills}
+use Rattle.dm_rule.proofs.Names.{◌≡◌, ℕ, ◌≤◌, ◌==◌, ◌&&◌, Bool, true, false, refl, ap, ◌∙◌, sym, subst, inl, arith, if◌then◌else◌, Option, None, Some, false≢true, nat_tests, Pid, MsgId, MessageKind, Label, Line, id_eq, Why, at_record, View}
+use Rattle.dm_rule.proofs.Names.{Told, Known, Unknown, Here, Ended, view_after, handled, served_told, kills, Spot, times, standing, is_between, is_away, is_here, is_over, comes, Phase, Nowhere, Rests, Over, Moves, knows, token_in}
+use Rattle.dm_rule.proofs.Names.{pid_eq-same, id_eq-is}
 use Rattle.dm_rule.specs.View as view
-use Rattle.dm_rule.specs.Spots.{Spot, times, standing}
-use Rattle.dm_rule.specs.Phases.{is_between, is_away, is_here, is_over, leaves, comes, Phase, Nowhere, Rests, Over, Moves, knows, token_in}
-use Rattle.dm_laws.proofs.Equal.{pid_eq-same, id_eq-is}
+use Rattle.dm_rule.specs.Phases.{leaves}
 use Rattle.dm_rule.proofs.Lines.{not_true}
 use Rattle.dm_rule.proofs.Turns.{ended_off, created_off}
 use Rattle.dm_rule.proofs.Phases.Calm.{Plain}
@@ -59,8 +44,8 @@ ends_phases v w p h here known told spots =
     (λ j x z. absurd (let f : None ≡ Some j = sym (ap token_in phase) ∙ x in cc))).phases
 
 -- an end by a call or a fault
-pub end_line_phases : (v : View) (p : Pid) (y : Why) → InPhases v → v.known v.acting p ≡ Here → InPhases (view_after v (line.Label (label.End p y)))
-end_line_phases v p y h here = ends_phases v (view_after v (line.Label (label.End p y))) p h here refl refl (λ j t e b z. ap (times j) (ended_off v p z))
+pub end_line_phases : (v : View) (p : Pid) (y : Why) → InPhases v → v.known v.acting p ≡ Here → InPhases (view_after v (Line.Label (Label.End p y)))
+end_line_phases v p y h here = ends_phases v (view_after v (Line.Label (Label.End p y))) p h here refl refl (λ j t e b z. ap (times j) (ended_off v p z))
 
 -- nothing is known of a process that was never made
 rests_if : (m : ℕ) → (if m == m then is_here Unknown else is_away Unknown) ≡ false
@@ -95,15 +80,15 @@ made_phases v w p h unknown known told spots =
 front_spots : (v : View) (i j : MsgId) (t : Told) → Plain v i → v.told j ≡ Some t → is_between t.kind ≡ true → (z : Spot) → standing (handled v i) j z ≡ standing v j z
 front_spots v i j t plain told b z = handled_spots v i j (not_true (id_eq i j) (λ e. let is : i ≡ j = id_eq-is i j e in false≢true (sym (plain t (ap v.told is ∙ told)) ∙ b))) z
 
-pub created_phases : (v : View) (i : MsgId) (p : Pid) → InPhases v → Plain v i → ((m : ℕ) → v.known m p ≡ Unknown) → InPhases (view_after v (line.Label (label.Created i p)))
-created_phases v i p h plain unknown = made_phases v (view_after v (line.Label (label.Created i p))) p h unknown refl refl (λ j t e b z. ap (times j) (created_off v i p z) ∙ front_spots v i j t plain e b z)
+pub created_phases : (v : View) (i : MsgId) (p : Pid) → InPhases v → Plain v i → ((m : ℕ) → v.known m p ≡ Unknown) → InPhases (view_after v (Line.Label (Label.Created i p)))
+created_phases v i p h plain unknown = made_phases v (view_after v (Line.Label (Label.Created i p))) p h unknown refl refl (λ j t e b z. ap (times j) (created_off v i p z) ∙ front_spots v i j t plain e b z)
 
 -- a kill ends its receiver
-killed_is : (v : View) (t : Told) (o : Option Told) → o ≡ Some t → t.kind ≡ kind.Kill → served_told v o ≡ view.ended v t.receiver
+killed_is : (v : View) (t : Told) (o : Option Told) → o ≡ Some t → t.kind ≡ MessageKind.Kill → served_told v o ≡ view.ended v t.receiver
 killed_is v t None e k = cc
 killed_is v t (Some s) e k = let f : s ≡ t = cc in ap (λ (u : Told). kills u.kind v (Some u.receiver)) f ∙ ap (λ (n : MessageKind). kills n v (Some t.receiver)) k
 
-pub killed_phases : (v : View) (i : MsgId) (t : Told) → InPhases v → Plain v i → v.told i ≡ Some t → t.kind ≡ kind.Kill → v.known v.acting t.receiver ≡ Here → InPhases (view_after v (line.Label (label.Served i)))
+pub killed_phases : (v : View) (i : MsgId) (t : Told) → InPhases v → Plain v i → v.told i ≡ Some t → t.kind ≡ MessageKind.Kill → v.known v.acting t.receiver ≡ Here → InPhases (view_after v (Line.Label (Label.Served i)))
 killed_phases v i t h plain told k here =
     let w = view.ended (handled v i) t.receiver in
     subst InPhases (sym (killed_is (handled v i) t (v.told i) told k))

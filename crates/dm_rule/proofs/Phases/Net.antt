@@ -1,25 +1,7 @@
 -- Heads, deliveries, ticks and the directive to migrate leave all processes in their phases.
-use Rattle.std.proofs.Common.{◌≡◌, ◌⊎◌, ℕ, zero, suc, ◌+◌, ◌≤◌, ◌==◌, ◌&&◌, Bool, true, false, not, filter, List, [], ◌∷◌, ◌++◌, drop, length, refl, ap, ◌∙◌, sym, subst, inl, inr, arith}
-use Rattle.std.specs.Prelude.{if◌then◌else◌, slice_get}
-use Rattle.std.specs.declared.option.Option.{Option}
-use Rattle.std.specs.declared.option.Option.TheVariants.{None, Some}
-use Rattle.std.proofs.lemmas.Bool.{cases_Bool}
-use Rattle.std.proofs.lemmas.Bool.Decides.{nat_tests}
-use Rattle.dm_link.specs.declared.Pid.{Pid}
-use Rattle.dm_link.specs.Names.{pid_eq}
-use Rattle.dm_message.specs.declared.MsgId.{MsgId}
-use Rattle.dm_onekernel.specs.Boot.{switchboard, manager}
-use Rattle.dm_schedule.specs.declared.Step.{Step}
-use Rattle.dm_schedule.specs.declared.Step.TheVariants as step
-use Rattle.dm_line.specs.declared.line.Line.{Line}
-use Rattle.dm_line.specs.declared.line.Line.TheVariants as line
-use Rattle.dm_line.specs.Sets.{at_machine, at_pair}
-use Rattle.dm_rule.specs.View.{View, Pair, view_after, after_head, taken_id, with_pair}
-use Rattle.dm_rule.specs.Addresses.{Addresses, child_number}
-use Rattle.dm_rule.specs.Point.{Point, moved}
-use Rattle.dm_rule.specs.Parts.{Part, Says, Routes, Again, Owns, Transmits, Spelled, packet_line, spelled}
-use Rattle.dm_rule.specs.Migrating.{migrates, migrates_child}
-use Rattle.dm_rule.specs.Spots.{Spot, Queue, Held, Inbox, Untaken, times, untaken, ids_at, standing}
+use Rattle.dm_rule.proofs.Names.{◌≡◌, ◌⊎◌, ℕ, zero, suc, ◌+◌, ◌≤◌, ◌==◌, ◌&&◌, Bool, true, false, not, filter, List, [], ◌∷◌, ◌++◌, drop, length, refl, ap, ◌∙◌, sym, subst, inl, inr, arith, if◌then◌else◌, slice_get, Option, None, Some}
+use Rattle.dm_rule.proofs.Names.{cases_Bool, nat_tests, Pid, pid_eq, MsgId, switchboard, manager, Step, Line, at_machine, at_pair, View, Pair, view_after, after_head, taken_id, with_pair, Addresses, child_number, Point, moved, Part, Says}
+use Rattle.dm_rule.proofs.Names.{Routes, Again, Owns, Transmits, Spelled, packet_line, spelled, migrates, migrates_child, Spot, Queue, Held, Inbox, Untaken, times, untaken, ids_at, standing}
 use Rattle.dm_rule.proofs.Standing.{times-append}
 use Rattle.dm_rule.proofs.Once.{one_of}
 use Rattle.dm_rule.proofs.Lines.{parts, eq_is, at_place, past_place, pair_keeps}
@@ -30,10 +12,10 @@ use Rattle.dm_rule.proofs.Phases.Lines.{packet_calm}
 use Rattle.dm_rule.proofs.Phases.Quiet.{AllQuiet, moves_none}
 
 pub head_calm : (v : View) (s : Step) → Calm v (after_head v s)
-head_calm v (step.Turn m) = calm_still v (after_head v (step.Turn m)) (λ n q. refl) (λ i. refl) (λ i z. ap (times i) (turn_off v m z))
-head_calm v (step.Tick m) = calm_still v (after_head v (step.Tick m)) (λ n q. refl) (λ i. refl) (λ i z. ap (times i) (tick_off v m z))
-head_calm v (step.Deliver a b k) = calm_still v (after_head v (step.Deliver a b k)) (λ n q. refl) (λ i. refl) (λ i z. ap (times i) (deliver_off v a b k z))
-head_calm v (step.Migrate p m) = calm_still v (after_head v (step.Migrate p m)) (λ n q. refl) (λ i. refl) (λ i z. ap (times i) (migrate_off v p m z))
+head_calm v (Step.Turn m) = calm_still v (after_head v (Step.Turn m)) (λ n q. refl) (λ i. refl) (λ i z. ap (times i) (turn_off v m z))
+head_calm v (Step.Tick m) = calm_still v (after_head v (Step.Tick m)) (λ n q. refl) (λ i. refl) (λ i z. ap (times i) (tick_off v m z))
+head_calm v (Step.Deliver a b k) = calm_still v (after_head v (Step.Deliver a b k)) (λ n q. refl) (λ i. refl) (λ i z. ap (times i) (deliver_off v a b k z))
+head_calm v (Step.Migrate p m) = calm_still v (after_head v (Step.Migrate p m)) (λ n q. refl) (λ i. refl) (λ i z. ap (times i) (migrate_off v p m z))
 
 -- a message is taken: it comes from the stream to the inbox
 abbrev one_taken : Pair → ℕ → Pair
@@ -54,10 +36,8 @@ taken_front p n i is =
     at_place p.ids p.taken i is ∙ ap (λ m. i ∷ drop m p.ids) next
 
 none_off : (v : View) (a b n : ℕ) (z : Spot) → untaken (one_taken (v.pair a b) n) ≡ untaken (v.pair a b) → ids_at (taken_view v a b n) z ≡ ids_at v z
-none_off v a b n (Queue m p) same = refl
-none_off v a b n (Held m p) same = refl
-none_off v a b n (Inbox m) same = refl
 none_off v a b n (Untaken c d) same = pair_keeps v.pair a b (one_taken (v.pair a b) n) same c d
+none_off v a b n _ same = refl
 
 zero_cases : (n : ℕ) → (n ≡ 0) ⊎ (1 ≤ n)
 zero_cases zero = inl refl
@@ -93,10 +73,9 @@ abbrev came_view : View → ℕ → ℕ → ℕ → MsgId → View
 came_view v a b n i = record (taken_view v a b n) { inbox = at_machine v.inbox b (v.inbox b ++ i ∷ []) }
 
 taken_back : (v : View) (a b n : ℕ) (i j : MsgId) (z : Spot) → untaken (v.pair a b) ≡ i ∷ untaken (one_taken (v.pair a b) n) → 1 ≤ standing (came_view v a b n i) j z → Came v j z
-taken_back v a b n i j (Queue m p) front st = inl st
-taken_back v a b n i j (Held m p) front st = inl st
 taken_back v a b n i j (Inbox m) front st = inbox_back v a b n i j m front st
 taken_back v a b n i j (Untaken c d) front st = inl (stream_back v a b n i j c d front st)
+taken_back v a b n i j _ front st = inl st
 
 in_inbox : (v : View) (a b n : ℕ) (i j : MsgId) (m : ℕ) → (b == m) ≡ true → 1 ≤ times j (v.inbox b) + one_of j i → 1 ≤ standing (came_view v a b n i) j (Inbox m)
 in_inbox v a b n i j m same st =
@@ -135,34 +114,17 @@ taken_by v a b n (Some i) is =
     let front = taken_front (v.pair a b) n i is in
     record { known = λ m p. refl; fresh = λ j t e c. e; kept = λ j t e. e; back = λ j t e c z st. taken_back v a b n i j z front st; on = λ j t e c z st. taken_on v a b n i j z front st }
 
-pub taken_calm : (v : View) (a b n : ℕ) → Calm v (view_after v (line.Taken a b n))
+pub taken_calm : (v : View) (a b n : ℕ) → Calm v (view_after v (Line.Taken a b n))
 taken_calm v a b n = taken_by v a b n (slice_get (v.pair a b).ids (v.pair a b).taken) refl
 
 net_calm : (v : View) (l : Line) → IsNetLine l → Calm v (view_after v l)
-net_calm v (line.Taken a b n) h = taken_calm v a b n
-net_calm v (line.Old a b n) h = calm_same v
-net_calm v (line.Early a b n) h = moves_none v (line.Early a b n) refl (λ m q. refl) (λ z. early_off v a b n z)
-net_calm v (line.Acked a b n) h = moves_none v (line.Acked a b n) refl (λ m q. refl) (λ z. acked_off v a b n z)
-net_calm v line.Nothing h = calm_same v
-net_calm v (line.Resent m n) h = calm_same v
-net_calm v (line.Head d) h = absurd h
-net_calm v (line.Idle m) h = absurd h
-net_calm v (line.Label l) h = absurd h
-net_calm v (line.Put a b i c q) h = absurd h
-net_calm v (line.Packet a b c l) h = absurd h
-net_calm v (line.Queued i) h = absurd h
-net_calm v (line.Held i) h = absurd h
-net_calm v (line.Forwarded i m) h = absurd h
-net_calm v (line.Updated i n) h = absurd h
-net_calm v (line.Migration st p) h = absurd h
-net_calm v (line.SentOn p n) h = absurd h
-net_calm v (line.Lacks p a b) h = absurd h
-net_calm v (line.Stays p) h = absurd h
-net_calm v (line.Here i) h = absurd h
-net_calm v (line.NoMove i) h = absurd h
-net_calm v (line.Proto i) h = absurd h
-net_calm v (line.NoChild p) h = absurd h
-net_calm v (line.Pinned p) h = absurd h
+net_calm v (Line.Taken a b n) h = taken_calm v a b n
+net_calm v (Line.Old a b n) h = calm_same v
+net_calm v (Line.Early a b n) h = moves_none v (Line.Early a b n) refl (λ m q. refl) (λ z. early_off v a b n z)
+net_calm v (Line.Acked a b n) h = moves_none v (Line.Acked a b n) refl (λ m q. refl) (λ z. acked_off v a b n z)
+net_calm v Line.Nothing h = calm_same v
+net_calm v (Line.Resent m n) h = calm_same v
+net_calm v _ h = absurd h
 
 pub net_parts : (ps : List Part) (pt : Point) (w : Spelled) → IsNet ps → spelled pt ps ≡ Some w → Calm pt.view w.point.view
 net_parts [] pt w h e = subst (λ (q : Point). Calm pt.view q.view) (said pt w e) (calm_same pt.view)
@@ -181,7 +143,7 @@ child_quiet : (v : View) (a : Addresses) (p : Pid) (o : Option ℕ) → AllQuiet
 child_quiet v a p None = (tt, tt)
 child_quiet v a p (Some n) = (refl, tt)
 
-migrates_by : (v : View) (o : Point) (p : Pid) (c d : Bool) → AllQuiet v (if c then Says (line.Pinned p) ∷ [] else if d then Says (line.Pinned p) ∷ [] else migrates_child o.addresses p (child_number o.kernel p))
+migrates_by : (v : View) (o : Point) (p : Pid) (c d : Bool) → AllQuiet v (if c then Says (Line.Pinned p) ∷ [] else if d then Says (Line.Pinned p) ∷ [] else migrates_child o.addresses p (child_number o.kernel p))
 migrates_by v o p true d = (tt, tt)
 migrates_by v o p false true = (tt, tt)
 migrates_by v o p false false = child_quiet v o.addresses p (child_number o.kernel p)

@@ -1,26 +1,8 @@
 -- The rows of migration that answer with the next message: a request, the pieces, and that all is taken.
-use Rattle.std.proofs.Common.{◌≡◌, ℕ, ◌==◌, ◌&&◌, Bool, true, false, not, List, [], ◌∷◌, refl, ap, ◌∙◌, sym, subst, arith}
-use Rattle.std.specs.Prelude.{if◌then◌else◌}
-use Rattle.std.specs.declared.option.Option.{Option}
-use Rattle.std.specs.declared.option.Option.TheVariants.{None, Some}
-use Rattle.std.proofs.lemmas.Bool.{false≢true}
-use Rattle.std.proofs.lemmas.Bool.Decides.{nat_tests}
-use Rattle.dm_link.specs.declared.Pid.{Pid}
-use Rattle.dm_link.specs.Names.{pid_eq}
-use Rattle.dm_message.specs.declared.MsgId.{MsgId}
-use Rattle.dm_message.specs.declared.kind.MessageKind.{MessageKind}
-use Rattle.dm_message.specs.declared.kind.MessageKind.TheVariants as kind
-use Rattle.dm_line.specs.declared.line.Line.TheVariants as line
-use Rattle.dm_line.specs.declared.line.Stage.TheVariants as stage
-use Rattle.dm_line.specs.Sets.{at_record}
-use Rattle.dm_rule.specs.View.{View, Told, About, NothingElse, Target, Of, Known, Unknown, Here, Frozen, Incoming, Forward, Ended, view_after, handled, handled_first, front_of, after_proto, follows_up, asks_on, is_kernels}
-use Rattle.dm_rule.specs.View as view
-use Rattle.dm_rule.specs.Point.{Point}
-use Rattle.dm_rule.specs.Parts.{Says, Spelled, spelled}
-use Rattle.dm_rule.specs.Migrating.{to_kernel, accepts, takes_chunk, takes_block, gives_piece}
-use Rattle.dm_rule.specs.Spots.{Spot, ids_at}
-use Rattle.dm_rule.specs.Phases.{is_between, is_apart, is_restart, is_early, leaves, comes, is_away, Phase, Moves, knows, sender_in, receiver_in}
-use Rattle.dm_laws.proofs.Equal.{pid_eq-same}
+use Rattle.dm_rule.proofs.Names.{◌≡◌, ℕ, ◌==◌, ◌&&◌, Bool, true, false, not, List, [], ◌∷◌, refl, ap, ◌∙◌, sym, subst, arith, if◌then◌else◌, Option, None, Some, false≢true, nat_tests, Pid, pid_eq, MsgId, MessageKind, Line, Stage, at_record}
+use Rattle.dm_rule.proofs.Names.{View, Told, About, NothingElse, Known, Unknown, Frozen, Incoming, Forward, view_after, handled, front_of, after_proto, follows_up, asks_on, is_kernels, Point, Says, Spelled, spelled, to_kernel, accepts}
+use Rattle.dm_rule.proofs.Names.{takes_chunk, takes_block, gives_piece, Spot, ids_at, is_between, is_apart, is_restart, is_early, comes, is_away, Phase, Moves, knows, sender_in, receiver_in, pid_eq-same, right_true}
+use Rattle.dm_rule.specs.Phases.{leaves}
 use Rattle.dm_rule.proofs.Moves.Lists.{first_off}
 use Rattle.dm_rule.proofs.Moves.Rows.{goes_first, goes_front, accepted_off, state_off, memory_off, lacks_off, proto_off}
 use Rattle.dm_rule.proofs.Phases.Stand.{InPhases}
@@ -28,20 +10,15 @@ use Rattle.dm_rule.proofs.Phases.Answers.{Whole, Due, answer_row}
 
 -- two kinds between which no machine learns anything
 leaves_as : (k j : MessageKind) (d : ℕ) (y : Known) → is_restart k ≡ is_restart j → leaves k d y ≡ leaves j d y
-leaves_as k j d Unknown e = refl
-leaves_as k j d Here e = refl
 leaves_as k j d (Frozen to) e = ap (λ (b : Bool). not b && (d == to)) e
-leaves_as k j d (Incoming from) e = refl
 leaves_as k j d (Forward at moves) e = ap (λ (b : Bool). b && (d == at)) e
-leaves_as k j d Ended e = refl
+leaves_as k j d _ e = refl
 
 comes_as : (k j : MessageKind) (s : ℕ) (y : Known) → is_early k ≡ is_early j → comes k s y ≡ comes j s y
 comes_as k j s Unknown e = e
-comes_as k j s Here e = refl
-comes_as k j s (Frozen to) e = refl
 comes_as k j s (Incoming from) e = ap (λ (b : Bool). not b && (s == from)) e
 comes_as k j s (Forward at moves) e = e
-comes_as k j s Ended e = refl
+comes_as k j s _ e = refl
 
 pub knows_as : (k j : MessageKind) (s d : ℕ) (o u : Option MsgId) (m : ℕ) (y : Known) → is_restart k ≡ is_restart j → is_early k ≡ is_early j → knows (Moves k s d o) m y ≡ knows (Moves j s d u) m y
 knows_as k j s d o u m y e f =
@@ -49,18 +26,12 @@ knows_as k j s d o u m y e f =
     ∙ ap (λ (b : Bool). if s == m then leaves j d y else if d == m then b else is_away y) (comes_as k j s y f)
 
 -- what is known of another process
-and_false : (b c : Bool) → c ≡ false → (b && c) ≡ false
+pub and_false : (b c : Bool) → c ≡ false → (b && c) ≡ false
 and_false true c e = e
 and_false false c e = refl
 
 pub record_off : (f : ℕ → Pid → Known) (a : ℕ) (p : Pid) (x : Known) (m : ℕ) (q : Pid) → pid_eq p q ≡ false → at_record f a p x m q ≡ f m q
 record_off f a p x m q e = ap (λ (b : Bool). if b then x else f m q) (and_false (a == m) (pid_eq p q) e)
-
-pub record_other : (f : ℕ → Pid → Known) (a : ℕ) (p : Pid) (x : Known) (m : ℕ) → (a == m) ≡ false → at_record f a p x m p ≡ f m p
-record_other f a p x m e = ap (λ (b : Bool). if b && pid_eq p p then x else f m p) e
-
-pub record_here : (f : ℕ → Pid → Known) (a : ℕ) (p : Pid) (x : Known) (m : ℕ) → (a == m) ≡ true → at_record f a p x m p ≡ x
-record_here f a p x m e = ap (λ (b : Bool). if b && pid_eq p p then x else f m p) e ∙ ap (λ (b : Bool). if b then x else f m p) (pid_eq-same p)
 
 -- what the process's machines knew
 pub due_known : (pt : Point) (i : MsgId) (t : Told) (h : InPhases pt.view) (u : Due pt i t h) (m : ℕ) → knows (Moves u.k u.s u.d (Some i)) m (pt.view.known m u.p) ≡ true
@@ -78,10 +49,6 @@ pub same_row : (pt : Point) (i : MsgId) (t : Told) (h : InPhases pt.view) (u : D
 same_row pt i t h u j w same e f m =
     ap (knows (Moves j u.s u.d None) m) (same m) ∙ sym (knows_as u.k j u.s u.d (Some i) None m (pt.view.known m u.p) e f) ∙ due_known pt i t h u m
 
-second : (b c : Bool) → (b && c) ≡ true → c ≡ true
-second true c e = e
-second false c e = absurd (false≢true e)
-
 eq_self : (m : ℕ) → (m == m) ≡ true
 eq_self m = grind (arith, nat_tests)
 
@@ -93,117 +60,67 @@ both_self : (b : Bool) (p : Pid) (x y : Known) → (if b && pid_eq p p then x el
 both_self b p x y = ap (λ (c : Bool). if b && c then x else y) (pid_eq-same p) ∙ and_true b x y
 
 -- a request is taken: the machine expects the process
-accepted_if : (s d m : ℕ) (b c : Bool) (y : Known) → (s == m) ≡ b → (d == m) ≡ c → (s == d) ≡ false → knows (Moves kind.Ask s d None) m y ≡ true → knows (Moves kind.PullState s d None) m (if c then Incoming s else y) ≡ true
+accepted_if : (s d m : ℕ) (b c : Bool) (y : Known) → (s == m) ≡ b → (d == m) ≡ c → (s == d) ≡ false → knows (Moves MessageKind.Ask s d None) m y ≡ true → knows (Moves MessageKind.PullState s d None) m (if c then Incoming s else y) ≡ true
 accepted_if s d m true true y e f g h = absurd (let x : (s == d) ≡ true = grind (arith, nat_tests) in false≢true (sym g ∙ x))
 accepted_if s d m true false y e f g h =
-    ap (λ (b : Bool). if b then leaves kind.PullState d y else if d == m then comes kind.PullState s y else is_away y) e ∙ leaves_as kind.PullState kind.Ask d y refl
-    ∙ sym (ap (λ (b : Bool). if b then leaves kind.Ask d y else if d == m then comes kind.Ask s y else is_away y) e) ∙ h
-accepted_if s d m false true y e f g h = ap (λ (b : Bool). if b then leaves kind.PullState d (Incoming s) else if d == m then comes kind.PullState s (Incoming s) else is_away (Incoming s)) e ∙ ap (λ (b : Bool). if b then comes kind.PullState s (Incoming s) else is_away (Incoming s)) f ∙ eq_self s
+    ap (λ (b : Bool). if b then leaves MessageKind.PullState d y else if d == m then comes MessageKind.PullState s y else is_away y) e ∙ leaves_as MessageKind.PullState MessageKind.Ask d y refl
+    ∙ sym (ap (λ (b : Bool). if b then leaves MessageKind.Ask d y else if d == m then comes MessageKind.Ask s y else is_away y) e) ∙ h
+accepted_if s d m false true y e f g h = ap (λ (b : Bool). if b then leaves MessageKind.PullState d (Incoming s) else if d == m then comes MessageKind.PullState s (Incoming s) else is_away (Incoming s)) e ∙ ap (λ (b : Bool). if b then comes MessageKind.PullState s (Incoming s) else is_away (Incoming s)) f ∙ eq_self s
 accepted_if s d m false false y e f g h =
-    ap (λ (b : Bool). if b then leaves kind.PullState d y else if d == m then comes kind.PullState s y else is_away y) e ∙ ap (λ (b : Bool). if b then comes kind.PullState s y else is_away y) f
-    ∙ sym (ap (λ (b : Bool). if b then leaves kind.Ask d y else if d == m then comes kind.Ask s y else is_away y) e ∙ ap (λ (b : Bool). if b then comes kind.Ask s y else is_away y) f) ∙ h
+    ap (λ (b : Bool). if b then leaves MessageKind.PullState d y else if d == m then comes MessageKind.PullState s y else is_away y) e ∙ ap (λ (b : Bool). if b then comes MessageKind.PullState s y else is_away y) f
+    ∙ sym (ap (λ (b : Bool). if b then leaves MessageKind.Ask d y else if d == m then comes MessageKind.Ask s y else is_away y) e ∙ ap (λ (b : Bool). if b then comes MessageKind.Ask s y else is_away y) f) ∙ h
 
-not_false : (b : Bool) → not b ≡ true → b ≡ false
+pub not_false : (b : Bool) → not b ≡ true → b ≡ false
 not_false true e = absurd (false≢true e)
 not_false false e = refl
 
-accepted_at : (v : View) (s d m : ℕ) (p : Pid) → v.acting ≡ d → front_of (v.inbox v.acting) ≡ s → (s == d) ≡ false → knows (Moves kind.Ask s d None) m (v.known m p) ≡ true → knows (Moves kind.PullState s d None) m (at_record v.known v.acting p (Incoming (front_of (v.inbox v.acting))) m p) ≡ true
+accepted_at : (v : View) (s d m : ℕ) (p : Pid) → v.acting ≡ d → front_of (v.inbox v.acting) ≡ s → (s == d) ≡ false → knows (Moves MessageKind.Ask s d None) m (v.known m p) ≡ true → knows (Moves MessageKind.PullState s d None) m (at_record v.known v.acting p (Incoming (front_of (v.inbox v.acting))) m p) ≡ true
 accepted_at v s d m p at source apart was =
-    let f = knows (Moves kind.PullState s d None) m in
+    let f = knows (Moves MessageKind.PullState s d None) m in
     ap (λ (n : ℕ). f (at_record v.known v.acting p (Incoming n) m p)) source ∙ ap (λ (n : ℕ). f (at_record v.known n p (Incoming s) m p)) at
     ∙ ap f (both_self (d == m) p (Incoming s) (v.known m p)) ∙ accepted_if s d m (s == m) (d == m) (v.known m p) refl refl apart was
 
-pub ask_row : (pt : Point) (i : MsgId) (is : List MsgId) (t : Told) (room : Bool) (slots blocks : ℕ) (w : Spelled) (h : Whole pt) (u : Due pt i t h.phases) → u.k ≡ kind.Ask → pt.view.inbox pt.view.acting ≡ i ∷ is → pt.view.told i ≡ Some t → is_kernels i ≡ true
+pub ask_row : (pt : Point) (i : MsgId) (is : List MsgId) (t : Told) (room : Bool) (slots blocks : ℕ) (w : Spelled) (h : Whole pt) (u : Due pt i t h.phases) → u.k ≡ MessageKind.Ask → pt.view.inbox pt.view.acting ≡ i ∷ is → pt.view.told i ≡ Some t → is_kernels i ≡ true
     → spelled pt (accepts i.from.home u.p room slots blocks) ≡ Some w → Whole w.point
 ask_row pt i is t true slots blocks w h u e front told mine is_ =
     let v = pt.view in
-    let l = line.Migration stage.Accepted u.p in
+    let l = Line.Migration Stage.Accepted u.p in
     let from : i.from.home ≡ u.s = to_sender pt i t h.phases u ∙ ap (λ (k : MessageKind). sender_in k u.s u.d) e in
     let at : v.acting ≡ u.d = u.acting ∙ ap (λ (k : MessageKind). receiver_in k u.s u.d) e in
     let source : front_of (v.inbox v.acting) ≡ u.s = ap front_of front ∙ from in
-    let apart : (u.s == u.d) ≡ false = not_false (u.s == u.d) (second (is_between u.k) (not (u.s == u.d)) (due_apart pt i t h.phases u)) in
-    let was : (m : ℕ) → knows (Moves kind.Ask u.s u.d None) m (v.known m u.p) ≡ true = same_row pt i t h.phases u kind.Ask v (λ m. refl) (ap is_restart e) (ap is_early e) in
-    answer_row pt l i is t kind.PullState i.from.home w h u refl refl refl front told (goes_first pt l i is refl h.state front mine (λ z. accepted_off v u.p z)) (λ z. accepted_off v u.p z)
+    let apart : (u.s == u.d) ≡ false = not_false (u.s == u.d) (right_true (is_between u.k) (not (u.s == u.d)) (due_apart pt i t h.phases u)) in
+    let was : (m : ℕ) → knows (Moves MessageKind.Ask u.s u.d None) m (v.known m u.p) ≡ true = same_row pt i t h.phases u MessageKind.Ask v (λ m. refl) (ap is_restart e) (ap is_early e) in
+    answer_row pt l i is t MessageKind.PullState i.from.home w h u refl refl refl front told (goes_first pt l i is refl h.state front mine (λ z. accepted_off v u.p z)) (λ z. accepted_off v u.p z)
     (λ m q off. record_off v.known v.acting u.p (Incoming (front_of (v.inbox v.acting))) m q off)
     (λ m. accepted_at v u.s u.d m u.p at source apart (was m)) refl refl refl
     (ap (λ (k : MessageKind). receiver_in k u.s u.d) e) from is_
 ask_row pt i is t false slots blocks w h u e front told mine is_ =
     let v = pt.view in
-    let l = line.Lacks u.p slots blocks in
+    let l = Line.Lacks u.p slots blocks in
     let from : i.from.home ≡ u.s = to_sender pt i t h.phases u ∙ ap (λ (k : MessageKind). sender_in k u.s u.d) e in
-    answer_row pt l i is t kind.Refuse i.from.home w h u refl refl refl front told (goes_first pt l i is refl h.state front mine (λ z. lacks_off v u.p slots blocks z)) (λ z. lacks_off v u.p slots blocks z)
+    answer_row pt l i is t MessageKind.Refuse i.from.home w h u refl refl refl front told (goes_first pt l i is refl h.state front mine (λ z. lacks_off v u.p slots blocks z)) (λ z. lacks_off v u.p slots blocks z)
     (λ m q off. refl)
-    (same_row pt i t h.phases u kind.Refuse (view_after v l) (λ m. refl) (ap is_restart e) (ap is_early e)) refl refl refl
+    (same_row pt i t h.phases u MessageKind.Refuse (view_after v l) (λ m. refl) (ap is_restart e) (ap is_early e)) refl refl refl
     (ap (λ (k : MessageKind). receiver_in k u.s u.d) e) from is_
 
 -- a message of pieces: nothing is learned, and the next goes the other way
 asks_known : (v : View) (a : About) (m : ℕ) (p : Pid) → (asks_on v a).known m p ≡ v.known m p
 asks_known v NothingElse m p = refl
-asks_known v (Target n) m p = refl
-asks_known v (Of q) m p = refl
-asks_known v (view.Place q at moves) m p = refl
+asks_known v _ m p = refl
 
-asks_acting : (v : View) (a : About) → (asks_on v a).acting ≡ v.acting
+pub asks_acting : (v : View) (a : About) → (asks_on v a).acting ≡ v.acting
 asks_acting v NothingElse = refl
-asks_acting v (Target n) = refl
-asks_acting v (Of q) = refl
-asks_acting v (view.Place q at moves) = refl
+asks_acting v _ = refl
 
 follows_known : (v : View) (a : About) (k : MessageKind) (m : ℕ) (p : Pid) → (follows_up v a k).known m p ≡ v.known m p
-follows_known v a kind.Ask m p = refl
-follows_known v a kind.Refuse m p = refl
-follows_known v a kind.PullState m p = refl
-follows_known v a kind.State m p = asks_known v a m p
-follows_known v a kind.PullBlock m p = refl
-follows_known v a kind.Memory m p = asks_known v a m p
-follows_known v a kind.AllTaken m p = refl
-follows_known v a kind.Restart m p = refl
-follows_known v a kind.User m p = refl
-follows_known v a kind.Stop m p = refl
-follows_known v a kind.Resume m p = refl
-follows_known v a kind.Kill m p = refl
-follows_known v a kind.Read m p = refl
-follows_known v a kind.Write m p = refl
-follows_known v a kind.Block m p = refl
-follows_known v a kind.Written m p = refl
-follows_known v a kind.Gone m p = refl
-follows_known v a kind.Create m p = refl
-follows_known v a kind.Created m p = refl
-follows_known v a kind.NoRoom m p = refl
-follows_known v a kind.Migrate m p = refl
-follows_known v a kind.Update m p = refl
-follows_known v a kind.Move m p = refl
-follows_known v a kind.Moved m p = refl
-follows_known v a kind.CallOff m p = refl
-follows_known v a kind.Bury m p = refl
+follows_known v a MessageKind.State m p = asks_known v a m p
+follows_known v a MessageKind.Memory m p = asks_known v a m p
+follows_known v a _ m p = refl
 
-follows_acting : (v : View) (a : About) (k : MessageKind) → (follows_up v a k).acting ≡ v.acting
-follows_acting v a kind.Ask = refl
-follows_acting v a kind.Refuse = refl
-follows_acting v a kind.PullState = refl
-follows_acting v a kind.State = asks_acting v a
-follows_acting v a kind.PullBlock = refl
-follows_acting v a kind.Memory = asks_acting v a
-follows_acting v a kind.AllTaken = refl
-follows_acting v a kind.Restart = refl
-follows_acting v a kind.User = refl
-follows_acting v a kind.Stop = refl
-follows_acting v a kind.Resume = refl
-follows_acting v a kind.Kill = refl
-follows_acting v a kind.Read = refl
-follows_acting v a kind.Write = refl
-follows_acting v a kind.Block = refl
-follows_acting v a kind.Written = refl
-follows_acting v a kind.Gone = refl
-follows_acting v a kind.Create = refl
-follows_acting v a kind.Created = refl
-follows_acting v a kind.NoRoom = refl
-follows_acting v a kind.Migrate = refl
-follows_acting v a kind.Update = refl
-follows_acting v a kind.Move = refl
-follows_acting v a kind.Moved = refl
-follows_acting v a kind.CallOff = refl
-follows_acting v a kind.Bury = refl
+pub follows_acting : (v : View) (a : About) (k : MessageKind) → (follows_up v a k).acting ≡ v.acting
+follows_acting v a MessageKind.State = asks_acting v a
+follows_acting v a MessageKind.Memory = asks_acting v a
+follows_acting v a _ = refl
 
 pub proto_known : (v : View) (o : Option Told) (m : ℕ) (p : Pid) → (after_proto v o).known m p ≡ v.known m p
 proto_known v None m p = refl
@@ -218,42 +135,42 @@ proto_topic v None t e = cc
 proto_topic v (Some s) t e = let f : s ≡ t = cc in ap (λ (x : Told). x.about) f
 
 pub proto_row : (pt : Point) (i : MsgId) (is : List MsgId) (t : Told) (j : MessageKind) (w : Spelled) (h : Whole pt) (u : Due pt i t h.phases) → is_restart u.k ≡ is_restart j → is_early u.k ≡ is_early j → receiver_in u.k u.s u.d ≡ sender_in j u.s u.d → sender_in u.k u.s u.d ≡ receiver_in j u.s u.d → is_between j ≡ true
-    → pt.view.inbox pt.view.acting ≡ i ∷ is → pt.view.told i ≡ Some t → is_kernels i ≡ true → spelled pt (Says (line.Proto i) ∷ to_kernel j i.from.home ∷ []) ≡ Some w → Whole w.point
+    → pt.view.inbox pt.view.acting ≡ i ∷ is → pt.view.told i ≡ Some t → is_kernels i ≡ true → spelled pt (Says (Line.Proto i) ∷ to_kernel j i.from.home ∷ []) ≡ Some w → Whole w.point
 proto_row pt i is t j w h u r e turn back between front told mine is_ =
     let v = pt.view in
-    let l = line.Proto i in
+    let l = Line.Proto i in
     let off : (z : Spot) → ids_at (view_after v l) z ≡ ids_at (handled v i) z = λ z. proto_off (handled v i) (v.told i) z in
     let known : (m : ℕ) (q : Pid) → (view_after v l).known m q ≡ v.known m q = λ m q. proto_known (handled v i) (v.told i) m q in
     answer_row pt l i is t j i.from.home w h u refl refl refl front told (goes_front pt l i is refl h.state front mine off) (λ z. off z ∙ sym (first_off v i is front z))
     (λ m q apart. known m q) (same_row pt i t h.phases u j (view_after v l) (λ m. known m u.p) r e) between
     (proto_topic (handled v i) (v.told i) t told ∙ ap (λ (x : Told). x.about) u.told) (proto_acting (handled v i) (v.told i)) turn (to_sender pt i t h.phases u ∙ back) is_
 
-pub pull_state_row : (pt : Point) (i : MsgId) (is : List MsgId) (t : Told) (w : Spelled) (h : Whole pt) (u : Due pt i t h.phases) → u.k ≡ kind.PullState → pt.view.inbox pt.view.acting ≡ i ∷ is → pt.view.told i ≡ Some t → is_kernels i ≡ true
-    → spelled pt (gives_piece i kind.State) ≡ Some w → Whole w.point
+pub pull_state_row : (pt : Point) (i : MsgId) (is : List MsgId) (t : Told) (w : Spelled) (h : Whole pt) (u : Due pt i t h.phases) → u.k ≡ MessageKind.PullState → pt.view.inbox pt.view.acting ≡ i ∷ is → pt.view.told i ≡ Some t → is_kernels i ≡ true
+    → spelled pt (gives_piece i MessageKind.State) ≡ Some w → Whole w.point
 pull_state_row pt i is t w h u e front told mine is_ =
-    proto_row pt i is t kind.State w h u (ap is_restart e) (ap is_early e) (ap (λ (k : MessageKind). receiver_in k u.s u.d) e) (ap (λ (k : MessageKind). sender_in k u.s u.d) e) refl front told mine is_
+    proto_row pt i is t MessageKind.State w h u (ap is_restart e) (ap is_early e) (ap (λ (k : MessageKind). receiver_in k u.s u.d) e) (ap (λ (k : MessageKind). sender_in k u.s u.d) e) refl front told mine is_
 
-pub pull_block_row : (pt : Point) (i : MsgId) (is : List MsgId) (t : Told) (w : Spelled) (h : Whole pt) (u : Due pt i t h.phases) → u.k ≡ kind.PullBlock → pt.view.inbox pt.view.acting ≡ i ∷ is → pt.view.told i ≡ Some t → is_kernels i ≡ true
-    → spelled pt (gives_piece i kind.Memory) ≡ Some w → Whole w.point
+pub pull_block_row : (pt : Point) (i : MsgId) (is : List MsgId) (t : Told) (w : Spelled) (h : Whole pt) (u : Due pt i t h.phases) → u.k ≡ MessageKind.PullBlock → pt.view.inbox pt.view.acting ≡ i ∷ is → pt.view.told i ≡ Some t → is_kernels i ≡ true
+    → spelled pt (gives_piece i MessageKind.Memory) ≡ Some w → Whole w.point
 pull_block_row pt i is t w h u e front told mine is_ =
-    proto_row pt i is t kind.Memory w h u (ap is_restart e) (ap is_early e) (ap (λ (k : MessageKind). receiver_in k u.s u.d) e) (ap (λ (k : MessageKind). sender_in k u.s u.d) e) refl front told mine is_
+    proto_row pt i is t MessageKind.Memory w h u (ap is_restart e) (ap is_early e) (ap (λ (k : MessageKind). receiver_in k u.s u.d) e) (ap (λ (k : MessageKind). sender_in k u.s u.d) e) refl front told mine is_
 
-pub chunk_row : (pt : Point) (i : MsgId) (is : List MsgId) (t : Told) (last : Bool) (w : Spelled) (h : Whole pt) (u : Due pt i t h.phases) → u.k ≡ kind.State → pt.view.inbox pt.view.acting ≡ i ∷ is → pt.view.told i ≡ Some t → is_kernels i ≡ true
+pub chunk_row : (pt : Point) (i : MsgId) (is : List MsgId) (t : Told) (last : Bool) (w : Spelled) (h : Whole pt) (u : Due pt i t h.phases) → u.k ≡ MessageKind.State → pt.view.inbox pt.view.acting ≡ i ∷ is → pt.view.told i ≡ Some t → is_kernels i ≡ true
     → spelled pt (takes_chunk i u.p last) ≡ Some w → Whole w.point
 chunk_row pt i is t true w h u e front told mine is_ =
-    let l = line.Migration stage.StateTaken u.p in
-    answer_row pt l i is t kind.PullBlock i.from.home w h u refl refl refl front told (goes_first pt l i is refl h.state front mine (λ z. state_off pt.view u.p z)) (λ z. state_off pt.view u.p z)
-    (λ m q off. refl) (same_row pt i t h.phases u kind.PullBlock (view_after pt.view l) (λ m. refl) (ap is_restart e) (ap is_early e)) refl refl refl
+    let l = Line.Migration Stage.StateTaken u.p in
+    answer_row pt l i is t MessageKind.PullBlock i.from.home w h u refl refl refl front told (goes_first pt l i is refl h.state front mine (λ z. state_off pt.view u.p z)) (λ z. state_off pt.view u.p z)
+    (λ m q off. refl) (same_row pt i t h.phases u MessageKind.PullBlock (view_after pt.view l) (λ m. refl) (ap is_restart e) (ap is_early e)) refl refl refl
     (ap (λ (k : MessageKind). receiver_in k u.s u.d) e) (to_sender pt i t h.phases u ∙ ap (λ (k : MessageKind). sender_in k u.s u.d) e) is_
 chunk_row pt i is t false w h u e front told mine is_ =
-    proto_row pt i is t kind.PullState w h u (ap is_restart e) (ap is_early e) (ap (λ (k : MessageKind). receiver_in k u.s u.d) e) (ap (λ (k : MessageKind). sender_in k u.s u.d) e) refl front told mine is_
+    proto_row pt i is t MessageKind.PullState w h u (ap is_restart e) (ap is_early e) (ap (λ (k : MessageKind). receiver_in k u.s u.d) e) (ap (λ (k : MessageKind). sender_in k u.s u.d) e) refl front told mine is_
 
-pub block_row : (pt : Point) (i : MsgId) (is : List MsgId) (t : Told) (last : Bool) (w : Spelled) (h : Whole pt) (u : Due pt i t h.phases) → u.k ≡ kind.Memory → pt.view.inbox pt.view.acting ≡ i ∷ is → pt.view.told i ≡ Some t → is_kernels i ≡ true
+pub block_row : (pt : Point) (i : MsgId) (is : List MsgId) (t : Told) (last : Bool) (w : Spelled) (h : Whole pt) (u : Due pt i t h.phases) → u.k ≡ MessageKind.Memory → pt.view.inbox pt.view.acting ≡ i ∷ is → pt.view.told i ≡ Some t → is_kernels i ≡ true
     → spelled pt (takes_block i u.p last) ≡ Some w → Whole w.point
 block_row pt i is t true w h u e front told mine is_ =
-    let l = line.Migration stage.MemoryTaken u.p in
-    answer_row pt l i is t kind.AllTaken i.from.home w h u refl refl refl front told (goes_first pt l i is refl h.state front mine (λ z. memory_off pt.view u.p z)) (λ z. memory_off pt.view u.p z)
-    (λ m q off. refl) (same_row pt i t h.phases u kind.AllTaken (view_after pt.view l) (λ m. refl) (ap is_restart e) (ap is_early e)) refl refl refl
+    let l = Line.Migration Stage.MemoryTaken u.p in
+    answer_row pt l i is t MessageKind.AllTaken i.from.home w h u refl refl refl front told (goes_first pt l i is refl h.state front mine (λ z. memory_off pt.view u.p z)) (λ z. memory_off pt.view u.p z)
+    (λ m q off. refl) (same_row pt i t h.phases u MessageKind.AllTaken (view_after pt.view l) (λ m. refl) (ap is_restart e) (ap is_early e)) refl refl refl
     (ap (λ (k : MessageKind). receiver_in k u.s u.d) e) (to_sender pt i t h.phases u ∙ ap (λ (k : MessageKind). sender_in k u.s u.d) e) is_
 block_row pt i is t false w h u e front told mine is_ =
-    proto_row pt i is t kind.PullBlock w h u (ap is_restart e) (ap is_early e) (ap (λ (k : MessageKind). receiver_in k u.s u.d) e) (ap (λ (k : MessageKind). sender_in k u.s u.d) e) refl front told mine is_
+    proto_row pt i is t MessageKind.PullBlock w h u (ap is_restart e) (ap is_early e) (ap (λ (k : MessageKind). receiver_in k u.s u.d) e) (ap (λ (k : MessageKind). sender_in k u.s u.d) e) refl front told mine is_

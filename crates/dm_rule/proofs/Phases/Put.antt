@@ -1,21 +1,8 @@
 -- The next message about a process that moves is put.
-use Rattle.std.proofs.Common.{◌≡◌, ◌⊎◌, ℕ, ◌+◌, ◌≤◌, ◌==◌, Bool, true, false, List, [], ◌∷◌, ◌++◌, drop, refl, ap, ◌∙◌, sym, subst, inl, inr, arith}
-use Rattle.std.specs.Prelude.{if◌then◌else◌}
-use Rattle.std.specs.declared.option.Option.{Option}
-use Rattle.std.specs.declared.option.Option.TheVariants.{None, Some}
-use Rattle.std.proofs.lemmas.Bool.{cases_Bool, false≢true}
-use Rattle.std.proofs.lemmas.List.{drop-append-le}
-use Rattle.dm_link.specs.declared.Pid.{Pid}
-use Rattle.dm_link.specs.Names.{pid_of, pid_eq}
-use Rattle.dm_message.specs.declared.MsgId.{MsgId}
-use Rattle.dm_message.specs.declared.kind.MessageKind.{MessageKind}
-use Rattle.dm_message.specs.Ids.{id_eq}
-use Rattle.dm_line.specs.Sets.{at_machine}
-use Rattle.dm_rule.specs.View.{View, Pair, Told, About, Of, Known, own_id, after_put, routed_on}
+use Rattle.dm_rule.proofs.Names.{◌≡◌, ◌⊎◌, ℕ, ◌+◌, ◌≤◌, ◌==◌, Bool, true, false, List, [], ◌∷◌, ◌++◌, drop, refl, ap, ◌∙◌, sym, subst, inl, inr, arith, if◌then◌else◌, Option, None, Some, cases_Bool, false≢true, drop-append-le, Pid, pid_of}
+use Rattle.dm_rule.proofs.Names.{pid_eq, MsgId, MessageKind, id_eq, at_machine, View, Told, About, Of, own_id, after_put, routed_on, Spot, Inbox, Untaken, times, untaken, standing, StandsOnce, Phase, Moves, knows, sender_in, receiver_in}
+use Rattle.dm_rule.proofs.Names.{told_between, IsToken, HasToken, IsIn, id_eq-is, id_eq-same, pid_eq-same}
 use Rattle.dm_rule.specs.View as view
-use Rattle.dm_rule.specs.Spots.{Spot, Inbox, Untaken, times, untaken, standing, StandsOnce}
-use Rattle.dm_rule.specs.Phases.{Phase, Nowhere, Rests, Over, Moves, knows, sender_in, receiver_in, told_between, IsToken, HasToken, IsIn}
-use Rattle.dm_laws.proofs.Equal.{id_eq-is, id_eq-same, pid_eq-same}
 use Rattle.dm_rule.proofs.Standing.{spot_cases, once_at, times-append}
 use Rattle.dm_rule.proofs.Once.{one_of}
 use Rattle.dm_rule.proofs.Lines.{not_true, at_machine_at, pair_at}
@@ -27,7 +14,7 @@ use Rattle.dm_rule.proofs.Phases.Stand.{PhasesBut, InPhases, some_only, phase_se
 abbrev pub put_spot : ℕ → ℕ → Spot
 put_spot a b = if a == b then Inbox b else Untaken a b
 
-last_there : (i : MsgId) (xs : List MsgId) → 1 ≤ times i (xs ++ i ∷ [])
+pub last_there : (i : MsgId) (xs : List MsgId) → 1 ≤ times i (xs ++ i ∷ [])
 last_there i xs =
     let a = times-append i xs (i ∷ []) in
     let one : one_of i i ≡ 1 = ap (λ (c : Bool). if c then 1 else 0) (id_eq-same i) in
@@ -62,11 +49,11 @@ one_way f x z a b once least ways there = elim (spot_cases z x) [
 abbrev pub next_told : View → MessageKind → ℕ → Told
 next_told v k b = record { kind = k; receiver = pid_of b 0; about = v.topic }
 
-first_none : (o : Option Told) (u : Told) → o ≡ None → Some (view.first_told o u) ≡ Some u
+pub first_none : (o : Option Told) (u : Told) → o ≡ None → Some (view.first_told o u) ≡ Some u
 first_none None u e = refl
 first_none (Some t) u e = cc
 
-of_same : (p q : Pid) → Of p ≡ Of q → p ≡ q
+pub of_same : (p q : Pid) → Of p ≡ Of q → p ≡ q
 of_same p q e = cc
 
 -- the other processes keep theirs
@@ -84,11 +71,9 @@ others_token v w q k s d id i kept told spots h =
 
 others_has : (v w : View) (q : Pid) (phase : Phase) (i : MsgId) → ((j : MsgId) (t : Told) → v.told j ≡ Some t → id_eq i j ≡ false) → ((j : MsgId) → id_eq i j ≡ false → w.told j ≡ v.told j)
     → ((j : MsgId) → id_eq i j ≡ false → (z : Spot) → standing w j z ≡ standing v j z) → HasToken v q phase → HasToken w q phase
-others_has v w q Nowhere i kept told spots h = tt
-others_has v w q (Rests at) i kept told spots h = tt
-others_has v w q (Over at) i kept told spots h = tt
 others_has v w q (Moves k s d None) i kept told spots h = tt
 others_has v w q (Moves k s d (Some id)) i kept told spots h = others_token v w q k s d id i kept told spots h
+others_has v w q _ i kept told spots h = tt
 
 put_others : (v w : View) (p q : Pid) (phase : Phase) (i : MsgId) (u : Told) → pid_eq p q ≡ false → ((m : ℕ) → w.known m q ≡ v.known m q) → w.told i ≡ Some u → u.about ≡ Of p → ((j : MsgId) → id_eq i j ≡ false → w.told j ≡ v.told j)
     → ((j : MsgId) → id_eq i j ≡ false → (z : Spot) → standing w j z ≡ standing v j z) → ((j : MsgId) (t : Told) → v.told j ≡ Some t → id_eq i j ≡ false) → IsIn v q phase → IsIn w q phase

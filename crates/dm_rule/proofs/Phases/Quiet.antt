@@ -1,34 +1,9 @@
 -- Parts that leave the migrations of all processes as they are.
-use Rattle.std.proofs.Common.{◌≡◌, ℕ, ◌==◌, Bool, true, false, List, [], ◌∷◌, length, refl, ap, ◌∙◌, sym, subst, arith}
-use Rattle.std.specs.Prelude.{⊤, if◌then◌else◌}
-use Rattle.std.specs.declared.option.Option.{Option}
-use Rattle.std.specs.declared.option.Option.TheVariants.{None, Some}
-use Rattle.std.proofs.lemmas.Bool.{false≢true}
-use Rattle.dm_link.specs.declared.Pid.{Pid}
-use Rattle.dm_message.specs.declared.MsgId.{MsgId}
-use Rattle.dm_message.specs.declared.kind.MessageKind.{MessageKind}
-use Rattle.dm_message.specs.declared.kind.MessageKind.TheVariants as kind
-use Rattle.dm_message.specs.Ids.{id_eq}
-use Rattle.dm_message.specs.Kinds.{plain_kind}
-use Rattle.dm_message.specs.Plain.{PlainMessage}
-use Rattle.dm_onekernel.specs.declared.label.Label.{Label}
-use Rattle.dm_onekernel.specs.declared.label.Label.TheVariants as label
-use Rattle.dm_onekernel.specs.Kernel.{OneKernel}
-use Rattle.dm_onekernel.specs.Options.{bind}
+use Rattle.dm_rule.proofs.Names.{◌≡◌, ℕ, ◌==◌, Bool, true, false, List, [], ◌∷◌, length, refl, ap, ◌∙◌, sym, subst, arith, ⊤, if◌then◌else◌, Option, None, Some, false≢true, Pid, MsgId, MessageKind, Load, Stage, id_eq, plain_kind}
+use Rattle.dm_rule.proofs.Names.{PlainMessage, Label, OneKernel, bind, Line, at_record, without_id, View, Told, own_id, view_after, handled, receiver_of, kills, served_told, Receiver, Point, label_of, kernel_after, moved, after_line, after}
+use Rattle.dm_rule.proofs.Names.{Part, Says, Routes, Again, Owns, Transmits, Spelled, lines_of, puts, goes_out, packet_line, behind, spelled, Spot, Queue, Held, Inbox, Untaken, times, ids_at, standing, is_between, bind-is}
 use Rattle.dm_onekernel.specs.Step as kernel
-use Rattle.dm_line.specs.declared.line.Line.{Line}
-use Rattle.dm_line.specs.declared.line.Line.TheVariants as line
-use Rattle.dm_line.specs.declared.line.Load.TheVariants as load
-use Rattle.dm_line.specs.declared.line.Stage.TheVariants as stage
-use Rattle.dm_line.specs.Sets.{at_record, without_id}
-use Rattle.dm_rule.specs.View.{View, Pair, Told, is_kernels, own_id, view_after, handled, receiver_of, kills, served_told}
 use Rattle.dm_rule.specs.View as view
-use Rattle.dm_rule.specs.Addresses.{Receiver}
-use Rattle.dm_rule.specs.Point.{Point, label_of, kernel_after, moved, after_line, after}
-use Rattle.dm_rule.specs.Parts.{Part, Says, Routes, Again, Owns, Transmits, Spelled, lines_of, puts, goes_out, packet_line, behind, spelled}
-use Rattle.dm_rule.specs.Spots.{Spot, Queue, Held, Inbox, Untaken, times, ids_at, standing}
-use Rattle.dm_rule.specs.Phases.{is_between}
-use Rattle.dm_laws.proofs.Steps.{bind-is}
 use Rattle.dm_rule.proofs.Bags.{out_of}
 use Rattle.dm_rule.proofs.Letters.{not_kernels, gone_in}
 use Rattle.dm_rule.proofs.Hushed.{is_put, hushed}
@@ -48,7 +23,7 @@ pub record Tame (v : View) (i : MsgId) : Type 0 where
   pub plain : is_between what.kind ≡ false
 
 abbrev pub is_kill : MessageKind → Bool
-is_kill kind.Kill = true
+is_kill MessageKind.Kill = true
 is_kill _ = false
 
 -- and no kill
@@ -57,59 +32,39 @@ pub record Mild (v : View) (i : MsgId) : Type 0 where
   pub spares : is_kill tame.what.kind ≡ false
 
 abbrev pub QuietLabel : View → Label → Type 0
-QuietLabel v (label.Ran p k) = ⊤
-QuietLabel v (label.Call p n c) = ⊤
-QuietLabel v (label.Send p id) = ⊤
-QuietLabel v (label.Wait p) = ⊤
-QuietLabel v (label.Out p w) = ⊤
-QuietLabel v (label.End p y) = ⊥
-QuietLabel v (label.Receive p id) = ⊤
-QuietLabel v (label.Refuse p id c) = ⊤
-QuietLabel v (label.Dropped id) = ⊤
-QuietLabel v (label.Served id) = Mild v id
-QuietLabel v (label.Gone id) = ⊤
-QuietLabel v (label.Took id) = ⊤
-QuietLabel v (label.Created id p) = ⊥
-QuietLabel v (label.NoSpace id a b) = ⊤
+QuietLabel v (Label.End p y) = ⊥
+QuietLabel v (Label.Served id) = Mild v id
+QuietLabel v (Label.Created id p) = ⊥
+QuietLabel v _ = ⊤
 
 abbrev pub QuietLine : View → Line → Type 0
-QuietLine v (line.Idle m) = ⊤
-QuietLine v (line.Label l) = QuietLabel v l
-QuietLine v (line.Old a b n) = ⊤
-QuietLine v line.Nothing = ⊤
-QuietLine v (line.Resent m n) = ⊤
-QuietLine v (line.Queued i) = Tame v i
-QuietLine v (line.Held i) = Tame v i
-QuietLine v (line.Forwarded i m) = Tame v i
-QuietLine v (line.Updated i n) = Tame v i
-QuietLine v (line.Here i) = Tame v i
-QuietLine v (line.NoMove i) = Tame v i
-QuietLine v (line.NoChild p) = ⊤
-QuietLine v (line.Pinned p) = ⊤
-QuietLine v (line.Migration stage.Asked p) = ⊤
-QuietLine v (line.Migration stage.Frozen p) = ⊥
-QuietLine v (line.Migration stage.Accepted p) = ⊥
-QuietLine v (line.Migration stage.StateTaken p) = ⊥
-QuietLine v (line.Migration stage.MemoryTaken p) = ⊥
-QuietLine v (line.Migration stage.Left p) = ⊥
-QuietLine v (line.Migration stage.Restarted p) = ⊥
-QuietLine v (line.Head s) = ⊥
-QuietLine v (line.Put a b i k q) = ⊥
-QuietLine v (line.Packet a b k l) = ⊥
-QuietLine v (line.Taken a b n) = ⊥
-QuietLine v (line.Early a b n) = ⊥
-QuietLine v (line.Acked a b n) = ⊥
-QuietLine v (line.SentOn p n) = ⊥
-QuietLine v (line.Lacks p a b) = ⊥
-QuietLine v (line.Stays p) = ⊥
-QuietLine v (line.Proto i) = ⊥
+QuietLine v (Line.Idle m) = ⊤
+QuietLine v (Line.Label l) = QuietLabel v l
+QuietLine v (Line.Old a b n) = ⊤
+QuietLine v Line.Nothing = ⊤
+QuietLine v (Line.Resent m n) = ⊤
+QuietLine v (Line.Queued i) = Tame v i
+QuietLine v (Line.Held i) = Tame v i
+QuietLine v (Line.Forwarded i m) = Tame v i
+QuietLine v (Line.Updated i n) = Tame v i
+QuietLine v (Line.Here i) = Tame v i
+QuietLine v (Line.NoMove i) = Tame v i
+QuietLine v (Line.NoChild p) = ⊤
+QuietLine v (Line.Pinned p) = ⊤
+QuietLine v (Line.Migration Stage.Asked p) = ⊤
+QuietLine v (Line.Migration Stage.Frozen p) = ⊥
+QuietLine v (Line.Migration Stage.Accepted p) = ⊥
+QuietLine v (Line.Migration Stage.StateTaken p) = ⊥
+QuietLine v (Line.Migration Stage.MemoryTaken p) = ⊥
+QuietLine v (Line.Migration Stage.Left p) = ⊥
+QuietLine v (Line.Migration Stage.Restarted p) = ⊥
+QuietLine v _ = ⊥
 
 abbrev pub Quiet : View → Part → Type 0
 Quiet v (Says l) = QuietLine v l
-Quiet v (Routes i) = ⊤
 Quiet v (Again i b) = Tame v i
 Quiet v (Owns k q b) = is_between k ≡ false
-Quiet v (Transmits a b l) = ⊤
+Quiet v _ = ⊤
 
 abbrev pub AllQuiet : View → List Part → Type 0
 AllQuiet v [] = ⊤
@@ -121,123 +76,57 @@ tame_on v w i c h = record { what = h.what; told = c.kept i h.what h.told; plain
 
 label_on : (v w : View) (l : Label) → Calm v w → QuietLabel v l → QuietLabel w l
 unfolding tame_on
-label_on v w (label.Ran p k) c h = h
-label_on v w (label.Call p n d) c h = h
-label_on v w (label.Send p id) c h = h
-label_on v w (label.Wait p) c h = h
-label_on v w (label.Out p w_) c h = h
-label_on v w (label.End p y) c h = h
-label_on v w (label.Receive p id) c h = h
-label_on v w (label.Refuse p id d) c h = h
-label_on v w (label.Dropped id) c h = h
-label_on v w (label.Served id) c h = record { tame = tame_on v w id c h.tame; spares = h.spares }
-label_on v w (label.Gone id) c h = h
-label_on v w (label.Took id) c h = h
-label_on v w (label.Created id p) c h = h
-label_on v w (label.NoSpace id a b) c h = h
+label_on v w (Label.Served id) c h = record { tame = tame_on v w id c h.tame; spares = h.spares }
+label_on v w _ c h = h
 
 line_on : (v w : View) (l : Line) → Calm v w → QuietLine v l → QuietLine w l
-line_on v w (line.Idle m) c h = h
-line_on v w (line.Label l) c h = label_on v w l c h
-line_on v w (line.Old a b n) c h = h
-line_on v w line.Nothing c h = h
-line_on v w (line.Resent m n) c h = h
-line_on v w (line.Queued i) c h = tame_on v w i c h
-line_on v w (line.Held i) c h = tame_on v w i c h
-line_on v w (line.Forwarded i m) c h = tame_on v w i c h
-line_on v w (line.Updated i n) c h = tame_on v w i c h
-line_on v w (line.Here i) c h = tame_on v w i c h
-line_on v w (line.NoMove i) c h = tame_on v w i c h
-line_on v w (line.NoChild p) c h = h
-line_on v w (line.Pinned p) c h = h
-line_on v w (line.Head d) c h = h
-line_on v w (line.Put a b i k q) c h = h
-line_on v w (line.Packet a b k l) c h = h
-line_on v w (line.Taken a b n) c h = h
-line_on v w (line.Early a b n) c h = h
-line_on v w (line.Acked a b n) c h = h
-line_on v w (line.SentOn p n) c h = h
-line_on v w (line.Lacks p a b) c h = h
-line_on v w (line.Stays p) c h = h
-line_on v w (line.Proto i) c h = h
-line_on v w (line.Migration stage.Frozen p) c h = h
-line_on v w (line.Migration stage.Asked p) c h = h
-line_on v w (line.Migration stage.Accepted p) c h = h
-line_on v w (line.Migration stage.StateTaken p) c h = h
-line_on v w (line.Migration stage.MemoryTaken p) c h = h
-line_on v w (line.Migration stage.Left p) c h = h
-line_on v w (line.Migration stage.Restarted p) c h = h
+line_on v w (Line.Label l) c h = label_on v w l c h
+line_on v w (Line.Queued i) c h = tame_on v w i c h
+line_on v w (Line.Held i) c h = tame_on v w i c h
+line_on v w (Line.Forwarded i m) c h = tame_on v w i c h
+line_on v w (Line.Updated i n) c h = tame_on v w i c h
+line_on v w (Line.Here i) c h = tame_on v w i c h
+line_on v w (Line.NoMove i) c h = tame_on v w i c h
+line_on v w (Line.Migration Stage.Frozen p) c h = h
+line_on v w (Line.Migration Stage.Asked p) c h = h
+line_on v w (Line.Migration Stage.Accepted p) c h = h
+line_on v w (Line.Migration Stage.StateTaken p) c h = h
+line_on v w (Line.Migration Stage.MemoryTaken p) c h = h
+line_on v w (Line.Migration Stage.Left p) c h = h
+line_on v w (Line.Migration Stage.Restarted p) c h = h
+line_on v w _ c h = h
 
 quiet_on : (v w : View) (p : Part) → Calm v w → Quiet v p → Quiet w p
 quiet_on v w (Says l) c h = line_on v w l c h
-quiet_on v w (Routes i) c h = h
 quiet_on v w (Again i b) c h = tame_on v w i c h
-quiet_on v w (Owns k q b) c h = h
-quiet_on v w (Transmits a b l) c h = h
+quiet_on v w _ c h = h
 
 quiet_touches : (v : View) (l : Line) → QuietLine v l → touches l ≡ false
-quiet_touches v (line.Idle m) h = refl
-quiet_touches v (line.Label l) h = refl
-quiet_touches v (line.Old a b n) h = refl
-quiet_touches v line.Nothing h = refl
-quiet_touches v (line.Resent m n) h = refl
-quiet_touches v (line.Queued i) h = refl
-quiet_touches v (line.Held i) h = refl
-quiet_touches v (line.Forwarded i m) h = refl
-quiet_touches v (line.Updated i n) h = refl
-quiet_touches v (line.Here i) h = refl
-quiet_touches v (line.NoMove i) h = refl
-quiet_touches v (line.NoChild p) h = refl
-quiet_touches v (line.Pinned p) h = refl
-quiet_touches v (line.Head s) h = absurd h
-quiet_touches v (line.Put a b i k q) h = absurd h
-quiet_touches v (line.Packet a b k l) h = absurd h
-quiet_touches v (line.Taken a b n) h = absurd h
-quiet_touches v (line.Early a b n) h = absurd h
-quiet_touches v (line.Acked a b n) h = absurd h
-quiet_touches v (line.SentOn p n) h = refl
-quiet_touches v (line.Lacks p a b) h = refl
-quiet_touches v (line.Stays p) h = refl
-quiet_touches v (line.Proto i) h = refl
-quiet_touches v (line.Migration stage.Frozen p) h = refl
-quiet_touches v (line.Migration stage.Asked p) h = refl
-quiet_touches v (line.Migration stage.Accepted p) h = refl
-quiet_touches v (line.Migration stage.StateTaken p) h = refl
-quiet_touches v (line.Migration stage.MemoryTaken p) h = refl
-quiet_touches v (line.Migration stage.Left p) h = refl
-quiet_touches v (line.Migration stage.Restarted p) h = refl
+quiet_touches v (Line.Head s) h = absurd h
+quiet_touches v (Line.Put a b i k q) h = absurd h
+quiet_touches v (Line.Packet a b k l) h = absurd h
+quiet_touches v (Line.Taken a b n) h = absurd h
+quiet_touches v (Line.Early a b n) h = absurd h
+quiet_touches v (Line.Acked a b n) h = absurd h
+quiet_touches v (Line.Migration Stage.Frozen p) h = refl
+quiet_touches v (Line.Migration Stage.Asked p) h = refl
+quiet_touches v (Line.Migration Stage.Accepted p) h = refl
+quiet_touches v (Line.Migration Stage.StateTaken p) h = refl
+quiet_touches v (Line.Migration Stage.MemoryTaken p) h = refl
+quiet_touches v (Line.Migration Stage.Left p) h = refl
+quiet_touches v (Line.Migration Stage.Restarted p) h = refl
+quiet_touches v _ h = refl
 
 quiet_put : (v : View) (l : Line) → QuietLine v l → is_put l ≡ false
-quiet_put v (line.Idle m) h = refl
-quiet_put v (line.Label l) h = refl
-quiet_put v (line.Old a b n) h = refl
-quiet_put v line.Nothing h = refl
-quiet_put v (line.Resent m n) h = refl
-quiet_put v (line.Queued i) h = refl
-quiet_put v (line.Held i) h = refl
-quiet_put v (line.Forwarded i m) h = refl
-quiet_put v (line.Updated i n) h = refl
-quiet_put v (line.Here i) h = refl
-quiet_put v (line.NoMove i) h = refl
-quiet_put v (line.NoChild p) h = refl
-quiet_put v (line.Pinned p) h = refl
-quiet_put v (line.Head s) h = refl
-quiet_put v (line.Put a b i k q) h = absurd h
-quiet_put v (line.Packet a b k l) h = refl
-quiet_put v (line.Taken a b n) h = refl
-quiet_put v (line.Early a b n) h = refl
-quiet_put v (line.Acked a b n) h = refl
-quiet_put v (line.SentOn p n) h = refl
-quiet_put v (line.Lacks p a b) h = refl
-quiet_put v (line.Stays p) h = refl
-quiet_put v (line.Proto i) h = refl
-quiet_put v (line.Migration stage.Frozen p) h = refl
-quiet_put v (line.Migration stage.Asked p) h = refl
-quiet_put v (line.Migration stage.Accepted p) h = refl
-quiet_put v (line.Migration stage.StateTaken p) h = refl
-quiet_put v (line.Migration stage.MemoryTaken p) h = refl
-quiet_put v (line.Migration stage.Left p) h = refl
-quiet_put v (line.Migration stage.Restarted p) h = refl
+quiet_put v (Line.Put a b i k q) h = absurd h
+quiet_put v (Line.Migration Stage.Frozen p) h = refl
+quiet_put v (Line.Migration Stage.Asked p) h = refl
+quiet_put v (Line.Migration Stage.Accepted p) h = refl
+quiet_put v (Line.Migration Stage.StateTaken p) h = refl
+quiet_put v (Line.Migration Stage.MemoryTaken p) h = refl
+quiet_put v (Line.Migration Stage.Left p) h = refl
+quiet_put v (Line.Migration Stage.Restarted p) h = refl
+quiet_put v _ h = refl
 
 -- a message of the bag is none of the protocol
 plain_by : (pt : Point) (i : MsgId) (x : PlainMessage) (h : Sane pt) (t : Told) (b : Bool) → is_between t.kind ≡ b → pt.kernel.bag i ≡ Some x → pt.view.told i ≡ Some t → b ≡ false
@@ -263,43 +152,17 @@ moves_none v l quiet known off = calm_still v (view_after v l) known (λ j. ap (
 
 serving_off : (v : View) (p : Pid) (z : Spot) → ids_at (view.serving v p) z ≡ ids_at v z
 serving_off v p (Queue m q) = refl
-serving_off v p (Held m q) = refl
-serving_off v p (Inbox m) = refl
-serving_off v p (Untaken a b) = refl
+serving_off v p _ = refl
 
-received_spots : (v : View) (p : Pid) (i j : MsgId) → id_eq i j ≡ false → (z : Spot) → standing (record (view.serving v p) { queue = at_record v.queue v.acting p (without_id i (v.queue v.acting p)) }) j z ≡ standing v j z
+pub received_spots : (v : View) (p : Pid) (i j : MsgId) → id_eq i j ≡ false → (z : Spot) → standing (record (view.serving v p) { queue = at_record v.queue v.acting p (without_id i (v.queue v.acting p)) }) j z ≡ standing v j z
 received_spots v p i j e (Queue m q) = record_times v.queue v.acting p (without_id i (v.queue v.acting p)) j (without_times i j (v.queue v.acting p) e) m q
 received_spots v p i j e (Held m q) = refl
 received_spots v p i j e (Inbox m) = refl
 received_spots v p i j e (Untaken a b) = refl
 
 spares_known : (k : MessageKind) (v : View) (p : Pid) → is_kill k ≡ false → (m : ℕ) (q : Pid) → (kills k v (Some p)).known m q ≡ v.known m q
-spares_known kind.Ask v p e m q = refl
-spares_known kind.Refuse v p e m q = refl
-spares_known kind.PullState v p e m q = refl
-spares_known kind.State v p e m q = refl
-spares_known kind.PullBlock v p e m q = refl
-spares_known kind.Memory v p e m q = refl
-spares_known kind.AllTaken v p e m q = refl
-spares_known kind.Restart v p e m q = refl
-spares_known kind.User v p e m q = refl
-spares_known kind.Stop v p e m q = refl
-spares_known kind.Resume v p e m q = refl
-spares_known kind.Kill v p e m q = absurd (false≢true (sym e))
-spares_known kind.Read v p e m q = refl
-spares_known kind.Write v p e m q = refl
-spares_known kind.Block v p e m q = refl
-spares_known kind.Written v p e m q = refl
-spares_known kind.Gone v p e m q = refl
-spares_known kind.Create v p e m q = refl
-spares_known kind.Created v p e m q = refl
-spares_known kind.NoRoom v p e m q = refl
-spares_known kind.Migrate v p e m q = refl
-spares_known kind.Update v p e m q = refl
-spares_known kind.Move v p e m q = refl
-spares_known kind.Moved v p e m q = refl
-spares_known kind.CallOff v p e m q = refl
-spares_known kind.Bury v p e m q = refl
+spares_known MessageKind.Kill v p e m q = absurd (false≢true (sym e))
+spares_known _ v p e m q = refl
 
 served_known : (v : View) (o : Option Told) (t : Told) → o ≡ Some t → is_kill t.kind ≡ false → (m : ℕ) (q : Pid) → (served_told v o).known m q ≡ v.known m q
 served_known v None t e spares m q = refl
@@ -308,63 +171,51 @@ served_known v (Some s) t e spares m q = let f : s ≡ t = cc in spares_known s.
 gone_plain : (pt : Point) (s : OneKernel) (l : Label) (i : MsgId) → Sane pt → kernel.step pt.kernel l ≡ Some s → out_of l ≡ Some i → Plain pt.view i
 gone_plain pt s l i h is goes = let g = gone_in pt.kernel s l i is goes in plain_in_bag pt i g.message h g.there
 
-label_calm : (pt : Point) (s : OneKernel) (l : Label) → Sane pt → QuietLabel pt.view l → kernel.step pt.kernel l ≡ Some s → Calm pt.view (view_after pt.view (line.Label l))
-label_calm pt s (label.Ran p k) h quiet is = moves_none pt.view (line.Label (label.Ran p k)) refl (λ m q. refl) (λ z. serving_off pt.view p z)
-label_calm pt s (label.Call p n c) h quiet is = calm_same pt.view
-label_calm pt s (label.Send p id) h quiet is = calm_same pt.view
-label_calm pt s (label.Wait p) h quiet is = calm_same pt.view
-label_calm pt s (label.Out p w) h quiet is = calm_same pt.view
-label_calm pt s (label.End p y) h quiet is = absurd quiet
-label_calm pt s (label.Receive p id) h quiet is =
-    hushed_calm pt.view (line.Label (label.Receive p id)) id refl (gone_plain pt s (label.Receive p id) id h is refl) (λ m q. refl) (λ j e z. received_spots pt.view p id j e z)
-label_calm pt s (label.Refuse p id c) h quiet is = moves_none pt.view (line.Label (label.Refuse p id c)) refl (λ m q. refl) (λ z. serving_off pt.view p z)
-label_calm pt s (label.Dropped id) h quiet is =
+label_calm : (pt : Point) (s : OneKernel) (l : Label) → Sane pt → QuietLabel pt.view l → kernel.step pt.kernel l ≡ Some s → Calm pt.view (view_after pt.view (Line.Label l))
+label_calm pt s (Label.Ran p k) h quiet is = moves_none pt.view (Line.Label (Label.Ran p k)) refl (λ m q. refl) (λ z. serving_off pt.view p z)
+label_calm pt s (Label.End p y) h quiet is = absurd quiet
+label_calm pt s (Label.Receive p id) h quiet is =
+    hushed_calm pt.view (Line.Label (Label.Receive p id)) id refl (gone_plain pt s (Label.Receive p id) id h is refl) (λ m q. refl) (λ j e z. received_spots pt.view p id j e z)
+label_calm pt s (Label.Refuse p id c) h quiet is = moves_none pt.view (Line.Label (Label.Refuse p id c)) refl (λ m q. refl) (λ z. serving_off pt.view p z)
+label_calm pt s (Label.Dropped id) h quiet is =
     let o = receiver_of (pt.view.told id) in
-    hushed_calm pt.view (line.Label (label.Dropped id)) id refl (gone_plain pt s (label.Dropped id) id h is refl) (λ m q. dropped_known (handled pt.view id) id o m q)
+    hushed_calm pt.view (Line.Label (Label.Dropped id)) id refl (gone_plain pt s (Label.Dropped id) id h is refl) (λ m q. dropped_known (handled pt.view id) id o m q)
     (λ j e z. dropped_spots (handled pt.view id) id j o e z ∙ handled_spots pt.view id j e z)
-label_calm pt s (label.Served id) h quiet is =
-    hushed_calm pt.view (line.Label (label.Served id)) id refl (gone_plain pt s (label.Served id) id h is refl)
+label_calm pt s (Label.Served id) h quiet is =
+    hushed_calm pt.view (Line.Label (Label.Served id)) id refl (gone_plain pt s (Label.Served id) id h is refl)
     (λ m q. served_known (handled pt.view id) (pt.view.told id) quiet.tame.what quiet.tame.told quiet.spares m q)
     (λ j e z. ap (times j) ((served_keeps (handled pt.view id) (pt.view.told id)).0 z) ∙ handled_spots pt.view id j e z)
-label_calm pt s (label.Gone id) h quiet is =
-    hushed_calm pt.view (line.Label (label.Gone id)) id refl (gone_plain pt s (label.Gone id) id h is refl) (λ m q. refl) (λ j e z. handled_spots pt.view id j e z)
-label_calm pt s (label.Took id) h quiet is =
-    hushed_calm pt.view (line.Label (label.Took id)) id refl (gone_plain pt s (label.Took id) id h is refl) (λ m q. refl) (λ j e z. handled_spots pt.view id j e z)
-label_calm pt s (label.Created id p) h quiet is = absurd quiet
-label_calm pt s (label.NoSpace id a b) h quiet is =
-    hushed_calm pt.view (line.Label (label.NoSpace id a b)) id refl (gone_plain pt s (label.NoSpace id a b) id h is refl) (λ m q. refl) (λ j e z. handled_spots pt.view id j e z)
+label_calm pt s (Label.Gone id) h quiet is =
+    hushed_calm pt.view (Line.Label (Label.Gone id)) id refl (gone_plain pt s (Label.Gone id) id h is refl) (λ m q. refl) (λ j e z. handled_spots pt.view id j e z)
+label_calm pt s (Label.Took id) h quiet is =
+    hushed_calm pt.view (Line.Label (Label.Took id)) id refl (gone_plain pt s (Label.Took id) id h is refl) (λ m q. refl) (λ j e z. handled_spots pt.view id j e z)
+label_calm pt s (Label.Created id p) h quiet is = absurd quiet
+label_calm pt s (Label.NoSpace id a b) h quiet is =
+    hushed_calm pt.view (Line.Label (Label.NoSpace id a b)) id refl (gone_plain pt s (Label.NoSpace id a b) id h is refl) (λ m q. refl) (λ j e z. handled_spots pt.view id j e z)
+label_calm pt s _ h quiet is = calm_same pt.view
 
 pub line_calm : (pt : Point) (s : OneKernel) (l : Line) → Sane pt → QuietLine pt.view l → kernel_after pt.kernel (label_of l) ≡ Some s → Calm pt.view (view_after pt.view l)
-line_calm pt s (line.Idle m) h quiet is = calm_same pt.view
-line_calm pt s (line.Label l) h quiet is = label_calm pt s l h quiet is
-line_calm pt s (line.Old a b n) h quiet is = calm_same pt.view
-line_calm pt s line.Nothing h quiet is = calm_same pt.view
-line_calm pt s (line.Resent m n) h quiet is = calm_same pt.view
-line_calm pt s (line.Queued i) h quiet is = (let o = receiver_of (pt.view.told i) in hushed_calm pt.view (line.Queued i) i refl (tame_plain pt.view i quiet) (λ m q. queued_known (handled pt.view i) i o m q) (λ j e z. queued_spots (handled pt.view i) i j o e z ∙ handled_spots pt.view i j e z))
-line_calm pt s (line.Held i) h quiet is = (let o = receiver_of (pt.view.told i) in hushed_calm pt.view (line.Held i) i refl (tame_plain pt.view i quiet) (λ m q. held_known (handled pt.view i) i o m q) (λ j e z. held_spots (handled pt.view i) i j o e z ∙ handled_spots pt.view i j e z))
-line_calm pt s (line.Forwarded i m) h quiet is = (let o = receiver_of (pt.view.told i) in hushed_calm pt.view (line.Forwarded i m) i refl (tame_plain pt.view i quiet) (λ n q. forwarded_known (handled pt.view i) o n q) (λ j e z. forwarded_spots (handled pt.view i) j o z ∙ handled_spots pt.view i j e z))
-line_calm pt s (line.Updated i n) h quiet is = hushed_calm pt.view (line.Updated i n) i refl (tame_plain pt.view i quiet) (λ m q. refl) (λ j e z. handled_spots pt.view i j e z)
-line_calm pt s (line.Here i) h quiet is = hushed_calm pt.view (line.Here i) i refl (tame_plain pt.view i quiet) (λ m q. refl) (λ j e z. handled_spots pt.view i j e z)
-line_calm pt s (line.NoMove i) h quiet is = hushed_calm pt.view (line.NoMove i) i refl (tame_plain pt.view i quiet) (λ m q. refl) (λ j e z. handled_spots pt.view i j e z)
-line_calm pt s (line.NoChild p) h quiet is = calm_same pt.view
-line_calm pt s (line.Pinned p) h quiet is = calm_same pt.view
-line_calm pt s (line.Head d) h quiet is = absurd quiet
-line_calm pt s (line.Put a b i k q) h quiet is = absurd quiet
-line_calm pt s (line.Packet a b k l) h quiet is = absurd quiet
-line_calm pt s (line.Taken a b n) h quiet is = absurd quiet
-line_calm pt s (line.Early a b n) h quiet is = absurd quiet
-line_calm pt s (line.Acked a b n) h quiet is = absurd quiet
-line_calm pt s (line.SentOn p n) h quiet is = absurd quiet
-line_calm pt s (line.Lacks p a b) h quiet is = absurd quiet
-line_calm pt s (line.Stays p) h quiet is = absurd quiet
-line_calm pt s (line.Proto i) h quiet is = absurd quiet
-line_calm pt s (line.Migration stage.Frozen p) h quiet is = absurd quiet
-line_calm pt s (line.Migration stage.Asked p) h quiet is = calm_same pt.view
-line_calm pt s (line.Migration stage.Accepted p) h quiet is = absurd quiet
-line_calm pt s (line.Migration stage.StateTaken p) h quiet is = absurd quiet
-line_calm pt s (line.Migration stage.MemoryTaken p) h quiet is = absurd quiet
-line_calm pt s (line.Migration stage.Left p) h quiet is = absurd quiet
-line_calm pt s (line.Migration stage.Restarted p) h quiet is = absurd quiet
+line_calm pt s (Line.Idle m) h quiet is = calm_same pt.view
+line_calm pt s (Line.Label l) h quiet is = label_calm pt s l h quiet is
+line_calm pt s (Line.Old a b n) h quiet is = calm_same pt.view
+line_calm pt s Line.Nothing h quiet is = calm_same pt.view
+line_calm pt s (Line.Resent m n) h quiet is = calm_same pt.view
+line_calm pt s (Line.Queued i) h quiet is = (let o = receiver_of (pt.view.told i) in hushed_calm pt.view (Line.Queued i) i refl (tame_plain pt.view i quiet) (λ m q. queued_known (handled pt.view i) i o m q) (λ j e z. queued_spots (handled pt.view i) i j o e z ∙ handled_spots pt.view i j e z))
+line_calm pt s (Line.Held i) h quiet is = (let o = receiver_of (pt.view.told i) in hushed_calm pt.view (Line.Held i) i refl (tame_plain pt.view i quiet) (λ m q. held_known (handled pt.view i) i o m q) (λ j e z. held_spots (handled pt.view i) i j o e z ∙ handled_spots pt.view i j e z))
+line_calm pt s (Line.Forwarded i m) h quiet is = (let o = receiver_of (pt.view.told i) in hushed_calm pt.view (Line.Forwarded i m) i refl (tame_plain pt.view i quiet) (λ n q. forwarded_known (handled pt.view i) o n q) (λ j e z. forwarded_spots (handled pt.view i) j o z ∙ handled_spots pt.view i j e z))
+line_calm pt s (Line.Updated i n) h quiet is = hushed_calm pt.view (Line.Updated i n) i refl (tame_plain pt.view i quiet) (λ m q. refl) (λ j e z. handled_spots pt.view i j e z)
+line_calm pt s (Line.Here i) h quiet is = hushed_calm pt.view (Line.Here i) i refl (tame_plain pt.view i quiet) (λ m q. refl) (λ j e z. handled_spots pt.view i j e z)
+line_calm pt s (Line.NoMove i) h quiet is = hushed_calm pt.view (Line.NoMove i) i refl (tame_plain pt.view i quiet) (λ m q. refl) (λ j e z. handled_spots pt.view i j e z)
+line_calm pt s (Line.NoChild p) h quiet is = calm_same pt.view
+line_calm pt s (Line.Pinned p) h quiet is = calm_same pt.view
+line_calm pt s (Line.Migration Stage.Frozen p) h quiet is = absurd quiet
+line_calm pt s (Line.Migration Stage.Asked p) h quiet is = calm_same pt.view
+line_calm pt s (Line.Migration Stage.Accepted p) h quiet is = absurd quiet
+line_calm pt s (Line.Migration Stage.StateTaken p) h quiet is = absurd quiet
+line_calm pt s (Line.Migration Stage.MemoryTaken p) h quiet is = absurd quiet
+line_calm pt s (Line.Migration Stage.Left p) h quiet is = absurd quiet
+line_calm pt s (Line.Migration Stage.Restarted p) h quiet is = absurd quiet
+line_calm pt s _ h quiet is = absurd quiet
 
 -- what is kept through parts
 pub record Settled (v : View) (pt : Point) : Type 0 where
@@ -372,19 +223,19 @@ pub record Settled (v : View) (pt : Point) : Type 0 where
   pub sane : Sane pt
   pub fits : PairsFit pt.view
 
-packet_or_none : (v : View) (pt next : Point) (c d : Bool) (a b k : ℕ) (l : _) → Calm v pt.view → PairsFit pt.view → after pt (if c then [] else if d then line.Packet a b k l ∷ [] else []) ≡ Some next → (Calm v next.view) × (PairsFit next.view)
+packet_or_none : (v : View) (pt next : Point) (c d : Bool) (a b k : ℕ) (l : _) → Calm v pt.view → PairsFit pt.view → after pt (if c then [] else if d then Line.Packet a b k l ∷ [] else []) ≡ Some next → (Calm v next.view) × (PairsFit next.view)
 packet_or_none v pt next true d a b k l c h is = let f : pt ≡ next = cc in subst (λ (q : Point). (Calm v q.view) × (PairsFit q.view)) f (c, h)
 packet_or_none v pt next false false a b k l c h is = let f : pt ≡ next = cc in subst (λ (q : Point). (Calm v q.view) × (PairsFit q.view)) f (c, h)
 packet_or_none v pt next false true a b k l c h is =
-    let f : moved pt (line.Packet a b k l) pt.kernel ≡ next = cc in
-    subst (λ (q : Point). (Calm v q.view) × (PairsFit q.view)) f (calm_trans v pt.view (view_after pt.view (line.Packet a b k l)) c (packet_calm pt.view a b k l), fits_packet pt.view a b k l h)
+    let f : moved pt (Line.Packet a b k l) pt.kernel ≡ next = cc in
+    subst (λ (q : Point). (Calm v q.view) × (PairsFit q.view)) f (calm_trans v pt.view (view_after pt.view (Line.Packet a b k l)) c (packet_calm pt.view a b k l), fits_packet pt.view a b k l h)
 
 puts_calm : (pt next : Point) (b : ℕ) (i : MsgId) (k : MessageKind) (q : Pid) (ls : List Line) → PairsFit pt.view → is_between k ≡ false → Plain pt.view i → Some (puts pt.view b i k q) ≡ Some ls → after pt ls ≡ Some next → (Calm pt.view next.view) × (PairsFit next.view)
 puts_calm pt next b i k q ls fits e plain is leads =
     let v = pt.view in
     let f : puts v b i k q ≡ ls = cc in
-    let mid = moved pt (line.Put v.acting b i k q) pt.kernel in
-    packet_or_none v mid next (v.acting == b) (goes_out (v.pair v.acting b)) v.acting b (length (v.pair v.acting b).wire) (load.Data (length (v.pair v.acting b).ids))
+    let mid = moved pt (Line.Put v.acting b i k q) pt.kernel in
+    packet_or_none v mid next (v.acting == b) (goes_out (v.pair v.acting b)) v.acting b (length (v.pair v.acting b).wire) (Load.Data (length (v.pair v.acting b).ids))
     (put_calm v v.acting b i k q fits e plain) (fits_put v v.acting b i k q fits) (ap (after pt) f ∙ leads)
 
 says_calm : (pt next : Point) (l : Line) (ls : List Line) → Sane pt → PairsFit pt.view → QuietLine pt.view l → Some (l ∷ []) ≡ Some ls → after pt ls ≡ Some next → (Calm pt.view next.view) × (PairsFit next.view)
@@ -417,10 +268,7 @@ part_calm pt next (Transmits a b l) ls h fits quiet is leads =
 
 sayable_of : (v : View) (p : Part) → Quiet v p → Sayable p
 sayable_of v (Says l) h = quiet_put v l h
-sayable_of v (Routes i) h = tt
-sayable_of v (Again i b) h = tt
-sayable_of v (Owns k q b) h = tt
-sayable_of v (Transmits a b l) h = tt
+sayable_of v _ h = tt
 
 pub parts_settle : (ps : List Part) (v : View) (pt : Point) (w : Spelled) → AllQuiet v ps → Settled v pt → spelled pt ps ≡ Some w → Settled v w.point
 parts_settle [] v pt w quiet h is = let f : record { lines = []; point = pt } ≡ w = cc in subst (λ (x : Spelled). Settled v x.point) f h

@@ -1,27 +1,9 @@
 -- The rows of migration that end it, and the one that begins it.
-use Rattle.std.proofs.Common.{◌≡◌, ◌⊎◌, ℕ, zero, suc, ◌+◌, ◌≤◌, ◌==◌, ◌&&◌, Bool, true, false, not, List, [], ◌∷◌, ◌++◌, refl, ap, ◌∙◌, sym, subst, inl, inr, arith}
-use Rattle.std.specs.Prelude.{if◌then◌else◌}
-use Rattle.std.specs.declared.option.Option.{Option}
-use Rattle.std.specs.declared.option.Option.TheVariants.{None, Some}
-use Rattle.std.proofs.lemmas.Bool.{cases_Bool, false≢true}
-use Rattle.std.proofs.lemmas.Bool.Decides.{nat_tests}
-use Rattle.dm_link.specs.declared.Pid.{Pid}
-use Rattle.dm_link.specs.Names.{pid_eq}
-use Rattle.dm_message.specs.declared.MsgId.{MsgId}
-use Rattle.dm_message.specs.declared.kind.MessageKind.{MessageKind}
-use Rattle.dm_message.specs.declared.kind.MessageKind.TheVariants as kind
-use Rattle.dm_message.specs.Ids.{id_eq}
-use Rattle.dm_line.specs.declared.line.Line.{Line}
-use Rattle.dm_line.specs.declared.line.Line.TheVariants as line
-use Rattle.dm_line.specs.declared.line.Stage.TheVariants as stage
-use Rattle.dm_line.specs.Sets.{at_machine, at_record}
-use Rattle.dm_rule.specs.View.{View, Told, Of, Known, Unknown, Here, Frozen, Incoming, Forward, Ended, view_after, handled_first, released, is_kernels, target_of, front_told}
-use Rattle.dm_rule.specs.Point.{Point, label_of, moved}
-use Rattle.dm_rule.specs.Parts.{Says, Spelled, spelled}
-use Rattle.dm_rule.specs.Migrating.{to_kernel}
-use Rattle.dm_rule.specs.Spots.{Spot, Queue, Held, Inbox, Untaken, times, ids_at, standing}
-use Rattle.dm_rule.specs.Phases.{is_between, is_restart, is_early, leaves, comes, is_away, is_here, is_over, Phase, Nowhere, Rests, Over, Moves, knows, token_in, receiver_in}
-use Rattle.dm_laws.proofs.Equal.{id_eq-is, pid_eq-is, pid_eq-same}
+use Rattle.dm_rule.proofs.Names.{◌≡◌, ◌⊎◌, ℕ, zero, suc, ◌+◌, ◌≤◌, ◌==◌, ◌&&◌, Bool, true, false, not, List, [], ◌∷◌, ◌++◌, refl, ap, ◌∙◌, sym, subst, inl, inr, arith, if◌then◌else◌, Option, None, Some, cases_Bool, false≢true, nat_tests}
+use Rattle.dm_rule.proofs.Names.{Pid, pid_eq, MsgId, MessageKind, Stage, id_eq, Line, at_machine, at_record, View, Told, Of, Known, Unknown, Here, Frozen, Incoming, Forward, Ended, view_after, handled_first, released, is_kernels, target_of}
+use Rattle.dm_rule.proofs.Names.{front_told, Point, label_of, moved, Says, Spelled, spelled, to_kernel, Spot, Queue, Held, Inbox, Untaken, times, ids_at, standing, is_between, is_restart, is_early, comes, is_away, is_here, is_over, Phase}
+use Rattle.dm_rule.proofs.Names.{Nowhere, Rests, Over, Moves, knows, token_in, receiver_in, id_eq-is, pid_eq-is, pid_eq-same}
+use Rattle.dm_rule.specs.Phases.{leaves}
 use Rattle.dm_rule.proofs.Standing.{times-append}
 use Rattle.dm_rule.proofs.Lines.{Bag, hidden, Stands, Stands-stays, Stands-handled, parts, eq_is}
 use Rattle.dm_rule.proofs.Letters.{letters}
@@ -63,12 +45,11 @@ inbox_back v p j m st = elim (cases_Bool (v.acting == m)) [
 ]
 
 released_back : (v : View) (p : Pid) (j : MsgId) (z : Spot) → 1 ≤ standing (released v p) j z → Came v j z
-released_back v p j (Queue m q) st = inl st
 released_back v p j (Held m q) st = inl (held_back v p j m q st)
 released_back v p j (Inbox m) st = inbox_back v p j m st
-released_back v p j (Untaken a b) st = inl st
+released_back v p j _ st = inl st
 
-in_inbox : (v : View) (p : Pid) (j : MsgId) (m : ℕ) → (v.acting == m) ≡ true → 1 ≤ times j (v.held v.acting p) + times j (v.inbox v.acting) → 1 ≤ standing (released v p) j (Inbox m)
+pub in_inbox : (v : View) (p : Pid) (j : MsgId) (m : ℕ) → (v.acting == m) ≡ true → 1 ≤ times j (v.held v.acting p) + times j (v.inbox v.acting) → 1 ≤ standing (released v p) j (Inbox m)
 in_inbox v p j m same st =
     let now : times j (at_machine v.inbox v.acting (v.held v.acting p ++ v.inbox v.acting) m) ≡ times j (v.held v.acting p ++ v.inbox v.acting) = ap (λ (c : Bool). times j (if c then (v.held v.acting p ++ v.inbox v.acting) else v.inbox m)) same in
     let sum = times-append j (v.held v.acting p) (v.inbox v.acting) in
@@ -77,7 +58,7 @@ in_inbox v p j m same st =
 eq_self : (m : ℕ) → (m == m) ≡ true
 eq_self m = grind (arith, nat_tests)
 
-released_on : (v : View) (p : Pid) (j : MsgId) (z : Spot) → 1 ≤ standing v j z → (y : Spot) × (1 ≤ standing (released v p) j y)
+pub released_on : (v : View) (p : Pid) (j : MsgId) (z : Spot) → 1 ≤ standing v j z → (y : Spot) × (1 ≤ standing (released v p) j y)
 released_on v p j (Queue m q) st = (Queue m q, st)
 released_on v p j (Held m q) st = elim (cases_Bool ((v.acting == m) && pid_eq p q)) [
   | inl same ↦
@@ -148,19 +129,14 @@ back_learns pt l i is t p h quiet front told about off known =
 -- it rests on the acting machine
 early_away : (k : MessageKind) (s : ℕ) (y : Known) → is_early k ≡ true → comes k s y ≡ true → is_away y ≡ true
 early_away k s Unknown e h = refl
-early_away k s Here e h = absurd (false≢true h)
-early_away k s (Frozen to) e h = absurd (false≢true h)
 early_away k s (Incoming from) e h = absurd (false≢true (sym (ap (λ (b : Bool). not b && (s == from)) e) ∙ h))
 early_away k s (Forward at moves) e h = refl
-early_away k s Ended e h = absurd (false≢true h)
+early_away k s _ e h = absurd (false≢true h)
 
 restart_away : (k : MessageKind) (d : ℕ) (y : Known) → is_restart k ≡ true → leaves k d y ≡ true → is_away y ≡ true
-restart_away k d Unknown e h = absurd (false≢true h)
-restart_away k d Here e h = absurd (false≢true h)
 restart_away k d (Frozen to) e h = absurd (false≢true (sym (ap (λ (b : Bool). not b && (d == to)) e) ∙ h))
-restart_away k d (Incoming from) e h = absurd (false≢true h)
 restart_away k d (Forward at moves) e h = refl
-restart_away k d Ended e h = absurd (false≢true h)
+restart_away k d _ e h = absurd (false≢true h)
 
 -- the source, when it was refused, and the destination, when it may restart the process
 coming_away : (k : MessageKind) (s d m : ℕ) (y : Known) (c : Bool) → is_early k ≡ true → (if c then comes k s y else is_away y) ≡ true → is_away y ≡ true
@@ -205,16 +181,16 @@ home_row pt l i is t at w h u none quiet calm front told mine off learned known 
     let whole : Whole next = record { state = comes_back pt l i is u.p quiet h.state front mine off; fits = fits_as v next.view (pair_same v l calm) h.fits; phases = turned.phases } in
     subst Whole n.point (whole_ends next n.rest whole n.more)
 
-pub stays_row : (pt : Point) (i : MsgId) (is : List MsgId) (t : Told) (w : Spelled) (h : Whole pt) (u : Due pt i t h.phases) → u.k ≡ kind.Refuse → pt.view.inbox pt.view.acting ≡ i ∷ is → pt.view.told i ≡ Some t → is_kernels i ≡ true → spelled pt (Says (line.Stays u.p) ∷ []) ≡ Some w → Whole w.point
+pub stays_row : (pt : Point) (i : MsgId) (is : List MsgId) (t : Told) (w : Spelled) (h : Whole pt) (u : Due pt i t h.phases) → u.k ≡ MessageKind.Refuse → pt.view.inbox pt.view.acting ≡ i ∷ is → pt.view.told i ≡ Some t → is_kernels i ≡ true → spelled pt (Says (Line.Stays u.p) ∷ []) ≡ Some w → Whole w.point
 stays_row pt i is t w h u e front told mine is_ =
     let at : pt.view.acting ≡ u.s = u.acting ∙ ap (λ (k : MessageKind). receiver_in k u.s u.d) e in
-    home_row pt (line.Stays u.p) i is t u.s w h u refl refl refl front told mine (λ z. refl) refl
+    home_row pt (Line.Stays u.p) i is t u.s w h u refl refl refl front told mine (λ z. refl) refl
     (λ m. ap (knows (Rests u.s) m) (at_acting pt.view u.s m u.p Here at) ∙ refused_if u.k u.s u.d m (Some i) (u.s == m) (pt.view.known m u.p) (ap is_early e) refl (due_known pt i t h.phases u m)) is_
 
-pub restart_row : (pt : Point) (i : MsgId) (is : List MsgId) (t : Told) (w : Spelled) (h : Whole pt) (u : Due pt i t h.phases) → u.k ≡ kind.Restart → pt.view.inbox pt.view.acting ≡ i ∷ is → pt.view.told i ≡ Some t → is_kernels i ≡ true → spelled pt (Says (line.Migration stage.Restarted u.p) ∷ []) ≡ Some w → Whole w.point
+pub restart_row : (pt : Point) (i : MsgId) (is : List MsgId) (t : Told) (w : Spelled) (h : Whole pt) (u : Due pt i t h.phases) → u.k ≡ MessageKind.Restart → pt.view.inbox pt.view.acting ≡ i ∷ is → pt.view.told i ≡ Some t → is_kernels i ≡ true → spelled pt (Says (Line.Migration Stage.Restarted u.p) ∷ []) ≡ Some w → Whole w.point
 restart_row pt i is t w h u e front told mine is_ =
     let at : pt.view.acting ≡ u.d = u.acting ∙ ap (λ (k : MessageKind). receiver_in k u.s u.d) e in
-    home_row pt (line.Migration stage.Restarted u.p) i is t u.d w h u refl refl refl front told mine (λ z. restarted_off pt.view u.p z) refl
+    home_row pt (Line.Migration Stage.Restarted u.p) i is t u.d w h u refl refl refl front told mine (λ z. restarted_off pt.view u.p z) refl
     (λ m. ap (knows (Rests u.d) m) (at_acting pt.view u.d m u.p Here at) ∙ restarted_if u.k u.s u.d m (Some i) (u.d == m) (pt.view.known m u.p) (ap is_restart e) refl (due_known pt i t h.phases u m)) is_
 
 rests_if : (at m : ℕ) (b : Bool) → (at == m) ≡ b → (if b then is_here Here else is_away Here) ≡ true → Rests at ≡ Rests m
@@ -230,7 +206,7 @@ moves_if k s d true c = refl
 moves_if k s d false true = refl
 moves_if k s d false false = refl
 
-away_comes : (a : ℕ) (y : Known) (c : Bool) → is_away y ≡ true → (if c then comes kind.Ask a y else is_away y) ≡ true
+away_comes : (a : ℕ) (y : Known) (c : Bool) → is_away y ≡ true → (if c then comes MessageKind.Ask a y else is_away y) ≡ true
 away_comes a Unknown true h = refl
 away_comes a (Forward at moves) true h = refl
 away_comes a Here true h = absurd (false≢true h)
@@ -247,29 +223,29 @@ rests_here (Over at) m e = absurd (false≢true (sym (over_if (at == m)) ∙ e))
 rests_here (Moves k s d o) m e = absurd (false≢true (sym (moves_if k s d (s == m) (d == m)) ∙ e))
 
 -- it is frozen, and the other machine is asked
-frozen_if : (a to m : ℕ) (b : Bool) (y : Known) → (a == m) ≡ b → (a == to) ≡ false → knows (Rests a) m y ≡ true → knows (Moves kind.Ask a to None) m (if b then Frozen to else y) ≡ true
-frozen_if a to m true y e f h = ap (λ (c : Bool). if c then leaves kind.Ask to (Frozen to) else if to == m then comes kind.Ask a (Frozen to) else is_away (Frozen to)) e ∙ eq_self to
+frozen_if : (a to m : ℕ) (b : Bool) (y : Known) → (a == m) ≡ b → (a == to) ≡ false → knows (Rests a) m y ≡ true → knows (Moves MessageKind.Ask a to None) m (if b then Frozen to else y) ≡ true
+frozen_if a to m true y e f h = ap (λ (c : Bool). if c then leaves MessageKind.Ask to (Frozen to) else if to == m then comes MessageKind.Ask a (Frozen to) else is_away (Frozen to)) e ∙ eq_self to
 frozen_if a to m false y e f h =
-    ap (λ (c : Bool). if c then leaves kind.Ask to y else if to == m then comes kind.Ask a y else is_away y) e
+    ap (λ (c : Bool). if c then leaves MessageKind.Ask to y else if to == m then comes MessageKind.Ask a y else is_away y) e
     ∙ away_comes a y (to == m) (sym (ap (λ (c : Bool). if c then is_here y else is_away y) e) ∙ h)
 
 pub frozen_row : (pt : Point) (i : MsgId) (is : List MsgId) (t : Told) (p : Pid) (to : ℕ) (w : Spelled) (h : Whole pt) → is_between t.kind ≡ false → pt.view.inbox pt.view.acting ≡ i ∷ is → pt.view.told i ≡ Some t → is_kernels i ≡ true → pt.view.known pt.view.acting p ≡ Here → target_of (Some t) ≡ to → (pt.view.acting == to) ≡ false
-    → spelled pt (Says (line.Migration stage.Frozen p) ∷ Says (line.Migration stage.Asked p) ∷ to_kernel kind.Ask to ∷ []) ≡ Some w → Whole w.point
+    → spelled pt (Says (Line.Migration Stage.Frozen p) ∷ Says (Line.Migration Stage.Asked p) ∷ to_kernel MessageKind.Ask to ∷ []) ≡ Some w → Whole w.point
 frozen_row pt i is t p to w h plain front told mine here target apart e =
     let v = pt.view in
     let a = v.acting in
-    let l = line.Migration stage.Frozen p in
+    let l = Line.Migration Stage.Frozen p in
     let next = moved pt l pt.kernel in
-    let n = line_next pt l (Says (line.Migration stage.Asked p) ∷ to_kernel kind.Ask to ∷ []) w refl e in
+    let n = line_next pt l (Says (Line.Migration Stage.Asked p) ∷ to_kernel MessageKind.Ask to ∷ []) w refl e in
     let phase : h.phases.of p ≡ Rests a = rests_here (h.phases.of p) a (sym (ap (knows (h.phases.of p) a) here) ∙ (h.phases.each p).known a) in
     let aim : target_of (front_told v (v.inbox a)) ≡ to = ap (λ (is : List MsgId). target_of (front_told v is)) front ∙ ap target_of told ∙ target in
     let learns = first_learns pt l i is t p h.state refl front told (λ b. absurd (false≢true (sym plain ∙ b))) (λ z. frozen_off v p z) (λ m q off. record_off v.known a p (Frozen (target_of (front_told v (v.inbox a)))) m q off) in
     let rested : (m : ℕ) → knows (Rests a) m (v.known m p) ≡ true = λ m. subst (λ (x : Phase). knows x m (v.known m p) ≡ true) phase ((h.phases.each p).known m) in
-    let turned = learns_phases v next.view p (Moves kind.Ask a to None) h.phases (none_only p) learns refl (ap not apart)
-    (λ m. ap (knows (Moves kind.Ask a to None) m) (at_acting v a m p (Frozen (target_of (front_told v (v.inbox a)))) refl) ∙ ap (λ (x : ℕ). knows (Moves kind.Ask a to None) m (if a == m then Frozen x else v.known m p)) aim ∙ frozen_if a to m (a == m) (v.known m p) refl apart (rested m))
+    let turned = learns_phases v next.view p (Moves MessageKind.Ask a to None) h.phases (none_only p) learns refl (ap not apart)
+    (λ m. ap (knows (Moves MessageKind.Ask a to None) m) (at_acting v a m p (Frozen (target_of (front_told v (v.inbox a)))) refl) ∙ ap (λ (x : ℕ). knows (Moves MessageKind.Ask a to None) m (if a == m then Frozen x else v.known m p)) aim ∙ frozen_if a to m (a == m) (v.known m p) refl apart (rested m))
     (λ j x z. absurd (let f : None ≡ Some j = sym (ap token_in phase) ∙ x in cc)) in
     let whole : WholeBut (Some p) next = record { state = goes_first pt l i is refl h.state front mine (λ z. frozen_off v p z); fits = fits_as v next.view (pair_same v l refl) h.fits; phases = turned.phases } in
-    let asked = line.Migration stage.Asked p in
-    let k = line_next next asked (to_kernel kind.Ask to ∷ []) n.rest refl n.more in
+    let asked = Line.Migration Stage.Asked p in
+    let k = line_next next asked (to_kernel MessageKind.Ask to ∷ []) n.rest refl n.more in
     let then_ : WholeBut (Some p) (moved next asked next.kernel) = record { state = by_line None next asked refl whole.state whole.state.stands (λ j. refl); fits = whole.fits; phases = turned.phases } in
-    subst Whole n.point (subst Whole k.point (owns_whole (moved next asked next.kernel) p kind.Ask a to to k.rest then_ turned.now refl refl refl k.more))
+    subst Whole n.point (subst Whole k.point (owns_whole (moved next asked next.kernel) p MessageKind.Ask a to to k.rest then_ turned.now refl refl refl k.more))

@@ -1,18 +1,6 @@
 -- Each process is in a phase; what handles the one message about a process, and what puts the next.
-use Rattle.std.proofs.Common.{◌≡◌, ◌⊎◌, ℕ, ◌≤◌, Bool, true, false, refl, ap, ◌∙◌, sym, subst, inl, inr, arith}
-use Rattle.std.specs.Prelude.{if◌then◌else◌}
-use Rattle.std.specs.declared.option.Option.{Option}
-use Rattle.std.specs.declared.option.Option.TheVariants.{None, Some}
-use Rattle.std.proofs.lemmas.Bool.{cases_Bool, false≢true}
-use Rattle.dm_link.specs.declared.Pid.{Pid}
-use Rattle.dm_link.specs.Names.{pid_eq}
-use Rattle.dm_message.specs.declared.MsgId.{MsgId}
-use Rattle.dm_message.specs.declared.kind.MessageKind.{MessageKind}
-use Rattle.dm_line.specs.Sets.{at_pid}
-use Rattle.dm_rule.specs.View.{View, Told, Of}
-use Rattle.dm_rule.specs.Spots.{Spot, Queue, Held, Inbox, Untaken, standing}
-use Rattle.dm_rule.specs.Phases.{is_between, is_apart, Phase, Nowhere, Rests, Over, Moves, knows, is_due, token_in, sender_in, receiver_in, told_between, IsToken, HasToken, Alone, IsIn}
-use Rattle.dm_laws.proofs.Equal.{pid_eq-is, pid_eq-same}
+use Rattle.dm_rule.proofs.Names.{◌≡◌, ◌⊎◌, ℕ, ◌≤◌, Bool, true, false, refl, ap, ◌∙◌, sym, subst, inl, inr, arith, if◌then◌else◌, Option, None, Some, cases_Bool, false≢true, Pid, pid_eq, MsgId, MessageKind, at_pid, View, Told, Of, Spot}
+use Rattle.dm_rule.proofs.Names.{Queue, Held, Inbox, Untaken, standing, is_between, is_apart, Phase, Moves, knows, is_due, token_in, sender_in, receiver_in, told_between, IsToken, HasToken, Alone, IsIn, pid_eq-is, pid_eq-same}
 use Rattle.dm_rule.proofs.Phases.Calm.{Came, Calm, calm_in, between_of, stands_where}
 
 -- all processes, where the next message about at most this one isn't put yet
@@ -49,10 +37,8 @@ calm_phases v w c h = record {
 
 -- a message of the protocol that stands somewhere is the token of the process that it is about
 token_by : (v : View) (p : Pid) (phase : Phase) (i : MsgId) → IsIn v p phase → token_in phase ≡ Some i → (k : MessageKind) × (s : ℕ) × (d : ℕ) × (phase ≡ Moves k s d (Some i))
-token_by v p Nowhere i h e = cc
-token_by v p (Rests at) i h e = cc
-token_by v p (Over at) i h e = cc
 token_by v p (Moves k s d id) i h e = (k, s, d, ap (λ (o : Option MsgId). Moves k s d o) e)
+token_by v p _ i h e = cc
 
 pub token_is : (v : View) (h : InPhases v) (i : MsgId) (t : Told) (z : Spot) → v.told i ≡ Some t → is_between t.kind ≡ true → 1 ≤ standing v i z
     → (p : Pid) × (k : MessageKind) × (s : ℕ) × (d : ℕ) × (t.about ≡ Of p) × (h.of p ≡ Moves k s d (Some i))
@@ -67,10 +53,9 @@ token_at v p phase k s d i e h = (subst (λ (x : Phase). IsIn v p x) e h).token
 
 -- it stands in no queue and no held list
 abbrev is_list : Spot → Bool
-is_list (Queue m p) = true
-is_list (Held m p) = true
 is_list (Inbox m) = false
 is_list (Untaken a b) = false
+is_list _ = true
 
 not_listed : (z : Spot) (from to : ℕ) → (z ≡ Inbox to) ⊎ (z ≡ Untaken from to) → is_list z ≡ false
 not_listed z from to e = elim e [
@@ -130,11 +115,9 @@ learns_token v w p q k s d id apart b c h =
     }
 
 learns_has : (v w : View) (p q : Pid) (phase : Phase) → pid_eq p q ≡ false → is_apart phase ≡ true → Learns v w p → HasToken v q phase → HasToken w q phase
-learns_has v w p q Nowhere apart a c h = tt
-learns_has v w p q (Rests at) apart a c h = tt
-learns_has v w p q (Over at) apart a c h = tt
 learns_has v w p q (Moves k s d None) apart a c h = tt
 learns_has v w p q (Moves k s d (Some id)) apart a c h = learns_token v w p q k s d id apart (between_of k s d a) c h
+learns_has v w p q _ apart a c h = tt
 
 learns_alone : (v w : View) (p q : Pid) (o : Option MsgId) → Learns v w p → Alone v q o → Alone w q o
 learns_alone v w p q o c h i t z told b about st =
@@ -163,11 +146,9 @@ none_left v w p o c h gone i t z told b about st =
     absurd (let none : standing w i z ≡ 0 = gone i mine z in omega (arith, st, none))
 
 rests_token : (w : View) (p : Pid) (phase : Phase) → token_in phase ≡ None → HasToken w p phase
-rests_token w p Nowhere e = tt
-rests_token w p (Rests at) e = tt
-rests_token w p (Over at) e = tt
 rests_token w p (Moves k s d None) e = tt
 rests_token w p (Moves k s d (Some i)) e = cc
+rests_token w p _ e = tt
 
 -- the phases behind, and the one that changed
 pub record Turned (w : View) (p : Pid) (next : Phase) : Type 0 where

@@ -1,17 +1,6 @@
 -- Before the first line each process of the boot file, and each server, rests where it starts.
-use Rattle.std.proofs.Common.{◌≡◌, ℕ, ◌==◌, ◌&&◌, ◌||◌, Bool, true, false, List, [], ◌∷◌, refl, ap, ◌∙◌, arith}
-use Rattle.std.specs.Prelude.{if◌then◌else◌}
-use Rattle.std.specs.declared.option.Option.TheVariants.{None, Some}
-use Rattle.std.proofs.lemmas.Bool.{false≢true}
-use Rattle.std.proofs.lemmas.Bool.Decides.{nat_tests}
-use Rattle.dm_link.specs.declared.Pid.{Pid}
-use Rattle.dm_link.specs.Names.{pid_eq}
-use Rattle.dm_onekernel.specs.declared.boot.BootProcess.{BootProcess}
-use Rattle.dm_onekernel.specs.declared.boot.Boot.{Boot}
-use Rattle.dm_onekernel.specs.Boot.{switchboard, manager}
-use Rattle.dm_rule.specs.View.{View, Known, Unknown, Here, known_at, first_view}
-use Rattle.dm_rule.specs.Phases.{Phase, Nowhere, Rests, knows, is_here, is_away, HasToken, is_apart, is_due}
-use Rattle.dm_laws.proofs.Equal.{pid_eq-is}
+use Rattle.dm_rule.proofs.Names.{◌≡◌, ℕ, ◌==◌, ◌&&◌, ◌||◌, Bool, true, false, List, [], ◌∷◌, refl, ap, ◌∙◌, arith, if◌then◌else◌, None, Some, false≢true, nat_tests, Pid, pid_eq, BootProcess, Boot, switchboard, manager, View, Known, Unknown}
+use Rattle.dm_rule.proofs.Names.{Here, known_at, first_view, Phase, Nowhere, Rests, knows, is_here, is_away, HasToken, is_apart, is_due, pid_eq-is}
 use Rattle.dm_rule.proofs.Phases.Stand.{InPhases}
 
 abbrev pub starts : List BootProcess → Pid → Bool

@@ -1,41 +1,14 @@
 -- A turn that handles a message of the bag, or serves a process: each process stays in a phase.
-use Rattle.std.proofs.Common.{◌≡◌, ℕ, ◌+◌, ◌==◌, Bool, true, false, List, [], ◌∷◌, refl, ap, ◌∙◌, subst, length}
-use Rattle.std.specs.Prelude.{if◌then◌else◌, slice_get}
-use Rattle.std.specs.declared.option.Option.{Option}
-use Rattle.std.specs.declared.option.Option.TheVariants.{None, Some}
-use Rattle.dm_link.specs.declared.Pid.{Pid}
-use Rattle.dm_link.specs.Names.{pid_of, pid_eq}
-use Rattle.dm_message.specs.declared.MsgId.{MsgId}
-use Rattle.dm_message.specs.declared.kind.MessageKind.TheVariants as kind
-use Rattle.dm_message.specs.Kinds.{plain_kind}
-use Rattle.dm_message.specs.Plain as what
-use Rattle.dm_message.specs.Plain.{PlainMessage, PlainWhat}
-use Rattle.dm_processor.specs.Instructions.{instruction}
-use Rattle.dm_onekernel.specs.declared.boot.BootImage.{BootImage}
-use Rattle.dm_onekernel.specs.declared.boot.Boot.{Boot}
-use Rattle.dm_onekernel.specs.declared.label.Label.TheVariants as label
-use Rattle.dm_onekernel.specs.declared.label.Why.{Why}
-use Rattle.dm_onekernel.specs.declared.label.Why.TheVariants as why
-use Rattle.dm_onekernel.specs.Boot.{first_number, switchboard, manager}
-use Rattle.dm_onekernel.specs.Options.{bind}
-use Rattle.dm_onekernel.specs.PlainProcess.{PlainProcess, PlainStatus, Ready, Waiting, Moving}
-use Rattle.dm_onekernel.specs.Kernel.{OneKernel}
+use Rattle.dm_rule.proofs.Names.{◌≡◌, ℕ, ◌+◌, ◌==◌, Bool, true, false, List, [], ◌∷◌, refl, ap, ◌∙◌, subst, length, if◌then◌else◌, slice_get, Option, None, Some, Pid, pid_of, pid_eq, MsgId, MessageKind, Label, plain_kind, PlainMessage}
+use Rattle.dm_rule.proofs.Names.{PlainWhat, instruction, BootImage, Boot, Why, first_number, switchboard, manager, bind, PlainProcess, PlainStatus, Ready, Waiting, Moving, OneKernel, answer_id, machine_of, with_machine, Line, View, Told}
+use Rattle.dm_rule.proofs.Names.{Known, Unknown, Here, Forward, Ended, view_after, Point, label_of, kernel_after, moved, Part, Says, Routes, Spelled, spelled, forwards_on, bind-is}
 use Rattle.dm_onekernel.specs.Calls as calls
 use Rattle.dm_onekernel.specs.Pieces as pieces
-use Rattle.dm_onekernel.specs.Pieces.{answer_id}
 use Rattle.dm_onekernel.specs.Receiving as receiving
 use Rattle.dm_onekernel.specs.Switchboard as board
 use Rattle.dm_onekernel.specs.Manager as manage
 use Rattle.dm_onekernel.specs.Step as kernel
-use Rattle.dm_onekernel.specs.Step.{machine_of, with_machine}
-use Rattle.dm_line.specs.declared.line.Line.{Line}
-use Rattle.dm_line.specs.declared.line.Line.TheVariants as line
-use Rattle.dm_rule.specs.View.{View, Told, Known, Unknown, Here, Frozen, Incoming, Forward, Ended, view_after}
-use Rattle.dm_rule.specs.Point.{Point, label_of, kernel_after, moved}
-use Rattle.dm_rule.specs.Parts.{Part, Says, Routes, Spelled, spelled}
-use Rattle.dm_rule.specs.Migrating.{forwards_on}
 use Rattle.dm_rule.specs.Rule as rule
-use Rattle.dm_laws.proofs.Steps.{bind-is}
 use Rattle.dm_rule.proofs.Hushed.{is_put}
 use Rattle.dm_rule.proofs.Pairs.Lines.{touches, pair_same}
 use Rattle.dm_rule.proofs.States.{PairsFit, says_next}
@@ -72,22 +45,22 @@ drops_quiet v [] = tt
 drops_quiet v (i ∷ is) = (tt, drops_quiet v is)
 
 -- a process ends, and its queue is dropped
-ends_row : (pt : Point) (p : Pid) (y : Why) (queue : List MsgId) (w : Spelled) → Fit pt → pt.view.known pt.view.acting p ≡ Here → spelled pt (rule.says (label.End p y) ∷ rule.drops queue) ≡ Some w → InPhases w.point.view
+ends_row : (pt : Point) (p : Pid) (y : Why) (queue : List MsgId) (w : Spelled) → Fit pt → pt.view.known pt.view.acting p ≡ Here → spelled pt (rule.says (Label.End p y) ∷ rule.drops queue) ≡ Some w → InPhases w.point.view
 ends_row pt p y queue w h here e =
-    line_first pt (line.Label (label.End p y)) (rule.drops queue) w h refl refl (λ s k. end_line_phases pt.view p y h.phases here)
-    (λ s next rest more. quiet_parts (rule.drops queue) (moved pt (line.Label (label.End p y)) s) rest next (drops_quiet (view_after pt.view (line.Label (label.End p y))) queue) more) e
+    line_first pt (Line.Label (Label.End p y)) (rule.drops queue) w h refl refl (λ s k. end_line_phases pt.view p y h.phases here)
+    (λ s next rest more. quiet_parts (rule.drops queue) (moved pt (Line.Label (Label.End p y)) s) rest next (drops_quiet (view_after pt.view (Line.Label (Label.End p y))) queue) more) e
 
 called_row : (pt : Point) (p : Pid) (n : ℕ) (queue : List MsgId) (c : calls.Called) (w : Spelled) → Fit pt → pt.view.known pt.view.acting p ≡ Here → spelled pt (rule.called p n queue c) ≡ Some w → InPhases w.point.view
-called_row pt p n queue (calls.Replies reply x) w h here e = quiet_parts (rule.says (label.Call p n reply) ∷ []) pt w h (tt, tt) e
-called_row pt p n queue (calls.Sends m x) w h here e = quiet_parts (rule.says (label.Send p m.id) ∷ Routes m.id ∷ []) pt w h (tt, (tt, tt)) e
-called_row pt p n queue (calls.Waits x) w h here e = quiet_parts (rule.says (label.Wait p) ∷ []) pt w h (tt, tt) e
-called_row pt p n queue (calls.Outputs word x) w h here e = quiet_parts (rule.says (label.Out p word) ∷ []) pt w h (tt, tt) e
+called_row pt p n queue (calls.Replies reply x) w h here e = quiet_parts (rule.says (Label.Call p n reply) ∷ []) pt w h (tt, tt) e
+called_row pt p n queue (calls.Sends m x) w h here e = quiet_parts (rule.says (Label.Send p m.id) ∷ Routes m.id ∷ []) pt w h (tt, (tt, tt)) e
+called_row pt p n queue (calls.Waits x) w h here e = quiet_parts (rule.says (Label.Wait p) ∷ []) pt w h (tt, tt) e
+called_row pt p n queue (calls.Outputs word x) w h here e = quiet_parts (rule.says (Label.Out p word) ∷ []) pt w h (tt, tt) e
 called_row pt p n queue (calls.Ends because) w h here e = ends_row pt p because queue w h here e
 
 stops_row : (pt : Point) (p : Pid) (queue : List MsgId) (o : Option kernel.Next) (w : Spelled) → Fit pt → pt.view.known pt.view.acting p ≡ Here → spelled pt (rule.stops p queue o) ≡ Some w → InPhases w.point.view
 stops_row pt p queue None w h here e = quiet_parts [] pt w h tt e
 stops_row pt p queue (Some (kernel.Calls n c)) w h here e = called_row pt p n queue c w h here e
-stops_row pt p queue (Some (kernel.Faults fault)) w h here e = ends_row pt p (why.Fault fault) queue w h here e
+stops_row pt p queue (Some (kernel.Faults fault)) w h here e = ends_row pt p (Why.Fault fault) queue w h here e
 
 maybe_stops : (pt : Point) (p : Pid) (queue : List MsgId) (full : Bool) (o : Option kernel.Next) (w : Spelled) → Fit pt → pt.view.known pt.view.acting p ≡ Here → spelled pt (if full then [] else rule.stops p queue o) ≡ Some w → InPhases w.point.view
 maybe_stops pt p queue true o w h here e = quiet_parts [] pt w h tt e
@@ -95,14 +68,14 @@ maybe_stops pt p queue false o w h here e = stops_row pt p queue o w h here e
 
 executes_row : (pt : Point) (quantum : ℕ) (p : Pid) (queue : List MsgId) (x : PlainProcess) (r : rule.Ran) (w : Spelled) → Fit pt → pt.view.known pt.view.acting p ≡ Here → spelled pt (rule.executes quantum p queue x r) ≡ Some w → InPhases w.point.view
 executes_row pt quantum p queue x r w h here e =
-    let l = line.Label (label.Ran p r.count) in
+    let l = Line.Label (Label.Ran p r.count) in
     let o = kernel.next_row p (with_machine x r.machine) (instruction r.machine.regs r.machine.bytes) in
     line_first pt l (if r.count == quantum then [] else rule.stops p queue o) w h refl refl (λ s k. calm_phases pt.view (view_after pt.view l) (line_calm pt s l h.sane tt k) h.phases)
     (λ s next rest more. maybe_stops (moved pt l s) p queue (r.count == quantum) o rest next here more) e
 
 completes_row : (pt : Point) (p : Pid) (id : MsgId) (c : receiving.Completed) (w : Spelled) → Fit pt → spelled pt (rule.completes p id c) ≡ Some w → InPhases w.point.view
-completes_row pt p id (receiving.Receives x) w h e = quiet_parts (rule.says (label.Receive p id) ∷ []) pt w h (tt, tt) e
-completes_row pt p id (receiving.Refuses reply x) w h e = quiet_parts (rule.says (label.Refuse p id reply) ∷ []) pt w h (tt, tt) e
+completes_row pt p id (receiving.Receives x) w h e = quiet_parts (rule.says (Label.Receive p id) ∷ []) pt w h (tt, tt) e
+completes_row pt p id (receiving.Refuses reply x) w h e = quiet_parts (rule.says (Label.Refuse p id reply) ∷ []) pt w h (tt, tt) e
 
 given : (pt : Point) (qs ps : List Part) (w : Spelled) → Some qs ≡ Some ps → spelled pt ps ≡ Some w → spelled pt qs ≡ Some w
 given pt qs ps w e n = let f : qs ≡ ps = cc in ap (spelled pt) f ∙ n
@@ -134,60 +107,49 @@ front_mild pt i msg h f spares = record { tame = front_tame pt i msg h f; spares
 
 lands_row : (pt : Point) (i : MsgId) (msg : PlainMessage) (o : Option pieces.Landed) (parts : List Part) (w : Spelled) → Fit pt → Mild pt.view i → rule.lands i o ≡ Some parts → spelled pt parts ≡ Some w → InPhases w.point.view
 lands_row pt i msg None parts w h mild is e = cc
-lands_row pt i msg (Some (pieces.Next request x)) parts w h mild is e = quiet_parts (rule.says (label.Served i) ∷ Routes request.id ∷ []) pt w h (mild, (tt, tt)) (given pt (rule.says (label.Served i) ∷ Routes request.id ∷ []) parts w is e)
-lands_row pt i msg (Some (pieces.Done reply x)) parts w h mild is e = quiet_parts (rule.says (label.Served i) ∷ []) pt w h (mild, tt) (given pt (rule.says (label.Served i) ∷ []) parts w is e)
+lands_row pt i msg (Some (pieces.Next request x)) parts w h mild is e = quiet_parts (rule.says (Label.Served i) ∷ Routes request.id ∷ []) pt w h (mild, (tt, tt)) (given pt (rule.says (Label.Served i) ∷ Routes request.id ∷ []) parts w is e)
+lands_row pt i msg (Some (pieces.Done reply x)) parts w h mild is e = quiet_parts (rule.says (Label.Served i) ∷ []) pt w h (mild, tt) (given pt (rule.says (Label.Served i) ∷ []) parts w is e)
 
 -- a kill ends its receiver, and the queue is dropped
-killed_row : (pt : Point) (i : MsgId) (msg : PlainMessage) (queue : List MsgId) (w : Spelled) (h : Fit pt) → Front pt i msg → plain_kind msg.what ≡ kind.Kill → pt.view.known pt.view.acting msg.to ≡ Here → spelled pt (rule.says (label.Served i) ∷ rule.drops queue) ≡ Some w → InPhases w.point.view
+killed_row : (pt : Point) (i : MsgId) (msg : PlainMessage) (queue : List MsgId) (w : Spelled) (h : Fit pt) → Front pt i msg → plain_kind msg.what ≡ MessageKind.Kill → pt.view.known pt.view.acting msg.to ≡ Here → spelled pt (rule.says (Label.Served i) ∷ rule.drops queue) ≡ Some w → InPhases w.point.view
 killed_row pt i msg queue w h f k here e =
-    let l = line.Label (label.Served i) in
+    let l = Line.Label (Label.Served i) in
     let same : f.told.receiver ≡ msg.to = h.sane.tells.receiver i msg f.told f.there f.is in
     line_first pt l (rule.drops queue) w h refl refl
     (λ s is. killed_phases pt.view i f.told h.phases (plain_in_bag pt i msg h.sane f.there) f.is (h.sane.tells.kind i msg f.told f.there f.is ∙ k) (ap (pt.view.known pt.view.acting) same ∙ here))
     (λ s next rest more. quiet_parts (rule.drops queue) (moved pt l s) rest next (drops_quiet (view_after pt.view l) queue) more) e
 
 here_row : (o pt : Point) (m : ℕ) (i : MsgId) (msg : PlainMessage) (x : PlainProcess) (k : PlainWhat) (parts : List Part) (w : Spelled) (h : Fit pt) → Front pt i msg → msg.what ≡ k → pt.view.known pt.view.acting msg.to ≡ Here → rule.here_handles o m i msg x k ≡ Some parts → spelled pt parts ≡ Some w → InPhases w.point.view
-here_row o pt m i msg x (what.User x1 x2 x3 x4) parts w h f k here is e = quiet_parts (Says (line.Queued i) ∷ []) pt w h (front_tame pt i msg h f, tt) (given pt (Says (line.Queued i) ∷ []) parts w is e)
-here_row o pt m i msg x what.Stop parts w h f k here is e = quiet_parts (rule.says (label.Served i) ∷ []) pt w h (front_mild pt i msg h f (ap (λ (y : PlainWhat). is_kill (plain_kind y)) k), tt) (given pt (rule.says (label.Served i) ∷ []) parts w is e)
-here_row o pt m i msg x what.Resume parts w h f k here is e = quiet_parts (rule.says (label.Served i) ∷ []) pt w h (front_mild pt i msg h f (ap (λ (y : PlainWhat). is_kill (plain_kind y)) k), tt) (given pt (rule.says (label.Served i) ∷ []) parts w is e)
-here_row o pt m i msg x what.Kill parts w h f k here is e = killed_row pt i msg (o.view.queue m msg.to) w h f (ap plain_kind k) here (given pt (rule.says (label.Served i) ∷ rule.drops (o.view.queue m msg.to)) parts w is e)
-here_row o pt m i msg x (what.Read x1 x2) parts w h f k here is e = quiet_parts (rule.says (label.Served i) ∷ Routes (answer_id i) ∷ []) pt w h (front_mild pt i msg h f (ap (λ (y : PlainWhat). is_kill (plain_kind y)) k), (tt, tt)) (given pt (rule.says (label.Served i) ∷ Routes (answer_id i) ∷ []) parts w is e)
-here_row o pt m i msg x (what.Write x1 x2) parts w h f k here is e = quiet_parts (rule.says (label.Served i) ∷ Routes (answer_id i) ∷ []) pt w h (front_mild pt i msg h f (ap (λ (y : PlainWhat). is_kill (plain_kind y)) k), (tt, tt)) (given pt (rule.says (label.Served i) ∷ Routes (answer_id i) ∷ []) parts w is e)
-here_row o pt m i msg x (what.Block x1) parts w h f k here is e = lands_row pt i msg (pieces.lands msg.to x msg x.status) parts w h (front_mild pt i msg h f (ap (λ (y : PlainWhat). is_kill (plain_kind y)) k)) is e
-here_row o pt m i msg x what.Written parts w h f k here is e = lands_row pt i msg (pieces.lands msg.to x msg x.status) parts w h (front_mild pt i msg h f (ap (λ (y : PlainWhat). is_kill (plain_kind y)) k)) is e
-here_row o pt m i msg x what.Gone parts w h f k here is e = lands_row pt i msg (pieces.lands msg.to x msg x.status) parts w h (front_mild pt i msg h f (ap (λ (y : PlainWhat). is_kill (plain_kind y)) k)) is e
-here_row o pt m i msg x (what.Create x1 x2) parts w h f k here is e = cc
-here_row o pt m i msg x (what.Created x1) parts w h f k here is e = cc
-here_row o pt m i msg x what.NoRoom parts w h f k here is e = cc
-here_row o pt m i msg x (what.Move x1) parts w h f k here is e = cc
-here_row o pt m i msg x (what.Moved x1) parts w h f k here is e = cc
+here_row o pt m i msg x (PlainWhat.User x1 x2 x3 x4) parts w h f k here is e = quiet_parts (Says (Line.Queued i) ∷ []) pt w h (front_tame pt i msg h f, tt) (given pt (Says (Line.Queued i) ∷ []) parts w is e)
+here_row o pt m i msg x PlainWhat.Stop parts w h f k here is e = quiet_parts (rule.says (Label.Served i) ∷ []) pt w h (front_mild pt i msg h f (ap (λ (y : PlainWhat). is_kill (plain_kind y)) k), tt) (given pt (rule.says (Label.Served i) ∷ []) parts w is e)
+here_row o pt m i msg x PlainWhat.Resume parts w h f k here is e = quiet_parts (rule.says (Label.Served i) ∷ []) pt w h (front_mild pt i msg h f (ap (λ (y : PlainWhat). is_kill (plain_kind y)) k), tt) (given pt (rule.says (Label.Served i) ∷ []) parts w is e)
+here_row o pt m i msg x PlainWhat.Kill parts w h f k here is e = killed_row pt i msg (o.view.queue m msg.to) w h f (ap plain_kind k) here (given pt (rule.says (Label.Served i) ∷ rule.drops (o.view.queue m msg.to)) parts w is e)
+here_row o pt m i msg x (PlainWhat.Read x1 x2) parts w h f k here is e = quiet_parts (rule.says (Label.Served i) ∷ Routes (answer_id i) ∷ []) pt w h (front_mild pt i msg h f (ap (λ (y : PlainWhat). is_kill (plain_kind y)) k), (tt, tt)) (given pt (rule.says (Label.Served i) ∷ Routes (answer_id i) ∷ []) parts w is e)
+here_row o pt m i msg x (PlainWhat.Write x1 x2) parts w h f k here is e = quiet_parts (rule.says (Label.Served i) ∷ Routes (answer_id i) ∷ []) pt w h (front_mild pt i msg h f (ap (λ (y : PlainWhat). is_kill (plain_kind y)) k), (tt, tt)) (given pt (rule.says (Label.Served i) ∷ Routes (answer_id i) ∷ []) parts w is e)
+here_row o pt m i msg x (PlainWhat.Block x1) parts w h f k here is e = lands_row pt i msg (pieces.lands msg.to x msg x.status) parts w h (front_mild pt i msg h f (ap (λ (y : PlainWhat). is_kill (plain_kind y)) k)) is e
+here_row o pt m i msg x PlainWhat.Written parts w h f k here is e = lands_row pt i msg (pieces.lands msg.to x msg x.status) parts w h (front_mild pt i msg h f (ap (λ (y : PlainWhat). is_kill (plain_kind y)) k)) is e
+here_row o pt m i msg x PlainWhat.Gone parts w h f k here is e = lands_row pt i msg (pieces.lands msg.to x msg x.status) parts w h (front_mild pt i msg h f (ap (λ (y : PlainWhat). is_kill (plain_kind y)) k)) is e
+here_row o pt m i msg x _ parts w h f k here is e = cc
 
 ended_row : (pt : Point) (i : MsgId) (k : PlainWhat) (parts : List Part) (w : Spelled) → Fit pt → rule.ended_handles i k ≡ Some parts → spelled pt parts ≡ Some w → InPhases w.point.view
-ended_row pt i (what.User x1 x2 x3 x4) parts w h is e = quiet_parts (rule.says (label.Dropped i) ∷ []) pt w h (tt, tt) (given pt (rule.says (label.Dropped i) ∷ []) parts w is e)
-ended_row pt i what.Stop parts w h is e = quiet_parts (rule.says (label.Dropped i) ∷ []) pt w h (tt, tt) (given pt (rule.says (label.Dropped i) ∷ []) parts w is e)
-ended_row pt i what.Resume parts w h is e = quiet_parts (rule.says (label.Dropped i) ∷ []) pt w h (tt, tt) (given pt (rule.says (label.Dropped i) ∷ []) parts w is e)
-ended_row pt i what.Kill parts w h is e = quiet_parts (rule.says (label.Dropped i) ∷ []) pt w h (tt, tt) (given pt (rule.says (label.Dropped i) ∷ []) parts w is e)
-ended_row pt i (what.Read x1 x2) parts w h is e = quiet_parts (rule.says (label.Gone i) ∷ Routes (answer_id i) ∷ []) pt w h (tt, (tt, tt)) (given pt (rule.says (label.Gone i) ∷ Routes (answer_id i) ∷ []) parts w is e)
-ended_row pt i (what.Write x1 x2) parts w h is e = quiet_parts (rule.says (label.Gone i) ∷ Routes (answer_id i) ∷ []) pt w h (tt, (tt, tt)) (given pt (rule.says (label.Gone i) ∷ Routes (answer_id i) ∷ []) parts w is e)
-ended_row pt i (what.Block x1) parts w h is e = quiet_parts (rule.says (label.Dropped i) ∷ []) pt w h (tt, tt) (given pt (rule.says (label.Dropped i) ∷ []) parts w is e)
-ended_row pt i what.Written parts w h is e = quiet_parts (rule.says (label.Dropped i) ∷ []) pt w h (tt, tt) (given pt (rule.says (label.Dropped i) ∷ []) parts w is e)
-ended_row pt i what.Gone parts w h is e = quiet_parts (rule.says (label.Dropped i) ∷ []) pt w h (tt, tt) (given pt (rule.says (label.Dropped i) ∷ []) parts w is e)
-ended_row pt i (what.Create x1 x2) parts w h is e = cc
-ended_row pt i (what.Created x1) parts w h is e = cc
-ended_row pt i what.NoRoom parts w h is e = cc
-ended_row pt i (what.Move x1) parts w h is e = cc
-ended_row pt i (what.Moved x1) parts w h is e = cc
+ended_row pt i (PlainWhat.Read x1 x2) parts w h is e = quiet_parts (rule.says (Label.Gone i) ∷ Routes (answer_id i) ∷ []) pt w h (tt, (tt, tt)) (given pt (rule.says (Label.Gone i) ∷ Routes (answer_id i) ∷ []) parts w is e)
+ended_row pt i (PlainWhat.Write x1 x2) parts w h is e = quiet_parts (rule.says (Label.Gone i) ∷ Routes (answer_id i) ∷ []) pt w h (tt, (tt, tt)) (given pt (rule.says (Label.Gone i) ∷ Routes (answer_id i) ∷ []) parts w is e)
+ended_row pt i (PlainWhat.Create x1 x2) parts w h is e = cc
+ended_row pt i (PlainWhat.Created x1) parts w h is e = cc
+ended_row pt i PlainWhat.NoRoom parts w h is e = cc
+ended_row pt i (PlainWhat.Move x1) parts w h is e = cc
+ended_row pt i (PlainWhat.Moved x1) parts w h is e = cc
+ended_row pt i _ parts w h is e = quiet_parts (rule.says (Label.Dropped i) ∷ []) pt w h (tt, tt) (given pt (rule.says (Label.Dropped i) ∷ []) parts w is e)
 
 process_row : (o pt : Point) (m : ℕ) (i : MsgId) (msg : PlainMessage) (k : Known) (parts : List Part) (w : Spelled) (h : Fit pt) → Front pt i msg → pt.view.known pt.view.acting msg.to ≡ k → rule.process_handles o m i msg k ≡ Some parts → spelled pt parts ≡ Some w → InPhases w.point.view
 process_row o pt m i msg Unknown parts w h f known is e = cc
 process_row o pt m i msg Here parts w h f known is e =
     let (x, alive, rest) = bind-is (kernel.alive (o.kernel.processes msg.to)) (λ x. rule.here_handles o m i msg x msg.what) parts is in
     here_row o pt m i msg x msg.what parts w h f refl known rest e
-process_row o pt m i msg (Frozen to) parts w h f known is e = quiet_parts (Says (line.Held i) ∷ []) pt w h (front_tame pt i msg h f, tt) (given pt (Says (line.Held i) ∷ []) parts w is e)
-process_row o pt m i msg (Incoming from) parts w h f known is e = quiet_parts (Says (line.Held i) ∷ []) pt w h (front_tame pt i msg h f, tt) (given pt (Says (line.Held i) ∷ []) parts w is e)
 process_row o pt m i msg (Forward at moves) parts w h f known is e =
     quiet_parts (forwards_on o.addresses i (plain_kind msg.what) msg.sender at) pt w h (forwards_quiet pt.view o.addresses i (plain_kind msg.what) msg.sender at (front_tame pt i msg h f)) (given pt (forwards_on o.addresses i (plain_kind msg.what) msg.sender at) parts w is e)
 process_row o pt m i msg Ended parts w h f known is e = ended_row pt i msg.what parts w h is e
+process_row o pt m i msg _ parts w h f known is e = quiet_parts (Says (Line.Held i) ∷ []) pt w h (front_tame pt i msg h f, tt) (given pt (Says (Line.Held i) ∷ []) parts w is e)
 
 routes_quiet : (v : View) (o : Option PlainMessage) → AllQuiet v (rule.routes o)
 routes_quiet v None = tt
@@ -195,43 +157,31 @@ routes_quiet v (Some m) = (tt, tt)
 
 board_row : (pt : Point) (i : MsgId) (t : Option board.Took) (parts : List Part) (w : Spelled) → Fit pt → rule.board_took i t ≡ Some parts → spelled pt parts ≡ Some w → InPhases w.point.view
 board_row pt i None parts w h is e = cc
-board_row pt i (Some t) parts w h is e = quiet_parts (rule.says (label.Took i) ∷ rule.routes t.answer) pt w h (tt, routes_quiet pt.view t.answer) (given pt (rule.says (label.Took i) ∷ rule.routes t.answer) parts w is e)
+board_row pt i (Some t) parts w h is e = quiet_parts (rule.says (Label.Took i) ∷ rule.routes t.answer) pt w h (tt, routes_quiet pt.view t.answer) (given pt (rule.says (Label.Took i) ∷ rule.routes t.answer) parts w is e)
 
 manager_row : (pt : Point) (i : MsgId) (t : Option manage.Took) (parts : List Part) (w : Spelled) → Fit pt → rule.manager_took i t ≡ Some parts → spelled pt parts ≡ Some w → InPhases w.point.view
 manager_row pt i None parts w h is e = cc
-manager_row pt i (Some t) parts w h is e = quiet_parts (rule.says (label.Took i) ∷ rule.routes t.message) pt w h (tt, routes_quiet pt.view t.message) (given pt (rule.says (label.Took i) ∷ rule.routes t.message) parts w is e)
+manager_row pt i (Some t) parts w h is e = quiet_parts (rule.says (Label.Took i) ∷ rule.routes t.message) pt w h (tt, routes_quiet pt.view t.message) (given pt (rule.says (Label.Took i) ∷ rule.routes t.message) parts w is e)
 
 -- a kernel makes a process, of which nothing is known yet, or has no room
 creates_row : (pt : Point) (i : MsgId) (msg : PlainMessage) (child : Pid) (room : Bool) (slots blocks : ℕ) (w : Spelled) (h : Fit pt) → Front pt i msg → ((m : ℕ) → pt.view.known m child ≡ Unknown)
-    → spelled pt ((if room then rule.says (label.Created i child) else rule.says (label.NoSpace i slots blocks)) ∷ Routes (answer_id i) ∷ []) ≡ Some w → InPhases w.point.view
+    → spelled pt ((if room then rule.says (Label.Created i child) else rule.says (Label.NoSpace i slots blocks)) ∷ Routes (answer_id i) ∷ []) ≡ Some w → InPhases w.point.view
 creates_row pt i msg child true slots blocks w h f unknown e =
-    let l = line.Label (label.Created i child) in
+    let l = Line.Label (Label.Created i child) in
     line_first pt l (Routes (answer_id i) ∷ []) w h refl refl (λ s k. created_phases pt.view i child h.phases (plain_in_bag pt i msg h.sane f.there) unknown)
     (λ s next rest more. quiet_parts (Routes (answer_id i) ∷ []) (moved pt l s) rest next (tt, tt) more) e
-creates_row pt i msg child false slots blocks w h f unknown e = quiet_parts (rule.says (label.NoSpace i slots blocks) ∷ Routes (answer_id i) ∷ []) pt w h (tt, (tt, tt)) e
+creates_row pt i msg child false slots blocks w h f unknown e = quiet_parts (rule.says (Label.NoSpace i slots blocks) ∷ Routes (answer_id i) ∷ []) pt w h (tt, (tt, tt)) e
 
 image_row : (o pt : Point) (m : ℕ) (i : MsgId) (msg : PlainMessage) (r : rule.Room) (g : Option BootImage) (parts : List Part) (w : Spelled) (h : Fit pt) → Front pt i msg → ((n : ℕ) → pt.view.known n (pid_of m (first_number + o.kernel.made m)) ≡ Unknown) → rule.creates o m i r g ≡ Some parts → spelled pt parts ≡ Some w → InPhases w.point.view
 image_row o pt m i msg r None parts w h f unknown is e = cc
 image_row o pt m i msg r (Some g) parts w h f unknown is e =
     let child = pid_of m (first_number + o.kernel.made m) in
     creates_row pt i msg child (rule.has_room r g.blocks) r.slots r.blocks w h f unknown
-    (given pt ((if rule.has_room r g.blocks then rule.says (label.Created i child) else rule.says (label.NoSpace i r.slots r.blocks)) ∷ Routes (answer_id i) ∷ []) parts w is e)
+    (given pt ((if rule.has_room r g.blocks then rule.says (Label.Created i child) else rule.says (Label.NoSpace i r.slots r.blocks)) ∷ Routes (answer_id i) ∷ []) parts w is e)
 
 kernel_row : (b : Boot) (o pt : Point) (m : ℕ) (i : MsgId) (msg : PlainMessage) (k : PlainWhat) (parts : List Part) (w : Spelled) (h : Fit pt) → Front pt i msg → ((n : ℕ) → pt.view.known n (pid_of m (first_number + o.kernel.made m)) ≡ Unknown) → rule.kernel_handles b o m i k ≡ Some parts → spelled pt parts ≡ Some w → InPhases w.point.view
-kernel_row b o pt m i msg (what.User x1 x2 x3 x4) parts w h f unknown is e = cc
-kernel_row b o pt m i msg what.Stop parts w h f unknown is e = cc
-kernel_row b o pt m i msg what.Resume parts w h f unknown is e = cc
-kernel_row b o pt m i msg what.Kill parts w h f unknown is e = cc
-kernel_row b o pt m i msg (what.Read x1 x2) parts w h f unknown is e = cc
-kernel_row b o pt m i msg (what.Write x1 x2) parts w h f unknown is e = cc
-kernel_row b o pt m i msg (what.Block x1) parts w h f unknown is e = cc
-kernel_row b o pt m i msg what.Written parts w h f unknown is e = cc
-kernel_row b o pt m i msg what.Gone parts w h f unknown is e = cc
-kernel_row b o pt m i msg (what.Create x1 x2) parts w h f unknown is e = image_row o pt m i msg (rule.free_room b o m) (slice_get b.images x1) parts w h f unknown is e
-kernel_row b o pt m i msg (what.Created x1) parts w h f unknown is e = cc
-kernel_row b o pt m i msg what.NoRoom parts w h f unknown is e = cc
-kernel_row b o pt m i msg (what.Move x1) parts w h f unknown is e = cc
-kernel_row b o pt m i msg (what.Moved x1) parts w h f unknown is e = cc
+kernel_row b o pt m i msg (PlainWhat.Create x1 x2) parts w h f unknown is e = image_row o pt m i msg (rule.free_room b o m) (slice_get b.images x1) parts w h f unknown is e
+kernel_row b o pt m i msg _ parts w h f unknown is e = cc
 
 handles_by : (b : Boot) (o pt : Point) (m : ℕ) (i : MsgId) (msg : PlainMessage) (c d g : Bool) (parts : List Part) (w : Spelled) (h : Fit pt) → Front pt i msg → ((n : ℕ) → pt.view.known n (pid_of m (first_number + o.kernel.made m)) ≡ Unknown) → pt.view.known pt.view.acting msg.to ≡ o.view.known m msg.to
     → (if c then rule.kernel_handles b o m i msg.what else if d then rule.board_took i (board.takes o.kernel.switchboard msg msg.what)
@@ -248,7 +198,7 @@ phases_handles b o pt m i msg parts w h f unknown known is e = handles_by b o pt
 
 -- a process of the ring is served, where it is here
 pub phases_round : (b : Boot) (o pt : Point) (m : ℕ) (p : Option Pid) (parts : List Part) (w : Spelled) (h : Fit pt) → ((q : Pid) → p ≡ Some q → pt.view.known pt.view.acting q ≡ Here) → rule.goes_round b o m p ≡ Some parts → spelled pt parts ≡ Some w → InPhases w.point.view
-phases_round b o pt m None parts w h here is e = quiet_parts (Says (line.Idle m) ∷ []) pt w h (tt, tt) (given pt (Says (line.Idle m) ∷ []) parts w is e)
+phases_round b o pt m None parts w h here is e = quiet_parts (Says (Line.Idle m) ∷ []) pt w h (tt, tt) (given pt (Says (Line.Idle m) ∷ []) parts w is e)
 phases_round b o pt m (Some p) parts w h here is e =
     let (x, alive, rest) = bind-is (kernel.alive (o.kernel.processes p)) (λ x. rule.serves_status b.quantum o.kernel p (o.view.queue m p) x x.status) parts is in
     serves_row o.kernel pt b.quantum p (o.view.queue m p) x x.status parts w h (here p refl) rest e

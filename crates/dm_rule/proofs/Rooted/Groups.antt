@@ -1,36 +1,9 @@
 -- Each group keeps that rings list what is here, and that nothing is known of what was never made.
-use Rattle.std.proofs.Common.{◌≡◌, ℕ, ◌+◌, ◌==◌, Bool, true, false, is_some, nat_lt, List, [], ◌∷◌, length, refl, ap, ◌∙◌, sym, subst, arith}
-use Rattle.std.specs.Prelude.{if◌then◌else◌, slice_get}
-use Rattle.std.specs.declared.option.Option.{Option}
-use Rattle.std.specs.declared.option.Option.TheVariants.{None, Some}
-use Rattle.std.proofs.lemmas.Bool.{false≢true}
-use Rattle.std.proofs.lemmas.Bool.Decides.{nat_tests}
-use Rattle.dm_link.specs.declared.Pid.{Pid}
-use Rattle.dm_link.specs.Names.{pid_of}
-use Rattle.dm_message.specs.declared.MsgId.{MsgId}
-use Rattle.dm_message.specs.declared.kind.MessageKind.{MessageKind}
-use Rattle.dm_message.specs.Kinds.{plain_kind}
-use Rattle.dm_onekernel.specs.declared.boot.Boot.{Boot}
-use Rattle.dm_onekernel.specs.Boot.{first_number}
-use Rattle.dm_onekernel.specs.Options.{bind}
-use Rattle.dm_onekernel.specs.Kernel.{Life, OneKernel}
+use Rattle.dm_rule.proofs.Names.{◌≡◌, ℕ, ◌+◌, ◌==◌, Bool, true, false, is_some, nat_lt, List, [], ◌∷◌, length, refl, ap, ◌∙◌, sym, subst, arith, if◌then◌else◌, slice_get, Option, None, Some, false≢true, nat_tests, Pid, pid_of, MsgId}
+use Rattle.dm_rule.proofs.Names.{MessageKind, plain_kind, Boot, first_number, bind, Life, OneKernel, Step, Line, Load, Told, Of, Known, Here, own_id, Receiver, Point, label_of, kernel_after, moved, after_line, after, Part, Says, Routes}
+use Rattle.dm_rule.proofs.Names.{Again, Owns, Transmits, Spelled, lines_of, puts, goes_out, packet_line, behind, spelled, migrates, is_between, Phase, Moves, knows, group_of, Made, bind-is}
 use Rattle.dm_onekernel.specs.Step as kernel
-use Rattle.dm_schedule.specs.declared.Step.{Step}
-use Rattle.dm_schedule.specs.declared.Step.TheVariants as step
-use Rattle.dm_line.specs.declared.line.Line.{Line}
-use Rattle.dm_line.specs.declared.line.Line.TheVariants as line
-use Rattle.dm_line.specs.declared.line.Load.{Load}
-use Rattle.dm_line.specs.declared.line.Load.TheVariants as load
-use Rattle.dm_rule.specs.View.{Told, Of, Known, Here, own_id}
-use Rattle.dm_rule.specs.Addresses.{Receiver}
-use Rattle.dm_rule.specs.Point.{Point, label_of, kernel_after, moved, after_line, after}
-use Rattle.dm_rule.specs.Parts.{Part, Says, Routes, Again, Owns, Transmits, Spelled, lines_of, puts, goes_out, packet_line, behind, spelled}
-use Rattle.dm_rule.specs.Migrating.{migrates}
-use Rattle.dm_rule.specs.Phases.{is_between, Phase, Moves, knows}
 use Rattle.dm_rule.specs.Rule as rule
-use Rattle.dm_rule.specs.Rule.{group_of}
-use Rattle.dm_laws.proofs.Entered.{Made}
-use Rattle.dm_laws.proofs.Steps.{bind-is}
 use Rattle.dm_rule.proofs.Groups.{group_is, arrives_net, resends_net}
 use Rattle.dm_rule.proofs.Telling.{Sane, AllSayable, sane_line, part_sane, outcome_sayable}
 use Rattle.dm_rule.proofs.Phases.Stand.{InPhases, calm_phases}
@@ -46,23 +19,23 @@ abbrev pub Grounded : Point → Type 0
 Grounded pt = Roots pt.kernel pt.view
 
 -- puts and packets change neither
-quiet_put : (pt : Point) (a b : ℕ) (i : MsgId) (k : MessageKind) (q : Pid) → Grounded pt → Grounded (moved pt (line.Put a b i k q) pt.kernel)
+quiet_put : (pt : Point) (a b : ℕ) (i : MsgId) (k : MessageKind) (q : Pid) → Grounded pt → Grounded (moved pt (Line.Put a b i k q) pt.kernel)
 quiet_put pt a b i k q h = record { rings = record { each = h.rings.each }; lives = record { none = h.lives.none } }
 
-quiet_packet : (pt : Point) (a b k : ℕ) (l : Load) → Grounded pt → Grounded (moved pt (line.Packet a b k l) pt.kernel)
+quiet_packet : (pt : Point) (a b k : ℕ) (l : Load) → Grounded pt → Grounded (moved pt (Line.Packet a b k l) pt.kernel)
 quiet_packet pt a b k l h = record { rings = record { each = h.rings.each }; lives = record { none = h.lives.none } }
 
 puts_by : (pt next : Point) (b : ℕ) (i : MsgId) (k : MessageKind) (q : Pid) (c d : Bool) → Grounded pt
-    → after pt (line.Put pt.view.acting b i k q ∷ (if c then [] else if d then packet_line pt.view pt.view.acting b (load.Data (length (pt.view.pair pt.view.acting b).ids)) ∷ [] else [])) ≡ Some next → Grounded next
+    → after pt (Line.Put pt.view.acting b i k q ∷ (if c then [] else if d then packet_line pt.view pt.view.acting b (Load.Data (length (pt.view.pair pt.view.acting b).ids)) ∷ [] else [])) ≡ Some next → Grounded next
 puts_by pt next b i k q true d h is =
-    let f : moved pt (line.Put pt.view.acting b i k q) pt.kernel ≡ next = cc in subst Grounded f (quiet_put pt pt.view.acting b i k q h)
+    let f : moved pt (Line.Put pt.view.acting b i k q) pt.kernel ≡ next = cc in subst Grounded f (quiet_put pt pt.view.acting b i k q h)
 puts_by pt next b i k q false false h is =
-    let f : moved pt (line.Put pt.view.acting b i k q) pt.kernel ≡ next = cc in subst Grounded f (quiet_put pt pt.view.acting b i k q h)
+    let f : moved pt (Line.Put pt.view.acting b i k q) pt.kernel ≡ next = cc in subst Grounded f (quiet_put pt pt.view.acting b i k q h)
 puts_by pt next b i k q false true h is =
     let n = length (pt.view.pair pt.view.acting b).wire in
-    let l = load.Data (length (pt.view.pair pt.view.acting b).ids) in
-    let mid = moved pt (line.Put pt.view.acting b i k q) pt.kernel in
-    let f : moved mid (line.Packet pt.view.acting b n l) mid.kernel ≡ next = cc in
+    let l = Load.Data (length (pt.view.pair pt.view.acting b).ids) in
+    let mid = moved pt (Line.Put pt.view.acting b i k q) pt.kernel in
+    let f : moved mid (Line.Packet pt.view.acting b n l) mid.kernel ≡ next = cc in
     subst Grounded f (quiet_packet mid pt.view.acting b n l (quiet_put pt pt.view.acting b i k q h))
 
 puts_ground : (pt next : Point) (b : ℕ) (i : MsgId) (k : MessageKind) (q : Pid) (ls : List Line) → Grounded pt → Some (puts pt.view b i k q) ≡ Some ls → after pt ls ≡ Some next → Grounded next
@@ -139,13 +112,13 @@ rooted pt sane h = record {
 
 -- a group
 abbrev begun : Point → Step → Point
-begun pt d = moved pt (line.Head d) pt.kernel
+begun pt d = moved pt (Line.Head d) pt.kernel
 
 begun_sane : (pt : Point) (d : Step) → Sane pt → Sane (begun pt d)
-begun_sane pt d h = sane_line pt (begun pt d) (line.Head d) refl refl h
+begun_sane pt d h = sane_line pt (begun pt d) (Line.Head d) refl refl h
 
 begun_ground : (pt : Point) (d : Step) → Sane pt → Grounded pt → Grounded (begun pt d)
-begun_ground pt d sane h = line_roots pt pt.kernel (line.Head d) tt sane refl h
+begun_ground pt d sane h = line_roots pt pt.kernel (Line.Head d) tt sane refl h
 
 first_some : (pt : Point) (o : Option (List Part)) (ps : List Part) → o ≡ Some ps → FirstOf pt o → First pt ps
 first_some pt o ps e h = subst (FirstOf pt) e h
@@ -156,22 +129,22 @@ group_ground b pt d w e first sane h =
     subst Grounded g.point (parts_ground g.parts (begun pt d) g.rest (outcome_sayable b pt d g.parts g.is) (first g.parts g.is) (begun_sane pt d sane) g.said (begun_ground pt d sane h))
 
 pub roots_group : (b : Boot) (pt : Point) (d : Step) (w : Spelled) → group_of b pt d ≡ Some w → InPhases pt.view → Sane pt → Grounded pt → Grounded w.point
-roots_group b pt (step.Turn m) w e phases sane h =
-    let start = begun pt (step.Turn m) in
-    let ground = begun_ground pt (step.Turn m) sane h in
-    let there : InPhases start.view = calm_phases pt.view start.view (head_calm pt.view (step.Turn m)) phases in
-    group_ground b pt (step.Turn m) w e
+roots_group b pt (Step.Turn m) w e phases sane h =
+    let start = begun pt (Step.Turn m) in
+    let ground = begun_ground pt (Step.Turn m) sane h in
+    let there : InPhases start.view = calm_phases pt.view start.view (head_calm pt.view (Step.Turn m)) phases in
+    group_ground b pt (Step.Turn m) w e
     (λ ps is. first_some start (rule.turns b pt m (pt.view.inbox m)) ps is
     (turns_first start b pt m (pt.view.inbox m) refl ground.lives (λ p. refl) (λ p runs. (rooted pt sane h).served m p runs) (λ i is t front told. asks_by start i is t there front told))) sane h
-roots_group b pt (step.Tick m) w e phases sane h =
-    group_ground b pt (step.Tick m) w e
-    (λ ps is. first_some (begun pt (step.Tick m)) (rule.outcome b pt (step.Tick m)) ps is (tt, net_loose (rule.resends pt.view m pt.kernel.machines) (resends_net pt.view m pt.kernel.machines))) sane h
-roots_group b pt (step.Deliver a c k) w e phases sane h =
+roots_group b pt (Step.Tick m) w e phases sane h =
+    group_ground b pt (Step.Tick m) w e
+    (λ ps is. first_some (begun pt (Step.Tick m)) (rule.outcome b pt (Step.Tick m)) ps is (tt, net_loose (rule.resends pt.view m pt.kernel.machines) (resends_net pt.view m pt.kernel.machines))) sane h
+roots_group b pt (Step.Deliver a c k) w e phases sane h =
     let qs = rule.arrives a c (pt.view.pair a c) (pt.view.pair c a) (slice_get (pt.view.pair a c).wire k) in
-    let start = begun pt (step.Deliver a c k) in
-    group_ground b pt (step.Deliver a c k) w e
-    (λ ps is. first_some start (rule.outcome b pt (step.Deliver a c k)) ps is (loose_first start qs (net_loose qs (arrives_net a c (pt.view.pair a c) (pt.view.pair c a) (slice_get (pt.view.pair a c).wire k))))) sane h
-roots_group b pt (step.Migrate p m) w e phases sane h =
-    let start = begun pt (step.Migrate p m) in
-    group_ground b pt (step.Migrate p m) w e
-    (λ ps is. first_some start (rule.outcome b pt (step.Migrate p m)) ps is (loose_first start (migrates pt p) (migrates_loose pt p))) sane h
+    let start = begun pt (Step.Deliver a c k) in
+    group_ground b pt (Step.Deliver a c k) w e
+    (λ ps is. first_some start (rule.outcome b pt (Step.Deliver a c k)) ps is (loose_first start qs (net_loose qs (arrives_net a c (pt.view.pair a c) (pt.view.pair c a) (slice_get (pt.view.pair a c).wire k))))) sane h
+roots_group b pt (Step.Migrate p m) w e phases sane h =
+    let start = begun pt (Step.Migrate p m) in
+    group_ground b pt (Step.Migrate p m) w e
+    (λ ps is. first_some start (rule.outcome b pt (Step.Migrate p m)) ps is (loose_first start (migrates pt p) (migrates_loose pt p))) sane h

@@ -1,35 +1,10 @@
 -- Rings list what is here, and nothing is known of what was never made: a line after the other.
-use Rattle.std.proofs.Common.{◌≡◌, ℕ, ◌+◌, ◌≤◌, ◌==◌, Bool, not, filter, [], ◌∷◌, ◌++◌, refl, ap, ◌∙◌, sym, subst}
-use Rattle.std.specs.Prelude.{⊤, if◌then◌else◌, slice_get}
-use Rattle.std.specs.declared.option.Option.{Option}
-use Rattle.std.specs.declared.option.Option.TheVariants.{None, Some}
-use Rattle.dm_link.specs.declared.Pid.{Pid}
-use Rattle.dm_message.specs.declared.MsgId.{MsgId}
-use Rattle.dm_message.specs.declared.kind.MessageKind.{MessageKind}
-use Rattle.dm_message.specs.declared.kind.MessageKind.TheVariants as kind
-use Rattle.dm_message.specs.Plain as what
-use Rattle.dm_message.specs.Plain.{PlainMessage, PlainWhat}
-use Rattle.dm_onekernel.specs.declared.label.Label.{Label}
-use Rattle.dm_onekernel.specs.declared.label.Label.TheVariants as label
-use Rattle.dm_onekernel.specs.declared.label.Why.{Why}
-use Rattle.dm_onekernel.specs.Options.{bind}
-use Rattle.dm_onekernel.specs.Kernel.{Life, Alive, OneKernel, with_sent}
-use Rattle.dm_onekernel.specs.Pieces.{answer_to}
+use Rattle.dm_rule.proofs.Names.{◌≡◌, ℕ, ◌+◌, ◌≤◌, ◌==◌, Bool, not, filter, [], ◌∷◌, ◌++◌, refl, ap, ◌∙◌, sym, subst, ⊤, if◌then◌else◌, slice_get, Option, None, Some, Pid, MsgId, MessageKind, Step, Stage, PlainMessage, PlainWhat, Label}
+use Rattle.dm_rule.proofs.Names.{Why, bind, Life, Alive, OneKernel, with_sent, answer_to, without_message, begun, Line, at_machine, at_record, without, moved_back, View, Told, About, Of, Known, Unknown, Here, Frozen, Incoming, Ended}
+use Rattle.dm_rule.proofs.Names.{view_after, handled, receiver_of, kills, served_told, target_of, front_told, front_of, gone_to, Point, label_of, kernel_after, pid_eq-same, bind-is, when-is, nexts, after_step}
 use Rattle.dm_onekernel.specs.Service as service
-use Rattle.dm_onekernel.specs.Service.{without_message}
-use Rattle.dm_onekernel.specs.Start.{begun}
 use Rattle.dm_onekernel.specs.Step as kernel
-use Rattle.dm_schedule.specs.declared.Step.TheVariants as step
-use Rattle.dm_line.specs.declared.line.Line.{Line}
-use Rattle.dm_line.specs.declared.line.Line.TheVariants as line
-use Rattle.dm_line.specs.declared.line.Stage.TheVariants as stage
-use Rattle.dm_line.specs.Sets.{at_machine, at_record, without, moved_back}
-use Rattle.dm_rule.specs.View.{View, Told, About, NothingElse, Target, Of, Known, Unknown, Here, Frozen, Incoming, Forward, Ended, view_after, handled, handled_first, receiver_of, kills, served_told, target_of, front_told, front_of, gone_to}
 use Rattle.dm_rule.specs.View as view
-use Rattle.dm_rule.specs.Point.{Point, label_of, kernel_after}
-use Rattle.dm_laws.proofs.Equal.{pid_eq-same}
-use Rattle.dm_laws.proofs.Steps.{bind-is, when-is, nexts}
-use Rattle.dm_laws.proofs.Runs.{after_step}
 use Rattle.dm_rule.proofs.Telling.{Sane}
 use Rattle.dm_rule.proofs.Rings.{Rings, all_moved, learnt_without, learnt_last, rings_same, rings_ring, rings_learn, rings_known}
 use Rattle.dm_rule.proofs.Lives.{Lives, Lived, Kept, lived_alive, grown_none, lives_same, lives_learn}
@@ -96,38 +71,13 @@ taken_idles v b None = idles v
 taken_idles v b (Some id) = record { known = refl; ring = refl }
 
 asks_idles : (v : View) (a : About) → Idles v (view.asks_on v a)
-asks_idles v NothingElse = idles v
-asks_idles v (Target m) = idles v
 asks_idles v (Of p) = record { known = refl; ring = refl }
-asks_idles v (view.Place p at moves) = idles v
+asks_idles v _ = idles v
 
 follows_idles : (v : View) (a : About) (k : MessageKind) → Idles v (view.follows_up v a k)
-follows_idles v a kind.Ask = idles v
-follows_idles v a kind.Refuse = idles v
-follows_idles v a kind.PullState = idles v
-follows_idles v a kind.State = asks_idles v a
-follows_idles v a kind.PullBlock = idles v
-follows_idles v a kind.Memory = asks_idles v a
-follows_idles v a kind.AllTaken = idles v
-follows_idles v a kind.Restart = idles v
-follows_idles v a kind.User = idles v
-follows_idles v a kind.Stop = idles v
-follows_idles v a kind.Resume = idles v
-follows_idles v a kind.Kill = idles v
-follows_idles v a kind.Read = idles v
-follows_idles v a kind.Write = idles v
-follows_idles v a kind.Block = idles v
-follows_idles v a kind.Written = idles v
-follows_idles v a kind.Gone = idles v
-follows_idles v a kind.Create = idles v
-follows_idles v a kind.Created = idles v
-follows_idles v a kind.NoRoom = idles v
-follows_idles v a kind.Migrate = idles v
-follows_idles v a kind.Update = idles v
-follows_idles v a kind.Move = idles v
-follows_idles v a kind.Moved = idles v
-follows_idles v a kind.CallOff = idles v
-follows_idles v a kind.Bury = idles v
+follows_idles v a MessageKind.State = asks_idles v a
+follows_idles v a MessageKind.Memory = asks_idles v a
+follows_idles v a _ = idles v
 
 proto_idles : (v : View) (o : Option Told) → Idles v (view.after_proto v o)
 proto_idles v None = record { known = refl; ring = refl }
@@ -135,32 +85,8 @@ proto_idles v (Some t) = let h = follows_idles v t.about t.kind in record { know
 
 -- a kill ends its receiver
 kills_roots : (k : MessageKind) (s : OneKernel) (v : View) (p : Pid) → Lived s p → Roots s v → Roots s (kills k v (Some p))
-kills_roots kind.Ask s v p lived h = h
-kills_roots kind.Refuse s v p lived h = h
-kills_roots kind.PullState s v p lived h = h
-kills_roots kind.State s v p lived h = h
-kills_roots kind.PullBlock s v p lived h = h
-kills_roots kind.Memory s v p lived h = h
-kills_roots kind.AllTaken s v p lived h = h
-kills_roots kind.Restart s v p lived h = h
-kills_roots kind.User s v p lived h = h
-kills_roots kind.Stop s v p lived h = h
-kills_roots kind.Resume s v p lived h = h
-kills_roots kind.Kill s v p lived h = roots_leaves s s v (view.ended v p) p Ended (λ q e. e) lived refl refl h
-kills_roots kind.Read s v p lived h = h
-kills_roots kind.Write s v p lived h = h
-kills_roots kind.Block s v p lived h = h
-kills_roots kind.Written s v p lived h = h
-kills_roots kind.Gone s v p lived h = h
-kills_roots kind.Create s v p lived h = h
-kills_roots kind.Created s v p lived h = h
-kills_roots kind.NoRoom s v p lived h = h
-kills_roots kind.Migrate s v p lived h = h
-kills_roots kind.Update s v p lived h = h
-kills_roots kind.Move s v p lived h = h
-kills_roots kind.Moved s v p lived h = h
-kills_roots kind.CallOff s v p lived h = h
-kills_roots kind.Bury s v p lived h = h
+kills_roots MessageKind.Kill s v p lived h = roots_leaves s s v (view.ended v p) p Ended (λ q e. e) lived refl refl h
+kills_roots _ s v p lived h = h
 
 served_roots : (s : OneKernel) (v : View) (o : Option Told) → ((t : Told) → o ≡ Some t → Lived s t.receiver) → Roots s v → Roots s (served_told v o)
 served_roots s v None lived h = h
@@ -176,13 +102,13 @@ kept_by s t (Some l) pt h is e p none =
 alive_lived : (s t : OneKernel) (p : Pid) (l : Life) → Kept s t → s.processes p ≡ Some l → Lived t p
 alive_lived s t p l kept is none le = absurd (let f : Some l ≡ None = sym is ∙ kept p none in cc)
 
-ends_lived : (s t : OneKernel) (p : Pid) (y : Why) → Kept s t → kernel.step s (label.End p y) ≡ Some t → Lived t p
+ends_lived : (s t : OneKernel) (p : Pid) (y : Why) → Kept s t → kernel.step s (Label.End p y) ≡ Some t → Lived t p
 ends_lived s t p y kept e =
     let (x, next, rest) = bind-is (kernel.next s p) (kernel.ends s p y) t e in
     let n = nexts s p x next in
     alive_lived s t p (Alive n.x) kept n.is.alive
 
-served_lived : (pt : Point) (t : OneKernel) (id : MsgId) → Sane pt → Kept pt.kernel t → kernel.step pt.kernel (label.Served id) ≡ Some t → (u : Told) → pt.view.told id ≡ Some u → Lived t u.receiver
+served_lived : (pt : Point) (t : OneKernel) (id : MsgId) → Sane pt → Kept pt.kernel t → kernel.step pt.kernel (Label.Served id) ≡ Some t → (u : Told) → pt.view.told id ≡ Some u → Lived t u.receiver
 served_lived pt t id h kept e u told none le =
     let (m, there, rest) = bind-is (pt.kernel.bag id) (λ m. bind (kernel.alive (pt.kernel.processes m.to)) (λ p. service.serves pt.kernel id m p m.what)) t e in
     let (x, alive, last) = bind-is (kernel.alive (pt.kernel.processes m.to)) (λ p. service.serves pt.kernel id m p m.what) t rest in
@@ -190,139 +116,80 @@ served_lived pt t id h kept e u told none le =
     lived_alive pt.kernel m.to (pt.kernel.processes m.to) x alive refl (kept m.to (ap t.processes (sym to) ∙ none)) (subst (λ (q : Pid). 3 ≤ q.num) to le)
 
 created_some : (s t : OneKernel) (id : MsgId) (m : PlainMessage) (child : Pid) (w : PlainWhat) → service.creates s id m child w ≡ Some t → Lived t child
-created_some s t id m child (what.Create image links) e none le =
+created_some s t id m child (PlainWhat.Create image links) e none le =
     let (i, is, rest) = bind-is (slice_get s.images image) (service.creates_of s id m child links) t e in
-    let u = with_sent (service.with_child (without_message s id) child i links) (Some (answer_to m (what.Created child))) in
+    let u = with_sent (service.with_child (without_message s id) child i links) (Some (answer_to m (PlainWhat.Created child))) in
     let same : u ≡ t = (when-is _ u t rest).1 in
     let there : u.processes child ≡ Some (Alive (begun s.format i links)) = ap (λ (c : Bool). if c then Some (Alive (begun s.format i links)) else s.processes child) (pid_eq-same child) in
     absurd (let f : None ≡ Some (Alive (begun s.format i links)) = sym none ∙ ap (λ (k : OneKernel). k.processes child) (sym same) ∙ there in cc)
-created_some s t id m child (what.User a b c d) e none le = cc
-created_some s t id m child what.Stop e none le = cc
-created_some s t id m child what.Resume e none le = cc
-created_some s t id m child what.Kill e none le = cc
-created_some s t id m child (what.Read a b) e none le = cc
-created_some s t id m child (what.Write a b) e none le = cc
-created_some s t id m child (what.Block a) e none le = cc
-created_some s t id m child what.Written e none le = cc
-created_some s t id m child what.Gone e none le = cc
-created_some s t id m child (what.Created a) e none le = cc
-created_some s t id m child what.NoRoom e none le = cc
-created_some s t id m child (what.Move a) e none le = cc
-created_some s t id m child (what.Moved a) e none le = cc
+created_some s t id m child _ e none le = cc
 
-created_lived : (s t : OneKernel) (id : MsgId) (child : Pid) → kernel.step s (label.Created id child) ≡ Some t → Lived t child
+created_lived : (s t : OneKernel) (id : MsgId) (child : Pid) → kernel.step s (Label.Created id child) ≡ Some t → Lived t child
 created_lived s t id child e = let (m, there, rest) = bind-is (s.bag id) (λ m. service.creates s id m child m.what) t e in created_some s t id m child m.what rest
 
 -- what a line needs: a process that is served is here, one that migrates was made, and one that is accepted isn't here yet
 abbrev pub NeedsLabel : Point → Label → Type 0
-NeedsLabel pt (label.Ran p k) = pt.view.known pt.view.acting p ≡ Here
-NeedsLabel pt (label.Call p n c) = ⊤
-NeedsLabel pt (label.Send p id) = ⊤
-NeedsLabel pt (label.Wait p) = ⊤
-NeedsLabel pt (label.Out p w) = ⊤
-NeedsLabel pt (label.End p y) = ⊤
-NeedsLabel pt (label.Receive p id) = pt.view.known pt.view.acting p ≡ Here
-NeedsLabel pt (label.Refuse p id c) = pt.view.known pt.view.acting p ≡ Here
-NeedsLabel pt (label.Dropped id) = ⊤
-NeedsLabel pt (label.Served id) = ⊤
-NeedsLabel pt (label.Gone id) = ⊤
-NeedsLabel pt (label.Took id) = ⊤
-NeedsLabel pt (label.Created id p) = ⊤
-NeedsLabel pt (label.NoSpace id a b) = ⊤
+NeedsLabel pt (Label.Ran p k) = pt.view.known pt.view.acting p ≡ Here
+NeedsLabel pt (Label.Receive p id) = pt.view.known pt.view.acting p ≡ Here
+NeedsLabel pt (Label.Refuse p id c) = pt.view.known pt.view.acting p ≡ Here
+NeedsLabel pt _ = ⊤
 
 abbrev pub Needs : Point → Line → Type 0
-Needs pt (line.Head s) = ⊤
-Needs pt (line.Idle m) = ⊤
-Needs pt (line.Label l) = NeedsLabel pt l
-Needs pt (line.Put a b i k q) = ⊤
-Needs pt (line.Packet a b k l) = ⊤
-Needs pt (line.Taken a b n) = ⊤
-Needs pt (line.Old a b n) = ⊤
-Needs pt (line.Early a b n) = ⊤
-Needs pt (line.Acked a b n) = ⊤
-Needs pt line.Nothing = ⊤
-Needs pt (line.Resent m n) = ⊤
-Needs pt (line.Queued i) = ⊤
-Needs pt (line.Held i) = ⊤
-Needs pt (line.Forwarded i m) = ⊤
-Needs pt (line.Updated i n) = ⊤
-Needs pt (line.Migration stage.Frozen p) = Lived pt.kernel p
-Needs pt (line.Migration stage.Asked p) = ⊤
-Needs pt (line.Migration stage.Accepted p) = Lived pt.kernel p × (pt.view.known pt.view.acting p ≡ Here → ⊥)
-Needs pt (line.Migration stage.StateTaken p) = ⊤
-Needs pt (line.Migration stage.MemoryTaken p) = ⊤
-Needs pt (line.Migration stage.Left p) = ⊤
-Needs pt (line.Migration stage.Restarted p) = Lived pt.kernel p
-Needs pt (line.SentOn p n) = ⊤
-Needs pt (line.Lacks p a b) = ⊤
-Needs pt (line.Stays p) = Lived pt.kernel p
-Needs pt (line.Here i) = ⊤
-Needs pt (line.NoMove i) = ⊤
-Needs pt (line.Proto i) = ⊤
-Needs pt (line.NoChild p) = ⊤
-Needs pt (line.Pinned p) = ⊤
+Needs pt (Line.Label l) = NeedsLabel pt l
+Needs pt (Line.Migration Stage.Frozen p) = Lived pt.kernel p
+Needs pt (Line.Migration Stage.Asked p) = ⊤
+Needs pt (Line.Migration Stage.Accepted p) = Lived pt.kernel p × (pt.view.known pt.view.acting p ≡ Here → ⊥)
+Needs pt (Line.Migration Stage.StateTaken p) = ⊤
+Needs pt (Line.Migration Stage.MemoryTaken p) = ⊤
+Needs pt (Line.Migration Stage.Left p) = ⊤
+Needs pt (Line.Migration Stage.Restarted p) = Lived pt.kernel p
+Needs pt (Line.Stays p) = Lived pt.kernel p
+Needs pt _ = ⊤
 
-label_roots : (pt : Point) (t : OneKernel) (l : Label) → NeedsLabel pt l → Sane pt → Kept pt.kernel t → kernel.step pt.kernel l ≡ Some t → Roots pt.kernel pt.view → Roots t (view_after pt.view (line.Label l))
-label_roots pt t (label.Ran p k) need sane kept e h = roots_ring pt.kernel t pt.view (view_after pt.view (line.Label (label.Ran p k))) p kept refl refl need h
-label_roots pt t (label.Call p n c) need sane kept e h = roots_kept pt.kernel t pt.view kept h
-label_roots pt t (label.Send p id) need sane kept e h = roots_kept pt.kernel t pt.view kept h
-label_roots pt t (label.Wait p) need sane kept e h = roots_kept pt.kernel t pt.view kept h
-label_roots pt t (label.Out p w) need sane kept e h = roots_kept pt.kernel t pt.view kept h
-label_roots pt t (label.End p y) need sane kept e h = roots_leaves pt.kernel t pt.view (view_after pt.view (line.Label (label.End p y))) p Ended kept (ends_lived pt.kernel t p y kept e) refl refl h
-label_roots pt t (label.Receive p id) need sane kept e h = roots_ring pt.kernel t pt.view (view_after pt.view (line.Label (label.Receive p id))) p kept refl refl need h
-label_roots pt t (label.Refuse p id c) need sane kept e h = roots_ring pt.kernel t pt.view (view_after pt.view (line.Label (label.Refuse p id c))) p kept refl refl need h
-label_roots pt t (label.Dropped id) need sane kept e h =
+label_roots : (pt : Point) (t : OneKernel) (l : Label) → NeedsLabel pt l → Sane pt → Kept pt.kernel t → kernel.step pt.kernel l ≡ Some t → Roots pt.kernel pt.view → Roots t (view_after pt.view (Line.Label l))
+label_roots pt t (Label.Ran p k) need sane kept e h = roots_ring pt.kernel t pt.view (view_after pt.view (Line.Label (Label.Ran p k))) p kept refl refl need h
+label_roots pt t (Label.End p y) need sane kept e h = roots_leaves pt.kernel t pt.view (view_after pt.view (Line.Label (Label.End p y))) p Ended kept (ends_lived pt.kernel t p y kept e) refl refl h
+label_roots pt t (Label.Receive p id) need sane kept e h = roots_ring pt.kernel t pt.view (view_after pt.view (Line.Label (Label.Receive p id))) p kept refl refl need h
+label_roots pt t (Label.Refuse p id c) need sane kept e h = roots_ring pt.kernel t pt.view (view_after pt.view (Line.Label (Label.Refuse p id c))) p kept refl refl need h
+label_roots pt t (Label.Dropped id) need sane kept e h =
     let i = dropped_idles (handled pt.view id) id (receiver_of (pt.view.told id)) in
-    roots_idle pt.kernel t pt.view (view_after pt.view (line.Label (label.Dropped id))) kept (record { known = i.known; ring = i.ring }) h
-label_roots pt t (label.Served id) need sane kept e h =
+    roots_idle pt.kernel t pt.view (view_after pt.view (Line.Label (Label.Dropped id))) kept (record { known = i.known; ring = i.ring }) h
+label_roots pt t (Label.Served id) need sane kept e h =
     served_roots t (handled pt.view id) (pt.view.told id) (served_lived pt t id sane kept e) (roots_idle pt.kernel t pt.view (handled pt.view id) kept (record { known = refl; ring = refl }) h)
-label_roots pt t (label.Gone id) need sane kept e h = roots_idle pt.kernel t pt.view (handled pt.view id) kept (record { known = refl; ring = refl }) h
-label_roots pt t (label.Took id) need sane kept e h = roots_idle pt.kernel t pt.view (handled pt.view id) kept (record { known = refl; ring = refl }) h
-label_roots pt t (label.Created id p) need sane kept e h =
-    roots_comes pt.kernel t pt.view (view_after pt.view (line.Label (label.Created id p))) p kept (created_lived pt.kernel t id p e) refl refl h
-label_roots pt t (label.NoSpace id a b) need sane kept e h = roots_idle pt.kernel t pt.view (handled pt.view id) kept (record { known = refl; ring = refl }) h
+label_roots pt t (Label.Gone id) need sane kept e h = roots_idle pt.kernel t pt.view (handled pt.view id) kept (record { known = refl; ring = refl }) h
+label_roots pt t (Label.Took id) need sane kept e h = roots_idle pt.kernel t pt.view (handled pt.view id) kept (record { known = refl; ring = refl }) h
+label_roots pt t (Label.Created id p) need sane kept e h =
+    roots_comes pt.kernel t pt.view (view_after pt.view (Line.Label (Label.Created id p))) p kept (created_lived pt.kernel t id p e) refl refl h
+label_roots pt t (Label.NoSpace id a b) need sane kept e h = roots_idle pt.kernel t pt.view (handled pt.view id) kept (record { known = refl; ring = refl }) h
+label_roots pt t _ need sane kept e h = roots_kept pt.kernel t pt.view kept h
 
 gone_here : (k : Known) (moves : ℕ) → k ≡ Here → gone_to k moves ≡ Here
 gone_here k moves e = ap (λ (x : Known). gone_to x moves) e
 
 -- the other lines
 line_by : (pt : Point) (t : OneKernel) (l : Line) → Needs pt l → Sane pt → Kept pt.kernel t → kernel_after pt.kernel (label_of l) ≡ Some t → Roots pt.kernel pt.view → Roots t (view_after pt.view l)
-line_by pt t (line.Head (step.Turn m)) need sane kept e h = roots_idle pt.kernel t pt.view (view_after pt.view (line.Head (step.Turn m))) kept (record { known = refl; ring = refl }) h
-line_by pt t (line.Head (step.Tick m)) need sane kept e h = roots_idle pt.kernel t pt.view (view_after pt.view (line.Head (step.Tick m))) kept (record { known = refl; ring = refl }) h
-line_by pt t (line.Head (step.Deliver a b k)) need sane kept e h = roots_idle pt.kernel t pt.view (view_after pt.view (line.Head (step.Deliver a b k))) kept (record { known = refl; ring = refl }) h
-line_by pt t (line.Head (step.Migrate p m)) need sane kept e h = roots_idle pt.kernel t pt.view (view_after pt.view (line.Head (step.Migrate p m))) kept (record { known = refl; ring = refl }) h
-line_by pt t (line.Label l) need sane kept e h = label_roots pt t l need sane kept e h
-line_by pt t (line.Idle m) need sane kept e h = roots_idle pt.kernel t pt.view (view_after pt.view (line.Idle m)) kept (record { known = refl; ring = refl }) h
-line_by pt t (line.Put a b i k q) need sane kept e h = roots_idle pt.kernel t pt.view (view_after pt.view (line.Put a b i k q)) kept (record { known = refl; ring = refl }) h
-line_by pt t (line.Packet a b k l) need sane kept e h = roots_idle pt.kernel t pt.view (view_after pt.view (line.Packet a b k l)) kept (record { known = refl; ring = refl }) h
-line_by pt t (line.Old a b n) need sane kept e h = roots_idle pt.kernel t pt.view (view_after pt.view (line.Old a b n)) kept (record { known = refl; ring = refl }) h
-line_by pt t (line.Early a b n) need sane kept e h = roots_idle pt.kernel t pt.view (view_after pt.view (line.Early a b n)) kept (record { known = refl; ring = refl }) h
-line_by pt t (line.Acked a b n) need sane kept e h = roots_idle pt.kernel t pt.view (view_after pt.view (line.Acked a b n)) kept (record { known = refl; ring = refl }) h
-line_by pt t (line.Nothing) need sane kept e h = roots_idle pt.kernel t pt.view (view_after pt.view (line.Nothing)) kept (record { known = refl; ring = refl }) h
-line_by pt t (line.Resent m n) need sane kept e h = roots_idle pt.kernel t pt.view (view_after pt.view (line.Resent m n)) kept (record { known = refl; ring = refl }) h
-line_by pt t (line.Updated i n) need sane kept e h = roots_idle pt.kernel t pt.view (view_after pt.view (line.Updated i n)) kept (record { known = refl; ring = refl }) h
-line_by pt t (line.SentOn p n) need sane kept e h = roots_idle pt.kernel t pt.view (view_after pt.view (line.SentOn p n)) kept (record { known = refl; ring = refl }) h
-line_by pt t (line.Lacks p a b) need sane kept e h = roots_idle pt.kernel t pt.view (view_after pt.view (line.Lacks p a b)) kept (record { known = refl; ring = refl }) h
-line_by pt t (line.Here i) need sane kept e h = roots_idle pt.kernel t pt.view (view_after pt.view (line.Here i)) kept (record { known = refl; ring = refl }) h
-line_by pt t (line.NoMove i) need sane kept e h = roots_idle pt.kernel t pt.view (view_after pt.view (line.NoMove i)) kept (record { known = refl; ring = refl }) h
-line_by pt t (line.NoChild p) need sane kept e h = roots_idle pt.kernel t pt.view (view_after pt.view (line.NoChild p)) kept (record { known = refl; ring = refl }) h
-line_by pt t (line.Pinned p) need sane kept e h = roots_idle pt.kernel t pt.view (view_after pt.view (line.Pinned p)) kept (record { known = refl; ring = refl }) h
-line_by pt t (line.Migration stage.Asked p) need sane kept e h = roots_idle pt.kernel t pt.view (view_after pt.view (line.Migration stage.Asked p)) kept (record { known = refl; ring = refl }) h
-line_by pt t (line.Migration stage.StateTaken p) need sane kept e h = roots_idle pt.kernel t pt.view (view_after pt.view (line.Migration stage.StateTaken p)) kept (record { known = refl; ring = refl }) h
-line_by pt t (line.Migration stage.MemoryTaken p) need sane kept e h = roots_idle pt.kernel t pt.view (view_after pt.view (line.Migration stage.MemoryTaken p)) kept (record { known = refl; ring = refl }) h
-line_by pt t (line.Queued id) need sane kept e h = let i = queued_idles (handled pt.view id) id (receiver_of (pt.view.told id)) in roots_idle pt.kernel t pt.view (view_after pt.view (line.Queued id)) kept (record { known = i.known; ring = i.ring }) h
-line_by pt t (line.Held id) need sane kept e h = let i = held_idles (handled pt.view id) id (receiver_of (pt.view.told id)) in roots_idle pt.kernel t pt.view (view_after pt.view (line.Held id)) kept (record { known = i.known; ring = i.ring }) h
-line_by pt t (line.Forwarded id m) need sane kept e h = let i = forwarded_idles (handled pt.view id) (receiver_of (pt.view.told id)) in roots_idle pt.kernel t pt.view (view_after pt.view (line.Forwarded id m)) kept (record { known = i.known; ring = i.ring }) h
-line_by pt t (line.Proto id) need sane kept e h = let i = proto_idles (handled pt.view id) (pt.view.told id) in roots_idle pt.kernel t pt.view (view_after pt.view (line.Proto id)) kept (record { known = i.known; ring = i.ring }) h
-line_by pt t (line.Taken a b n) need sane kept e h =
+line_by pt t (Line.Head (Step.Turn m)) need sane kept e h = roots_idle pt.kernel t pt.view (view_after pt.view (Line.Head (Step.Turn m))) kept (record { known = refl; ring = refl }) h
+line_by pt t (Line.Head (Step.Tick m)) need sane kept e h = roots_idle pt.kernel t pt.view (view_after pt.view (Line.Head (Step.Tick m))) kept (record { known = refl; ring = refl }) h
+line_by pt t (Line.Head (Step.Deliver a b k)) need sane kept e h = roots_idle pt.kernel t pt.view (view_after pt.view (Line.Head (Step.Deliver a b k))) kept (record { known = refl; ring = refl }) h
+line_by pt t (Line.Head (Step.Migrate p m)) need sane kept e h = roots_idle pt.kernel t pt.view (view_after pt.view (Line.Head (Step.Migrate p m))) kept (record { known = refl; ring = refl }) h
+line_by pt t (Line.Label l) need sane kept e h = label_roots pt t l need sane kept e h
+line_by pt t (Line.Migration Stage.Asked p) need sane kept e h = roots_idle pt.kernel t pt.view (view_after pt.view (Line.Migration Stage.Asked p)) kept (record { known = refl; ring = refl }) h
+line_by pt t (Line.Migration Stage.StateTaken p) need sane kept e h = roots_idle pt.kernel t pt.view (view_after pt.view (Line.Migration Stage.StateTaken p)) kept (record { known = refl; ring = refl }) h
+line_by pt t (Line.Migration Stage.MemoryTaken p) need sane kept e h = roots_idle pt.kernel t pt.view (view_after pt.view (Line.Migration Stage.MemoryTaken p)) kept (record { known = refl; ring = refl }) h
+line_by pt t (Line.Queued id) need sane kept e h = let i = queued_idles (handled pt.view id) id (receiver_of (pt.view.told id)) in roots_idle pt.kernel t pt.view (view_after pt.view (Line.Queued id)) kept (record { known = i.known; ring = i.ring }) h
+line_by pt t (Line.Held id) need sane kept e h = let i = held_idles (handled pt.view id) id (receiver_of (pt.view.told id)) in roots_idle pt.kernel t pt.view (view_after pt.view (Line.Held id)) kept (record { known = i.known; ring = i.ring }) h
+line_by pt t (Line.Forwarded id m) need sane kept e h = let i = forwarded_idles (handled pt.view id) (receiver_of (pt.view.told id)) in roots_idle pt.kernel t pt.view (view_after pt.view (Line.Forwarded id m)) kept (record { known = i.known; ring = i.ring }) h
+line_by pt t (Line.Proto id) need sane kept e h = let i = proto_idles (handled pt.view id) (pt.view.told id) in roots_idle pt.kernel t pt.view (view_after pt.view (Line.Proto id)) kept (record { known = i.known; ring = i.ring }) h
+line_by pt t (Line.Taken a b n) need sane kept e h =
     let p = pt.view.pair a b in
     let i = taken_idles (view.with_pair pt.view a b (record p { taken = p.taken + 1; kept = filter (λ k. not (k == n)) p.kept })) b (view.oldest p) in
-    roots_idle pt.kernel t pt.view (view_after pt.view (line.Taken a b n)) kept (record { known = i.known; ring = i.ring }) h
-line_by pt t (line.Migration stage.Frozen p) need sane kept e h = roots_leaves pt.kernel t pt.view (view_after pt.view (line.Migration stage.Frozen p)) p (Frozen (target_of (front_told pt.view (pt.view.inbox pt.view.acting)))) kept (λ none le. need (kept p none) le) refl refl h
-line_by pt t (line.Migration stage.Accepted p) need sane kept e h = roots_known pt.kernel t pt.view (view_after pt.view (line.Migration stage.Accepted p)) p (Incoming (front_of (pt.view.inbox pt.view.acting))) kept (λ none le. absurd (need.0 (kept p none) le)) refl refl (λ here. absurd (need.1 here)) h
-line_by pt t (line.Migration stage.Left p) need sane kept e h = roots_known pt.kernel t pt.view (view_after pt.view (line.Migration stage.Left p)) p (gone_to (pt.view.known pt.view.acting p) (pt.view.moves p + 1)) kept (λ none le. ap (λ (x : Known). gone_to x (pt.view.moves p + 1)) (h.lives.none p (kept p none) le pt.view.acting)) refl refl (gone_here (pt.view.known pt.view.acting p) (pt.view.moves p + 1)) h
-line_by pt t (line.Migration stage.Restarted p) need sane kept e h = roots_comes pt.kernel t pt.view (view_after pt.view (line.Migration stage.Restarted p)) p kept (λ none le. need (kept p none) le) refl refl h
-line_by pt t (line.Stays p) need sane kept e h = roots_comes pt.kernel t pt.view (view_after pt.view (line.Stays p)) p kept (λ none le. need (kept p none) le) refl refl h
+    roots_idle pt.kernel t pt.view (view_after pt.view (Line.Taken a b n)) kept (record { known = i.known; ring = i.ring }) h
+line_by pt t (Line.Migration Stage.Frozen p) need sane kept e h = roots_leaves pt.kernel t pt.view (view_after pt.view (Line.Migration Stage.Frozen p)) p (Frozen (target_of (front_told pt.view (pt.view.inbox pt.view.acting)))) kept (λ none le. need (kept p none) le) refl refl h
+line_by pt t (Line.Migration Stage.Accepted p) need sane kept e h = roots_known pt.kernel t pt.view (view_after pt.view (Line.Migration Stage.Accepted p)) p (Incoming (front_of (pt.view.inbox pt.view.acting))) kept (λ none le. absurd (need.0 (kept p none) le)) refl refl (λ here. absurd (need.1 here)) h
+line_by pt t (Line.Migration Stage.Left p) need sane kept e h = roots_known pt.kernel t pt.view (view_after pt.view (Line.Migration Stage.Left p)) p (gone_to (pt.view.known pt.view.acting p) (pt.view.moves p + 1)) kept (λ none le. ap (λ (x : Known). gone_to x (pt.view.moves p + 1)) (h.lives.none p (kept p none) le pt.view.acting)) refl refl (gone_here (pt.view.known pt.view.acting p) (pt.view.moves p + 1)) h
+line_by pt t (Line.Migration Stage.Restarted p) need sane kept e h = roots_comes pt.kernel t pt.view (view_after pt.view (Line.Migration Stage.Restarted p)) p kept (λ none le. need (kept p none) le) refl refl h
+line_by pt t (Line.Stays p) need sane kept e h = roots_comes pt.kernel t pt.view (view_after pt.view (Line.Stays p)) p kept (λ none le. need (kept p none) le) refl refl h
+line_by pt t any_ need sane kept e h = roots_idle pt.kernel t pt.view (view_after pt.view any_) kept (record { known = refl; ring = refl }) h
 
 pub line_roots : (pt : Point) (t : OneKernel) (l : Line) → Needs pt l → Sane pt → kernel_after pt.kernel (label_of l) ≡ Some t → Roots pt.kernel pt.view → Roots t (view_after pt.view l)
 line_roots pt t l need sane e h = line_by pt t l need sane (kept_by pt.kernel t (label_of l) pt sane refl e) e h

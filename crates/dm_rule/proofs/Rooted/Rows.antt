@@ -1,45 +1,19 @@
 -- What the first line of a group needs, and that the others need nothing.
-use Rattle.std.proofs.Common.{◌≡◌, ℕ, ◌+◌, ◌==◌, Bool, true, false, List, [], ◌∷◌, length, refl}
-use Rattle.std.specs.Prelude.{⊤, if◌then◌else◌, slice_get}
-use Rattle.std.specs.declared.option.Option.{Option}
-use Rattle.std.specs.declared.option.Option.TheVariants.{None, Some}
-use Rattle.dm_link.specs.declared.Pid.{Pid}
-use Rattle.dm_link.specs.Names.{pid_of, pid_eq}
-use Rattle.dm_message.specs.declared.MsgId.{MsgId}
-use Rattle.dm_message.specs.declared.kind.MessageKind.{MessageKind}
-use Rattle.dm_message.specs.declared.kind.MessageKind.TheVariants as kind
-use Rattle.dm_message.specs.Kinds.{plain_kind}
-use Rattle.dm_message.specs.Plain as what
-use Rattle.dm_message.specs.Plain.{PlainMessage, PlainWhat}
-use Rattle.dm_processor.specs.Instructions.{instruction}
-use Rattle.dm_onekernel.specs.declared.boot.BootImage.{BootImage}
-use Rattle.dm_onekernel.specs.declared.boot.Boot.{Boot}
-use Rattle.dm_onekernel.specs.declared.label.Label.TheVariants as label
-use Rattle.dm_onekernel.specs.Boot.{first_number, switchboard, manager}
-use Rattle.dm_onekernel.specs.Options.{bind}
-use Rattle.dm_onekernel.specs.PlainProcess.{PlainProcess, PlainStatus, Ready, Waiting, Moving}
-use Rattle.dm_onekernel.specs.Kernel.{OneKernel}
+use Rattle.dm_rule.proofs.Names.{◌≡◌, ℕ, ◌+◌, ◌==◌, Bool, true, false, List, [], ◌∷◌, length, refl, ⊤, if◌then◌else◌, slice_get, Option, None, Some, Pid, pid_of, pid_eq, MsgId, MessageKind, Label, plain_kind, PlainMessage, PlainWhat}
+use Rattle.dm_rule.proofs.Names.{instruction, BootImage, Boot, first_number, switchboard, manager, bind, PlainProcess, PlainStatus, Ready, Waiting, Moving, OneKernel, machine_of, with_machine, Known, Unknown, Here, Forward, Ended}
+use Rattle.dm_rule.proofs.Names.{Addresses, Sender, is_told_back, Point, Part, Says, Owns, forwards_on}
 use Rattle.dm_onekernel.specs.Calls as calls
 use Rattle.dm_onekernel.specs.Pieces as pieces
 use Rattle.dm_onekernel.specs.Receiving as receiving
 use Rattle.dm_onekernel.specs.Switchboard as board
 use Rattle.dm_onekernel.specs.Manager as manage
 use Rattle.dm_onekernel.specs.Step as kernel
-use Rattle.dm_onekernel.specs.Step.{machine_of, with_machine}
-use Rattle.dm_rule.specs.View.{Known, Unknown, Here, Frozen, Incoming, Forward, Ended}
-use Rattle.dm_rule.specs.Addresses.{Addresses, Sender, is_told_back}
-use Rattle.dm_rule.specs.Point.{Point}
-use Rattle.dm_rule.specs.Parts.{Part, Says, Routes, Again, Owns, Transmits}
-use Rattle.dm_rule.specs.Migrating.{forwards_on}
 use Rattle.dm_rule.specs.Rule as rule
 use Rattle.dm_rule.proofs.Rooted.Lines.{Needs}
 
 abbrev pub NeedsPart : Point → Part → Type 0
 NeedsPart pt (Says l) = Needs pt l
-NeedsPart pt (Routes i) = ⊤
-NeedsPart pt (Again i b) = ⊤
-NeedsPart pt (Owns k q b) = ⊤
-NeedsPart pt (Transmits a b l) = ⊤
+NeedsPart pt _ = ⊤
 
 abbrev pub AllLoose : List Part → Type 0
 AllLoose [] = ⊤
@@ -79,11 +53,9 @@ drops_loose [] = tt
 drops_loose (i ∷ is) = (λ pt. tt, drops_loose is)
 
 called_loose : (p : Pid) (n : ℕ) (queue : List MsgId) (c : calls.Called) → AllLoose (rule.called p n queue c)
-called_loose p n queue (calls.Replies reply x) = (λ pt. tt, tt)
 called_loose p n queue (calls.Sends m x) = (λ pt. tt, (λ pt. tt, tt))
-called_loose p n queue (calls.Waits x) = (λ pt. tt, tt)
-called_loose p n queue (calls.Outputs word x) = (λ pt. tt, tt)
 called_loose p n queue (calls.Ends because) = (λ pt. tt, drops_loose queue)
+called_loose p n queue _ = (λ pt. tt, tt)
 
 stops_loose : (p : Pid) (queue : List MsgId) (o : Option kernel.Next) → AllLoose (rule.stops p queue o)
 stops_loose p queue None = tt
@@ -117,7 +89,7 @@ round_first pt b o m (Some p) here =
     (λ x is. serves_first pt b.quantum o.kernel p (o.view.queue m p) x x.status (here p refl))
 
 -- a message of the bag is handled
-created_needs : (pt : Point) (c : Bool) (id : MsgId) (p : Pid) (a b : ℕ) → NeedsPart pt (if c then rule.says (label.Created id p) else rule.says (label.NoSpace id a b))
+created_needs : (pt : Point) (c : Bool) (id : MsgId) (p : Pid) (a b : ℕ) → NeedsPart pt (if c then rule.says (Label.Created id p) else rule.says (Label.NoSpace id a b))
 created_needs pt true id p a b = tt
 created_needs pt false id p a b = tt
 
@@ -126,20 +98,8 @@ creates_first pt o m id r None = tt
 creates_first pt o m id r (Some i) = (created_needs pt (rule.has_room r i.blocks) id (pid_of m (first_number + o.kernel.made m)) r.slots r.blocks, (λ q. tt, tt))
 
 kernel_first : (pt : Point) (b : Boot) (o : Point) (m : ℕ) (id : MsgId) (k : PlainWhat) → FirstOf pt (rule.kernel_handles b o m id k)
-kernel_first pt b o m id (what.User x1 x2 x3 x4) = tt
-kernel_first pt b o m id what.Stop = tt
-kernel_first pt b o m id what.Resume = tt
-kernel_first pt b o m id what.Kill = tt
-kernel_first pt b o m id (what.Read x1 x2) = tt
-kernel_first pt b o m id (what.Write x1 x2) = tt
-kernel_first pt b o m id (what.Block x1) = tt
-kernel_first pt b o m id what.Written = tt
-kernel_first pt b o m id what.Gone = tt
-kernel_first pt b o m id (what.Create x1 x2) = creates_first pt o m id (rule.free_room b o m) (slice_get b.images x1)
-kernel_first pt b o m id (what.Created x1) = tt
-kernel_first pt b o m id what.NoRoom = tt
-kernel_first pt b o m id (what.Move x1) = tt
-kernel_first pt b o m id (what.Moved x1) = tt
+kernel_first pt b o m id (PlainWhat.Create x1 x2) = creates_first pt o m id (rule.free_room b o m) (slice_get b.images x1)
+kernel_first pt b o m id _ = tt
 
 routes_loose : (o : Option PlainMessage) → AllLoose (rule.routes o)
 routes_loose None = tt
@@ -159,47 +119,36 @@ lands_first pt id (Some (pieces.Next request x)) = (tt, (λ q. tt, tt))
 lands_first pt id (Some (pieces.Done reply x)) = (tt, tt)
 
 here_first : (pt o : Point) (m : ℕ) (id : MsgId) (msg : PlainMessage) (x : PlainProcess) (k : PlainWhat) → FirstOf pt (rule.here_handles o m id msg x k)
-here_first pt o m id msg x (what.User x1 x2 x3 x4) = (tt, tt)
-here_first pt o m id msg x what.Stop = (tt, tt)
-here_first pt o m id msg x what.Resume = (tt, tt)
-here_first pt o m id msg x what.Kill = (tt, drops_loose (o.view.queue m msg.to))
-here_first pt o m id msg x (what.Read x1 x2) = (tt, (λ q. tt, tt))
-here_first pt o m id msg x (what.Write x1 x2) = (tt, (λ q. tt, tt))
-here_first pt o m id msg x (what.Block x1) = lands_first pt id (pieces.lands msg.to x msg x.status)
-here_first pt o m id msg x what.Written = lands_first pt id (pieces.lands msg.to x msg x.status)
-here_first pt o m id msg x what.Gone = lands_first pt id (pieces.lands msg.to x msg x.status)
-here_first pt o m id msg x (what.Create x1 x2) = tt
-here_first pt o m id msg x (what.Created x1) = tt
-here_first pt o m id msg x what.NoRoom = tt
-here_first pt o m id msg x (what.Move x1) = tt
-here_first pt o m id msg x (what.Moved x1) = tt
+here_first pt o m id msg x (PlainWhat.User x1 x2 x3 x4) = (tt, tt)
+here_first pt o m id msg x PlainWhat.Stop = (tt, tt)
+here_first pt o m id msg x PlainWhat.Resume = (tt, tt)
+here_first pt o m id msg x PlainWhat.Kill = (tt, drops_loose (o.view.queue m msg.to))
+here_first pt o m id msg x (PlainWhat.Read x1 x2) = (tt, (λ q. tt, tt))
+here_first pt o m id msg x (PlainWhat.Write x1 x2) = (tt, (λ q. tt, tt))
+here_first pt o m id msg x (PlainWhat.Block x1) = lands_first pt id (pieces.lands msg.to x msg x.status)
+here_first pt o m id msg x PlainWhat.Written = lands_first pt id (pieces.lands msg.to x msg x.status)
+here_first pt o m id msg x PlainWhat.Gone = lands_first pt id (pieces.lands msg.to x msg x.status)
+here_first pt o m id msg x _ = tt
 
 ended_first : (pt : Point) (id : MsgId) (k : PlainWhat) → FirstOf pt (rule.ended_handles id k)
-ended_first pt id (what.User x1 x2 x3 x4) = (tt, tt)
-ended_first pt id what.Stop = (tt, tt)
-ended_first pt id what.Resume = (tt, tt)
-ended_first pt id what.Kill = (tt, tt)
-ended_first pt id (what.Read x1 x2) = (tt, (λ q. tt, tt))
-ended_first pt id (what.Write x1 x2) = (tt, (λ q. tt, tt))
-ended_first pt id (what.Block x1) = (tt, tt)
-ended_first pt id what.Written = (tt, tt)
-ended_first pt id what.Gone = (tt, tt)
-ended_first pt id (what.Create x1 x2) = tt
-ended_first pt id (what.Created x1) = tt
-ended_first pt id what.NoRoom = tt
-ended_first pt id (what.Move x1) = tt
-ended_first pt id (what.Moved x1) = tt
+ended_first pt id (PlainWhat.Read x1 x2) = (tt, (λ q. tt, tt))
+ended_first pt id (PlainWhat.Write x1 x2) = (tt, (λ q. tt, tt))
+ended_first pt id (PlainWhat.Create x1 x2) = tt
+ended_first pt id (PlainWhat.Created x1) = tt
+ended_first pt id PlainWhat.NoRoom = tt
+ended_first pt id (PlainWhat.Move x1) = tt
+ended_first pt id (PlainWhat.Moved x1) = tt
+ended_first pt id _ = (tt, tt)
 
 pub forwards_first : (pt : Point) (a : Addresses) (id : MsgId) (k : MessageKind) (sender : Pid) (to : ℕ) → First pt (forwards_on a id k sender to)
-forwards_first pt a id k sender to = (tt, (λ q. tt, loose_if (is_told_back k) (Owns kind.Update sender (a (Sender id)).at ∷ []) (λ q. tt, tt)))
+forwards_first pt a id k sender to = (tt, (λ q. tt, loose_if (is_told_back k) (Owns MessageKind.Update sender (a (Sender id)).at ∷ []) (λ q. tt, tt)))
 
 process_first : (pt o : Point) (m : ℕ) (id : MsgId) (msg : PlainMessage) (k : Known) → FirstOf pt (rule.process_handles o m id msg k)
 process_first pt o m id msg Unknown = tt
 process_first pt o m id msg Here = of_bind pt (kernel.alive (o.kernel.processes msg.to)) (λ x. rule.here_handles o m id msg x msg.what) (λ x is. here_first pt o m id msg x msg.what)
-process_first pt o m id msg (Frozen to) = (tt, tt)
-process_first pt o m id msg (Incoming from) = (tt, tt)
 process_first pt o m id msg (Forward at moves) = forwards_first pt o.addresses id (plain_kind msg.what) msg.sender at
 process_first pt o m id msg Ended = ended_first pt id msg.what
+process_first pt o m id msg _ = (tt, tt)
 
 pub handles_first : (pt : Point) (b : Boot) (o : Point) (m : ℕ) (id : MsgId) (msg : PlainMessage) → FirstOf pt (rule.handles b o m id msg)
 handles_first pt b o m id msg =

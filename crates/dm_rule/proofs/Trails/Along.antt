@@ -1,17 +1,5 @@
 -- Along lines that fit, and along runs whose groups' lines do.
-use Rattle.std.proofs.Common.{◌≡◌, ℕ, List, [], ◌∷◌, subst}
-use Rattle.std.specs.Prelude.{⊤}
-use Rattle.std.specs.declared.option.Option.TheVariants.{Some}
-use Rattle.dm_onekernel.specs.declared.boot.Boot.{Boot}
-use Rattle.dm_onekernel.specs.Boot.{IsValid}
-use Rattle.dm_schedule.specs.declared.Step.{Step}
-use Rattle.dm_laws.proofs.Steps.{bind-is}
-use Rattle.dm_line.specs.declared.line.Line.{Line}
-use Rattle.dm_rule.specs.Laws.{IsStep}
-use Rattle.dm_rule.specs.Parts.{Spelled}
-use Rattle.dm_rule.specs.Point.{Point, after_line}
-use Rattle.dm_rule.specs.Rule.{group_of}
-use Rattle.dm_rule.specs.Trails.{Trails, Trodden, first_trodden, along, trails_after, LeadsAlong, TrailsAlways}
+use Rattle.dm_rule.proofs.Names.{◌≡◌, ℕ, List, [], ◌∷◌, subst, ⊤, Some, Boot, IsValid, Step, bind-is, Line, IsStep, Spelled, Point, after_line, group_of, Trails, Trodden, first_trodden, along, trails_after, LeadsAlong, TrailsAlways}
 use Rattle.dm_rule.proofs.Trails.Treads.{Treads, LineFits, line_treads}
 use Rattle.dm_rule.proofs.Trails.Within.{Within}
 use Rattle.dm_rule.proofs.Trails.Found.{treads_start, address_leads}

@@ -1,14 +1,5 @@
 -- From each address the forwards lead to its process, in fewer steps than there are machines.
-use Rattle.std.proofs.Common.{◌≡◌, ◌≢◌, ℕ, suc, true}
-use Rattle.std.specs.declared.option.Option.TheVariants.{Some}
-use Rattle.dm_link.specs.declared.Pid.{Pid}
-use Rattle.dm_onekernel.specs.declared.boot.Boot.{Boot}
-use Rattle.dm_onekernel.specs.Boot.{IsValid}
-use Rattle.dm_rule.specs.View.{Unknown}
-use Rattle.dm_rule.specs.Addresses.{Holder}
-use Rattle.dm_rule.specs.Homes.{names}
-use Rattle.dm_rule.specs.Point.{Point, first_point}
-use Rattle.dm_rule.specs.Trails.{Trails, IsOn, first_trails, leads}
+use Rattle.dm_rule.proofs.Names.{◌≡◌, ◌≢◌, ℕ, suc, true, Some, Pid, Boot, IsValid, Unknown, Holder, names, Point, first_point, Trails, IsOn, first_trails, leads}
 use Rattle.dm_rule.proofs.Homes.Start.{Homes-start}
 use Rattle.dm_rule.proofs.Trails.Leads.{trail_leads}
 use Rattle.dm_rule.proofs.Trails.Start.{trailed_start}

@@ -1,18 +1,6 @@
 -- What machines learn of a process agrees with its trail.
-use Rattle.std.proofs.Common.{◌≡◌, ◌≢◌, ◌⊎◌, ℕ, zero, suc, ◌+◌, ◌<◌, ◌==◌, Bool, true, false, List, [], ◌∷◌, ◌++◌, length, refl, ap, ◌∙◌, sym, inl, inr, arith}
-use Rattle.std.proofs.lemmas.Bool.Decides.{nat_tests}
-use Rattle.std.specs.Prelude.{if◌then◌else◌, slice_get}
-use Rattle.std.specs.declared.option.Option.{Option}
-use Rattle.std.specs.declared.option.Option.TheVariants.{None, Some}
-use Rattle.std.proofs.lemmas.Bool.{cases_Bool}
-use Rattle.std.proofs.lemmas.Option.{slice_get_within}
-use Rattle.std.proofs.lemmas.List.{length-append}
-use Rattle.dm_link.specs.declared.Pid.{Pid}
-use Rattle.dm_message.specs.declared.MsgId.{MsgId}
-use Rattle.dm_message.specs.declared.kind.MessageKind.{MessageKind}
-use Rattle.dm_rule.specs.View.{View, Known, Unknown, Here, Incoming, Forward}
-use Rattle.dm_rule.specs.Phases.{Phase, Nowhere, Rests, Moves, is_restart}
-use Rattle.dm_rule.specs.Trails.{Trails, Trail, Stood, place_in, next_in, next_if, rest_of}
+use Rattle.dm_rule.proofs.Names.{◌≡◌, ◌≢◌, ◌⊎◌, ℕ, zero, suc, ◌+◌, ◌<◌, ◌==◌, Bool, true, false, List, [], ◌∷◌, ◌++◌, length, refl, ap, ◌∙◌, sym, inl, inr, arith, nat_tests, if◌then◌else◌, slice_get, Some, cases_Bool, slice_get_within, Pid}
+use Rattle.dm_rule.proofs.Names.{View, Known, Unknown, Here, Incoming, Forward, Nowhere, Trails, Trail, Stood}
 use Rattle.dm_rule.proofs.Lines.{eq_is}
 
 -- lists that grow at the end
@@ -127,38 +115,6 @@ trail_left v w t p d known there at long apart h = record {
               apart (dm ∙ sym (eq_is v.acting m s)))
           | inr off ↦ before c (v.moves p) (length (t p)) j within long off n
         ]
-
--- how long a trail is, and where it ends
-pub stood_same : (v w : View) (t u : Trails) (p : Pid) (a b : Phase) → w.moves p ≡ v.moves p → u p ≡ t p → place_in p b ≡ place_in p a → next_in b ≡ next_in a → (b ≡ Nowhere → a ≡ Nowhere) → Stood v t p a → Stood w u p b
-stood_same v w t u p a b moves same place next made h = record {
-  now = ap (λ (xs : List ℕ). slice_get xs (w.moves p)) same ∙ ap (λ (n : ℕ). slice_get (t p) n) moves ∙ h.now ∙ sym (ap Some place);
-  next = λ d e. ap (λ (xs : List ℕ). slice_get xs (w.moves p + 1)) same ∙ ap (λ (n : ℕ). slice_get (t p) (n + 1)) moves ∙ h.next d (sym next ∙ e);
-  long = ap length same ∙ h.long ∙ sym (ap (λ (n : ℕ). n + 1 + rest_of (next_in b)) moves ∙ ap (λ (o : Option ℕ). v.moves p + 1 + rest_of o) next);
-  unmade = λ e. moves ∙ h.unmade (made e);
-}
-
--- step 6: its trail has grown, and the message that restarts it comes next
-pub stood_leaves : (v w : View) (t u : Trails) (p : Pid) (k j : MessageKind) (s d : ℕ) (i o : Option MsgId) → w.moves p ≡ v.moves p → u p ≡ t p ++ d ∷ [] → is_restart k ≡ false → is_restart j ≡ true → Stood v t p (Moves k s d i) → Stood w u p (Moves j s d o)
-stood_leaves v w t u p k j s d i o moves more off on h = record {
-  now = ap (λ (xs : List ℕ). slice_get xs (w.moves p)) more ∙ ap (λ (n : ℕ). slice_get (t p ++ d ∷ []) n) moves ∙ get_more (t p) (d ∷ []) (v.moves p) s h.now;
-  next = λ e f.
-      let same : d ≡ e = (let g : Some d ≡ Some e = sym (ap (λ (b : Bool). next_if b d) on) ∙ f in cc) in
-      ap (λ (xs : List ℕ). slice_get xs (w.moves p + 1)) more ∙ get_at_end (t p) d (w.moves p + 1) (long ∙ sym (ap (λ (n : ℕ). n + 1) moves)) ∙ ap Some same;
-  long = ap length more ∙ length-append (t p) (d ∷ []) ∙ ap (λ (n : ℕ). n + 1) long ∙ sym (ap (λ (n : ℕ). n + 1 + rest_of (next_if (is_restart j) d)) moves ∙ ap (λ (b : Bool). v.moves p + 1 + rest_of (next_if b d)) on);
-  unmade = λ e. absurd (let f : Moves j s d o ≡ Nowhere = e in cc);
-}
-  where
-    long : length (t p) ≡ v.moves p + 1
-    long = let e = h.long in let z : rest_of (next_if (is_restart k) d) ≡ 0 = ap (λ (b : Bool). rest_of (next_if b d)) off in omega (arith, e, z)
-
--- step 8: it has moved once more
-pub stood_restarts : (v w : View) (t u : Trails) (p : Pid) (k : MessageKind) (s d : ℕ) (i : Option MsgId) → w.moves p ≡ v.moves p + 1 → u p ≡ t p → is_restart k ≡ true → Stood v t p (Moves k s d i) → Stood w u p (Rests d)
-stood_restarts v w t u p k s d i moves same on h = record {
-  now = ap (λ (xs : List ℕ). slice_get xs (w.moves p)) same ∙ ap (λ (n : ℕ). slice_get (t p) n) moves ∙ h.next d (ap (λ (b : Bool). next_if b d) on);
-  next = λ e f. absurd (let g : None ≡ Some e = f in cc);
-  long = ap length same ∙ (let e = h.long in let z : rest_of (next_if (is_restart k) d) ≡ 1 = ap (λ (b : Bool). rest_of (next_if b d)) on in omega (arith, e, z, moves));
-  unmade = λ e. absurd (let f : Rests d ≡ Nowhere = e in cc);
-}
 
 -- the trail of a process that was never made is its home alone
 pub home_alone : (v : View) (t : Trails) (p : Pid) → Trail v t p → Stood v t p Nowhere → (c m : ℕ) → slice_get (t p) c ≡ Some m → m ≡ p.home

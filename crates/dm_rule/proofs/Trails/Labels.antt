@@ -1,35 +1,12 @@
 -- Each label keeps each address on its trail.
-use Rattle.std.proofs.Common.{◌≡◌, true, refl, ap, ◌∙◌, sym, subst}
-use Rattle.std.specs.declared.option.Option.{Option}
-use Rattle.std.specs.declared.option.Option.TheVariants.{None, Some}
-use Rattle.dm_link.specs.declared.Pid.{Pid}
-use Rattle.dm_link.specs.Names.{Place}
-use Rattle.dm_message.specs.declared.MsgId.{MsgId}
-use Rattle.dm_message.specs.declared.kind.MessageKind.{MessageKind}
-use Rattle.dm_message.specs.declared.kind.MessageKind.TheVariants as kind
-use Rattle.dm_onekernel.specs.Boot.{manager}
-use Rattle.dm_onekernel.specs.declared.label.Label.{Label}
-use Rattle.dm_onekernel.specs.declared.label.Label.TheVariants as label
-use Rattle.dm_onekernel.specs.Kernel.{OneKernel}
+use Rattle.dm_rule.proofs.Names.{◌≡◌, true, refl, ap, ◌∙◌, sym, subst, Option, None, Some, Pid, Place, MsgId, MessageKind, Line, manager, Label, OneKernel, View, Told, is_kernels, after_label, served_told, kills, handled, dropped_for}
+use Rattle.dm_rule.proofs.Names.{receiver_of, Addresses, Receiver, Sender, given, gives, ascends, to_of, Trails, Trail, IsOn, AddressesOn, OwnOn}
 use Rattle.dm_onekernel.specs.Step as kernel
-use Rattle.dm_line.specs.declared.line.Line.TheVariants as line
-use Rattle.dm_rule.specs.View.{View, Told, Here, is_kernels, after_label, served_told, kills, handled, dropped_for, receiver_of}
-use Rattle.dm_rule.specs.Addresses.{Addresses, Receiver, Sender, given, gives, here}
-use Rattle.dm_rule.specs.Homes.{ascends, to_of}
-use Rattle.dm_rule.specs.Phases.{Phase, Rests, IsIn, knows}
-use Rattle.dm_rule.specs.Trails.{Trails, Trail, Stood, IsOn, AddressesOn, OwnOn}
 use Rattle.dm_rule.proofs.Hushed.{hushed}
 use Rattle.dm_rule.proofs.Homes.{homes_are, at_home}
 use Rattle.dm_rule.proofs.Homes.Serves.{Named, EndedAt}
 use Rattle.dm_rule.proofs.Homes.Labels.{SaidOn, label_on}
-use Rattle.dm_rule.proofs.Phases.Rests.{rests_here}
 use Rattle.dm_rule.proofs.Trails.Spares.{Outside, gives_spares, spared_receiver, spared_sender}
-
--- where a process is here, it is at the end of its trail
-pub here_on : (v : View) (t : Trails) (p : Pid) (phase : Phase) → IsIn v p phase → v.known v.acting p ≡ Here → Stood v t p phase → IsOn t p (here v p)
-here_on v t p phase h at stood =
-    let is : phase ≡ Rests v.acting = rests_here phase v.acting (sym (ap (knows phase v.acting) at) ∙ h.known v.acting) in
-    (subst (Stood v t p) is stood).now
 
 -- where a message's receiver has ended, the message's own address says where
 pub ended_on : (s : OneKernel) (v : View) (a : Addresses) (t : Trails) (id : MsgId) → (a (Receiver id)).at ≡ v.acting → AddressesOn s a t → EndedAt (IsOn t) s v a id
@@ -47,33 +24,9 @@ label_pending s t v a tr l is named said trail pending links = (label_on (IsOn t
 
 -- a label tells nothing of messages, and isn't about a place
 kills_topic : (v : View) (k : MessageKind) (o : Option Pid) → (kills k v o).topic ≡ v.topic
-kills_topic v kind.Kill (Some p) = refl
-kills_topic v kind.Kill None = refl
-kills_topic v kind.User o = refl
-kills_topic v kind.Stop o = refl
-kills_topic v kind.Resume o = refl
-kills_topic v kind.Read o = refl
-kills_topic v kind.Write o = refl
-kills_topic v kind.Block o = refl
-kills_topic v kind.Written o = refl
-kills_topic v kind.Gone o = refl
-kills_topic v kind.Create o = refl
-kills_topic v kind.Created o = refl
-kills_topic v kind.NoRoom o = refl
-kills_topic v kind.Migrate o = refl
-kills_topic v kind.Update o = refl
-kills_topic v kind.Ask o = refl
-kills_topic v kind.Refuse o = refl
-kills_topic v kind.PullState o = refl
-kills_topic v kind.State o = refl
-kills_topic v kind.PullBlock o = refl
-kills_topic v kind.Memory o = refl
-kills_topic v kind.AllTaken o = refl
-kills_topic v kind.Restart o = refl
-kills_topic v kind.Move o = refl
-kills_topic v kind.Moved o = refl
-kills_topic v kind.CallOff o = refl
-kills_topic v kind.Bury o = refl
+kills_topic v MessageKind.Kill (Some p) = refl
+kills_topic v MessageKind.Kill None = refl
+kills_topic v _ o = refl
 
 served_topic : (v : View) (o : Option Told) → (served_told v o).topic ≡ v.topic
 served_topic v None = refl
@@ -84,23 +37,12 @@ dropped_topic v i None = refl
 dropped_topic v i (Some p) = refl
 
 pub label_told : (v : View) (l : Label) → (after_label v l).told ≡ v.told
-label_told v l = (hushed v (line.Label l) refl).told
+label_told v l = (hushed v (Line.Label l) refl).told
 
 pub label_topic : (v : View) (l : Label) → (after_label v l).topic ≡ v.topic
-label_topic v (label.Served id) = served_topic (handled v id) (v.told id)
-label_topic v (label.Dropped id) = dropped_topic (handled v id) id (receiver_of (v.told id))
-label_topic v (label.Ran p k) = refl
-label_topic v (label.Call p n c) = refl
-label_topic v (label.Send p id) = refl
-label_topic v (label.Wait p) = refl
-label_topic v (label.Out p w) = refl
-label_topic v (label.End p y) = refl
-label_topic v (label.Receive p id) = refl
-label_topic v (label.Refuse p id c) = refl
-label_topic v (label.Gone id) = refl
-label_topic v (label.Took id) = refl
-label_topic v (label.Created id p) = refl
-label_topic v (label.NoSpace id f b) = refl
+label_topic v (Label.Served id) = served_topic (handled v id) (v.told id)
+label_topic v (Label.Dropped id) = dropped_topic (handled v id) id (receiver_of (v.told id))
+label_topic v _ = refl
 
 -- kernels' own messages keep theirs
 pub own_same : (v w : View) (a b : Addresses) (t u : Trails) → w.told ≡ v.told → w.topic ≡ v.topic → ((i : MsgId) → is_kernels i ≡ true → b (Receiver i) ≡ a (Receiver i)) → ((i : MsgId) → is_kernels i ≡ true → b (Sender i) ≡ a (Sender i))

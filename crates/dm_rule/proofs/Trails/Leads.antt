@@ -1,13 +1,6 @@
 -- From each place of a trail the forwards lead to the process, in fewer steps than there are machines.
-use Rattle.std.proofs.Common.{◌≡◌, ◌≢◌, ℕ, zero, suc, ◌+◌, ◌≤◌, ◌<◌, ◌==◌, ◌||◌, ◌&&◌, Bool, true, false, List, [], ◌∷◌, refl, ap, ◌∙◌, sym, inl, inr, arith, nat_lt, eqb-true, eq-eqb}
-use Rattle.std.specs.Prelude.{slice_get}
-use Rattle.std.specs.declared.option.Option.TheVariants.{Some}
-use Rattle.std.proofs.lemmas.Bool.{cases_eq, or_cases, or_left, or_right, false≢true}
-use Rattle.std.proofs.lemmas.Bool.Decides.{nat_tests}
-use Rattle.dm_link.specs.declared.Pid.{Pid}
-use Rattle.dm_link.specs.Names.{Place}
-use Rattle.dm_rule.specs.View.{View, Known, Unknown, Here, Frozen, Incoming, Forward, Ended}
-use Rattle.dm_rule.specs.Trails.{Trails, Trail, IsOn, leads_on, leads}
+use Rattle.dm_rule.proofs.Names.{◌≡◌, ◌≢◌, ℕ, zero, suc, ◌+◌, ◌≤◌, ◌<◌, ◌==◌, ◌||◌, Bool, true, false, List, [], ◌∷◌, refl, ap, ◌∙◌, sym, inl, inr, arith, nat_lt, eqb-true, eq-eqb, slice_get, Some, cases_eq, or_cases, or_left, or_right}
+use Rattle.dm_rule.proofs.Names.{false≢true, nat_tests, Pid, Place, View, Known, Unknown, Forward, Trails, Trail, IsOn, leads_on, leads, both_true}
 use Rattle.dm_rule.proofs.Lines.{not_true}
 
 -- how many of the first n machines pass a test
@@ -98,21 +91,14 @@ fewer v t p machines c m k j h within at e =
     (not_true (ahead (t p) j m) (λ s. let (a, le, f) = where_ahead (t p) j m s in let before = h.behind m k j a e f in absurd (omega (arith, le, before))))
     (is_ahead (t p) c c m (omega arith) at)
 
-less_test : (m n : ℕ) → m < n → nat_lt m n ≡ true
+pub less_test : (m n : ℕ) → m < n → nat_lt m n ≡ true
 less_test m n e = grind (arith, nat_tests)
-
-both_true : (b c : Bool) → b ≡ true → c ≡ true → (b && c) ≡ true
-both_true true c e f = f
-both_true false c e f = absurd (false≢true e)
 
 -- a step
 goes_on : (x : Known) (c : ℕ) (next : ℕ → ℕ → Bool) → x ≢ Unknown → ((k j : ℕ) → x ≡ Forward k j → (c < j) × (next j k ≡ true)) → leads_on x c next ≡ true
 goes_on Unknown c next known h = absurd (known refl)
-goes_on Here c next known h = refl
-goes_on (Frozen to) c next known h = refl
-goes_on (Incoming from) c next known h = refl
 goes_on (Forward k j) c next known h = let f = h k j refl in both_true (nat_lt c j) (next j k) (less_test c j f.0) f.1
-goes_on Ended c next known h = refl
+goes_on _ c next known h = refl
 
 left_some : (xs : List ℕ) (machines j k : ℕ) → k < machines → slice_get xs j ≡ Some k → 0 < left_at xs machines j
 unfolding left_at

@@ -1,24 +1,8 @@
 -- Lines that give addresses beside the kernel keep each on its trail: a message that is forwarded, messages that are sent on, an
 -- update, and the first put of a kernel's own message.
-use Rattle.std.proofs.Common.{◌≡◌, ℕ, ◌+◌, ◌≤◌, ◌&&◌, Bool, true, false, List, [], ◌∷◌, ◌++◌, refl, ap, ◌∙◌, sym, subst, inl, inr, arith, nat_lt}
-use Rattle.std.specs.Prelude.{if◌then◌else◌, slice_get}
-use Rattle.std.specs.declared.option.Option.{Option}
-use Rattle.std.specs.declared.option.Option.TheVariants.{None, Some}
-use Rattle.std.proofs.lemmas.Bool.{cases_Bool, false≢true}
-use Rattle.dm_link.specs.declared.Pid.{Pid}
-use Rattle.dm_link.specs.Names.{Place}
-use Rattle.dm_message.specs.declared.MsgId.{MsgId}
-use Rattle.dm_message.specs.Ids.{id_eq}
-use Rattle.dm_message.specs.declared.kind.MessageKind.TheVariants as kind
-use Rattle.dm_onekernel.specs.Boot.{manager}
-use Rattle.dm_onekernel.specs.Kernel.{OneKernel}
-use Rattle.dm_laws.proofs.Equal.{pid_eq-is, id_eq-same}
-use Rattle.dm_rule.specs.View as view
-use Rattle.dm_rule.specs.View.{View, Told, About, NothingElse, Target, Of, Known, Unknown, Here, Frozen, Incoming, Forward, Ended, is_kernels, own_id, after_put}
-use Rattle.dm_rule.specs.Addresses.{Addresses, Holder, Slot, Owner, Receiver, Sender, Enclosed, Child, Name, Answer, given, place_known, all_follow, is_told_back, tells_back, forwards, place_told, belongs_to, leads_to, is_pid, is_behind, updated_to, updated}
-use Rattle.dm_rule.specs.Homes.{names, to_of, sender_of}
-use Rattle.dm_rule.specs.Spots.{times}
-use Rattle.dm_rule.specs.Trails.{Trails, Trail, IsOn, AddressesOn, OwnOn}
+use Rattle.dm_rule.proofs.Names.{◌≡◌, ℕ, ◌+◌, ◌≤◌, ◌&&◌, Bool, true, false, List, [], ◌∷◌, ◌++◌, refl, ap, ◌∙◌, sym, subst, inl, inr, arith, nat_lt, if◌then◌else◌, slice_get, Option, None, Some, cases_Bool, false≢true, Pid, Place, MsgId}
+use Rattle.dm_rule.proofs.Names.{id_eq, MessageKind, manager, OneKernel, pid_eq-is, id_eq-same, View, Told, About, Known, Frozen, Forward, is_kernels, own_id, Addresses, Holder, Receiver, Sender, Enclosed, given, place_known, all_follow}
+use Rattle.dm_rule.proofs.Names.{is_told_back, tells_back, forwards, place_told, belongs_to, leads_to, is_pid, is_behind, updated_to, updated, names, to_of, sender_of, times, Trails, Trail, IsOn, AddressesOn, OwnOn}
 use Rattle.dm_rule.proofs.Once.{one_of}
 use Rattle.dm_rule.proofs.Lines.{parts}
 use Rattle.dm_rule.proofs.Trails.Places.{Goes, Comes, Named, Links, Owns, AllAre, AllGet, given_on, all_grown}
@@ -35,7 +19,7 @@ links_are s v a t h g q e = h g q (Links e)
 pub receivers_are : (s : OneKernel) (v : View) (a : Addresses) (t : Trails) → AllAre s v a t → (i : MsgId) (u : Told) → is_kernels i ≡ true → v.told i ≡ Some u → IsOn t u.receiver (a (Receiver i))
 receivers_are s v a t h i u k told = h (Receiver i) u.receiver (Owns (Goes i u refl k told refl))
 
-pub senders_are : (s : OneKernel) (v : View) (a : Addresses) (t : Trails) → AllAre s v a t → (i : MsgId) (u : Told) → is_kernels i ≡ true → v.told i ≡ Some u → u.kind ≡ kind.Migrate → IsOn t manager (a (Sender i))
+pub senders_are : (s : OneKernel) (v : View) (a : Addresses) (t : Trails) → AllAre s v a t → (i : MsgId) (u : Told) → is_kernels i ≡ true → v.told i ≡ Some u → u.kind ≡ MessageKind.Migrate → IsOn t manager (a (Sender i))
 senders_are s v a t h i u mine told k = h (Sender i) manager (Owns (Comes i u refl mine told k refl))
 
 -- what was told stays
@@ -46,11 +30,6 @@ told_back s v w h q same (Owns (Comes i u is mine told k r)) = Owns (Comes i u i
 
 pub all_as : (s : OneKernel) (v w : View) (a : Addresses) (t : Trails) → ((i : MsgId) → w.told i ≡ v.told i) → AllAre s v a t → AllAre s w a t
 all_as s v w a t same h g q e = h g q (told_back s v w g q same e)
-
--- a message that isn't in the bag, and of which nothing was told, has no address that counts
-receiver_of_holder : Holder → Option MsgId
-receiver_of_holder (Receiver i) = Some i
-receiver_of_holder _ = None
 
 pub unnamed_receiver : (s : OneKernel) (v : View) (i : MsgId) (q : Pid) → s.bag i ≡ None → v.told i ≡ None → Named s v (Receiver i) q → ⊥
 unnamed_receiver s v i q bag told (Links e) = let f : None ≡ Some q = sym (ap to_of bag) ∙ e in cc
@@ -107,26 +86,22 @@ pub sent_on_all : (s : OneKernel) (v : View) (a : Addresses) (t u : Trails) (p :
 sent_on_all s v a t u p d ids at grows last for h = given_on s v a u (all_follow v a p ids) (all_grown s v a t u grows h) (follow_gets s v a u p d ids at last for)
 
 -- an update
-pid_there : (p : Pid) (o : Option Pid) → is_pid p o ≡ true → o ≡ Some p
+pub pid_there : (p : Pid) (o : Option Pid) → is_pid p o ≡ true → o ≡ Some p
 pid_there p None e = absurd (false≢true e)
 pid_there p (Some q) e = ap Some (sym (pid_eq-is p q e))
 
-leads_names : (s : OneKernel) (h : Holder) (p : Pid) → leads_to s h ≡ Some p → names s h ≡ Some p
-leads_names s (Slot q k) p e = e
-leads_names s (Owner q) p e = e
+pub leads_names : (s : OneKernel) (h : Holder) (p : Pid) → leads_to s h ≡ Some p → names s h ≡ Some p
 leads_names s (Receiver i) p e = cc
 leads_names s (Sender i) p e = cc
 leads_names s (Enclosed i k) p e = cc
-leads_names s (Child n) p e = e
-leads_names s (Name n) p e = e
-leads_names s (Answer n) p e = e
+leads_names s _ p e = e
 
-leads_where : (s : OneKernel) (v : View) (h : Holder) (p q : Pid) → leads_to s h ≡ Some p → Named s v h q → p ≡ q
+pub leads_where : (s : OneKernel) (v : View) (h : Holder) (p q : Pid) → leads_to s h ≡ Some p → Named s v h q → p ≡ q
 leads_where s v h p q e (Links f) = let g : Some p ≡ Some q = sym (leads_names s h p e) ∙ f in cc
 leads_where s v h p q e (Owns (Goes i u is k told r)) = absurd (let f : None ≡ Some p = sym (ap (leads_to s) is) ∙ e in cc)
 leads_where s v h p q e (Owns (Comes i u is mine told k r)) = absurd (let f : None ≡ Some p = sym (ap (leads_to s) is) ∙ e in cc)
 
-behind_where : (s : OneKernel) (a : Addresses) (q p : Pid) (n : ℕ) (h : Holder) → is_behind s a q p n h ≡ true → leads_to s h ≡ Some p
+pub behind_where : (s : OneKernel) (a : Addresses) (q p : Pid) (n : ℕ) (h : Holder) → is_behind s a q p n h ≡ true → leads_to s h ≡ Some p
 behind_where s a q p n h e =
     let x = parts (belongs_to q h) (is_pid p (leads_to s h) && nat_lt (a h).moves n) e in
     let y = parts (is_pid p (leads_to s h)) (nat_lt (a h).moves n) x.1 in
@@ -140,12 +115,10 @@ update_by s v a t r p place on h g q e = elim (cases_Bool (is_behind s a r p pla
   | inr not_ ↦ subst (IsOn t q) (sym (ap (λ (c : Bool). if c then place else a g) not_)) (h g q e)
 ]
 
-update_about : (s : OneKernel) (v : View) (a : Addresses) (t : Trails) (r : Pid) (x : About) → ((p : Pid) (m c : ℕ) → x ≡ view.Place p m c → slice_get (t p) c ≡ Some m) → AllAre s v a t → AllAre s v (updated_to s a (Some r) (place_told x)) t
-update_about s v a t r NothingElse on h = h
-update_about s v a t r (Target m) on h = h
-update_about s v a t r (Of p) on h = h
-update_about s v a t r (view.Place p m c) on h = update_by s v a t r p (record { at = m; moves = c }) (on p m c refl) h
+update_about : (s : OneKernel) (v : View) (a : Addresses) (t : Trails) (r : Pid) (x : About) → ((p : Pid) (m c : ℕ) → x ≡ About.Place p m c → slice_get (t p) c ≡ Some m) → AllAre s v a t → AllAre s v (updated_to s a (Some r) (place_told x)) t
+update_about s v a t r (About.Place p m c) on h = update_by s v a t r p (record { at = m; moves = c }) (on p m c refl) h
+update_about s v a t r _ on h = h
 
-pub updated_all : (s : OneKernel) (v : View) (a : Addresses) (t : Trails) (o : Option Told) → ((u : Told) (p : Pid) (m c : ℕ) → o ≡ Some u → u.about ≡ view.Place p m c → slice_get (t p) c ≡ Some m) → AllAre s v a t → AllAre s v (updated s v a o) t
+pub updated_all : (s : OneKernel) (v : View) (a : Addresses) (t : Trails) (o : Option Told) → ((u : Told) (p : Pid) (m c : ℕ) → o ≡ Some u → u.about ≡ About.Place p m c → slice_get (t p) c ≡ Some m) → AllAre s v a t → AllAre s v (updated s v a o) t
 updated_all s v a t None on h = h
 updated_all s v a t (Some u) on h = update_about s v a t u.receiver u.about (λ p m c e. on u p m c refl e) h

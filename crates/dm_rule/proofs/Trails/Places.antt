@@ -1,20 +1,6 @@
 -- Addresses that holders get are on trails, where each of them is.
-use Rattle.std.proofs.Common.{◌≡◌, ℕ, ◌+◌, ◌==◌, Bool, true, List, [], ◌∷◌, ◌++◌, refl, ap, ◌∙◌, sym, subst, inl, inr}
-use Rattle.std.specs.Prelude.{⊤, if◌then◌else◌, slice_get}
-use Rattle.std.specs.declared.option.Option.TheVariants.{Some}
-use Rattle.std.proofs.lemmas.Bool.{cases_Bool}
-use Rattle.dm_link.specs.declared.Pid.{Pid}
-use Rattle.dm_link.specs.Names.{Place, pid_eq}
-use Rattle.dm_message.specs.declared.MsgId.{MsgId}
-use Rattle.dm_message.specs.Ids.{id_eq}
-use Rattle.dm_message.specs.declared.kind.MessageKind.TheVariants as kind
-use Rattle.dm_onekernel.specs.Boot.{manager}
-use Rattle.dm_onekernel.specs.Kernel.{OneKernel}
-use Rattle.dm_laws.proofs.Equal.{pid_eq-is, id_eq-is}
-use Rattle.dm_rule.specs.View.{View, Told, Known, Unknown, Here, Frozen, Incoming, Forward, Ended, is_kernels}
-use Rattle.dm_rule.specs.Addresses.{Addresses, Holder, Slot, Owner, Receiver, Sender, Enclosed, Child, Name, Answer, Gets, given, holder_eq, place_known}
-use Rattle.dm_rule.specs.Homes.{names}
-use Rattle.dm_rule.specs.Trails.{Trails, IsOn}
+use Rattle.dm_rule.proofs.Names.{◌≡◌, ℕ, ◌+◌, ◌==◌, Bool, true, List, [], ◌∷◌, ◌++◌, ap, ◌∙◌, sym, subst, inl, inr, ⊤, if◌then◌else◌, slice_get, Some, cases_Bool, Pid, Place, pid_eq, MsgId, id_eq, MessageKind, manager, OneKernel, pid_eq-is}
+use Rattle.dm_rule.proofs.Names.{id_eq-is, View, Told, is_kernels, Addresses, Holder, Slot, Owner, Receiver, Sender, Enclosed, Child, Name, Answer, Gets, given, holder_eq, names, Trails, IsOn}
 use Rattle.dm_rule.proofs.Lines.{eq_is, parts}
 use Rattle.dm_rule.proofs.Trails.Known.{get_more}
 
@@ -88,7 +74,7 @@ holder_is (Answer n) (Answer m) e = ap Answer (eq_is n m e)
 -- whose address a holder has, of the kernel without machines and of kernels' own messages
 pub data Owned (v : View) (h : Holder) (q : Pid) : Type 0 where
   Goes : (i : MsgId) (u : Told) → h ≡ Receiver i → is_kernels i ≡ true → v.told i ≡ Some u → u.receiver ≡ q → Owned v h q
-  Comes : (i : MsgId) (u : Told) → h ≡ Sender i → is_kernels i ≡ true → v.told i ≡ Some u → u.kind ≡ kind.Migrate → manager ≡ q → Owned v h q
+  Comes : (i : MsgId) (u : Told) → h ≡ Sender i → is_kernels i ≡ true → v.told i ≡ Some u → u.kind ≡ MessageKind.Migrate → manager ≡ q → Owned v h q
 
 pub data Named (s : OneKernel) (v : View) (h : Holder) (q : Pid) : Type 0 where
   Links : names s h ≡ Some q → Named s v h q
@@ -112,23 +98,9 @@ given_on s v a t (x ∷ xs) h all g q e = elim (cases_Bool (holder_eq x.holder g
   | inr apart ↦ subst (IsOn t q) (sym (ap (λ (c : Bool). if c then x.place else given a xs g) apart)) (given_on s v a t xs h all.1 g q e)
 ]
 
-pub all_both : (s : OneKernel) (v : View) (t : Trails) (xs ys : List Gets) → AllGet s v t xs → AllGet s v t ys → AllGet s v t (xs ++ ys)
-all_both s v t [] ys h k = k
-all_both s v t (x ∷ xs) ys h k = (h.0, all_both s v t xs ys h.1 k)
-
 -- trails only grow
 pub on_grown : (t u : Trails) (q : Pid) (place : Place) (ds : List ℕ) → u q ≡ t q ++ ds → IsOn t q place → IsOn u q place
 on_grown t u q place ds more on = ap (λ (xs : List ℕ). slice_get xs place.moves) more ∙ get_more (t q) ds place.moves place.at on
 
 pub all_grown : (s : OneKernel) (v : View) (a : Addresses) (t u : Trails) → ((q : Pid) → (ds : List ℕ) × (u q ≡ t q ++ ds)) → AllAre s v a t → AllAre s v a u
 all_grown s v a t u grows h g q e = let (ds, more) = grows q in on_grown t u q (a g) ds more (h g q e)
-
--- where a message that follows its receiver goes
-pub known_on : (t : Trails) (p : Pid) (x : Known) (moves : ℕ) (place : Place) → ((to : ℕ) → x ≡ Frozen to → slice_get (t p) (moves + 1) ≡ Some to) → ((at count : ℕ) → x ≡ Forward at count → slice_get (t p) count ≡ Some at) → IsOn t p place
-    → IsOn t p (place_known x moves place)
-known_on t p Unknown moves place goes forwards on = on
-known_on t p Here moves place goes forwards on = on
-known_on t p (Frozen to) moves place goes forwards on = goes to refl
-known_on t p (Incoming from) moves place goes forwards on = on
-known_on t p (Forward at count) moves place goes forwards on = forwards at count refl
-known_on t p Ended moves place goes forwards on = on

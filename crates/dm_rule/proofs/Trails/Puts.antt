@@ -1,24 +1,8 @@
 -- Puts keep each address on its trail.
-use Rattle.std.proofs.Common.{◌≡◌, ◌⊎◌, ℕ, suc, ◌+◌, Bool, true, false, List, [], ◌∷◌, refl, ap, ◌∙◌, sym, subst, inl, inr, arith}
-use Rattle.std.specs.Prelude.{if◌then◌else◌, slice_get}
-use Rattle.std.specs.declared.option.Option.{Option}
-use Rattle.std.specs.declared.option.Option.TheVariants.{None, Some}
-use Rattle.std.proofs.lemmas.Bool.{cases_Bool, false≢true}
-use Rattle.dm_link.specs.declared.Pid.{Pid}
-use Rattle.dm_link.specs.Names.{Place, pid_eq}
-use Rattle.dm_message.specs.declared.MsgId.{MsgId}
-use Rattle.dm_message.specs.Ids.{id_eq}
-use Rattle.dm_message.specs.declared.kind.MessageKind.{MessageKind}
-use Rattle.dm_message.specs.declared.kind.MessageKind.TheVariants as kind
-use Rattle.dm_onekernel.specs.Boot.{manager}
-use Rattle.dm_onekernel.specs.Kernel.{OneKernel}
-use Rattle.dm_laws.proofs.Equal.{pid_eq-is, id_eq-is, id_eq-same}
+use Rattle.dm_rule.proofs.Names.{◌≡◌, ◌⊎◌, ℕ, suc, ◌+◌, Bool, true, false, List, [], ◌∷◌, refl, ap, ◌∙◌, sym, subst, inl, inr, arith, if◌then◌else◌, slice_get, Option, None, Some, cases_Bool, false≢true, Pid, Place, pid_eq, MsgId, id_eq}
+use Rattle.dm_rule.proofs.Names.{MessageKind, manager, OneKernel, pid_eq-is, id_eq-is, id_eq-same, View, Told, is_kernels, after_put, Addresses, Holder, Receiver, Sender, Child, Gets, gets, given, unmoved, child_from, child_number}
+use Rattle.dm_rule.proofs.Names.{place_of_child, own_gives, first_gives, names, Trails, Trail, IsOn}
 use Rattle.dm_rule.specs.View as view
-use Rattle.dm_rule.specs.View.{View, Told, is_kernels, after_put}
-use Rattle.dm_rule.specs.Addresses.{Addresses, Holder, Receiver, Sender, Child, Gets, gets, given, unmoved, child_from, child_number, place_of_child, goes_between, own_gives, first_gives}
-use Rattle.dm_rule.specs.Homes.{names}
-use Rattle.dm_rule.specs.Phases.{is_between}
-use Rattle.dm_rule.specs.Trails.{Trails, Trail, IsOn}
 use Rattle.dm_rule.proofs.States.{put_told_off}
 use Rattle.dm_rule.proofs.Phases.Lines.{put_at}
 use Rattle.dm_rule.proofs.Trails.Places.{Goes, Comes, Named, Links, Owns, AllAre, AllGet, given_on}
@@ -26,7 +10,7 @@ use Rattle.dm_rule.proofs.Trails.Lines.{unnamed_receiver, unnamed_sender}
 
 -- the first put of a kernel's own message
 pub put_named : (s : OneKernel) (v : View) (x y : ℕ) (id : MsgId) (k : MessageKind) (q : Pid) (h : Holder) (r : Pid) → v.told id ≡ None → Named s (after_put v x y id k q) h r
-    → Named s v h r ⊎ (((h ≡ Receiver id) × (q ≡ r)) ⊎ ((h ≡ Sender id) × (k ≡ kind.Migrate) × (manager ≡ r)))
+    → Named s v h r ⊎ (((h ≡ Receiver id) × (q ≡ r)) ⊎ ((h ≡ Sender id) × (k ≡ MessageKind.Migrate) × (manager ≡ r)))
 put_named s v x y id k q h r none (Links e) = inl (Links e)
 put_named s v x y id k q h r none (Owns (Goes i u is own told to)) = elim (cases_Bool (id_eq id i)) [
   | inl same ↦
@@ -52,35 +36,21 @@ two_get : (s : OneKernel) (v : View) (t : Trails) (id : MsgId) (to from : Place)
 two_get s v t id to from bag told = ((λ q e. absurd (unnamed_receiver s v id q bag told e)), ((λ q e. absurd (unnamed_sender s v id q bag told e)), tt))
 
 own_gets : (s : OneKernel) (v : View) (a : Addresses) (t : Trails) (id : MsgId) (q : Pid) (k : MessageKind) → s.bag id ≡ None → v.told id ≡ None → AllGet s v t (own_gives s v a id q k)
-own_gets s v a t id q kind.User bag told = tt
-own_gets s v a t id q kind.Stop bag told = tt
-own_gets s v a t id q kind.Resume bag told = tt
-own_gets s v a t id q kind.Kill bag told = tt
-own_gets s v a t id q kind.Read bag told = tt
-own_gets s v a t id q kind.Write bag told = tt
-own_gets s v a t id q kind.Block bag told = tt
-own_gets s v a t id q kind.Written bag told = tt
-own_gets s v a t id q kind.Gone bag told = tt
-own_gets s v a t id q kind.Create bag told = tt
-own_gets s v a t id q kind.Created bag told = tt
-own_gets s v a t id q kind.NoRoom bag told = tt
-own_gets s v a t id q kind.Migrate bag told = two_get s v t id _ _ bag told
-own_gets s v a t id q kind.Update bag told = tt
-own_gets s v a t id q kind.Ask bag told = two_get s v t id _ _ bag told
-own_gets s v a t id q kind.Refuse bag told = two_get s v t id _ _ bag told
-own_gets s v a t id q kind.PullState bag told = two_get s v t id _ _ bag told
-own_gets s v a t id q kind.State bag told = two_get s v t id _ _ bag told
-own_gets s v a t id q kind.PullBlock bag told = two_get s v t id _ _ bag told
-own_gets s v a t id q kind.Memory bag told = two_get s v t id _ _ bag told
-own_gets s v a t id q kind.AllTaken bag told = two_get s v t id _ _ bag told
-own_gets s v a t id q kind.Restart bag told = two_get s v t id _ _ bag told
-own_gets s v a t id q kind.Move bag told = tt
-own_gets s v a t id q kind.Moved bag told = tt
-own_gets s v a t id q kind.CallOff bag told = two_get s v t id _ _ bag told
-own_gets s v a t id q kind.Bury bag told = two_get s v t id _ _ bag told
+own_gets s v a t id q MessageKind.Migrate bag told = two_get s v t id _ _ bag told
+own_gets s v a t id q MessageKind.Ask bag told = two_get s v t id _ _ bag told
+own_gets s v a t id q MessageKind.Refuse bag told = two_get s v t id _ _ bag told
+own_gets s v a t id q MessageKind.PullState bag told = two_get s v t id _ _ bag told
+own_gets s v a t id q MessageKind.State bag told = two_get s v t id _ _ bag told
+own_gets s v a t id q MessageKind.PullBlock bag told = two_get s v t id _ _ bag told
+own_gets s v a t id q MessageKind.Memory bag told = two_get s v t id _ _ bag told
+own_gets s v a t id q MessageKind.AllTaken bag told = two_get s v t id _ _ bag told
+own_gets s v a t id q MessageKind.Restart bag told = two_get s v t id _ _ bag told
+own_gets s v a t id q MessageKind.CallOff bag told = two_get s v t id _ _ bag told
+own_gets s v a t id q MessageKind.Bury bag told = two_get s v t id _ _ bag told
+own_gets s v a t id q _ bag told = tt
 
 pub put_all : (s : OneKernel) (v : View) (a : Addresses) (t : Trails) (x y : ℕ) (id : MsgId) (k : MessageKind) (q : Pid) → s.bag id ≡ None → v.told id ≡ None → IsOn t q (given a (own_gives s v a id q k) (Receiver id))
-    → (k ≡ kind.Migrate → IsOn t manager (given a (own_gives s v a id q k) (Sender id))) → AllAre s v a t → AllAre s (after_put v x y id k q) (given a (first_gives (v.told id) (own_gives s v a id q k))) t
+    → (k ≡ MessageKind.Migrate → IsOn t manager (given a (own_gives s v a id q k) (Sender id))) → AllAre s v a t → AllAre s (after_put v x y id k q) (given a (first_gives (v.told id) (own_gives s v a id q k))) t
 put_all s v a t x y id k q bag none to from h g r e =
     subst (λ (o : Option Told). IsOn t r (given a (first_gives o (own_gives s v a id q k)) g)) (sym none)
     (elim (put_named s v x y id k q g r none e) [
@@ -90,51 +60,6 @@ put_all s v a t x y id k q bag none to from h g r e =
         | inr way ↦ subst (λ (i : Holder). IsOn t r (given a (own_gives s v a id q k) i)) (sym way.0) (subst (λ (p : Pid). IsOn t p (given a (own_gives s v a id q k) (Sender id))) way.2 (from way.1))
       ]
     ])
-
--- from kernel to kernel
-between_at : (v : View) (a : Addresses) (id : MsgId) (q : Pid) → given a (goes_between v id q) (Receiver id) ≡ unmoved q.home
-between_at v a id q = ap (λ (c : Bool). if c then unmoved q.home else a (Receiver id)) (id_eq-same id)
-
-between_to : (s : OneKernel) (v : View) (a : Addresses) (id : MsgId) (q : Pid) (k : MessageKind) → is_between k ≡ true → given a (own_gives s v a id q k) (Receiver id) ≡ unmoved q.home
-between_to s v a id q kind.User b = absurd (let f : false ≡ true = b in cc)
-between_to s v a id q kind.Stop b = absurd (let f : false ≡ true = b in cc)
-between_to s v a id q kind.Resume b = absurd (let f : false ≡ true = b in cc)
-between_to s v a id q kind.Kill b = absurd (let f : false ≡ true = b in cc)
-between_to s v a id q kind.Read b = absurd (let f : false ≡ true = b in cc)
-between_to s v a id q kind.Write b = absurd (let f : false ≡ true = b in cc)
-between_to s v a id q kind.Block b = absurd (let f : false ≡ true = b in cc)
-between_to s v a id q kind.Written b = absurd (let f : false ≡ true = b in cc)
-between_to s v a id q kind.Gone b = absurd (let f : false ≡ true = b in cc)
-between_to s v a id q kind.Create b = absurd (let f : false ≡ true = b in cc)
-between_to s v a id q kind.Created b = absurd (let f : false ≡ true = b in cc)
-between_to s v a id q kind.NoRoom b = absurd (let f : false ≡ true = b in cc)
-between_to s v a id q kind.Migrate b = absurd (let f : false ≡ true = b in cc)
-between_to s v a id q kind.Update b = absurd (let f : false ≡ true = b in cc)
-between_to s v a id q kind.Ask b = between_at v a id q
-between_to s v a id q kind.Refuse b = between_at v a id q
-between_to s v a id q kind.PullState b = between_at v a id q
-between_to s v a id q kind.State b = between_at v a id q
-between_to s v a id q kind.PullBlock b = between_at v a id q
-between_to s v a id q kind.Memory b = between_at v a id q
-between_to s v a id q kind.AllTaken b = between_at v a id q
-between_to s v a id q kind.Restart b = between_at v a id q
-between_to s v a id q kind.Move b = absurd (let f : false ≡ true = b in cc)
-between_to s v a id q kind.Moved b = absurd (let f : false ≡ true = b in cc)
-between_to s v a id q kind.CallOff b = absurd (let f : false ≡ true = b in cc)
-between_to s v a id q kind.Bury b = absurd (let f : false ≡ true = b in cc)
-
-not_migrate : (k : MessageKind) → is_between k ≡ true → k ≡ kind.Migrate → ⊥
-not_migrate k b e = false≢true (sym (ap is_between e) ∙ b)
-
-pub put_between : (s : OneKernel) (v : View) (a : Addresses) (t : Trails) (x y : ℕ) (id : MsgId) (k : MessageKind) (q : Pid) → is_between k ≡ true → s.bag id ≡ None → v.told id ≡ None → Trail v t q → AllAre s v a t
-    → AllAre s (after_put v x y id k q) (given a (first_gives (v.told id) (own_gives s v a id q k))) t
-put_between s v a t x y id k q b bag none trail h =
-    put_all s v a t x y id k q bag none (subst (IsOn t q) (sym (between_to s v a id q k b)) trail.begins) (λ e. absurd (not_migrate k b e)) h
-
--- an update: its place is that which the forward gave it
-pub put_update : (s : OneKernel) (v : View) (a : Addresses) (t : Trails) (x y : ℕ) (id : MsgId) (q : Pid) → s.bag id ≡ None → v.told id ≡ None → IsOn t q (a (Receiver id)) → AllAre s v a t
-    → AllAre s (after_put v x y id kind.Update q) (given a (first_gives (v.told id) (own_gives s v a id q kind.Update))) t
-put_update s v a t x y id q bag none on h = put_all s v a t x y id kind.Update q bag none on (λ e. absurd (let f : kind.Update ≡ kind.Migrate = e in cc)) h
 
 -- a request to move a child, along the manager's link to it
 child_there : (k : ℕ) (p : Pid) (ps : List Pid) (n : ℕ) → child_from k p ps ≡ Some n → (j : ℕ) × (n ≡ k + j) × (slice_get ps j ≡ Some p)
@@ -155,13 +80,6 @@ child_is s p n e =
     let next : n ≡ suc j = omega (arith, is) in
     ap (λ (k : ℕ). names s (Child k)) next ∙ at
 
-pub put_migrate : (s : OneKernel) (v : View) (a : Addresses) (t : Trails) (x y : ℕ) (id : MsgId) (q : Pid) (n : ℕ) → child_number s q ≡ Some n → v.acting ≡ 0 → s.bag id ≡ None → v.told id ≡ None → Trail v t manager → AllAre s v a t
-    → AllAre s (after_put v x y id kind.Migrate q) (given a (first_gives (v.told id) (own_gives s v a id q kind.Migrate))) t
-put_migrate s v a t x y id q n child first bag none trail h =
-    put_all s v a t x y id kind.Migrate q bag none
-    (subst (IsOn t q) (sym (ap (λ (c : Bool). if c then place_of_child a (child_number s q) else a (Receiver id)) (id_eq-same id) ∙ ap (place_of_child a) child)) (h (Child n) q (Links (child_is s q n child))))
-    (λ e. subst (IsOn t manager) (sym (ap (λ (c : Bool). if c then unmoved v.acting else a (Sender id)) (id_eq-same id) ∙ ap unmoved first)) trail.begins) h
-
 -- a message that was put before: nothing changes
 kept_told : (o : Option Told) (u w : Told) → o ≡ Some u → Some (view.first_told o w) ≡ o
 kept_told None u w e = cc
@@ -177,62 +95,36 @@ told_again v x y id k q u told i = elim (cases_Bool (id_eq id i)) [
 
 -- a message of the bag
 abbrev pub is_own : MessageKind → Bool
-is_own kind.User = false
-is_own kind.Stop = false
-is_own kind.Resume = false
-is_own kind.Kill = false
-is_own kind.Read = false
-is_own kind.Write = false
-is_own kind.Block = false
-is_own kind.Written = false
-is_own kind.Gone = false
-is_own kind.Create = false
-is_own kind.Created = false
-is_own kind.NoRoom = false
-is_own kind.Migrate = true
-is_own kind.Update = true
-is_own kind.Ask = true
-is_own kind.Refuse = true
-is_own kind.PullState = true
-is_own kind.State = true
-is_own kind.PullBlock = true
-is_own kind.Memory = true
-is_own kind.AllTaken = true
-is_own kind.Restart = true
-is_own kind.Move = false
-is_own kind.Moved = false
-is_own kind.CallOff = true
-is_own kind.Bury = true
+is_own MessageKind.Migrate = true
+is_own MessageKind.Update = true
+is_own MessageKind.Ask = true
+is_own MessageKind.Refuse = true
+is_own MessageKind.PullState = true
+is_own MessageKind.State = true
+is_own MessageKind.PullBlock = true
+is_own MessageKind.Memory = true
+is_own MessageKind.AllTaken = true
+is_own MessageKind.Restart = true
+is_own MessageKind.CallOff = true
+is_own MessageKind.Bury = true
+is_own _ = false
 
-plain_gives : (s : OneKernel) (v : View) (a : Addresses) (id : MsgId) (q : Pid) (k : MessageKind) → is_own k ≡ false → own_gives s v a id q k ≡ []
-plain_gives s v a id q kind.User e = refl
-plain_gives s v a id q kind.Stop e = refl
-plain_gives s v a id q kind.Resume e = refl
-plain_gives s v a id q kind.Kill e = refl
-plain_gives s v a id q kind.Read e = refl
-plain_gives s v a id q kind.Write e = refl
-plain_gives s v a id q kind.Block e = refl
-plain_gives s v a id q kind.Written e = refl
-plain_gives s v a id q kind.Gone e = refl
-plain_gives s v a id q kind.Create e = refl
-plain_gives s v a id q kind.Created e = refl
-plain_gives s v a id q kind.NoRoom e = refl
-plain_gives s v a id q kind.Migrate e = absurd (let f : true ≡ false = e in cc)
-plain_gives s v a id q kind.Update e = absurd (let f : true ≡ false = e in cc)
-plain_gives s v a id q kind.Ask e = absurd (let f : true ≡ false = e in cc)
-plain_gives s v a id q kind.Refuse e = absurd (let f : true ≡ false = e in cc)
-plain_gives s v a id q kind.PullState e = absurd (let f : true ≡ false = e in cc)
-plain_gives s v a id q kind.State e = absurd (let f : true ≡ false = e in cc)
-plain_gives s v a id q kind.PullBlock e = absurd (let f : true ≡ false = e in cc)
-plain_gives s v a id q kind.Memory e = absurd (let f : true ≡ false = e in cc)
-plain_gives s v a id q kind.AllTaken e = absurd (let f : true ≡ false = e in cc)
-plain_gives s v a id q kind.Restart e = absurd (let f : true ≡ false = e in cc)
-plain_gives s v a id q kind.Move e = refl
-plain_gives s v a id q kind.Moved e = refl
-plain_gives s v a id q kind.CallOff e = absurd (let f : true ≡ false = e in cc)
-plain_gives s v a id q kind.Bury e = absurd (let f : true ≡ false = e in cc)
+pub plain_gives : (s : OneKernel) (v : View) (a : Addresses) (id : MsgId) (q : Pid) (k : MessageKind) → is_own k ≡ false → own_gives s v a id q k ≡ []
+plain_gives s v a id q MessageKind.Migrate e = absurd (let f : true ≡ false = e in cc)
+plain_gives s v a id q MessageKind.Update e = absurd (let f : true ≡ false = e in cc)
+plain_gives s v a id q MessageKind.Ask e = absurd (let f : true ≡ false = e in cc)
+plain_gives s v a id q MessageKind.Refuse e = absurd (let f : true ≡ false = e in cc)
+plain_gives s v a id q MessageKind.PullState e = absurd (let f : true ≡ false = e in cc)
+plain_gives s v a id q MessageKind.State e = absurd (let f : true ≡ false = e in cc)
+plain_gives s v a id q MessageKind.PullBlock e = absurd (let f : true ≡ false = e in cc)
+plain_gives s v a id q MessageKind.Memory e = absurd (let f : true ≡ false = e in cc)
+plain_gives s v a id q MessageKind.AllTaken e = absurd (let f : true ≡ false = e in cc)
+plain_gives s v a id q MessageKind.Restart e = absurd (let f : true ≡ false = e in cc)
+plain_gives s v a id q MessageKind.CallOff e = absurd (let f : true ≡ false = e in cc)
+plain_gives s v a id q MessageKind.Bury e = absurd (let f : true ≡ false = e in cc)
+plain_gives s v a id q _ e = refl
 
-not_own : (k : MessageKind) → is_own k ≡ false → k ≡ kind.Migrate → ⊥
+pub not_own : (k : MessageKind) → is_own k ≡ false → k ≡ MessageKind.Migrate → ⊥
 not_own k plain e = false≢true (sym plain ∙ ap is_own e)
 
 routed_named : (s : OneKernel) (v : View) (x y : ℕ) (id : MsgId) (k : MessageKind) (q : Pid) (h : Holder) (r : Pid) → is_kernels id ≡ false → is_own k ≡ false → v.told id ≡ None → Named s (after_put v x y id k q) h r → Named s v h r
@@ -269,8 +161,8 @@ about_put v t x y id k q about topic i u p m c told e = elim (cases_Bool (id_eq 
 ]
 
 -- the places of a request to move a child
-pub migrate_to : (s : OneKernel) (v : View) (a : Addresses) (t : Trails) (id : MsgId) (q : Pid) (n : ℕ) → child_number s q ≡ Some n → IsOn t q (a (Child n)) → IsOn t q (given a (own_gives s v a id q kind.Migrate) (Receiver id))
+pub migrate_to : (s : OneKernel) (v : View) (a : Addresses) (t : Trails) (id : MsgId) (q : Pid) (n : ℕ) → child_number s q ≡ Some n → IsOn t q (a (Child n)) → IsOn t q (given a (own_gives s v a id q MessageKind.Migrate) (Receiver id))
 migrate_to s v a t id q n child on = subst (IsOn t q) (sym (ap (λ (c : Bool). if c then place_of_child a (child_number s q) else a (Receiver id)) (id_eq-same id) ∙ ap (place_of_child a) child)) on
 
-pub migrate_from : (s : OneKernel) (v : View) (a : Addresses) (t : Trails) (id : MsgId) (q : Pid) → v.acting ≡ 0 → Trail v t manager → IsOn t manager (given a (own_gives s v a id q kind.Migrate) (Sender id))
+pub migrate_from : (s : OneKernel) (v : View) (a : Addresses) (t : Trails) (id : MsgId) (q : Pid) → v.acting ≡ 0 → Trail v t manager → IsOn t manager (given a (own_gives s v a id q MessageKind.Migrate) (Sender id))
 migrate_from s v a t id q first trail = subst (IsOn t manager) (sym (ap (λ (c : Bool). if c then unmoved v.acting else a (Sender id)) (id_eq-same id) ∙ ap unmoved first)) trail.begins

@@ -1,56 +1,28 @@
 -- No label gives an address to a kernel's own message.
-use Rattle.std.proofs.Common.{◌≡◌, ℕ, ◌+◌, ◌==◌, ◌&&◌, Bool, true, false, not, List, [], ◌∷◌, ◌++◌, length, map, refl, ap, ◌∙◌, sym, subst}
-use Rattle.std.specs.Prelude.{if◌then◌else◌}
-use Rattle.std.specs.declared.option.Option.{Option}
-use Rattle.std.specs.declared.option.Option.TheVariants.{None, Some}
-use Rattle.std.proofs.lemmas.Bool.{false≢true}
-use Rattle.dm_link.specs.declared.Pid.{Pid}
-use Rattle.dm_link.specs.Names.{Place, pid_eq}
-use Rattle.dm_link.specs.Plain.{PlainLink}
-use Rattle.dm_linktable.specs.Slots.{first_empty}
-use Rattle.dm_message.specs.declared.MsgId.{MsgId}
-use Rattle.dm_message.specs.Ids.{id_eq, id_of}
-use Rattle.dm_message.specs.Plain as what
-use Rattle.dm_message.specs.Plain.{PlainMessage, PlainWhat}
-use Rattle.dm_onekernel.specs.declared.label.Label.{Label}
-use Rattle.dm_onekernel.specs.declared.label.Label.TheVariants as label
-use Rattle.dm_onekernel.specs.declared.label.Reply.{Reply}
-use Rattle.dm_onekernel.specs.declared.label.Reply.TheVariants as reply
-use Rattle.dm_onekernel.specs.Boot.{switchboard, manager}
-use Rattle.dm_onekernel.specs.Options.{bind}
-use Rattle.dm_onekernel.specs.PlainProcess.{PlainProcess, reg}
-use Rattle.dm_onekernel.specs.Kernel.{NamedLink, OneKernel, with_sent}
+use Rattle.dm_rule.proofs.Names.{◌≡◌, ℕ, ◌+◌, ◌==◌, ◌&&◌, Bool, true, false, not, List, [], ◌∷◌, ◌++◌, length, map, refl, ap, ◌∙◌, sym, subst, if◌then◌else◌, Option, None, Some, false≢true, Pid, Place, pid_eq, PlainLink, first_empty, MsgId}
+use Rattle.dm_rule.proofs.Names.{id_eq, id_of, PlainMessage, PlainWhat, Label, Reply, switchboard, manager, bind, PlainProcess, reg, NamedLink, OneKernel, with_sent, answer_id, id_eq-is, id_eq-same, sent_at, bind-is, when-is, View}
+use Rattle.dm_rule.proofs.Names.{is_kernels, Addresses, Holder, Slot, Owner, Receiver, Sender, Enclosed, Answer, Gets, gets, given, gives, holder_eq, unmoved, encloses, enclosed_from, sends_what, fills, fills_by, made, receives_links}
+use Rattle.dm_rule.proofs.Names.{receives_what, slot_after, lands, serves_what, child_links, board_finds, board_keeps, board_takes, manager_tells, manager_sends, manager_answers, manager_takes, both_true}
 use Rattle.dm_onekernel.specs.Calls as calls
 use Rattle.dm_onekernel.specs.Pieces as pieces
-use Rattle.dm_onekernel.specs.Pieces.{answer_id}
 use Rattle.dm_onekernel.specs.Switchboard as board
 use Rattle.dm_onekernel.specs.Manager as manage
 use Rattle.dm_onekernel.specs.Service as service
 use Rattle.dm_onekernel.specs.Step as kernel
-use Rattle.dm_laws.proofs.Equal.{id_eq-is, id_eq-same}
-use Rattle.dm_laws.proofs.Movers.{sent_at}
-use Rattle.dm_laws.proofs.Steps.{bind-is, when-is}
-use Rattle.dm_rule.specs.View.{View, is_kernels}
 use Rattle.dm_rule.specs.Addresses as addresses
-use Rattle.dm_rule.specs.Addresses.{Addresses, Holder, Slot, Owner, Receiver, Sender, Enclosed, Child, Name, Answer, Gets, gets, given, gives, holder_eq, unmoved, encloses, enclosed_from, sends_what, fills, fills_by, made, receives_links, receives_what, slot_after, lands, serves_what, child_links, board_finds, board_keeps, board_takes, manager_tells, manager_sends, manager_answers, manager_takes}
 use Rattle.dm_rule.proofs.Lines.{not_true}
 
 -- these are none of a message's receiver and sender
 abbrev pub spares_one : MsgId → Holder → Bool
 spares_one i (Receiver j) = not (id_eq j i)
 spares_one i (Sender j) = not (id_eq j i)
-spares_one i (Slot p k) = true
-spares_one i (Owner p) = true
-spares_one i (Enclosed j k) = true
-spares_one i (Child n) = true
-spares_one i (Name n) = true
-spares_one i (Answer n) = true
+spares_one i _ = true
 
 abbrev pub spares : MsgId → List Gets → Bool
 spares i [] = true
 spares i (g ∷ gs) = spares_one i g.holder && spares i gs
 
-not_is : (b : Bool) → not b ≡ true → b ≡ false
+pub not_is : (b : Bool) → not b ≡ true → b ≡ false
 not_is true e = absurd (false≢true e)
 not_is false e = refl
 
@@ -58,29 +30,13 @@ both : (b c : Bool) → (b && c) ≡ true → (b ≡ true) × (c ≡ true)
 both true c e = (refl, e)
 both false c e = absurd (false≢true e)
 
-and_true : (b c : Bool) → b ≡ true → c ≡ true → (b && c) ≡ true
-and_true true c e f = f
-and_true false c e f = absurd (false≢true e)
-
 receiver_off : (i : MsgId) (h : Holder) → spares_one i h ≡ true → holder_eq h (Receiver i) ≡ false
 receiver_off i (Receiver j) e = not_is (id_eq j i) e
-receiver_off i (Sender j) e = refl
-receiver_off i (Slot p k) e = refl
-receiver_off i (Owner p) e = refl
-receiver_off i (Enclosed j k) e = refl
-receiver_off i (Child n) e = refl
-receiver_off i (Name n) e = refl
-receiver_off i (Answer n) e = refl
+receiver_off i _ e = refl
 
 sender_off : (i : MsgId) (h : Holder) → spares_one i h ≡ true → holder_eq h (Sender i) ≡ false
 sender_off i (Sender j) e = not_is (id_eq j i) e
-sender_off i (Receiver j) e = refl
-sender_off i (Slot p k) e = refl
-sender_off i (Owner p) e = refl
-sender_off i (Enclosed j k) e = refl
-sender_off i (Child n) e = refl
-sender_off i (Name n) e = refl
-sender_off i (Answer n) e = refl
+sender_off i _ e = refl
 
 pub spared_receiver : (a : Addresses) (i : MsgId) (gs : List Gets) → spares i gs ≡ true → given a gs (Receiver i) ≡ a (Receiver i)
 spared_receiver a i [] e = refl
@@ -94,78 +50,53 @@ spared_sender a i (g ∷ gs) e =
     let x = both (spares_one i g.holder) (spares i gs) e in
     ap (λ (c : Bool). if c then g.place else given a gs (Sender i)) (sender_off i g.holder x.0) ∙ spared_sender a i gs x.1
 
-spares_both : (i : MsgId) (xs ys : List Gets) → spares i xs ≡ true → spares i ys ≡ true → spares i (xs ++ ys) ≡ true
+pub spares_both : (i : MsgId) (xs ys : List Gets) → spares i xs ≡ true → spares i ys ≡ true → spares i (xs ++ ys) ≡ true
 spares_both i [] ys e f = f
-spares_both i (x ∷ xs) ys e f = let z = both (spares_one i x.holder) (spares i xs) e in and_true (spares_one i x.holder) (spares i (xs ++ ys)) z.0 (spares_both i xs ys z.1 f)
+spares_both i (x ∷ xs) ys e f = let z = both (spares_one i x.holder) (spares i xs) e in both_true (spares_one i x.holder) (spares i (xs ++ ys)) z.0 (spares_both i xs ys z.1 f)
 
 -- a message that isn't a kernel's own
 apart : (i j : MsgId) → is_kernels i ≡ true → is_kernels j ≡ false → id_eq j i ≡ false
 apart i j own other = not_true (id_eq j i) (λ e. false≢true (sym other ∙ ap is_kernels (id_eq-is j i e) ∙ own))
 
-two_more : (i j : MsgId) (gs : List Gets) → id_eq j i ≡ false → spares i gs ≡ true → (not (id_eq j i) && (not (id_eq j i) && spares i gs)) ≡ true
+pub two_more : (i j : MsgId) (gs : List Gets) → id_eq j i ≡ false → spares i gs ≡ true → (not (id_eq j i) && (not (id_eq j i) && spares i gs)) ≡ true
 two_more i j gs e f = ap (λ (c : Bool). not c && (not c && spares i gs)) e ∙ f
 
-and_no : (b : Bool) → (b && false) ≡ false
+pub and_no : (b : Bool) → (b && false) ≡ false
 and_no true = refl
 and_no false = refl
 
 answers_apart : (i id : MsgId) → is_kernels i ≡ true → id_eq (answer_id id) i ≡ false
 answers_apart i id own = apart i (answer_id id) own (and_no (id.from.num == 0))
 
-encloses_spares : (i id : MsgId) (n : ℕ) (ps : List Place) → spares i (encloses id n ps) ≡ true
+pub encloses_spares : (i id : MsgId) (n : ℕ) (ps : List Place) → spares i (encloses id n ps) ≡ true
 encloses_spares i id n [] = refl
 encloses_spares i id n (p ∷ ps) = encloses_spares i id (n + 1) ps
 
-child_links_spares : (a : Addresses) (child : Pid) (id : MsgId) (n : ℕ) (ls : List PlainLink) (i : MsgId) → spares i (child_links a child id n ls) ≡ true
+pub child_links_spares : (a : Addresses) (child : Pid) (id : MsgId) (n : ℕ) (ls : List PlainLink) (i : MsgId) → spares i (child_links a child id n ls) ≡ true
 child_links_spares a child id n [] i = refl
 child_links_spares a child id n (l ∷ ls) i = child_links_spares a child id (n + 1) ls i
 
-fills_spares : (p : Pid) (o : Option ℕ) (place : Place) (i : MsgId) → spares i (fills p o place) ≡ true
+pub fills_spares : (p : Pid) (o : Option ℕ) (place : Place) (i : MsgId) → spares i (fills p o place) ≡ true
 fills_spares p None place i = refl
 fills_spares p (Some slot) place i = refl
 
 -- calls
-fills_by_spares : (v : View) (a : Addresses) (p : Pid) (x : PlainProcess) (n : calls.CallNumber) (i : MsgId) → spares i (fills_by v a p x n) ≡ true
+pub fills_by_spares : (v : View) (a : Addresses) (p : Pid) (x : PlainProcess) (n : calls.CallNumber) (i : MsgId) → spares i (fills_by v a p x n) ≡ true
 fills_by_spares v a p x calls.Make i = fills_spares p (first_empty x.links) _ i
 fills_by_spares v a p x calls.Copy i = fills_spares p (first_empty x.links) _ i
-fills_by_spares v a p x calls.Exit i = refl
-fills_by_spares v a p x calls.Out i = refl
-fills_by_spares v a p x calls.Drop i = refl
-fills_by_spares v a p x calls.Send i = refl
-fills_by_spares v a p x calls.Receive i = refl
-fills_by_spares v a p x calls.Move i = refl
-fills_by_spares v a p x calls.Unknown i = refl
+fills_by_spares v a p x _ i = refl
 
-made_spares : (v : View) (a : Addresses) (p : Pid) (n : ℕ) (c : Reply) (o : Option PlainProcess) (i : MsgId) → spares i (made v a p n c o) ≡ true
-made_spares v a p n reply.Done (Some x) i = fills_by_spares v a p x (calls.call_number n) i
-made_spares v a p n reply.Done None i = refl
-made_spares v a p n reply.NoLink o i = refl
-made_spares v a p n reply.TableFull o i = refl
-made_spares v a p n reply.BadKind o i = refl
-made_spares v a p n reply.BadRange o i = refl
-made_spares v a p n reply.NoRight o i = refl
-made_spares v a p n reply.TooLong o i = refl
-made_spares v a p n reply.Gone o i = refl
-made_spares v a p n reply.NotCopyable o i = refl
+pub made_spares : (v : View) (a : Addresses) (p : Pid) (n : ℕ) (c : Reply) (o : Option PlainProcess) (i : MsgId) → spares i (made v a p n c o) ≡ true
+made_spares v a p n Reply.Done (Some x) i = fills_by_spares v a p x (calls.call_number n) i
+made_spares v a p n Reply.Done None i = refl
+made_spares v a p n _ o i = refl
 
 -- sendings
-sends_what_spares : (v : View) (a : Addresses) (p : Pid) (x : PlainProcess) (id : MsgId) (w : PlainWhat) (i : MsgId) → id_eq id i ≡ false → spares i (sends_what v a p x id w) ≡ true
-sends_what_spares v a p x id (what.User b1 b2 b3 b4) i e = two_more i id (encloses id 0 (map (λ (n : ℕ). a (Slot p n)) (calls.listed x))) e (encloses_spares i id 0 (map (λ (n : ℕ). a (Slot p n)) (calls.listed x)))
-sends_what_spares v a p x id what.Stop i e = two_more i id (gets (Owner p) (a (Slot p (reg x.regs 1))) ∷ []) e refl
-sends_what_spares v a p x id what.Resume i e = two_more i id (gets (Owner p) (a (Slot p (reg x.regs 1))) ∷ []) e refl
-sends_what_spares v a p x id what.Kill i e = two_more i id (gets (Owner p) (a (Slot p (reg x.regs 1))) ∷ []) e refl
-sends_what_spares v a p x id (what.Read b1 b2) i e = two_more i id (gets (Owner p) (a (Slot p (reg x.regs 1))) ∷ []) e refl
-sends_what_spares v a p x id (what.Write b1 b2) i e = two_more i id (gets (Owner p) (a (Slot p (reg x.regs 1))) ∷ []) e refl
-sends_what_spares v a p x id (what.Block b1) i e = two_more i id (gets (Owner p) (a (Slot p (reg x.regs 1))) ∷ []) e refl
-sends_what_spares v a p x id what.Written i e = two_more i id (gets (Owner p) (a (Slot p (reg x.regs 1))) ∷ []) e refl
-sends_what_spares v a p x id what.Gone i e = two_more i id (gets (Owner p) (a (Slot p (reg x.regs 1))) ∷ []) e refl
-sends_what_spares v a p x id (what.Create b1 b2) i e = two_more i id (gets (Owner p) (a (Slot p (reg x.regs 1))) ∷ []) e refl
-sends_what_spares v a p x id (what.Created b1) i e = two_more i id (gets (Owner p) (a (Slot p (reg x.regs 1))) ∷ []) e refl
-sends_what_spares v a p x id what.NoRoom i e = two_more i id (gets (Owner p) (a (Slot p (reg x.regs 1))) ∷ []) e refl
-sends_what_spares v a p x id (what.Move b1) i e = two_more i id (gets (Owner p) (a (Slot p (reg x.regs 1))) ∷ []) e refl
-sends_what_spares v a p x id (what.Moved b1) i e = two_more i id (gets (Owner p) (a (Slot p (reg x.regs 1))) ∷ []) e refl
+pub sends_what_spares : (v : View) (a : Addresses) (p : Pid) (x : PlainProcess) (id : MsgId) (w : PlainWhat) (i : MsgId) → id_eq id i ≡ false → spares i (sends_what v a p x id w) ≡ true
+sends_what_spares v a p x id (PlainWhat.User b1 b2 b3 b4) i e = two_more i id (encloses id 0 (map (λ (n : ℕ). a (Slot p n)) (calls.listed x))) e (encloses_spares i id 0 (map (λ (n : ℕ). a (Slot p n)) (calls.listed x)))
+sends_what_spares v a p x id _ i e = two_more i id (gets (Owner p) (a (Slot p (reg x.regs 1))) ∷ []) e refl
 
-sends_next_spares : (v : View) (a : Addresses) (p : Pid) (x : PlainProcess) (id : MsgId) (o : Option kernel.Next) (i : MsgId) → id_eq id i ≡ false → spares i (addresses.sends_next v a p x id o) ≡ true
+pub sends_next_spares : (v : View) (a : Addresses) (p : Pid) (x : PlainProcess) (id : MsgId) (o : Option kernel.Next) (i : MsgId) → id_eq id i ≡ false → spares i (addresses.sends_next v a p x id o) ≡ true
 sends_next_spares v a p x id (Some (kernel.Calls number (calls.Sends m y))) i e = sends_what_spares v a p x id m.what i e
 sends_next_spares v a p x id (Some (kernel.Calls number (calls.Replies c y))) i e = refl
 sends_next_spares v a p x id (Some (kernel.Calls number (calls.Waits y))) i e = refl
@@ -174,7 +105,7 @@ sends_next_spares v a p x id (Some (kernel.Calls number (calls.Ends because))) i
 sends_next_spares v a p x id (Some (kernel.Faults fault)) i e = refl
 sends_next_spares v a p x id None i e = refl
 
-sends_spares : (s : OneKernel) (v : View) (a : Addresses) (p : Pid) (id : MsgId) (o : Option PlainProcess) (i : MsgId) → id_eq id i ≡ false → spares i (addresses.sends s v a p id o) ≡ true
+pub sends_spares : (s : OneKernel) (v : View) (a : Addresses) (p : Pid) (id : MsgId) (o : Option PlainProcess) (i : MsgId) → id_eq id i ≡ false → spares i (addresses.sends s v a p id o) ≡ true
 sends_spares s v a p id None i e = refl
 sends_spares s v a p id (Some x) i e = sends_next_spares v a p x id (kernel.next s p) i e
 
@@ -196,29 +127,17 @@ send_other s t p id (kernel.Calls number (calls.Ends because)) e out = cc
 send_other s t p id (kernel.Faults fault) e out = cc
 
 -- receives
-receives_links_spares : (a : Addresses) (p : Pid) (id : MsgId) (n : ℕ) (slots : List (Option PlainLink)) (ls : List PlainLink) (i : MsgId) → spares i (receives_links a p id n slots ls) ≡ true
+pub receives_links_spares : (a : Addresses) (p : Pid) (id : MsgId) (n : ℕ) (slots : List (Option PlainLink)) (ls : List PlainLink) (i : MsgId) → spares i (receives_links a p id n slots ls) ≡ true
 receives_links_spares a p id n slots [] i = refl
 receives_links_spares a p id n slots (l ∷ ls) i =
     spares_both i (fills p (first_empty slots) (a (Enclosed id n))) (receives_links a p id (n + 1) (slot_after slots l (first_empty slots)) ls)
     (fills_spares p (first_empty slots) (a (Enclosed id n)) i) (receives_links_spares a p id (n + 1) (slot_after slots l (first_empty slots)) ls i)
 
-receives_what_spares : (a : Addresses) (p : Pid) (id : MsgId) (x : PlainProcess) (w : PlainWhat) (i : MsgId) → spares i (receives_what a p id x w) ≡ true
-receives_what_spares a p id x (what.User b1 b2 b3 b4) i = receives_links_spares a p id 0 x.links b4 i
-receives_what_spares a p id x what.Stop i = refl
-receives_what_spares a p id x what.Resume i = refl
-receives_what_spares a p id x what.Kill i = refl
-receives_what_spares a p id x (what.Read b1 b2) i = refl
-receives_what_spares a p id x (what.Write b1 b2) i = refl
-receives_what_spares a p id x (what.Block b1) i = refl
-receives_what_spares a p id x what.Written i = refl
-receives_what_spares a p id x what.Gone i = refl
-receives_what_spares a p id x (what.Create b1 b2) i = refl
-receives_what_spares a p id x (what.Created b1) i = refl
-receives_what_spares a p id x what.NoRoom i = refl
-receives_what_spares a p id x (what.Move b1) i = refl
-receives_what_spares a p id x (what.Moved b1) i = refl
+pub receives_what_spares : (a : Addresses) (p : Pid) (id : MsgId) (x : PlainProcess) (w : PlainWhat) (i : MsgId) → spares i (receives_what a p id x w) ≡ true
+receives_what_spares a p id x (PlainWhat.User b1 b2 b3 b4) i = receives_links_spares a p id 0 x.links b4 i
+receives_what_spares a p id x _ i = refl
 
-receives_spares : (a : Addresses) (p : Pid) (id : MsgId) (o : Option PlainProcess) (m : Option PlainMessage) (i : MsgId) → spares i (addresses.receives a p id o m) ≡ true
+pub receives_spares : (a : Addresses) (p : Pid) (id : MsgId) (o : Option PlainProcess) (m : Option PlainMessage) (i : MsgId) → spares i (addresses.receives a p id o m) ≡ true
 receives_spares a p id None m i = refl
 receives_spares a p id (Some x) None i = refl
 receives_spares a p id (Some x) (Some m) i = receives_what_spares a p id x m.what i
@@ -236,44 +155,23 @@ lands_spares s t v a id m x i out own e =
     subst (λ (o : Option pieces.Landed). spares i (lands v a m.to o) ≡ true) (sym is) (landed_spares s t v a id m c i out own k)
 
 serve_spares : (s t : OneKernel) (v : View) (a : Addresses) (id : MsgId) (m : PlainMessage) (x : PlainProcess) (w : PlainWhat) (i : MsgId) → Outside t → is_kernels i ≡ true → service.serves s id m x w ≡ Some t → spares i (serves_what v a id m x w) ≡ true
-serve_spares s t v a id m x (what.User b1 b2 b3 b4) i new own is = refl
-serve_spares s t v a id m x what.Stop i new own is = refl
-serve_spares s t v a id m x what.Resume i new own is = refl
-serve_spares s t v a id m x what.Kill i new own is = refl
-serve_spares s t v a id m x (what.Read b1 b2) i new own is = two_more i (answer_id id) [] (answers_apart i id own) refl
-serve_spares s t v a id m x (what.Write b1 b2) i new own is = two_more i (answer_id id) [] (answers_apart i id own) refl
-serve_spares s t v a id m x (what.Block b1) i new own is = lands_spares s t v a id m x i new own is
-serve_spares s t v a id m x what.Written i new own is = lands_spares s t v a id m x i new own is
-serve_spares s t v a id m x what.Gone i new own is = refl
-serve_spares s t v a id m x (what.Create b1 b2) i new own is = refl
-serve_spares s t v a id m x (what.Created b1) i new own is = refl
-serve_spares s t v a id m x what.NoRoom i new own is = refl
-serve_spares s t v a id m x (what.Move b1) i new own is = refl
-serve_spares s t v a id m x (what.Moved b1) i new own is = refl
+serve_spares s t v a id m x (PlainWhat.Read b1 b2) i new own is = two_more i (answer_id id) [] (answers_apart i id own) refl
+serve_spares s t v a id m x (PlainWhat.Write b1 b2) i new own is = two_more i (answer_id id) [] (answers_apart i id own) refl
+serve_spares s t v a id m x (PlainWhat.Block b1) i new own is = lands_spares s t v a id m x i new own is
+serve_spares s t v a id m x PlainWhat.Written i new own is = lands_spares s t v a id m x i new own is
+serve_spares s t v a id m x _ i new own is = refl
 
 -- created
-creates_what_spares : (a : Addresses) (id : MsgId) (child : Pid) (w : PlainWhat) (i : MsgId) → spares i (addresses.creates_what a id child w) ≡ true
-creates_what_spares a id child (what.User b1 b2 b3 b4) i = refl
-creates_what_spares a id child what.Stop i = refl
-creates_what_spares a id child what.Resume i = refl
-creates_what_spares a id child what.Kill i = refl
-creates_what_spares a id child (what.Read b1 b2) i = refl
-creates_what_spares a id child (what.Write b1 b2) i = refl
-creates_what_spares a id child (what.Block b1) i = refl
-creates_what_spares a id child what.Written i = refl
-creates_what_spares a id child what.Gone i = refl
-creates_what_spares a id child (what.Create b1 b2) i = child_links_spares a child id 0 b2 i
-creates_what_spares a id child (what.Created b1) i = refl
-creates_what_spares a id child what.NoRoom i = refl
-creates_what_spares a id child (what.Move b1) i = refl
-creates_what_spares a id child (what.Moved b1) i = refl
+pub creates_what_spares : (a : Addresses) (id : MsgId) (child : Pid) (w : PlainWhat) (i : MsgId) → spares i (addresses.creates_what a id child w) ≡ true
+creates_what_spares a id child (PlainWhat.Create b1 b2) i = child_links_spares a child id 0 b2 i
+creates_what_spares a id child _ i = refl
 
 creates_spares : (v : View) (a : Addresses) (id : MsgId) (child : Pid) (o : Option PlainMessage) (i : MsgId) → is_kernels i ≡ true → spares i (addresses.creates v a id child o) ≡ true
 creates_spares v a id child None i own = refl
 creates_spares v a id child (Some m) i own = two_more i (answer_id id) (addresses.creates_what a id child m.what) (answers_apart i id own) (creates_what_spares a id child m.what i)
 
 -- the switchboard
-finds_spares : (a : Addresses) (sent : MsgId) (names : List NamedLink) (body : List ℕ) (k : board.Answer) (i : MsgId) → spares i (board_finds a sent names body k) ≡ true
+pub finds_spares : (a : Addresses) (sent : MsgId) (names : List NamedLink) (body : List ℕ) (k : board.Answer) (i : MsgId) → spares i (board_finds a sent names body k) ≡ true
 finds_spares a sent names [] k i = refl
 finds_spares a sent names (op ∷ name) board.Registered i = refl
 finds_spares a sent names (op ∷ name) (board.Found link) i = refl
@@ -282,15 +180,11 @@ finds_spares a sent names (op ∷ name) board.Taken i = refl
 finds_spares a sent names (op ∷ name) board.BadLink i = refl
 finds_spares a sent names (op ∷ name) board.BadRequest i = refl
 
-keeps_spares : (a : Addresses) (id : MsgId) (names : List NamedLink) (k : board.Answer) (i : MsgId) → spares i (board_keeps a id names k) ≡ true
+pub keeps_spares : (a : Addresses) (id : MsgId) (names : List NamedLink) (k : board.Answer) (i : MsgId) → spares i (board_keeps a id names k) ≡ true
 keeps_spares a id names board.Registered i = refl
-keeps_spares a id names (board.Found link) i = refl
-keeps_spares a id names board.Unknown i = refl
-keeps_spares a id names board.Taken i = refl
-keeps_spares a id names board.BadLink i = refl
-keeps_spares a id names board.BadRequest i = refl
+keeps_spares a id names _ i = refl
 
-board_links_spares : (s : OneKernel) (v : View) (a : Addresses) (id : MsgId) (code channel : ℕ) (body : List ℕ) (links : List PlainLink) (i : MsgId) → is_kernels i ≡ true → spares i (board_takes s v a id (what.User code channel body links)) ≡ true
+board_links_spares : (s : OneKernel) (v : View) (a : Addresses) (id : MsgId) (code channel : ℕ) (body : List ℕ) (links : List PlainLink) (i : MsgId) → is_kernels i ≡ true → spares i (board_takes s v a id (PlainWhat.User code channel body links)) ≡ true
 board_links_spares s v a id code channel body [] i own = refl
 board_links_spares s v a id code channel body (l ∷ ls) i own =
     let sent = id_of switchboard s.switchboard.sent in
@@ -299,75 +193,51 @@ board_links_spares s v a id code channel body (l ∷ ls) i own =
     (spares_both i (board_finds a sent s.switchboard.names body asked.answer) (board_keeps a id s.switchboard.names asked.answer) (finds_spares a sent s.switchboard.names body asked.answer i) (keeps_spares a id s.switchboard.names asked.answer i))
 
 board_takes_spares : (s : OneKernel) (v : View) (a : Addresses) (id : MsgId) (w : PlainWhat) (i : MsgId) → is_kernels i ≡ true → spares i (board_takes s v a id w) ≡ true
-board_takes_spares s v a id (what.User b1 b2 b3 b4) i own = board_links_spares s v a id b1 b2 b3 b4 i own
-board_takes_spares s v a id what.Stop i own = refl
-board_takes_spares s v a id what.Resume i own = refl
-board_takes_spares s v a id what.Kill i own = refl
-board_takes_spares s v a id (what.Read b1 b2) i own = refl
-board_takes_spares s v a id (what.Write b1 b2) i own = refl
-board_takes_spares s v a id (what.Block b1) i own = refl
-board_takes_spares s v a id what.Written i own = refl
-board_takes_spares s v a id what.Gone i own = refl
-board_takes_spares s v a id (what.Create b1 b2) i own = refl
-board_takes_spares s v a id (what.Created b1) i own = refl
-board_takes_spares s v a id what.NoRoom i own = refl
-board_takes_spares s v a id (what.Move b1) i own = refl
-board_takes_spares s v a id (what.Moved b1) i own = refl
+board_takes_spares s v a id (PlainWhat.User b1 b2 b3 b4) i own = board_links_spares s v a id b1 b2 b3 b4 i own
+board_takes_spares s v a id _ i own = refl
 
 -- the manager
-tells_spares : (v : View) (a : Addresses) (id : MsgId) (code : ℕ) (sent : PlainMessage) (w : PlainWhat) (i : MsgId) → id_eq sent.id i ≡ false → spares i (manager_tells v a id code sent w) ≡ true
-tells_spares v a id code sent (what.User b1 b2 b3 b4) i e = two_more i sent.id [] e refl
-tells_spares v a id code sent what.Stop i e = two_more i sent.id [] e refl
-tells_spares v a id code sent what.Resume i e = two_more i sent.id [] e refl
-tells_spares v a id code sent what.Kill i e = two_more i sent.id [] e refl
-tells_spares v a id code sent (what.Read b1 b2) i e = two_more i sent.id [] e refl
-tells_spares v a id code sent (what.Write b1 b2) i e = two_more i sent.id [] e refl
-tells_spares v a id code sent (what.Block b1) i e = two_more i sent.id [] e refl
-tells_spares v a id code sent what.Written i e = two_more i sent.id [] e refl
-tells_spares v a id code sent what.Gone i e = two_more i sent.id [] e refl
-tells_spares v a id code sent (what.Create b1 b2) i e = two_more i sent.id (gets (Answer sent.id.n) (a (Enclosed id 0)) ∷ encloses sent.id 0 (enclosed_from a id 1 b2)) e (encloses_spares i sent.id 0 (enclosed_from a id 1 b2))
-tells_spares v a id code sent (what.Created b1) i e = two_more i sent.id [] e refl
-tells_spares v a id code sent what.NoRoom i e = two_more i sent.id [] e refl
-tells_spares v a id code sent (what.Move b1) i e = two_more i sent.id [] e refl
-tells_spares v a id code sent (what.Moved b1) i e = two_more i sent.id [] e refl
+pub tells_spares : (v : View) (a : Addresses) (id : MsgId) (code : ℕ) (sent : PlainMessage) (w : PlainWhat) (i : MsgId) → id_eq sent.id i ≡ false → spares i (manager_tells v a id code sent w) ≡ true
+tells_spares v a id code sent (PlainWhat.Create b1 b2) i e = two_more i sent.id (gets (Answer sent.id.n) (a (Enclosed id 0)) ∷ encloses sent.id 0 (enclosed_from a id 1 b2)) e (encloses_spares i sent.id 0 (enclosed_from a id 1 b2))
+tells_spares v a id code sent _ i e = two_more i sent.id [] e refl
 
-manager_sends_spares : (v : View) (a : Addresses) (id : MsgId) (code : ℕ) (o : Option PlainMessage) (i : MsgId) → ((m : PlainMessage) → o ≡ Some m → id_eq m.id i ≡ false) → spares i (manager_sends v a id code o) ≡ true
+pub manager_sends_spares : (v : View) (a : Addresses) (id : MsgId) (code : ℕ) (o : Option PlainMessage) (i : MsgId) → ((m : PlainMessage) → o ≡ Some m → id_eq m.id i ≡ false) → spares i (manager_sends v a id code o) ≡ true
 manager_sends_spares v a id code None i e = refl
 manager_sends_spares v a id code (Some sent) i e = tells_spares v a id code sent sent.what i (e sent refl)
 
-manager_answers_spares : (v : View) (a : Addresses) (n : ℕ) (o : Option PlainMessage) (i : MsgId) → ((m : PlainMessage) → o ≡ Some m → id_eq m.id i ≡ false) → spares i (manager_answers v a n o) ≡ true
+pub manager_answers_spares : (v : View) (a : Addresses) (n : ℕ) (o : Option PlainMessage) (i : MsgId) → ((m : PlainMessage) → o ≡ Some m → id_eq m.id i ≡ false) → spares i (manager_answers v a n o) ≡ true
 manager_answers_spares v a n None i e = refl
 manager_answers_spares v a n (Some sent) i e = two_more i sent.id (gets (Enclosed sent.id 0) (unmoved v.acting) ∷ []) (e sent refl) refl
 
-manager_takes_spares : (s : OneKernel) (v : View) (a : Addresses) (m : PlainMessage) (w : PlainWhat) (o : Option manage.Took) (i : MsgId) → ((k : manage.Took) → o ≡ Some k → (x : PlainMessage) → k.message ≡ Some x → id_eq x.id i ≡ false) → spares i (manager_takes s v a m w o) ≡ true
-manager_takes_spares s v a m (what.User b1 b2 b3 b4) None i e = refl
-manager_takes_spares s v a m what.Stop None i e = refl
-manager_takes_spares s v a m what.Resume None i e = refl
-manager_takes_spares s v a m what.Kill None i e = refl
-manager_takes_spares s v a m (what.Read b1 b2) None i e = refl
-manager_takes_spares s v a m (what.Write b1 b2) None i e = refl
-manager_takes_spares s v a m (what.Block b1) None i e = refl
-manager_takes_spares s v a m what.Written None i e = refl
-manager_takes_spares s v a m what.Gone None i e = refl
-manager_takes_spares s v a m (what.Create b1 b2) None i e = refl
-manager_takes_spares s v a m (what.Created b1) None i e = refl
-manager_takes_spares s v a m what.NoRoom None i e = refl
-manager_takes_spares s v a m (what.Move b1) None i e = refl
-manager_takes_spares s v a m (what.Moved b1) None i e = refl
-manager_takes_spares s v a m (what.User b1 b2 b3 b4) (Some k) i e = manager_sends_spares v a m.id b1 k.message i (e k refl)
-manager_takes_spares s v a m what.Stop (Some k) i e = manager_answers_spares v a m.id.n k.message i (e k refl)
-manager_takes_spares s v a m what.Resume (Some k) i e = manager_answers_spares v a m.id.n k.message i (e k refl)
-manager_takes_spares s v a m what.Kill (Some k) i e = manager_answers_spares v a m.id.n k.message i (e k refl)
-manager_takes_spares s v a m (what.Read b1 b2) (Some k) i e = manager_answers_spares v a m.id.n k.message i (e k refl)
-manager_takes_spares s v a m (what.Write b1 b2) (Some k) i e = manager_answers_spares v a m.id.n k.message i (e k refl)
-manager_takes_spares s v a m (what.Block b1) (Some k) i e = manager_answers_spares v a m.id.n k.message i (e k refl)
-manager_takes_spares s v a m what.Written (Some k) i e = manager_answers_spares v a m.id.n k.message i (e k refl)
-manager_takes_spares s v a m what.Gone (Some k) i e = manager_answers_spares v a m.id.n k.message i (e k refl)
-manager_takes_spares s v a m (what.Create b1 b2) (Some k) i e = manager_answers_spares v a m.id.n k.message i (e k refl)
-manager_takes_spares s v a m (what.Created b1) (Some k) i e = manager_answers_spares v a m.id.n k.message i (e k refl)
-manager_takes_spares s v a m what.NoRoom (Some k) i e = manager_answers_spares v a m.id.n k.message i (e k refl)
-manager_takes_spares s v a m (what.Move b1) (Some k) i e = manager_answers_spares v a m.id.n k.message i (e k refl)
-manager_takes_spares s v a m (what.Moved b1) (Some k) i e = manager_answers_spares v a m.id.n k.message i (e k refl)
+pub manager_takes_spares : (s : OneKernel) (v : View) (a : Addresses) (m : PlainMessage) (w : PlainWhat) (o : Option manage.Took) (i : MsgId) → ((k : manage.Took) → o ≡ Some k → (x : PlainMessage) → k.message ≡ Some x → id_eq x.id i ≡ false) → spares i (manager_takes s v a m w o) ≡ true
+manager_takes_spares s v a m (PlainWhat.User b1 b2 b3 b4) None i e = refl
+manager_takes_spares s v a m PlainWhat.Stop None i e = refl
+manager_takes_spares s v a m PlainWhat.Resume None i e = refl
+manager_takes_spares s v a m PlainWhat.Kill None i e = refl
+manager_takes_spares s v a m (PlainWhat.Read b1 b2) None i e = refl
+manager_takes_spares s v a m (PlainWhat.Write b1 b2) None i e = refl
+manager_takes_spares s v a m (PlainWhat.Block b1) None i e = refl
+manager_takes_spares s v a m PlainWhat.Written None i e = refl
+manager_takes_spares s v a m PlainWhat.Gone None i e = refl
+manager_takes_spares s v a m (PlainWhat.Create b1 b2) None i e = refl
+manager_takes_spares s v a m (PlainWhat.Created b1) None i e = refl
+manager_takes_spares s v a m PlainWhat.NoRoom None i e = refl
+manager_takes_spares s v a m (PlainWhat.Move b1) None i e = refl
+manager_takes_spares s v a m (PlainWhat.Moved b1) None i e = refl
+manager_takes_spares s v a m (PlainWhat.User b1 b2 b3 b4) (Some k) i e = manager_sends_spares v a m.id b1 k.message i (e k refl)
+manager_takes_spares s v a m PlainWhat.Stop (Some k) i e = manager_answers_spares v a m.id.n k.message i (e k refl)
+manager_takes_spares s v a m PlainWhat.Resume (Some k) i e = manager_answers_spares v a m.id.n k.message i (e k refl)
+manager_takes_spares s v a m PlainWhat.Kill (Some k) i e = manager_answers_spares v a m.id.n k.message i (e k refl)
+manager_takes_spares s v a m (PlainWhat.Read b1 b2) (Some k) i e = manager_answers_spares v a m.id.n k.message i (e k refl)
+manager_takes_spares s v a m (PlainWhat.Write b1 b2) (Some k) i e = manager_answers_spares v a m.id.n k.message i (e k refl)
+manager_takes_spares s v a m (PlainWhat.Block b1) (Some k) i e = manager_answers_spares v a m.id.n k.message i (e k refl)
+manager_takes_spares s v a m PlainWhat.Written (Some k) i e = manager_answers_spares v a m.id.n k.message i (e k refl)
+manager_takes_spares s v a m PlainWhat.Gone (Some k) i e = manager_answers_spares v a m.id.n k.message i (e k refl)
+manager_takes_spares s v a m (PlainWhat.Create b1 b2) (Some k) i e = manager_answers_spares v a m.id.n k.message i (e k refl)
+manager_takes_spares s v a m (PlainWhat.Created b1) (Some k) i e = manager_answers_spares v a m.id.n k.message i (e k refl)
+manager_takes_spares s v a m PlainWhat.NoRoom (Some k) i e = manager_answers_spares v a m.id.n k.message i (e k refl)
+manager_takes_spares s v a m (PlainWhat.Move b1) (Some k) i e = manager_answers_spares v a m.id.n k.message i (e k refl)
+manager_takes_spares s v a m (PlainWhat.Moved b1) (Some k) i e = manager_answers_spares v a m.id.n k.message i (e k refl)
 
 took_outside : (s t : OneKernel) (id : MsgId) (k : manage.Took) (i : MsgId) (o : Option PlainMessage) → k.message ≡ o → Outside t → is_kernels i ≡ true → service.manager_took s id k ≡ t → (x : PlainMessage) → o ≡ Some x → id_eq x.id i ≡ false
 took_outside s t id k i None is out own e x f = cc
@@ -391,25 +261,20 @@ takes_spares s t v a id m false false i out own e = cc
 
 -- a row a label
 pub gives_spares : (s t : OneKernel) (v : View) (a : Addresses) (l : Label) (i : MsgId) → kernel.step s l ≡ Some t → Outside t → is_kernels i ≡ true → spares i (gives s v a l) ≡ true
-gives_spares s t v a (label.Ran p k) i is out own = refl
-gives_spares s t v a (label.Call p n c) i is out own = made_spares v a p n c (kernel.running s p) i
-gives_spares s t v a (label.Send p id) i is out own =
+gives_spares s t v a (Label.Call p n c) i is out own = made_spares v a p n c (kernel.running s p) i
+gives_spares s t v a (Label.Send p id) i is out own =
     let (n, next, rest) = bind-is (kernel.next s p) (kernel.sends s p id) t is in
     sends_spares s v a p id (kernel.running s p) i (apart i id own (send_other s t p id n rest out))
-gives_spares s t v a (label.Wait p) i is out own = refl
-gives_spares s t v a (label.Out p w) i is out own = refl
-gives_spares s t v a (label.End p y) i is out own = refl
-gives_spares s t v a (label.Receive p id) i is out own = receives_spares a p id (kernel.alive (s.processes p)) (s.bag id) i
-gives_spares s t v a (label.Refuse p id c) i is out own = refl
-gives_spares s t v a (label.Dropped id) i is out own = refl
-gives_spares s t v a (label.Served id) i is out own =
+gives_spares s t v a (Label.Receive p id) i is out own = receives_spares a p id (kernel.alive (s.processes p)) (s.bag id) i
+gives_spares s t v a (Label.Served id) i is out own =
     let (m, there, rest) = bind-is (s.bag id) (λ (w : PlainMessage). bind (kernel.alive (s.processes w.to)) (λ (p : PlainProcess). service.serves s id w p w.what)) t is in
     let (x, alive, last) = bind-is (kernel.alive (s.processes m.to)) (λ (p : PlainProcess). service.serves s id m p m.what) t rest in
-    let gs_is : serves_what v a id m x m.what ≡ gives s v a (label.Served id) = ap (addresses.serves_alive v a id m) (sym alive) ∙ ap (addresses.serves s v a id) (sym there) in
+    let gs_is : serves_what v a id m x m.what ≡ gives s v a (Label.Served id) = ap (addresses.serves_alive v a id m) (sym alive) ∙ ap (addresses.serves s v a id) (sym there) in
     subst (λ (gs : List Gets). spares i gs ≡ true) gs_is (serve_spares s t v a id m x m.what i out own last)
-gives_spares s t v a (label.Gone id) i is out own = two_more i (answer_id id) [] (answers_apart i id own) refl
-gives_spares s t v a (label.Took id) i is out own =
+gives_spares s t v a (Label.Gone id) i is out own = two_more i (answer_id id) [] (answers_apart i id own) refl
+gives_spares s t v a (Label.Took id) i is out own =
     let (m, there, rest) = bind-is (s.bag id) (service.takes s id) t is in
     subst (λ (gs : List Gets). spares i gs ≡ true) (ap (addresses.takes s v a id) (sym there)) (takes_spares s t v a id m (pid_eq m.to switchboard) (pid_eq m.to manager) i out own rest)
-gives_spares s t v a (label.Created id child) i is out own = creates_spares v a id child (s.bag id) i own
-gives_spares s t v a (label.NoSpace id f b) i is out own = two_more i (answer_id id) [] (answers_apart i id own) refl
+gives_spares s t v a (Label.Created id child) i is out own = creates_spares v a id child (s.bag id) i own
+gives_spares s t v a (Label.NoSpace id f b) i is out own = two_more i (answer_id id) [] (answers_apart i id own) refl
+gives_spares s t v a _ i is out own = refl

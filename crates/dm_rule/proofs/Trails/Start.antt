@@ -1,22 +1,8 @@
 -- Before the first line each process's trail is its home, and each address names it.
-use Rattle.std.proofs.Common.{◌≡◌, ◌≢◌, ℕ, zero, suc, ◌==◌, ◌&&◌, Bool, true, false, [], ◌∷◌, refl, ap, ◌∙◌, sym, subst, arith}
-use Rattle.std.specs.Prelude.{if◌then◌else◌, slice_get}
-use Rattle.std.specs.declared.option.Option.TheVariants.{None, Some}
-use Rattle.std.proofs.lemmas.Bool.Decides.{nat_tests}
-use Rattle.dm_link.specs.declared.Pid.{Pid}
-use Rattle.dm_link.specs.Names.{Place}
-use Rattle.dm_onekernel.specs.declared.boot.Boot.{Boot}
-use Rattle.dm_onekernel.specs.Boot.{IsValid}
-use Rattle.dm_rule.specs.View.{Known, Unknown, Here, Forward, first_view}
-use Rattle.dm_rule.specs.Addresses.{unmoved}
-use Rattle.dm_rule.specs.Point.{first_point}
-use Rattle.dm_rule.specs.Trails.{Trail, Stood, IsOn, Trailed, first_trails}
+use Rattle.dm_rule.proofs.Names.{◌≡◌, ◌≢◌, ℕ, zero, suc, ◌==◌, ◌&&◌, Bool, true, false, [], ◌∷◌, refl, ap, ◌∙◌, sym, subst, arith, if◌then◌else◌, slice_get, None, Some, nat_tests, Pid, Place, Boot, IsValid, Unknown, Here, Forward}
+use Rattle.dm_rule.proofs.Names.{first_view, unmoved, first_point, Trail, Stood, IsOn, Trailed, first_trails, both_true}
 use Rattle.dm_rule.proofs.Homes.Start.{Homes-start}
 use Rattle.dm_rule.proofs.Phases.Start.{starts, start_known, start_phase}
-
--- what is known at the start
-at_start : Bool → Pid → ℕ → Known
-at_start b q m = if b && (q.home == m) then Here else Unknown
 
 start_no_forward : (b : Bool) (k j : ℕ) → (if b then Here else Unknown) ≢ Forward k j
 start_no_forward true k j = λ e. cc
@@ -34,10 +20,6 @@ here_not : (b : Bool) → b ≡ true → (if b then Here else Unknown) ≢ Unkno
 here_not true e f = cc
 here_not false e f = cc
 
-both_are : (b c : Bool) → b ≡ true → c ≡ true → (b && c) ≡ true
-both_are true c e f = f
-both_are false c e f = cc
-
 pub trail_start : (b : Boot) (p : Pid) → Trail (first_view b) first_trails p
 trail_start b p = record {
   begins = refl;
@@ -45,7 +27,7 @@ trail_start b p = record {
   behind = λ m k j c e f. absurd (start_no_forward (starts b.processes p && (p.home == m)) k j (sym (start_known b.processes m p) ∙ e));
   kept = λ m n c e f g.
       let some : starts b.processes p ≡ true = start_some (starts b.processes p) (p.home == n) (λ x. e (start_known b.processes n p ∙ x)) in
-      here_not (starts b.processes p && (p.home == m)) (both_are (starts b.processes p) (p.home == m) some (start_place p c m f)) (sym (start_known b.processes m p) ∙ g);
+      here_not (starts b.processes p && (p.home == m)) (both_true (starts b.processes p) (p.home == m) some (start_place p c m f)) (sym (start_known b.processes m p) ∙ g);
 }
 
 stood_start : (b : Boot) (p : Pid) (s : Bool) → Stood (first_view b) first_trails p (start_phase s p)

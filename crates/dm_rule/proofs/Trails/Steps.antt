@@ -1,23 +1,8 @@
 -- Each line of a migration, of an end and of a birth keeps what machines know in agreement with the trails.
-use Rattle.std.proofs.Common.{◌≡◌, ◌≢◌, ℕ, ◌+◌, ◌==◌, ◌&&◌, Bool, true, false, not, List, [], ◌∷◌, ◌++◌, length, refl, ap, ◌∙◌, sym, subst, inl, inr, arith}
-use Rattle.std.specs.Prelude.{if◌then◌else◌, slice_get}
-use Rattle.std.specs.declared.option.Option.{Option}
-use Rattle.std.specs.declared.option.Option.TheVariants.{Some}
-use Rattle.std.proofs.lemmas.Bool.{cases_Bool, false≢true}
-use Rattle.std.proofs.lemmas.Bool.Decides.{nat_tests}
-use Rattle.std.proofs.lemmas.List.{append-nil}
-use Rattle.dm_link.specs.declared.Pid.{Pid}
-use Rattle.dm_link.specs.Names.{pid_eq}
-use Rattle.dm_message.specs.declared.MsgId.{MsgId}
-use Rattle.dm_message.specs.declared.kind.MessageKind.{MessageKind}
-use Rattle.dm_message.specs.declared.kind.MessageKind.TheVariants as kind
-use Rattle.dm_line.specs.declared.line.Line.TheVariants as line
-use Rattle.dm_line.specs.declared.line.Stage.TheVariants as stage
-use Rattle.dm_line.specs.Sets.{at_record}
-use Rattle.dm_rule.specs.View.{View, Known, Unknown, Here, Frozen, Incoming, Forward, Ended, view_after, front_of, front_told, target_of, gone_to}
-use Rattle.dm_rule.specs.Phases.{Nowhere, Moves, IsIn, leaves, comes, is_restart, is_early, is_between, is_away}
-use Rattle.dm_rule.specs.Trails.{Trails, Trail, Stood, destination, trails_after}
-use Rattle.dm_laws.proofs.Equal.{pid_eq-is, pid_eq-same}
+use Rattle.dm_rule.proofs.Names.{◌≡◌, ◌≢◌, ℕ, ◌+◌, ◌==◌, ◌&&◌, Bool, true, false, not, List, [], ◌∷◌, ◌++◌, length, refl, ap, ◌∙◌, sym, subst, inl, inr, arith, if◌then◌else◌, slice_get, Option, Some, cases_Bool, false≢true, nat_tests}
+use Rattle.dm_rule.proofs.Names.{append-nil, Pid, pid_eq, MsgId, MessageKind, Line, Stage, at_record, View, Known, Unknown, Here, Frozen, Incoming, Forward, Ended, view_after, front_of, front_told, target_of, gone_to, Nowhere, Moves, IsIn}
+use Rattle.dm_rule.proofs.Names.{comes, is_restart, is_early, is_between, is_away, Trails, Trail, Stood, destination, trails_after, pid_eq-is, pid_eq-same}
+use Rattle.dm_rule.specs.Phases.{leaves}
 use Rattle.dm_rule.proofs.Lines.{eq_is, parts, not_true}
 use Rattle.dm_rule.proofs.Trails.Known.{trail_same, trail_learns, trail_made, trail_grows, trail_left, home_alone}
 
@@ -25,21 +10,16 @@ use Rattle.dm_rule.proofs.Trails.Known.{trail_same, trail_learns, trail_made, tr
 same_true : (m : ℕ) → (m == m) ≡ true
 same_true m = grind (arith, nat_tests)
 
-holds_is : (k : MessageKind) (d : ℕ) (x : Known) → is_restart k ≡ false → leaves k d x ≡ true → x ≡ Frozen d
+pub holds_is : (k : MessageKind) (d : ℕ) (x : Known) → is_restart k ≡ false → leaves k d x ≡ true → x ≡ Frozen d
 holds_is k d (Frozen m) e h = let both = parts (not (is_restart k)) (d == m) h in sym (ap Frozen (eq_is d m both.1))
 holds_is k d (Forward m n) e h = absurd (let both = parts (is_restart k) (d == m) h in false≢true (sym e ∙ both.0))
-holds_is k d Unknown e h = absurd (false≢true h)
-holds_is k d Here e h = absurd (false≢true h)
-holds_is k d (Incoming m) e h = absurd (false≢true h)
-holds_is k d Ended e h = absurd (false≢true h)
+holds_is k d _ e h = absurd (false≢true h)
 
-expects_is : (k : MessageKind) (s : ℕ) (x : Known) → is_early k ≡ false → comes k s x ≡ true → x ≡ Incoming s
+pub expects_is : (k : MessageKind) (s : ℕ) (x : Known) → is_early k ≡ false → comes k s x ≡ true → x ≡ Incoming s
 expects_is k s (Incoming m) e h = let both = parts (not (is_early k)) (s == m) h in sym (ap Incoming (eq_is s m both.1))
 expects_is k s Unknown e h = absurd (false≢true (sym e ∙ h))
 expects_is k s (Forward m n) e h = absurd (false≢true (sym e ∙ h))
-expects_is k s Here e h = absurd (false≢true h)
-expects_is k s (Frozen m) e h = absurd (false≢true h)
-expects_is k s Ended e h = absurd (false≢true h)
+expects_is k s _ e h = absurd (false≢true h)
 
 pub two_apart : (v : View) (p : Pid) (k : MessageKind) (s d : ℕ) (o : Option MsgId) → IsIn v p (Moves k s d o) → d ≢ s
 two_apart v p k s d o h e = let both = parts (is_between k) (not (s == d)) h.apart in false≢true (sym (ap not (ap (λ (n : ℕ). s == n) e ∙ same_true s)) ∙ both.1)
@@ -54,14 +34,14 @@ destination_expects v p k s d o h e =
     (sym (ap (λ (c : Bool). if c then leaves k d (v.known d p) else if d == d then comes k s (v.known d p) else is_away (v.known d p)) off ∙ ap (λ (c : Bool). if c then comes k s (v.known d p) else is_away (v.known d p)) (same_true d)) ∙ h.known d)
 
 -- one machine learns something of one process
-set_at : (v : View) (p : Pid) (x : Known) (m : ℕ) → at_record v.known v.acting p x m p ≡ (if v.acting == m then x else v.known m p)
+pub set_at : (v : View) (p : Pid) (x : Known) (m : ℕ) → at_record v.known v.acting p x m p ≡ (if v.acting == m then x else v.known m p)
 set_at v p x m = ap (λ (c : Bool). if (v.acting == m) && c then x else v.known m p) (pid_eq-same p) ∙ drop_true (v.acting == m)
   where
     drop_true : (b : Bool) → (if b && true then x else v.known m p) ≡ (if b then x else v.known m p)
     drop_true true = refl
     drop_true false = refl
 
-set_off : (v : View) (p : Pid) (x : Known) (m : ℕ) (q : Pid) → pid_eq p q ≡ false → at_record v.known v.acting p x m q ≡ v.known m q
+pub set_off : (v : View) (p : Pid) (x : Known) (m : ℕ) (q : Pid) → pid_eq p q ≡ false → at_record v.known v.acting p x m q ≡ v.known m q
 set_off v p x m q off = ap (λ (c : Bool). if (v.acting == m) && c then x else v.known m q) off ∙ drop_false (v.acting == m)
   where
     drop_false : (b : Bool) → (if b && false then x else v.known m q) ≡ v.known m q
@@ -77,28 +57,28 @@ set_trail v w t p q x known on h = elim (cases_Bool (pid_eq p q)) [
 ]
 
 -- step 1: it leaves
-pub frozen_trail : (v : View) (t : Trails) (p q : Pid) → v.known v.acting p ≡ Here → Trail v t q → Trail (view_after v (line.Migration stage.Frozen p)) t q
+pub frozen_trail : (v : View) (t : Trails) (p q : Pid) → v.known v.acting p ≡ Here → Trail v t q → Trail (view_after v (Line.Migration Stage.Frozen p)) t q
 frozen_trail v t p q here h =
     let x = Frozen (target_of (front_told v (v.inbox v.acting))) in
-    set_trail v (view_after v (line.Migration stage.Frozen p)) t p q x refl (λ known on. trail_learns v (view_after v (line.Migration stage.Frozen p)) t p x v.acting known (λ k j e. cc) (λ e. cc) (λ e. let f : Here ≡ Unknown = sym here ∙ e in cc) on) h
+    set_trail v (view_after v (Line.Migration Stage.Frozen p)) t p q x refl (λ known on. trail_learns v (view_after v (Line.Migration Stage.Frozen p)) t p x v.acting known (λ k j e. cc) (λ e. cc) (λ e. let f : Here ≡ Unknown = sym here ∙ e in cc) on) h
 
 -- step 3: it is accepted, and its source knows it
-pub accepted_trail : (v : View) (t : Trails) (p q : Pid) (k : MessageKind) (s d : ℕ) (o : Option MsgId) → IsIn v p (Moves k s d o) → is_restart k ≡ false → Trail v t q → Trail (view_after v (line.Migration stage.Accepted p)) t q
+pub accepted_trail : (v : View) (t : Trails) (p q : Pid) (k : MessageKind) (s d : ℕ) (o : Option MsgId) → IsIn v p (Moves k s d o) → is_restart k ≡ false → Trail v t q → Trail (view_after v (Line.Migration Stage.Accepted p)) t q
 accepted_trail v t p q k s d o phase e h =
     let x = Incoming (front_of (v.inbox v.acting)) in
-    set_trail v (view_after v (line.Migration stage.Accepted p)) t p q x refl
-    (λ known on. trail_learns v (view_after v (line.Migration stage.Accepted p)) t p x s known (λ i j f. cc) (λ f. cc) (λ f. let g : Frozen d ≡ Unknown = sym (source_holds v p k s d o phase e) ∙ f in cc) on) h
+    set_trail v (view_after v (Line.Migration Stage.Accepted p)) t p q x refl
+    (λ known on. trail_learns v (view_after v (Line.Migration Stage.Accepted p)) t p x s known (λ i j f. cc) (λ f. cc) (λ f. let g : Frozen d ≡ Unknown = sym (source_holds v p k s d o phase e) ∙ f in cc) on) h
 
 -- it is here again: step 8, or it stays
 back_trail : (v w : View) (t : Trails) (p q : Pid) (n : ℕ) → w.known ≡ at_record v.known v.acting p Here → v.known n p ≢ Unknown → Trail v t q → Trail w t q
 back_trail v w t p q n known there h = set_trail v w t p q Here known (λ at on. trail_learns v w t p Here n at (λ i j f. cc) (λ f. cc) there on) h
 
-pub restarted_trail : (v : View) (t : Trails) (p q : Pid) (k : MessageKind) (s d : ℕ) (o : Option MsgId) → IsIn v p (Moves k s d o) → is_early k ≡ false → Trail v t q → Trail (view_after v (line.Migration stage.Restarted p)) t q
+pub restarted_trail : (v : View) (t : Trails) (p q : Pid) (k : MessageKind) (s d : ℕ) (o : Option MsgId) → IsIn v p (Moves k s d o) → is_early k ≡ false → Trail v t q → Trail (view_after v (Line.Migration Stage.Restarted p)) t q
 restarted_trail v t p q k s d o phase e h =
-    back_trail v (view_after v (line.Migration stage.Restarted p)) t p q d refl (λ f. let g : Incoming s ≡ Unknown = sym (destination_expects v p k s d o phase e) ∙ f in cc) h
+    back_trail v (view_after v (Line.Migration Stage.Restarted p)) t p q d refl (λ f. let g : Incoming s ≡ Unknown = sym (destination_expects v p k s d o phase e) ∙ f in cc) h
 
-pub stays_trail : (v : View) (t : Trails) (p q : Pid) (k : MessageKind) (s d : ℕ) (o : Option MsgId) → IsIn v p (Moves k s d o) → is_restart k ≡ false → Trail v t q → Trail (view_after v (line.Stays p)) t q
-stays_trail v t p q k s d o phase e h = back_trail v (view_after v (line.Stays p)) t p q s refl (λ f. let g : Frozen d ≡ Unknown = sym (source_holds v p k s d o phase e) ∙ f in cc) h
+pub stays_trail : (v : View) (t : Trails) (p q : Pid) (k : MessageKind) (s d : ℕ) (o : Option MsgId) → IsIn v p (Moves k s d o) → is_restart k ≡ false → Trail v t q → Trail (view_after v (Line.Stays p)) t q
+stays_trail v t p q k s d o phase e h = back_trail v (view_after v (Line.Stays p)) t p q s refl (λ f. let g : Frozen d ≡ Unknown = sym (source_holds v p k s d o phase e) ∙ f in cc) h
 
 -- it ends
 pub ended_trail : (v w : View) (t : Trails) (p q : Pid) → w.known ≡ at_record v.known v.acting p Ended → v.known v.acting p ≡ Here → Trail v t q → Trail w t q
@@ -110,31 +90,31 @@ born_trail v w t p q known unknown home stood h =
     set_trail v w t p q Here known (λ at on. trail_made v w t p at unknown (λ c m e. home_alone v t p on stood c m e ∙ home) on) h
 
 -- step 6: what came for it is sent on, and its trail is longer by its destination
-pub sent_on_at : (v : View) (t : Trails) (p : Pid) (n d : ℕ) → v.known v.acting p ≡ Frozen d → trails_after v t (line.SentOn p n) p ≡ t p ++ d ∷ []
+pub sent_on_at : (v : View) (t : Trails) (p : Pid) (n d : ℕ) → v.known v.acting p ≡ Frozen d → trails_after v t (Line.SentOn p n) p ≡ t p ++ d ∷ []
 sent_on_at v t p n d holds = ap (λ (c : Bool). if c then t p ++ destination (v.known v.acting p) else t p) (pid_eq-same p) ∙ ap (λ (x : Known). t p ++ destination x) holds
 
-pub sent_on_grows : (v : View) (t : Trails) (p : Pid) (n d : ℕ) → v.known v.acting p ≡ Frozen d → (q : Pid) → (ds : List ℕ) × (trails_after v t (line.SentOn p n) q ≡ t q ++ ds)
+pub sent_on_grows : (v : View) (t : Trails) (p : Pid) (n d : ℕ) → v.known v.acting p ≡ Frozen d → (q : Pid) → (ds : List ℕ) × (trails_after v t (Line.SentOn p n) q ≡ t q ++ ds)
 sent_on_grows v t p n d holds q = elim (cases_Bool (pid_eq p q)) [
-  | inl same ↦ let is : p ≡ q = pid_eq-is p q same in (d ∷ [], subst (λ (r : Pid). trails_after v t (line.SentOn p n) r ≡ t r ++ d ∷ []) is (sent_on_at v t p n d holds))
+  | inl same ↦ let is : p ≡ q = pid_eq-is p q same in (d ∷ [], subst (λ (r : Pid). trails_after v t (Line.SentOn p n) r ≡ t r ++ d ∷ []) is (sent_on_at v t p n d holds))
   | inr apart ↦ ([], ap (λ (c : Bool). if c then t p ++ destination (v.known v.acting p) else t q) apart ∙ sym (append-nil (t q)))
 ]
 
-pub sent_on_trail : (v : View) (t : Trails) (p q : Pid) (n s d : ℕ) (o : Option MsgId) → IsIn v p (Moves kind.AllTaken s d o) → v.acting ≡ s → Trail v t q → Trail (view_after v (line.SentOn p n)) (trails_after v t (line.SentOn p n)) q
+pub sent_on_trail : (v : View) (t : Trails) (p q : Pid) (n s d : ℕ) (o : Option MsgId) → IsIn v p (Moves MessageKind.AllTaken s d o) → v.acting ≡ s → Trail v t q → Trail (view_after v (Line.SentOn p n)) (trails_after v t (Line.SentOn p n)) q
 sent_on_trail v t p q n s d o phase acts h =
-    let holds : v.known v.acting p ≡ Frozen d = ap (λ (m : ℕ). v.known m p) acts ∙ source_holds v p kind.AllTaken s d o phase refl in
+    let holds : v.known v.acting p ≡ Frozen d = ap (λ (m : ℕ). v.known m p) acts ∙ source_holds v p MessageKind.AllTaken s d o phase refl in
     elim (cases_Bool (pid_eq p q)) [
       | inl same ↦
           let is : p ≡ q = pid_eq-is p q same in
-          subst (Trail (view_after v (line.SentOn p n)) (trails_after v t (line.SentOn p n))) is
-          (trail_grows v (view_after v (line.SentOn p n)) t (trails_after v t (line.SentOn p n)) p d s (λ m. refl) (sent_on_at v t p n d holds) (destination_expects v p kind.AllTaken s d o phase refl) (subst (Trail v t) (sym is) h))
+          subst (Trail (view_after v (Line.SentOn p n)) (trails_after v t (Line.SentOn p n))) is
+          (trail_grows v (view_after v (Line.SentOn p n)) t (trails_after v t (Line.SentOn p n)) p d s (λ m. refl) (sent_on_at v t p n d holds) (destination_expects v p MessageKind.AllTaken s d o phase refl) (subst (Trail v t) (sym is) h))
       | inr apart ↦
-          trail_same v (view_after v (line.SentOn p n)) t (trails_after v t (line.SentOn p n)) q (λ m. refl)
+          trail_same v (view_after v (Line.SentOn p n)) t (trails_after v t (Line.SentOn p n)) q (λ m. refl)
           (ap (λ (c : Bool). if c then t p ++ destination (v.known v.acting p) else t q) apart) h
     ]
 
 -- then the source forwards
-pub left_line_trail : (v : View) (t : Trails) (p q : Pid) (d : ℕ) → v.known v.acting p ≡ Frozen d → slice_get (t p) (v.moves p + 1) ≡ Some d → length (t p) ≡ v.moves p + 2 → d ≢ v.acting → Trail v t q → Trail (view_after v (line.Migration stage.Left p)) t q
+pub left_line_trail : (v : View) (t : Trails) (p q : Pid) (d : ℕ) → v.known v.acting p ≡ Frozen d → slice_get (t p) (v.moves p + 1) ≡ Some d → length (t p) ≡ v.moves p + 2 → d ≢ v.acting → Trail v t q → Trail (view_after v (Line.Migration Stage.Left p)) t q
 left_line_trail v t p q d holds at long apart h =
-    let w = view_after v (line.Migration stage.Left p) in
+    let w = view_after v (Line.Migration Stage.Left p) in
     set_trail v w t p q (gone_to (v.known v.acting p) (v.moves p + 1)) refl
     (λ known on. trail_left v w t p d (λ m. known m ∙ ap (λ (x : Known). if v.acting == m then gone_to x (v.moves p + 1) else v.known m p) holds) (λ e. let f : Frozen d ≡ Unknown = sym holds ∙ e in cc) at long apart on) h

@@ -1,32 +1,10 @@
 -- Each line keeps the trails, what machines know, and all addresses in agreement, where it fits.
-use Rattle.std.proofs.Common.{◌≡◌, ◌≢◌, ℕ, ◌+◌, ◌≤◌, Bool, true, false, List, ◌++◌, length, refl, ap, ◌∙◌, sym, subst}
-use Rattle.std.specs.Prelude.{⊤, ◌==◌, not, filter, slice_get}
-use Rattle.std.specs.declared.option.Option.{Option}
-use Rattle.std.specs.declared.option.Option.TheVariants.{None, Some}
-use Rattle.dm_link.specs.declared.Pid.{Pid}
-use Rattle.dm_message.specs.declared.MsgId.{MsgId}
-use Rattle.dm_message.specs.declared.kind.MessageKind.{MessageKind}
-use Rattle.dm_message.specs.declared.kind.MessageKind.TheVariants as kind
-use Rattle.dm_onekernel.specs.Boot.{manager}
-use Rattle.dm_onekernel.specs.declared.label.Label.{Label}
-use Rattle.dm_onekernel.specs.declared.label.Label.TheVariants as label
-use Rattle.dm_onekernel.specs.Kernel.{OneKernel}
+use Rattle.dm_rule.proofs.Names.{◌≡◌, ◌≢◌, ℕ, ◌+◌, ◌≤◌, Bool, true, false, List, ◌++◌, length, refl, ap, ◌∙◌, sym, subst, ⊤, ◌==◌, not, filter, slice_get, Option, None, Some, Pid, MsgId, MessageKind, manager, Label, OneKernel, Step}
+use Rattle.dm_rule.proofs.Names.{bind-is, Line, Stage, View, Told, Known, Unknown, Here, Frozen, Forward, is_kernels, own_id, view_after, after_label, after_head, after_put, after_proto, handled, taken_id, queued_for, held_for}
+use Rattle.dm_rule.proofs.Names.{forwarded_for, forward_about, served_told, kills, receiver_of, Addresses, Receiver, Sender, given, forwards, all_follow, own_gives, first_gives, addresses_after, ascends, Nowhere, Moves, IsIn, is_restart}
+use Rattle.dm_rule.proofs.Names.{is_early, Point, moved, after_line, times, Trails, Trail, Stood, IsOn, AddressesOn, OwnOn, trails_after}
 use Rattle.dm_onekernel.specs.Step as kernel
-use Rattle.dm_schedule.specs.declared.Step.{Step}
-use Rattle.dm_schedule.specs.declared.Step.TheVariants as step
-use Rattle.dm_laws.proofs.Steps.{bind-is}
-use Rattle.dm_line.specs.declared.line.Line.{Line}
-use Rattle.dm_line.specs.declared.line.Line.TheVariants as line
-use Rattle.dm_line.specs.declared.line.Stage.{Stage}
-use Rattle.dm_line.specs.declared.line.Stage.TheVariants as stage
 use Rattle.dm_rule.specs.View as view
-use Rattle.dm_rule.specs.View.{View, Told, About, Known, Unknown, Here, Frozen, Forward, is_kernels, own_id, view_after, after_label, after_head, after_put, after_proto, handled, taken_id, queued_for, held_for, forwarded_for, forward_about, served_told, kills, receiver_of}
-use Rattle.dm_rule.specs.Addresses.{Addresses, Receiver, Sender, given, forwards, all_follow, own_gives, first_gives, addresses_after}
-use Rattle.dm_rule.specs.Homes.{ascends}
-use Rattle.dm_rule.specs.Phases.{Nowhere, Moves, IsIn, is_restart, is_early}
-use Rattle.dm_rule.specs.Point.{Point, moved, after_line}
-use Rattle.dm_rule.specs.Spots.{times}
-use Rattle.dm_rule.specs.Trails.{Trails, Trail, Stood, IsOn, AddressesOn, OwnOn, trails_after}
 use Rattle.dm_rule.proofs.Hushed.{hushed}
 use Rattle.dm_rule.proofs.Homes.Serves as serves
 use Rattle.dm_rule.proofs.Homes.Labels.{SaidOn}
@@ -49,20 +27,10 @@ pub record Treads (pt : Point) (t : Trails) : Type 0 where
 
 -- where a line fits: a label
 abbrev pub KnownFits : Point → Trails → Label → Type 0
-KnownFits pt t (label.End p y) = pt.view.known pt.view.acting p ≡ Here
-KnownFits pt t (label.Created id p) = ((m : ℕ) → pt.view.known m p ≡ Unknown) × (p.home ≡ pt.view.acting) × Stood pt.view t p Nowhere
-KnownFits pt t (label.Served id) = (u : Told) → pt.view.told id ≡ Some u → u.kind ≡ kind.Kill → pt.view.known pt.view.acting u.receiver ≡ Here
-KnownFits pt t (label.Dropped id) = ⊤
-KnownFits pt t (label.Ran p k) = ⊤
-KnownFits pt t (label.Call p n c) = ⊤
-KnownFits pt t (label.Send p id) = ⊤
-KnownFits pt t (label.Wait p) = ⊤
-KnownFits pt t (label.Out p w) = ⊤
-KnownFits pt t (label.Receive p id) = ⊤
-KnownFits pt t (label.Refuse p id c) = ⊤
-KnownFits pt t (label.Gone id) = ⊤
-KnownFits pt t (label.Took id) = ⊤
-KnownFits pt t (label.NoSpace id f b) = ⊤
+KnownFits pt t (Label.End p y) = pt.view.known pt.view.acting p ≡ Here
+KnownFits pt t (Label.Created id p) = ((m : ℕ) → pt.view.known m p ≡ Unknown) × (p.home ≡ pt.view.acting) × Stood pt.view t p Nowhere
+KnownFits pt t (Label.Served id) = (u : Told) → pt.view.told id ≡ Some u → u.kind ≡ MessageKind.Kill → pt.view.known pt.view.acting u.receiver ≡ Here
+KnownFits pt t _ = ⊤
 
 pub record LabelFits (pt : Point) (t : Trails) (l : Label) : Type 0 where
   pub named : serves.Named pt.kernel
@@ -86,7 +54,7 @@ pub record SentOnFits (pt : Point) (t : Trails) (p : Pid) : Type 0 where
   pub s : ℕ
   pub d : ℕ
   pub o : Option MsgId
-  pub phase : IsIn pt.view p (Moves kind.AllTaken s d o)
+  pub phase : IsIn pt.view p (Moves MessageKind.AllTaken s d o)
   pub acts : pt.view.acting ≡ s
   pub long : length (t p) ≡ pt.view.moves p + 1
   pub for_it : (i : MsgId) (q : Pid) → 1 ≤ times i (pt.view.queue pt.view.acting p ++ pt.view.held pt.view.acting p) → Named pt.kernel pt.view (Receiver i) q → q ≡ p
@@ -111,25 +79,23 @@ pub record MovesFits (pt : Point) (p : Pid) (test : MessageKind → Bool) : Type
 pub data PutFits (pt : Point) (t : Trails) (id : MsgId) (k : MessageKind) (q : Pid) : Type 0 where
   Again : (u : Told) → pt.view.told id ≡ Some u → PutFits pt t id k q
   Own : pt.kernel.bag id ≡ None → pt.view.told id ≡ None → IsOn t q (given pt.addresses (own_gives pt.kernel pt.view pt.addresses id q k) (Receiver id))
-      → (k ≡ kind.Migrate → IsOn t manager (given pt.addresses (own_gives pt.kernel pt.view pt.addresses id q k) (Sender id))) → PutFits pt t id k q
+      → (k ≡ MessageKind.Migrate → IsOn t manager (given pt.addresses (own_gives pt.kernel pt.view pt.addresses id q k) (Sender id))) → PutFits pt t id k q
   Routed : is_kernels id ≡ false → is_own k ≡ false → pt.view.told id ≡ None → PutFits pt t id k q
 
 abbrev pub StageFits : Point → Trails → Pid → Stage → Type 0
-StageFits pt t p stage.Frozen = pt.view.known pt.view.acting p ≡ Here
-StageFits pt t p stage.Asked = ⊤
-StageFits pt t p stage.Accepted = MovesFits pt p is_restart
-StageFits pt t p stage.StateTaken = ⊤
-StageFits pt t p stage.MemoryTaken = ⊤
-StageFits pt t p stage.Left = LeftFits pt t p
-StageFits pt t p stage.Restarted = MovesFits pt p is_early
+StageFits pt t p Stage.Frozen = pt.view.known pt.view.acting p ≡ Here
+StageFits pt t p Stage.Accepted = MovesFits pt p is_restart
+StageFits pt t p Stage.Left = LeftFits pt t p
+StageFits pt t p Stage.Restarted = MovesFits pt p is_early
+StageFits pt t p _ = ⊤
 
 abbrev pub LineFits : Point → Trails → Line → Type 0
-LineFits pt t (line.Label l) = LabelFits pt t l
-LineFits pt t (line.Put a b id k q) = PutFits pt t id k q
-LineFits pt t (line.Forwarded id m) = ForwardFits pt id
-LineFits pt t (line.SentOn p n) = SentOnFits pt t p
-LineFits pt t (line.Migration s p) = StageFits pt t p s
-LineFits pt t (line.Stays p) = MovesFits pt p is_restart
+LineFits pt t (Line.Label l) = LabelFits pt t l
+LineFits pt t (Line.Put a b id k q) = PutFits pt t id k q
+LineFits pt t (Line.Forwarded id m) = ForwardFits pt id
+LineFits pt t (Line.SentOn p n) = SentOnFits pt t p
+LineFits pt t (Line.Migration s p) = StageFits pt t p s
+LineFits pt t (Line.Stays p) = MovesFits pt p is_restart
 LineFits pt t _ = ⊤
 
 -- addresses that stay
@@ -158,15 +124,15 @@ quiet_treads : (pt : Point) (w : View) (t : Trails) → ((m : ℕ) (q : Pid) →
 quiet_treads pt w t known told topic h = learns_treads pt w t (λ q. trail_same pt.view w t t q (λ m. known m q) refl (h.trail q)) told topic h
 
 -- what the lines of messages leave
-queued_topic : (v : View) (i : MsgId) (o : Option Pid) → (queued_for v i o).topic ≡ v.topic
+pub queued_topic : (v : View) (i : MsgId) (o : Option Pid) → (queued_for v i o).topic ≡ v.topic
 queued_topic v i None = refl
 queued_topic v i (Some p) = refl
 
-held_topic : (v : View) (i : MsgId) (o : Option Pid) → (held_for v i o).topic ≡ v.topic
+pub held_topic : (v : View) (i : MsgId) (o : Option Pid) → (held_for v i o).topic ≡ v.topic
 held_topic v i None = refl
 held_topic v i (Some p) = refl
 
-taken_topic : (v : View) (b : ℕ) (o : Option MsgId) → (taken_id v b o).topic ≡ v.topic
+pub taken_topic : (v : View) (b : ℕ) (o : Option MsgId) → (taken_id v b o).topic ≡ v.topic
 taken_topic v b None = refl
 taken_topic v b (Some i) = refl
 
@@ -179,45 +145,19 @@ abbrev taken_pair : View → ℕ → ℕ → ℕ → View
 taken_pair v a b n = view.with_pair v a b (record (v.pair a b) { taken = (v.pair a b).taken + 1; kept = filter (λ k. not (k == n)) (v.pair a b).kept })
 
 head_treads : (pt : Point) (t : Trails) (d : Step) → Treads pt t → Treads (at_view pt (after_head pt.view d)) t
-head_treads pt t (step.Turn m) h = quiet_treads pt (after_head pt.view (step.Turn m)) t (λ n q. refl) refl (λ p n c e. cc) h
-head_treads pt t (step.Tick m) h = quiet_treads pt (after_head pt.view (step.Tick m)) t (λ n q. refl) refl (λ p n c e. cc) h
-head_treads pt t (step.Deliver a b k) h = quiet_treads pt (after_head pt.view (step.Deliver a b k)) t (λ n q. refl) refl (λ p n c e. cc) h
-head_treads pt t (step.Migrate r m) h = quiet_treads pt (after_head pt.view (step.Migrate r m)) t (λ n q. refl) refl (λ p n c e. cc) h
+head_treads pt t (Step.Turn m) h = quiet_treads pt (after_head pt.view (Step.Turn m)) t (λ n q. refl) refl (λ p n c e. cc) h
+head_treads pt t any_ h = quiet_treads pt (after_head pt.view any_) t (λ n q. refl) refl (λ p n c e. cc) h
 
 proto_place : (v w : View) (a : Addresses) (t : Trails) (id : MsgId) (o : Option Told) → v.told id ≡ o → OwnOn v a t → (p : Pid) (m c : ℕ) → (after_proto w o).topic ≡ view.Place p m c → slice_get (t p) c ≡ Some m
 proto_place v w a t id None told h p m c e = cc
 proto_place v w a t id (Some u) told h p m c e = h.about id u p m c told e
 
 -- a label
-kills_trail : (v : View) (t : Trails) (p q : Pid) (k : MessageKind) → (k ≡ kind.Kill → v.known v.acting p ≡ Here) → Trail v t q → Trail (kills k v (Some p)) t q
-kills_trail v t p q kind.Kill here h = ended_trail v (kills kind.Kill v (Some p)) t p q refl (here refl) h
-kills_trail v t p q kind.User here h = h
-kills_trail v t p q kind.Stop here h = h
-kills_trail v t p q kind.Resume here h = h
-kills_trail v t p q kind.Read here h = h
-kills_trail v t p q kind.Write here h = h
-kills_trail v t p q kind.Block here h = h
-kills_trail v t p q kind.Written here h = h
-kills_trail v t p q kind.Gone here h = h
-kills_trail v t p q kind.Create here h = h
-kills_trail v t p q kind.Created here h = h
-kills_trail v t p q kind.NoRoom here h = h
-kills_trail v t p q kind.Migrate here h = h
-kills_trail v t p q kind.Update here h = h
-kills_trail v t p q kind.Ask here h = h
-kills_trail v t p q kind.Refuse here h = h
-kills_trail v t p q kind.PullState here h = h
-kills_trail v t p q kind.State here h = h
-kills_trail v t p q kind.PullBlock here h = h
-kills_trail v t p q kind.Memory here h = h
-kills_trail v t p q kind.AllTaken here h = h
-kills_trail v t p q kind.Restart here h = h
-kills_trail v t p q kind.Move here h = h
-kills_trail v t p q kind.Moved here h = h
-kills_trail v t p q kind.CallOff here h = h
-kills_trail v t p q kind.Bury here h = h
+kills_trail : (v : View) (t : Trails) (p q : Pid) (k : MessageKind) → (k ≡ MessageKind.Kill → v.known v.acting p ≡ Here) → Trail v t q → Trail (kills k v (Some p)) t q
+kills_trail v t p q MessageKind.Kill here h = ended_trail v (kills MessageKind.Kill v (Some p)) t p q refl (here refl) h
+kills_trail v t p q _ here h = h
 
-served_trail : (v : View) (t : Trails) (q : Pid) (o : Option Told) → ((u : Told) → o ≡ Some u → u.kind ≡ kind.Kill → v.known v.acting u.receiver ≡ Here) → Trail v t q → Trail (served_told v o) t q
+served_trail : (v : View) (t : Trails) (q : Pid) (o : Option Told) → ((u : Told) → o ≡ Some u → u.kind ≡ MessageKind.Kill → v.known v.acting u.receiver ≡ Here) → Trail v t q → Trail (served_told v o) t q
 served_trail v t q None here h = h
 served_trail v t q (Some u) here h = kills_trail v t u.receiver q u.kind (here u refl) h
 
@@ -225,22 +165,13 @@ handled_trail : (v : View) (t : Trails) (id : MsgId) (q : Pid) → Trail v t q �
 handled_trail v t id q h = trail_same v (handled v id) t t q (λ m. refl) refl h
 
 label_trail : (pt : Point) (t : Trails) (l : Label) (q : Pid) → KnownFits pt t l → Trail pt.view t q → Trail (after_label pt.view l) t q
-label_trail pt t (label.End p y) q here h = ended_trail pt.view (after_label pt.view (label.End p y)) t p q refl here h
-label_trail pt t (label.Created id p) q fits h = born_trail pt.view (after_label pt.view (label.Created id p)) t p q refl fits.0 fits.1 fits.2 h
-label_trail pt t (label.Served id) q fits h = served_trail (handled pt.view id) t q (pt.view.told id) fits (handled_trail pt.view t id q h)
-label_trail pt t (label.Dropped id) q fits h = trail_same pt.view (after_label pt.view (label.Dropped id)) t t q (λ m. dropped_known (handled pt.view id) id (receiver_of (pt.view.told id)) m q) refl h
-label_trail pt t (label.Ran p k) q fits h = trail_same pt.view (after_label pt.view (label.Ran p k)) t t q (λ m. refl) refl h
-label_trail pt t (label.Call p n c) q fits h = trail_same pt.view (after_label pt.view (label.Call p n c)) t t q (λ m. refl) refl h
-label_trail pt t (label.Send p id) q fits h = trail_same pt.view (after_label pt.view (label.Send p id)) t t q (λ m. refl) refl h
-label_trail pt t (label.Wait p) q fits h = trail_same pt.view (after_label pt.view (label.Wait p)) t t q (λ m. refl) refl h
-label_trail pt t (label.Out p w) q fits h = trail_same pt.view (after_label pt.view (label.Out p w)) t t q (λ m. refl) refl h
-label_trail pt t (label.Receive p id) q fits h = trail_same pt.view (after_label pt.view (label.Receive p id)) t t q (λ m. refl) refl h
-label_trail pt t (label.Refuse p id c) q fits h = trail_same pt.view (after_label pt.view (label.Refuse p id c)) t t q (λ m. refl) refl h
-label_trail pt t (label.Gone id) q fits h = trail_same pt.view (after_label pt.view (label.Gone id)) t t q (λ m. refl) refl h
-label_trail pt t (label.Took id) q fits h = trail_same pt.view (after_label pt.view (label.Took id)) t t q (λ m. refl) refl h
-label_trail pt t (label.NoSpace id f b) q fits h = trail_same pt.view (after_label pt.view (label.NoSpace id f b)) t t q (λ m. refl) refl h
+label_trail pt t (Label.End p y) q here h = ended_trail pt.view (after_label pt.view (Label.End p y)) t p q refl here h
+label_trail pt t (Label.Created id p) q fits h = born_trail pt.view (after_label pt.view (Label.Created id p)) t p q refl fits.0 fits.1 fits.2 h
+label_trail pt t (Label.Served id) q fits h = served_trail (handled pt.view id) t q (pt.view.told id) fits (handled_trail pt.view t id q h)
+label_trail pt t (Label.Dropped id) q fits h = trail_same pt.view (after_label pt.view (Label.Dropped id)) t t q (λ m. dropped_known (handled pt.view id) id (receiver_of (pt.view.told id)) m q) refl h
+label_trail pt t any_ q fits h = trail_same pt.view (after_label pt.view any_) t t q (λ m. refl) refl h
 
-label_treads : (pt : Point) (s : OneKernel) (t : Trails) (l : Label) → kernel.step pt.kernel l ≡ Some s → LabelFits pt t l → Treads pt t → Treads (moved pt (line.Label l) s) t
+label_treads : (pt : Point) (s : OneKernel) (t : Trails) (l : Label) → kernel.step pt.kernel l ≡ Some s → LabelFits pt t l → Treads pt t → Treads (moved pt (Line.Label l) s) t
 label_treads pt s t l is fits h = record {
   trail = λ q. label_trail pt t l q fits.known (h.trail q);
   links = label_links pt.kernel s pt.view pt.addresses t l is fits.named fits.said h.trail h.pending h.links;
@@ -263,12 +194,12 @@ forwarded_topic v w t u (Some x) d n is away at q m c e =
     let f : x ≡ u = cc in
     forward_topic w t u.receiver (w.known w.acting u.receiver) d n away at q m c (sym (ap (λ (y : Told). forward_about y.receiver (w.known w.acting y.receiver)) f) ∙ e)
 
-forwarded_treads : (pt : Point) (t : Trails) (id : MsgId) (m : ℕ) → ForwardFits pt id → Treads pt t → Treads (moved pt (line.Forwarded id m) pt.kernel) t
+forwarded_treads : (pt : Point) (t : Trails) (id : MsgId) (m : ℕ) → ForwardFits pt id → Treads pt t → Treads (moved pt (Line.Forwarded id m) pt.kernel) t
 forwarded_treads pt t id m fits h =
     let v = pt.view in
-    let w = view_after v (line.Forwarded id m) in
+    let w = view_after v (Line.Forwarded id m) in
     let b = given pt.addresses (forwards v pt.addresses id (v.told id)) in
-    let told : w.told ≡ v.told = (hushed v (line.Forwarded id m) refl).told in
+    let told : w.told ≡ v.told = (hushed v (Line.Forwarded id m) refl).told in
     let all = forwarded_all pt.kernel v pt.addresses t id fits.u fits.d fits.n fits.told fits.away fits.for_it fits.outside fits.fresh (h.trail fits.u.receiver) (all_are pt.kernel v pt.addresses t h.links h.own) in
     record {
       trail = λ q. trail_same v w t t q (λ n. forwarded_known (handled v id) (receiver_of (v.told id)) n q) refl (h.trail q);
@@ -278,14 +209,14 @@ forwarded_treads pt t id m fits h =
     }
 
 -- messages that are sent on
-sent_on_treads : (pt : Point) (t : Trails) (p : Pid) (n : ℕ) → SentOnFits pt t p → Treads pt t → Treads (moved pt (line.SentOn p n) pt.kernel) (trails_after pt.view t (line.SentOn p n))
+sent_on_treads : (pt : Point) (t : Trails) (p : Pid) (n : ℕ) → SentOnFits pt t p → Treads pt t → Treads (moved pt (Line.SentOn p n) pt.kernel) (trails_after pt.view t (Line.SentOn p n))
 sent_on_treads pt t p n fits h =
     let v = pt.view in
-    let w = view_after v (line.SentOn p n) in
-    let u = trails_after v t (line.SentOn p n) in
+    let w = view_after v (Line.SentOn p n) in
+    let u = trails_after v t (Line.SentOn p n) in
     let ids = v.queue v.acting p ++ v.held v.acting p in
     let b = given pt.addresses (all_follow v pt.addresses p ids) in
-    let holds : v.known v.acting p ≡ Frozen fits.d = ap (λ (m : ℕ). v.known m p) fits.acts ∙ source_holds v p kind.AllTaken fits.s fits.d fits.o fits.phase refl in
+    let holds : v.known v.acting p ≡ Frozen fits.d = ap (λ (m : ℕ). v.known m p) fits.acts ∙ source_holds v p MessageKind.AllTaken fits.s fits.d fits.o fits.phase refl in
     let last : slice_get (u p) (v.moves p + 1) ≡ Some fits.d = ap (λ (xs : List ℕ). slice_get xs (v.moves p + 1)) (sent_on_at v t p n fits.d holds) ∙ get_at_end (t p) fits.d (v.moves p + 1) fits.long in
     let grows = sent_on_grows v t p n fits.d holds in
     let all = sent_on_all pt.kernel v pt.addresses t u p fits.d ids holds grows last fits.for_it (all_are pt.kernel v pt.addresses t h.links h.own) in
@@ -299,11 +230,11 @@ sent_on_treads pt t p n fits h =
     }
 
 -- an update
-updated_treads : (pt : Point) (t : Trails) (id : MsgId) (n : ℕ) → Treads pt t → Treads (moved pt (line.Updated id n) pt.kernel) t
+updated_treads : (pt : Point) (t : Trails) (id : MsgId) (n : ℕ) → Treads pt t → Treads (moved pt (Line.Updated id n) pt.kernel) t
 updated_treads pt t id n h =
     let v = pt.view in
-    let w = view_after v (line.Updated id n) in
-    let b = addresses_after pt.kernel v pt.addresses (line.Updated id n) in
+    let w = view_after v (Line.Updated id n) in
+    let b = addresses_after pt.kernel v pt.addresses (Line.Updated id n) in
     let all = updated_all pt.kernel v pt.addresses t (v.told id) (λ u p m c e f. h.own.about id u p m c e f) (all_are pt.kernel v pt.addresses t h.links h.own) in
     record {
       trail = λ q. handled_trail v t id q (h.trail q);
@@ -321,7 +252,7 @@ put_are pt t x y id k q (Again u told) h =
 put_are pt t x y id k q (Own bag none to from) h = put_all pt.kernel pt.view pt.addresses t x y id k q bag none to from h
 put_are pt t x y id k q (Routed other plain none) h = put_routed pt.kernel pt.view pt.addresses t x y id k q other plain none h
 
-put_treads : (pt : Point) (t : Trails) (x y : ℕ) (id : MsgId) (k : MessageKind) (q : Pid) → PutFits pt t id k q → Treads pt t → Treads (moved pt (line.Put x y id k q) pt.kernel) t
+put_treads : (pt : Point) (t : Trails) (x y : ℕ) (id : MsgId) (k : MessageKind) (q : Pid) → PutFits pt t id k q → Treads pt t → Treads (moved pt (Line.Put x y id k q) pt.kernel) t
 put_treads pt t x y id k q fits h =
     let v = pt.view in
     let w = after_put v x y id k q in
@@ -335,41 +266,30 @@ put_treads pt t x y id k q fits h =
     }
 
 -- a step of a migration
-stage_treads : (pt : Point) (t : Trails) (p : Pid) (s : Stage) → StageFits pt t p s → Treads pt t → Treads (moved pt (line.Migration s p) pt.kernel) t
-stage_treads pt t p stage.Frozen here h = learns_treads pt (view_after pt.view (line.Migration stage.Frozen p)) t (λ q. frozen_trail pt.view t p q here (h.trail q)) refl (λ r m c e. cc) h
-stage_treads pt t p stage.Asked fits h = quiet_treads pt (view_after pt.view (line.Migration stage.Asked p)) t (λ m q. refl) refl h.own.topic h
-stage_treads pt t p stage.Accepted fits h = learns_treads pt (view_after pt.view (line.Migration stage.Accepted p)) t (λ q. accepted_trail pt.view t p q fits.k fits.s fits.d fits.o fits.phase fits.off (h.trail q)) refl (λ r m c e. cc) h
-stage_treads pt t p stage.StateTaken fits h = quiet_treads pt (view_after pt.view (line.Migration stage.StateTaken p)) t (λ m q. refl) refl (λ r m c e. cc) h
-stage_treads pt t p stage.MemoryTaken fits h = quiet_treads pt (view_after pt.view (line.Migration stage.MemoryTaken p)) t (λ m q. refl) refl (λ r m c e. cc) h
-stage_treads pt t p stage.Left fits h = learns_treads pt (view_after pt.view (line.Migration stage.Left p)) t (λ q. left_line_trail pt.view t p q fits.d fits.holds fits.at fits.long fits.apart (h.trail q)) refl (λ r m c e. cc) h
-stage_treads pt t p stage.Restarted fits h = learns_treads pt (view_after pt.view (line.Migration stage.Restarted p)) t (λ q. restarted_trail pt.view t p q fits.k fits.s fits.d fits.o fits.phase fits.off (h.trail q)) refl h.own.topic h
+stage_treads : (pt : Point) (t : Trails) (p : Pid) (s : Stage) → StageFits pt t p s → Treads pt t → Treads (moved pt (Line.Migration s p) pt.kernel) t
+stage_treads pt t p Stage.Frozen here h = learns_treads pt (view_after pt.view (Line.Migration Stage.Frozen p)) t (λ q. frozen_trail pt.view t p q here (h.trail q)) refl (λ r m c e. cc) h
+stage_treads pt t p Stage.Asked fits h = quiet_treads pt (view_after pt.view (Line.Migration Stage.Asked p)) t (λ m q. refl) refl h.own.topic h
+stage_treads pt t p Stage.Accepted fits h = learns_treads pt (view_after pt.view (Line.Migration Stage.Accepted p)) t (λ q. accepted_trail pt.view t p q fits.k fits.s fits.d fits.o fits.phase fits.off (h.trail q)) refl (λ r m c e. cc) h
+stage_treads pt t p Stage.Left fits h = learns_treads pt (view_after pt.view (Line.Migration Stage.Left p)) t (λ q. left_line_trail pt.view t p q fits.d fits.holds fits.at fits.long fits.apart (h.trail q)) refl (λ r m c e. cc) h
+stage_treads pt t p Stage.Restarted fits h = learns_treads pt (view_after pt.view (Line.Migration Stage.Restarted p)) t (λ q. restarted_trail pt.view t p q fits.k fits.s fits.d fits.o fits.phase fits.off (h.trail q)) refl h.own.topic h
+stage_treads pt t p any_ fits h = quiet_treads pt (view_after pt.view (Line.Migration any_ p)) t (λ m q. refl) refl (λ r m c e. cc) h
 
 -- each line
 pub line_treads : (pt next : Point) (t : Trails) (l : Line) → after_line pt l ≡ Some next → LineFits pt t l → Treads pt t → Treads next (trails_after pt.view t l)
-line_treads pt next t (line.Label l) is fits h =
-    let (s, comes, last) = bind-is (kernel.step pt.kernel l) (λ (s : OneKernel). Some (moved pt (line.Label l) s)) next is in
-    let f : moved pt (line.Label l) s ≡ next = cc in
+line_treads pt next t (Line.Label l) is fits h =
+    let (s, comes, last) = bind-is (kernel.step pt.kernel l) (λ (s : OneKernel). Some (moved pt (Line.Label l) s)) next is in
+    let f : moved pt (Line.Label l) s ≡ next = cc in
     subst (λ (n : Point). Treads n t) f (label_treads pt s t l comes fits h)
-line_treads pt next t (line.Head d) is fits h = let f : moved pt (line.Head d) pt.kernel ≡ next = cc in subst (λ (z : Point). Treads z (trails_after pt.view t (line.Head d))) f (head_treads pt t d h)
-line_treads pt next t (line.Idle i) is fits h = let f : moved pt (line.Idle i) pt.kernel ≡ next = cc in subst (λ (z : Point). Treads z (trails_after pt.view t (line.Idle i))) f (quiet_treads pt (view_after pt.view (line.Idle i)) t (λ m q. refl) (hushed pt.view (line.Idle i) refl).told (h.own.topic) h)
-line_treads pt next t (line.Packet a b k x) is fits h = let f : moved pt (line.Packet a b k x) pt.kernel ≡ next = cc in subst (λ (z : Point). Treads z (trails_after pt.view t (line.Packet a b k x))) f (quiet_treads pt (view_after pt.view (line.Packet a b k x)) t (λ m q. refl) (hushed pt.view (line.Packet a b k x) refl).told (h.own.topic) h)
-line_treads pt next t (line.Old a b n) is fits h = let f : moved pt (line.Old a b n) pt.kernel ≡ next = cc in subst (λ (z : Point). Treads z (trails_after pt.view t (line.Old a b n))) f (quiet_treads pt (view_after pt.view (line.Old a b n)) t (λ m q. refl) (hushed pt.view (line.Old a b n) refl).told (h.own.topic) h)
-line_treads pt next t (line.Early a b n) is fits h = let f : moved pt (line.Early a b n) pt.kernel ≡ next = cc in subst (λ (z : Point). Treads z (trails_after pt.view t (line.Early a b n))) f (quiet_treads pt (view_after pt.view (line.Early a b n)) t (λ m q. refl) (hushed pt.view (line.Early a b n) refl).told (h.own.topic) h)
-line_treads pt next t (line.Acked a b n) is fits h = let f : moved pt (line.Acked a b n) pt.kernel ≡ next = cc in subst (λ (z : Point). Treads z (trails_after pt.view t (line.Acked a b n))) f (quiet_treads pt (view_after pt.view (line.Acked a b n)) t (λ m q. refl) (hushed pt.view (line.Acked a b n) refl).told (h.own.topic) h)
-line_treads pt next t (line.Resent i n) is fits h = let f : moved pt (line.Resent i n) pt.kernel ≡ next = cc in subst (λ (z : Point). Treads z (trails_after pt.view t (line.Resent i n))) f (quiet_treads pt (view_after pt.view (line.Resent i n)) t (λ m q. refl) (hushed pt.view (line.Resent i n) refl).told (h.own.topic) h)
-line_treads pt next t (line.Here i) is fits h = let f : moved pt (line.Here i) pt.kernel ≡ next = cc in subst (λ (z : Point). Treads z (trails_after pt.view t (line.Here i))) f (quiet_treads pt (view_after pt.view (line.Here i)) t (λ m q. refl) (hushed pt.view (line.Here i) refl).told (h.own.topic) h)
-line_treads pt next t (line.NoMove i) is fits h = let f : moved pt (line.NoMove i) pt.kernel ≡ next = cc in subst (λ (z : Point). Treads z (trails_after pt.view t (line.NoMove i))) f (quiet_treads pt (view_after pt.view (line.NoMove i)) t (λ m q. refl) (hushed pt.view (line.NoMove i) refl).told (h.own.topic) h)
-line_treads pt next t (line.NoChild p) is fits h = let f : moved pt (line.NoChild p) pt.kernel ≡ next = cc in subst (λ (z : Point). Treads z (trails_after pt.view t (line.NoChild p))) f (quiet_treads pt (view_after pt.view (line.NoChild p)) t (λ m q. refl) (hushed pt.view (line.NoChild p) refl).told (h.own.topic) h)
-line_treads pt next t (line.Pinned p) is fits h = let f : moved pt (line.Pinned p) pt.kernel ≡ next = cc in subst (λ (z : Point). Treads z (trails_after pt.view t (line.Pinned p))) f (quiet_treads pt (view_after pt.view (line.Pinned p)) t (λ m q. refl) (hushed pt.view (line.Pinned p) refl).told (h.own.topic) h)
-line_treads pt next t line.Nothing is fits h = let f : moved pt line.Nothing pt.kernel ≡ next = cc in subst (λ (z : Point). Treads z (trails_after pt.view t line.Nothing)) f (quiet_treads pt (view_after pt.view line.Nothing) t (λ m q. refl) (hushed pt.view line.Nothing refl).told (h.own.topic) h)
-line_treads pt next t (line.Taken a b n) is fits h = let f : moved pt (line.Taken a b n) pt.kernel ≡ next = cc in subst (λ (z : Point). Treads z (trails_after pt.view t (line.Taken a b n))) f (quiet_treads pt (view_after pt.view (line.Taken a b n)) t (λ m q. taken_known (taken_pair pt.view a b n) b (view.oldest (pt.view.pair a b)) m q) (hushed pt.view (line.Taken a b n) refl).told (same_topic pt.view (view_after pt.view (line.Taken a b n)) pt.addresses t (taken_topic (taken_pair pt.view a b n) b (view.oldest (pt.view.pair a b))) h.own) h)
-line_treads pt next t (line.Queued i) is fits h = let f : moved pt (line.Queued i) pt.kernel ≡ next = cc in subst (λ (z : Point). Treads z (trails_after pt.view t (line.Queued i))) f (quiet_treads pt (view_after pt.view (line.Queued i)) t (λ m q. queued_known (handled pt.view i) i (receiver_of (pt.view.told i)) m q) (hushed pt.view (line.Queued i) refl).told (same_topic pt.view (view_after pt.view (line.Queued i)) pt.addresses t (queued_topic (handled pt.view i) i (receiver_of (pt.view.told i))) h.own) h)
-line_treads pt next t (line.Held i) is fits h = let f : moved pt (line.Held i) pt.kernel ≡ next = cc in subst (λ (z : Point). Treads z (trails_after pt.view t (line.Held i))) f (quiet_treads pt (view_after pt.view (line.Held i)) t (λ m q. held_known (handled pt.view i) i (receiver_of (pt.view.told i)) m q) (hushed pt.view (line.Held i) refl).told (same_topic pt.view (view_after pt.view (line.Held i)) pt.addresses t (held_topic (handled pt.view i) i (receiver_of (pt.view.told i))) h.own) h)
-line_treads pt next t (line.Proto i) is fits h = let f : moved pt (line.Proto i) pt.kernel ≡ next = cc in subst (λ (z : Point). Treads z (trails_after pt.view t (line.Proto i))) f (quiet_treads pt (view_after pt.view (line.Proto i)) t (λ m q. proto_known (handled pt.view i) (pt.view.told i) m q) (hushed pt.view (line.Proto i) refl).told (proto_place pt.view (handled pt.view i) pt.addresses t i (pt.view.told i) refl h.own) h)
-line_treads pt next t (line.Lacks p a b) is fits h = let f : moved pt (line.Lacks p a b) pt.kernel ≡ next = cc in subst (λ (z : Point). Treads z (trails_after pt.view t (line.Lacks p a b))) f (quiet_treads pt (view_after pt.view (line.Lacks p a b)) t (λ m q. refl) (hushed pt.view (line.Lacks p a b) refl).told (λ r m c e. cc) h)
-line_treads pt next t (line.Stays p) is fits h = let f : moved pt (line.Stays p) pt.kernel ≡ next = cc in subst (λ (z : Point). Treads z (trails_after pt.view t (line.Stays p))) f (learns_treads pt (view_after pt.view (line.Stays p)) t (λ q. stays_trail pt.view t p q fits.k fits.s fits.d fits.o fits.phase fits.off (h.trail q)) refl h.own.topic h)
-line_treads pt next t (line.Forwarded i m) is fits h = let f : moved pt (line.Forwarded i m) pt.kernel ≡ next = cc in subst (λ (z : Point). Treads z (trails_after pt.view t (line.Forwarded i m))) f (forwarded_treads pt t i m fits h)
-line_treads pt next t (line.SentOn p n) is fits h = let f : moved pt (line.SentOn p n) pt.kernel ≡ next = cc in subst (λ (z : Point). Treads z (trails_after pt.view t (line.SentOn p n))) f (sent_on_treads pt t p n fits h)
-line_treads pt next t (line.Updated i n) is fits h = let f : moved pt (line.Updated i n) pt.kernel ≡ next = cc in subst (λ (z : Point). Treads z (trails_after pt.view t (line.Updated i n))) f (updated_treads pt t i n h)
-line_treads pt next t (line.Put x y i k q) is fits h = let f : moved pt (line.Put x y i k q) pt.kernel ≡ next = cc in subst (λ (z : Point). Treads z (trails_after pt.view t (line.Put x y i k q))) f (put_treads pt t x y i k q fits h)
-line_treads pt next t (line.Migration s p) is fits h = let f : moved pt (line.Migration s p) pt.kernel ≡ next = cc in subst (λ (z : Point). Treads z (trails_after pt.view t (line.Migration s p))) f (stage_treads pt t p s fits h)
+line_treads pt next t (Line.Head d) is fits h = let f : moved pt (Line.Head d) pt.kernel ≡ next = cc in subst (λ (z : Point). Treads z (trails_after pt.view t (Line.Head d))) f (head_treads pt t d h)
+line_treads pt next t (Line.Taken a b n) is fits h = let f : moved pt (Line.Taken a b n) pt.kernel ≡ next = cc in subst (λ (z : Point). Treads z (trails_after pt.view t (Line.Taken a b n))) f (quiet_treads pt (view_after pt.view (Line.Taken a b n)) t (λ m q. taken_known (taken_pair pt.view a b n) b (view.oldest (pt.view.pair a b)) m q) (hushed pt.view (Line.Taken a b n) refl).told (same_topic pt.view (view_after pt.view (Line.Taken a b n)) pt.addresses t (taken_topic (taken_pair pt.view a b n) b (view.oldest (pt.view.pair a b))) h.own) h)
+line_treads pt next t (Line.Queued i) is fits h = let f : moved pt (Line.Queued i) pt.kernel ≡ next = cc in subst (λ (z : Point). Treads z (trails_after pt.view t (Line.Queued i))) f (quiet_treads pt (view_after pt.view (Line.Queued i)) t (λ m q. queued_known (handled pt.view i) i (receiver_of (pt.view.told i)) m q) (hushed pt.view (Line.Queued i) refl).told (same_topic pt.view (view_after pt.view (Line.Queued i)) pt.addresses t (queued_topic (handled pt.view i) i (receiver_of (pt.view.told i))) h.own) h)
+line_treads pt next t (Line.Held i) is fits h = let f : moved pt (Line.Held i) pt.kernel ≡ next = cc in subst (λ (z : Point). Treads z (trails_after pt.view t (Line.Held i))) f (quiet_treads pt (view_after pt.view (Line.Held i)) t (λ m q. held_known (handled pt.view i) i (receiver_of (pt.view.told i)) m q) (hushed pt.view (Line.Held i) refl).told (same_topic pt.view (view_after pt.view (Line.Held i)) pt.addresses t (held_topic (handled pt.view i) i (receiver_of (pt.view.told i))) h.own) h)
+line_treads pt next t (Line.Proto i) is fits h = let f : moved pt (Line.Proto i) pt.kernel ≡ next = cc in subst (λ (z : Point). Treads z (trails_after pt.view t (Line.Proto i))) f (quiet_treads pt (view_after pt.view (Line.Proto i)) t (λ m q. proto_known (handled pt.view i) (pt.view.told i) m q) (hushed pt.view (Line.Proto i) refl).told (proto_place pt.view (handled pt.view i) pt.addresses t i (pt.view.told i) refl h.own) h)
+line_treads pt next t (Line.Lacks p a b) is fits h = let f : moved pt (Line.Lacks p a b) pt.kernel ≡ next = cc in subst (λ (z : Point). Treads z (trails_after pt.view t (Line.Lacks p a b))) f (quiet_treads pt (view_after pt.view (Line.Lacks p a b)) t (λ m q. refl) (hushed pt.view (Line.Lacks p a b) refl).told (λ r m c e. cc) h)
+line_treads pt next t (Line.Stays p) is fits h = let f : moved pt (Line.Stays p) pt.kernel ≡ next = cc in subst (λ (z : Point). Treads z (trails_after pt.view t (Line.Stays p))) f (learns_treads pt (view_after pt.view (Line.Stays p)) t (λ q. stays_trail pt.view t p q fits.k fits.s fits.d fits.o fits.phase fits.off (h.trail q)) refl h.own.topic h)
+line_treads pt next t (Line.Forwarded i m) is fits h = let f : moved pt (Line.Forwarded i m) pt.kernel ≡ next = cc in subst (λ (z : Point). Treads z (trails_after pt.view t (Line.Forwarded i m))) f (forwarded_treads pt t i m fits h)
+line_treads pt next t (Line.SentOn p n) is fits h = let f : moved pt (Line.SentOn p n) pt.kernel ≡ next = cc in subst (λ (z : Point). Treads z (trails_after pt.view t (Line.SentOn p n))) f (sent_on_treads pt t p n fits h)
+line_treads pt next t (Line.Updated i n) is fits h = let f : moved pt (Line.Updated i n) pt.kernel ≡ next = cc in subst (λ (z : Point). Treads z (trails_after pt.view t (Line.Updated i n))) f (updated_treads pt t i n h)
+line_treads pt next t (Line.Put x y i k q) is fits h = let f : moved pt (Line.Put x y i k q) pt.kernel ≡ next = cc in subst (λ (z : Point). Treads z (trails_after pt.view t (Line.Put x y i k q))) f (put_treads pt t x y i k q fits h)
+line_treads pt next t (Line.Migration s p) is fits h = let f : moved pt (Line.Migration s p) pt.kernel ≡ next = cc in subst (λ (z : Point). Treads z (trails_after pt.view t (Line.Migration s p))) f (stage_treads pt t p s fits h)
+line_treads pt next t any_ is fits h = let f : moved pt any_ pt.kernel ≡ next = cc in subst (λ (z : Point). Treads z (trails_after pt.view t any_)) f (quiet_treads pt (view_after pt.view any_) t (λ m q. refl) (hushed pt.view any_ refl).told (h.own.topic) h)

@@ -1,21 +1,6 @@
 -- A worked migration: the trail of a process that moves, and the addresses that name it.
-use Rattle.std.proofs.Common.{◌≡◌, ◌&&◌, ℕ, zero, suc, Bool, true, List, [], ◌∷◌, refl}
-use Rattle.std.specs.declared.option.Option.{Option}
-use Rattle.std.specs.declared.option.Option.TheVariants.{None, Some}
-use Rattle.dm_link.specs.Names.{Place, pid_of}
-use Rattle.dm_message.specs.Ids.{id_of}
-use Rattle.dm_processor.specs.Instructions.{instruction}
-use Rattle.dm_onekernel.specs.declared.boot.Boot.{Boot}
-use Rattle.dm_onekernel.specs.Options.{bind}
-use Rattle.dm_schedule.specs.declared.Step.TheVariants as step
-use Rattle.dm_schedule.specs.declared.Directive.{Directive}
-use Rattle.dm_schedule.specs.declared.Directive.TheVariants as directive
-use Rattle.dm_rule.specs.View.{Known, Here, Incoming, Forward}
-use Rattle.dm_rule.specs.Addresses.{Slot, Receiver, Child}
-use Rattle.dm_line.specs.Todo.{Todo, Next, all_of}
-use Rattle.dm_rule.specs.Good.{next_step}
-use Rattle.dm_rule.specs.Rule.{group_of}
-use Rattle.dm_rule.specs.Trails.{Trodden, first_trodden, along, leads}
+use Rattle.dm_rule.proofs.Names.{◌≡◌, ◌&&◌, ℕ, zero, suc, Bool, true, List, [], ◌∷◌, refl, Option, None, Some, Place, pid_of, id_of, instruction, Boot, bind, Step, Directive, Known, Here, Incoming, Forward, Slot, Receiver, Child, Todo}
+use Rattle.dm_rule.proofs.Names.{Next, all_of, next_step, group_of, Trodden, first_trodden, along, leads}
 use Rattle.dm_rule.proofs.Worked.{hi}
 
 -- so many elementary directives of a schedule, one group after the other
@@ -56,10 +41,10 @@ seen (Some x) =
     })
 
 abbrev there_and_back : List Directive
-there_and_back = directive.One (step.Migrate (pid_of 1 3) 0) ∷ directive.Spin 9 ∷ directive.One (step.Migrate (pid_of 1 3) 1) ∷ directive.Spin 10 ∷ []
+there_and_back = Directive.One (Step.Migrate (pid_of 1 3) 0) ∷ Directive.Spin 9 ∷ Directive.One (Step.Migrate (pid_of 1 3) 1) ∷ Directive.Spin 10 ∷ []
 
 -- its message was sent on, and it isn't restarted yet
-pub sent_on : seen (treads hi 300 (all_of (directive.One (step.Migrate (pid_of 1 3) 0) ∷ directive.Spin 7 ∷ [])) (first_trodden hi))
+pub sent_on : seen (treads hi 300 (all_of (Directive.One (Step.Migrate (pid_of 1 3) 0) ∷ Directive.Spin 7 ∷ [])) (first_trodden hi))
     ≡ Some (record { trail = 1 ∷ 0 ∷ []; there = Incoming 1; before = Forward 0 1; link = record { at = 1; moves = 0 }; child = record { at = 1; moves = 0 }; message = record { at = 0; moves = 1 }; found = true })
 unfolding instruction
 sent_on = refl

@@ -1,14 +1,5 @@
 -- All that the kernel without machines and the lines say of processes and of what waits for them holds wherever the rule leads.
-use Rattle.std.proofs.Common.{◌≡◌, List, [], ◌∷◌, refl, ◌∙◌, subst}
-use Rattle.std.specs.declared.option.Option.TheVariants.{Some}
-use Rattle.dm_onekernel.specs.declared.boot.Boot.{Boot}
-use Rattle.dm_onekernel.specs.Boot.{IsValid}
-use Rattle.dm_schedule.specs.declared.Step.{Step}
-use Rattle.dm_rule.specs.Laws.{IsStep, Leads}
-use Rattle.dm_rule.specs.Parts.{Spelled}
-use Rattle.dm_rule.specs.Point.{Point, first_point, labels}
-use Rattle.dm_rule.specs.Rule.{group_of}
-use Rattle.dm_rule.proofs.Phases.Always.{phased_start, phased_group}
+use Rattle.dm_rulelaws.proofs.Names.{◌≡◌, List, [], ◌∷◌, refl, ◌∙◌, subst, Some, Boot, IsValid, Step, IsStep, Leads, Spelled, Point, first_point, labels, group_of, phased_start, phased_group}
 use Rattle.dm_rulelaws.proofs.Fits.Start.{start_fits}
 use Rattle.dm_rulelaws.proofs.RunLabels.{group_replay, replay_fits}
 use Rattle.dm_rulelaws.proofs.Runs.{Based}

@@ -1,46 +1,16 @@
 -- The format, the images and the number of machines of the kernel without machines never change, and the manager's pending
 -- requests stay in order.
-use Rattle.std.proofs.Common.{◌≡◌, ℕ, ◌+◌, ◌*◌, ◌==◌, ◌&&◌, Bool, true, false, nat_lt, List, [], ◌∷◌, ◌++◌, length, refl, ◌∙◌, subst}
-use Rattle.std.specs.Prelude.{if◌then◌else◌, slice_get}
-use Rattle.std.specs.declared.option.Option.{Option}
-use Rattle.std.specs.declared.option.Option.TheVariants.{None, Some}
-use Rattle.dm_link.specs.declared.Pid.{Pid}
-use Rattle.dm_link.specs.Names.{pid_eq, pid_of}
-use Rattle.dm_message.specs.declared.MsgId.{MsgId}
-use Rattle.dm_message.specs.Ids.{id_eq}
-use Rattle.dm_message.specs.Plain as said
-use Rattle.dm_message.specs.Plain.{PlainMessage, PlainWhat}
-use Rattle.dm_onekernel.specs.declared.label.Label.{Label}
-use Rattle.dm_onekernel.specs.declared.label.Label.TheVariants as label
-use Rattle.dm_onekernel.specs.declared.label.Reply.{Reply}
-use Rattle.dm_onekernel.specs.declared.label.Why.{Why}
-use Rattle.dm_onekernel.specs.declared.label.Why.TheVariants as why
-use Rattle.dm_onekernel.specs.Boot.{first_number, manager, switchboard}
-use Rattle.dm_onekernel.specs.Codes.{reply_eq, why_eq}
-use Rattle.dm_onekernel.specs.Options.{bind}
+use Rattle.dm_rulelaws.proofs.Names.{◌≡◌, ℕ, ◌+◌, ◌*◌, ◌==◌, ◌&&◌, Bool, true, false, nat_lt, List, [], ◌∷◌, ◌++◌, length, refl, ◌∙◌, subst, if◌then◌else◌, slice_get, Option, None, Some, Pid, pid_eq, pid_of, MsgId, id_eq, Called}
+use Rattle.dm_rulelaws.proofs.Names.{PlainMessage, PlainWhat, Label, Reply, Why, first_number, manager, switchboard, reply_eq, why_eq, bind, PlainLink, Ended, Life, OneKernel, Manager, Pending, replay, Step, Boot, ascends, Spelled, Point}
+use Rattle.dm_rulelaws.proofs.Names.{labels, group_of, ascends_more, ascends_last, ascends_without, PlainProcess, answer_to, without_message, bind-is, when-is}
 use Rattle.dm_onekernel.specs.Kernel as kernels
-use Rattle.dm_link.specs.Plain.{PlainLink}
-use Rattle.dm_onekernel.specs.Kernel.{Ended, Life, OneKernel, Manager, Pending}
-use Rattle.dm_onekernel.specs.Step.{replay}
-use Rattle.dm_schedule.specs.declared.Step.{Step}
-use Rattle.dm_onekernel.specs.declared.boot.Boot.{Boot}
-use Rattle.dm_rule.specs.Homes.{ascends}
-use Rattle.dm_rule.specs.Parts.{Spelled}
-use Rattle.dm_rule.specs.Point.{Point, labels}
-use Rattle.dm_rule.specs.Rule.{group_of}
-use Rattle.dm_rule.proofs.Homes.Servers.{ascends_more, ascends_last, ascends_without}
 use Rattle.dm_rulelaws.proofs.RunLabels.{group_replay}
-use Rattle.dm_onekernel.specs.PlainProcess.{PlainProcess}
-use Rattle.dm_onekernel.specs.Calls as calls
 use Rattle.dm_onekernel.specs.Manager as manage
 use Rattle.dm_onekernel.specs.Pieces as pieces
-use Rattle.dm_onekernel.specs.Pieces.{answer_to}
 use Rattle.dm_onekernel.specs.Receiving as receiving
 use Rattle.dm_onekernel.specs.Service as service
-use Rattle.dm_onekernel.specs.Service.{without_message}
 use Rattle.dm_onekernel.specs.Step as kernel
 use Rattle.dm_onekernel.specs.Switchboard as board
-use Rattle.dm_laws.proofs.Steps.{bind-is, when-is}
 
 -- the manager's pending requests stand in the order in which it sent them
 abbrev pub InOrder : Manager → Type 0
@@ -103,22 +73,12 @@ no_room_order g n (Some r) k e h =
     subst (λ (x : manage.Took). InOrder x.manager) f (ascends_more (manage.without_pending n g.pending) 0 g.sent (ascends_without g.pending 0 g.sent n h))
 
 took_order : (g : Manager) (machines images : ℕ) (m : PlainMessage) (w : PlainWhat) (k : manage.Took) → manage.takes g machines images m w ≡ Some k → InOrder g → InOrder k.manager
-took_order g machines images m (said.User code channel body links) k e h =
+took_order g machines images m (PlainWhat.User code channel body links) k e h =
     let f : manage.takes_user g machines images code body links ≡ k = cc in
     subst (λ (x : manage.Took). InOrder x.manager) f (user_order g machines images code body links (code == 0) h)
-took_order g machines images m (said.Created child) k e h = created_order g m.id.n child (manage.pending_numbered m.id.n g.pending) k e h
-took_order g machines images m said.NoRoom k e h = no_room_order g m.id.n (manage.pending_numbered m.id.n g.pending) k e h
-took_order g machines images m said.Stop k e h = cc
-took_order g machines images m said.Resume k e h = cc
-took_order g machines images m said.Kill k e h = cc
-took_order g machines images m (said.Read a b) k e h = cc
-took_order g machines images m (said.Write a b) k e h = cc
-took_order g machines images m (said.Block a) k e h = cc
-took_order g machines images m said.Written k e h = cc
-took_order g machines images m said.Gone k e h = cc
-took_order g machines images m (said.Create a b) k e h = cc
-took_order g machines images m (said.Move a) k e h = cc
-took_order g machines images m (said.Moved a) k e h = cc
+took_order g machines images m (PlainWhat.Created child) k e h = created_order g m.id.n child (manage.pending_numbered m.id.n g.pending) k e h
+took_order g machines images m PlainWhat.NoRoom k e h = no_room_order g m.id.n (manage.pending_numbered m.id.n g.pending) k e h
+took_order g machines images m _ k e h = cc
 
 -- what is made of the boot file, and stays
 pub record Constant (s t : OneKernel) : Type 0 where
@@ -148,46 +108,46 @@ goes_constant s id p life = process_constant s (without_message s id) p life (ou
 
 -- calls
 replies_constant : (s t : OneKernel) (p : Pid) (n : ℕ) (c : Reply) (x : kernel.Next) → kernel.replies s p n c x ≡ Some t → Constant s t
-replies_constant s t p n c (kernel.Calls number (calls.Replies d y)) e = let k = when-is ((n == number) && reply_eq c d) (kernel.goes_on s p y) t e in subst (Constant s) k.1 (set_constant s p (kernels.Alive y))
-replies_constant s t p n c (kernel.Calls number (calls.Sends m y)) e = cc
-replies_constant s t p n c (kernel.Calls number (calls.Waits y)) e = cc
-replies_constant s t p n c (kernel.Calls number (calls.Outputs w y)) e = cc
-replies_constant s t p n c (kernel.Calls number (calls.Ends y)) e = cc
+replies_constant s t p n c (kernel.Calls number (Called.Replies d y)) e = let k = when-is ((n == number) && reply_eq c d) (kernel.goes_on s p y) t e in subst (Constant s) k.1 (set_constant s p (kernels.Alive y))
+replies_constant s t p n c (kernel.Calls number (Called.Sends m y)) e = cc
+replies_constant s t p n c (kernel.Calls number (Called.Waits y)) e = cc
+replies_constant s t p n c (kernel.Calls number (Called.Outputs w y)) e = cc
+replies_constant s t p n c (kernel.Calls number (Called.Ends y)) e = cc
 replies_constant s t p n c (kernel.Faults f) e = cc
 
 sends_constant : (s t : OneKernel) (p : Pid) (id : MsgId) (x : kernel.Next) → kernel.sends s p id x ≡ Some t → Constant s t
-sends_constant s t p id (kernel.Calls number (calls.Sends m y)) e =
+sends_constant s t p id (kernel.Calls number (Called.Sends m y)) e =
     let k = when-is (id_eq id m.id) (kernels.with_sent (kernel.goes_on s p y) (Some m)) t e in
     subst (Constant s) k.1 (sent_constant s (kernel.goes_on s p y) (Some m) (set_constant s p (kernels.Alive y)))
-sends_constant s t p id (kernel.Calls number (calls.Replies d y)) e = cc
-sends_constant s t p id (kernel.Calls number (calls.Waits y)) e = cc
-sends_constant s t p id (kernel.Calls number (calls.Outputs w y)) e = cc
-sends_constant s t p id (kernel.Calls number (calls.Ends y)) e = cc
+sends_constant s t p id (kernel.Calls number (Called.Replies d y)) e = cc
+sends_constant s t p id (kernel.Calls number (Called.Waits y)) e = cc
+sends_constant s t p id (kernel.Calls number (Called.Outputs w y)) e = cc
+sends_constant s t p id (kernel.Calls number (Called.Ends y)) e = cc
 sends_constant s t p id (kernel.Faults f) e = cc
 
 waits_constant : (s t : OneKernel) (p : Pid) (x : kernel.Next) → kernel.waits s p x ≡ Some t → Constant s t
-waits_constant s t p (kernel.Calls number (calls.Waits y)) e = let f : kernel.goes_on s p y ≡ t = cc in subst (Constant s) f (set_constant s p (kernels.Alive y))
-waits_constant s t p (kernel.Calls number (calls.Replies d y)) e = cc
-waits_constant s t p (kernel.Calls number (calls.Sends m y)) e = cc
-waits_constant s t p (kernel.Calls number (calls.Outputs w y)) e = cc
-waits_constant s t p (kernel.Calls number (calls.Ends y)) e = cc
+waits_constant s t p (kernel.Calls number (Called.Waits y)) e = let f : kernel.goes_on s p y ≡ t = cc in subst (Constant s) f (set_constant s p (kernels.Alive y))
+waits_constant s t p (kernel.Calls number (Called.Replies d y)) e = cc
+waits_constant s t p (kernel.Calls number (Called.Sends m y)) e = cc
+waits_constant s t p (kernel.Calls number (Called.Outputs w y)) e = cc
+waits_constant s t p (kernel.Calls number (Called.Ends y)) e = cc
 waits_constant s t p (kernel.Faults f) e = cc
 
 outputs_constant : (s t : OneKernel) (p : Pid) (word : ℕ) (x : kernel.Next) → kernel.outputs s p word x ≡ Some t → Constant s t
-outputs_constant s t p word (kernel.Calls number (calls.Outputs w y)) e = let k = when-is (word == w) (kernel.goes_on s p y) t e in subst (Constant s) k.1 (set_constant s p (kernels.Alive y))
-outputs_constant s t p word (kernel.Calls number (calls.Replies d y)) e = cc
-outputs_constant s t p word (kernel.Calls number (calls.Sends m y)) e = cc
-outputs_constant s t p word (kernel.Calls number (calls.Waits y)) e = cc
-outputs_constant s t p word (kernel.Calls number (calls.Ends y)) e = cc
+outputs_constant s t p word (kernel.Calls number (Called.Outputs w y)) e = let k = when-is (word == w) (kernel.goes_on s p y) t e in subst (Constant s) k.1 (set_constant s p (kernels.Alive y))
+outputs_constant s t p word (kernel.Calls number (Called.Replies d y)) e = cc
+outputs_constant s t p word (kernel.Calls number (Called.Sends m y)) e = cc
+outputs_constant s t p word (kernel.Calls number (Called.Waits y)) e = cc
+outputs_constant s t p word (kernel.Calls number (Called.Ends y)) e = cc
 outputs_constant s t p word (kernel.Faults f) e = cc
 
 ends_constant : (s t : OneKernel) (p : Pid) (y : Why) (x : kernel.Next) → kernel.ends s p y x ≡ Some t → Constant s t
-ends_constant s t p y (kernel.Calls number (calls.Ends z)) e = let k = when-is (why_eq y z) (kernels.with_process s p (Ended y)) t e in subst (Constant s) k.1 (set_constant s p (Ended y))
-ends_constant s t p y (kernel.Faults f) e = let k = when-is (why_eq y (why.Fault f)) (kernels.with_process s p (Ended y)) t e in subst (Constant s) k.1 (set_constant s p (Ended y))
-ends_constant s t p y (kernel.Calls number (calls.Replies d z)) e = cc
-ends_constant s t p y (kernel.Calls number (calls.Sends m z)) e = cc
-ends_constant s t p y (kernel.Calls number (calls.Waits z)) e = cc
-ends_constant s t p y (kernel.Calls number (calls.Outputs w z)) e = cc
+ends_constant s t p y (kernel.Calls number (Called.Ends z)) e = let k = when-is (why_eq y z) (kernels.with_process s p (Ended y)) t e in subst (Constant s) k.1 (set_constant s p (Ended y))
+ends_constant s t p y (kernel.Faults f) e = let k = when-is (why_eq y (Why.Fault f)) (kernels.with_process s p (Ended y)) t e in subst (Constant s) k.1 (set_constant s p (Ended y))
+ends_constant s t p y (kernel.Calls number (Called.Replies d z)) e = cc
+ends_constant s t p y (kernel.Calls number (Called.Sends m z)) e = cc
+ends_constant s t p y (kernel.Calls number (Called.Waits z)) e = cc
+ends_constant s t p y (kernel.Calls number (Called.Outputs w z)) e = cc
 
 -- receives
 receives_constant : (s t : OneKernel) (p : Pid) (id : MsgId) (d : receiving.Completed) → kernel.receives s p id d ≡ Some t → Constant s t
@@ -219,14 +179,14 @@ some_constant : (s t : OneKernel) (id : MsgId) (p : Pid) (life : Life) → Some 
 some_constant s t id p life e = let f : kernels.with_process (without_message s id) p life ≡ t = cc in subst (Constant s) f (goes_constant s id p life)
 
 serves_constant : (s t : OneKernel) (id : MsgId) (m : PlainMessage) (x : PlainProcess) (w : PlainWhat) → service.serves s id m x w ≡ Some t → Constant s t
-serves_constant s t id m x said.Stop e = some_constant s t id m.to (kernels.Alive (record x { stopped = true })) e
-serves_constant s t id m x said.Resume e = some_constant s t id m.to (kernels.Alive (record x { stopped = false })) e
-serves_constant s t id m x said.Kill e = some_constant s t id m.to (Ended why.Killed) e
-serves_constant s t id m x (said.Read base len) e = answered_constant s t id m (pieces.reads x m base len) e
-serves_constant s t id m x (said.Write base bytes) e = answered_constant s t id m (pieces.writes x m base bytes) e
-serves_constant s t id m x (said.Block bytes) e = lands_constant s t id m (pieces.lands m.to x m x.status) e
-serves_constant s t id m x said.Written e = lands_constant s t id m (pieces.lands m.to x m x.status) e
-serves_constant s t id m x said.Gone e = lands_constant s t id m (pieces.lands m.to x m x.status) e
+serves_constant s t id m x PlainWhat.Stop e = some_constant s t id m.to (kernels.Alive (record x { stopped = true })) e
+serves_constant s t id m x PlainWhat.Resume e = some_constant s t id m.to (kernels.Alive (record x { stopped = false })) e
+serves_constant s t id m x PlainWhat.Kill e = some_constant s t id m.to (Ended Why.Killed) e
+serves_constant s t id m x (PlainWhat.Read base len) e = answered_constant s t id m (pieces.reads x m base len) e
+serves_constant s t id m x (PlainWhat.Write base bytes) e = answered_constant s t id m (pieces.writes x m base bytes) e
+serves_constant s t id m x (PlainWhat.Block bytes) e = lands_constant s t id m (pieces.lands m.to x m x.status) e
+serves_constant s t id m x PlainWhat.Written e = lands_constant s t id m (pieces.lands m.to x m x.status) e
+serves_constant s t id m x PlainWhat.Gone e = lands_constant s t id m (pieces.lands m.to x m x.status) e
 serves_constant s t id m x w e = cc
 
 takes_constant : (s t : OneKernel) (id : MsgId) (m : PlainMessage) (b c : Bool)
@@ -244,49 +204,49 @@ takes_constant s t id m false true e =
 takes_constant s t id m false false e = cc
 
 creates_constant : (s t : OneKernel) (id : MsgId) (m : PlainMessage) (child : Pid) (w : PlainWhat) → service.creates s id m child w ≡ Some t → Constant s t
-creates_constant s t id m child (said.Create number ls) e =
+creates_constant s t id m child (PlainWhat.Create number ls) e =
     let (i, is, last) = bind-is (slice_get s.images number) (service.creates_of s id m child ls) t e in
     let u = service.with_child (without_message s id) child i ls in
-    let k = when-is (service.is_kernel s m.to && pid_eq child (pid_of m.to.home (first_number + s.made m.to.home))) (kernels.with_sent u (Some (answer_to m (said.Created child)))) t last in
-    subst (Constant s) k.1 (sent_constant s u (Some (answer_to m (said.Created child))) (record { format = refl; images = refl; machines = refl; pending = λ e. e }))
+    let k = when-is (service.is_kernel s m.to && pid_eq child (pid_of m.to.home (first_number + s.made m.to.home))) (kernels.with_sent u (Some (answer_to m (PlainWhat.Created child)))) t last in
+    subst (Constant s) k.1 (sent_constant s u (Some (answer_to m (PlainWhat.Created child))) (record { format = refl; images = refl; machines = refl; pending = λ e. e }))
 creates_constant s t id m child w e = cc
 
 no_room_constant : (s t : OneKernel) (id : MsgId) (m : PlainMessage) (w : PlainWhat) → service.has_no_room s id m w ≡ Some t → Constant s t
-no_room_constant s t id m (said.Create number ls) e =
-    let k = when-is (service.is_kernel s m.to) (kernels.with_sent (without_message s id) (Some (answer_to m said.NoRoom))) t e in
-    subst (Constant s) k.1 (sent_constant s (without_message s id) (Some (answer_to m said.NoRoom)) (out_constant s id))
+no_room_constant s t id m (PlainWhat.Create number ls) e =
+    let k = when-is (service.is_kernel s m.to) (kernels.with_sent (without_message s id) (Some (answer_to m PlainWhat.NoRoom))) t e in
+    subst (Constant s) k.1 (sent_constant s (without_message s id) (Some (answer_to m PlainWhat.NoRoom)) (out_constant s id))
 no_room_constant s t id m w e = cc
 
 pub step_constant : (s t : OneKernel) (e : Label) → kernel.step s e ≡ Some t → Constant s t
-step_constant s t (label.Ran p k) is =
+step_constant s t (Label.Ran p k) is =
     let (x, runs, rest) = bind-is (kernel.running s p) (λ (w : PlainProcess). bind (kernel.plain_steps k (kernel.machine_of w)) (λ (m : kernel.Machine). Some (kernel.goes_on s p (kernel.with_machine w m)))) t is in
     let (m, plain, last) = bind-is (kernel.plain_steps k (kernel.machine_of x)) (λ (m : kernel.Machine). Some (kernel.goes_on s p (kernel.with_machine x m))) t rest in
     let f : kernel.goes_on s p (kernel.with_machine x m) ≡ t = cc in
     subst (Constant s) f (set_constant s p (kernels.Alive (kernel.with_machine x m)))
-step_constant s t (label.Call p n c) is = let (x, next, rest) = bind-is (kernel.next s p) (kernel.replies s p n c) t is in replies_constant s t p n c x rest
-step_constant s t (label.Send p id) is = let (x, next, rest) = bind-is (kernel.next s p) (kernel.sends s p id) t is in sends_constant s t p id x rest
-step_constant s t (label.Wait p) is = let (x, next, rest) = bind-is (kernel.next s p) (kernel.waits s p) t is in waits_constant s t p x rest
-step_constant s t (label.Out p w) is = let (x, next, rest) = bind-is (kernel.next s p) (kernel.outputs s p w) t is in outputs_constant s t p w x rest
-step_constant s t (label.End p y) is = let (x, next, rest) = bind-is (kernel.next s p) (kernel.ends s p y) t is in ends_constant s t p y x rest
-step_constant s t (label.Receive p id) is = let (d, c, rest) = bind-is (kernel.completing s p id) (kernel.receives s p id) t is in receives_constant s t p id d rest
-step_constant s t (label.Refuse p id c) is = let (d, k, rest) = bind-is (kernel.completing s p id) (kernel.refuses s p c) t is in refuses_constant s t p c d rest
-step_constant s t (label.Served id) is =
+step_constant s t (Label.Call p n c) is = let (x, next, rest) = bind-is (kernel.next s p) (kernel.replies s p n c) t is in replies_constant s t p n c x rest
+step_constant s t (Label.Send p id) is = let (x, next, rest) = bind-is (kernel.next s p) (kernel.sends s p id) t is in sends_constant s t p id x rest
+step_constant s t (Label.Wait p) is = let (x, next, rest) = bind-is (kernel.next s p) (kernel.waits s p) t is in waits_constant s t p x rest
+step_constant s t (Label.Out p w) is = let (x, next, rest) = bind-is (kernel.next s p) (kernel.outputs s p w) t is in outputs_constant s t p w x rest
+step_constant s t (Label.End p y) is = let (x, next, rest) = bind-is (kernel.next s p) (kernel.ends s p y) t is in ends_constant s t p y x rest
+step_constant s t (Label.Receive p id) is = let (d, c, rest) = bind-is (kernel.completing s p id) (kernel.receives s p id) t is in receives_constant s t p id d rest
+step_constant s t (Label.Refuse p id c) is = let (d, k, rest) = bind-is (kernel.completing s p id) (kernel.refuses s p c) t is in refuses_constant s t p c d rest
+step_constant s t (Label.Served id) is =
     let (m, there, rest) = bind-is (s.bag id) (λ (w : PlainMessage). bind (kernel.alive (s.processes w.to)) (λ (p : PlainProcess). service.serves s id w p w.what)) t is in
     let (x, alive, last) = bind-is (kernel.alive (s.processes m.to)) (λ (p : PlainProcess). service.serves s id m p m.what) t rest in
     serves_constant s t id m x m.what last
-step_constant s t (label.Took id) is = let (m, there, rest) = bind-is (s.bag id) (service.takes s id) t is in takes_constant s t id m (pid_eq m.to switchboard) (pid_eq m.to manager) rest
-step_constant s t (label.Dropped id) is =
+step_constant s t (Label.Took id) is = let (m, there, rest) = bind-is (s.bag id) (service.takes s id) t is in takes_constant s t id m (pid_eq m.to switchboard) (pid_eq m.to manager) rest
+step_constant s t (Label.Dropped id) is =
     let (m, there, rest) = bind-is (s.bag id) (λ (w : PlainMessage). bind (kernel.ended (s.processes w.to)) (kernel.drops s id w)) t is in
     let (y, gone, last) = bind-is (kernel.ended (s.processes m.to)) (kernel.drops s id m) t rest in
     let k = when-is (service.is_dropped m.what) (without_message s id) t last in
     subst (Constant s) k.1 (out_constant s id)
-step_constant s t (label.Gone id) is =
+step_constant s t (Label.Gone id) is =
     let (m, there, rest) = bind-is (s.bag id) (λ (w : PlainMessage). bind (kernel.ended (s.processes w.to)) (kernel.says_gone s id w)) t is in
     let (y, gone, last) = bind-is (kernel.ended (s.processes m.to)) (kernel.says_gone s id m) t rest in
-    let k = when-is (service.is_of_memory m.what) (kernels.with_sent (without_message s id) (Some (answer_to m said.Gone))) t last in
-    subst (Constant s) k.1 (sent_constant s (without_message s id) (Some (answer_to m said.Gone)) (out_constant s id))
-step_constant s t (label.Created id child) is = let (m, there, rest) = bind-is (s.bag id) (λ (w : PlainMessage). service.creates s id w child w.what) t is in creates_constant s t id m child m.what rest
-step_constant s t (label.NoSpace id f b) is = let (m, there, rest) = bind-is (s.bag id) (λ (w : PlainMessage). service.has_no_room s id w w.what) t is in no_room_constant s t id m m.what rest
+    let k = when-is (service.is_of_memory m.what) (kernels.with_sent (without_message s id) (Some (answer_to m PlainWhat.Gone))) t last in
+    subst (Constant s) k.1 (sent_constant s (without_message s id) (Some (answer_to m PlainWhat.Gone)) (out_constant s id))
+step_constant s t (Label.Created id child) is = let (m, there, rest) = bind-is (s.bag id) (λ (w : PlainMessage). service.creates s id w child w.what) t is in creates_constant s t id m child m.what rest
+step_constant s t (Label.NoSpace id f b) is = let (m, there, rest) = bind-is (s.bag id) (λ (w : PlainMessage). service.has_no_room s id w w.what) t is in no_room_constant s t id m m.what rest
 
 -- a run of labels, and a group
 constant_on : (s t u : OneKernel) → Constant s t → Constant t u → Constant s u

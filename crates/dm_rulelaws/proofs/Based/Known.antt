@@ -1,38 +1,11 @@
 -- What machines know of processes agrees with the kernel without machines: each group keeps it.
-use Rattle.std.proofs.Common.{◌≡◌, ◌≢◌, ℕ, ◌+◌, ◌==◌, ◌&&◌, Bool, true, false, List, [], ◌∷◌, ◌++◌, is_some, refl, ap, ◌∙◌, sym, subst, inl, inr, arith}
-use Rattle.std.specs.Prelude.{if◌then◌else◌}
-use Rattle.std.proofs.lemmas.Bool.{cases_Bool, false≢true}
-use Rattle.std.proofs.lemmas.Bool.Decides.{nat_tests}
-use Rattle.std.specs.declared.option.Option.{Option}
-use Rattle.std.specs.declared.option.Option.TheVariants.{None, Some}
-use Rattle.dm_link.specs.declared.Pid.{Pid}
-use Rattle.dm_link.specs.Names.{pid_eq}
-use Rattle.dm_message.specs.declared.MsgId.{MsgId}
-use Rattle.dm_onekernel.specs.declared.boot.Boot.{Boot}
-use Rattle.dm_onekernel.specs.declared.label.Label.TheVariants as label
-use Rattle.dm_onekernel.specs.Options.{bind}
-use Rattle.dm_onekernel.specs.PlainProcess.{PlainProcess}
-use Rattle.dm_onekernel.specs.Kernel.{Life, Alive, OneKernel}
-use Rattle.dm_onekernel.specs.Kernel as kernels
+use Rattle.dm_rulelaws.proofs.Names.{◌≡◌, ◌≢◌, ℕ, ◌+◌, ◌==◌, ◌&&◌, Bool, true, false, List, [], ◌∷◌, ◌++◌, is_some, refl, ap, ◌∙◌, sym, subst, inl, inr, arith, if◌then◌else◌, cases_Bool, false≢true, nat_tests, Option, None, Some, Pid}
+use Rattle.dm_rulelaws.proofs.Names.{pid_eq, MsgId, Boot, Label, Line, Stage, bind, PlainProcess, Life, Alive, OneKernel, Step, pid_eq-is, bind-is, completing, Spelled, Point, group_of, at_machine, at_record, without, moved_back, View}
+use Rattle.dm_rulelaws.proofs.Names.{Told, Known, Unknown, Here, Frozen, Incoming, Forward, handled, handled_first, receiver_of, target_of, front_told, front_of, gone_to, served_told, rejoins, view_after, is_away, is_here, at_machine_at}
+use Rattle.dm_rulelaws.proofs.Names.{Phased, is_kill, Sane, is_server, KnownStands, agrees, server_at, rings, turns_here}
 use Rattle.dm_onekernel.specs.Step as kernel
-use Rattle.dm_schedule.specs.declared.Step.{Step}
-use Rattle.dm_laws.proofs.Equal.{pid_eq-is}
-use Rattle.dm_laws.proofs.Steps.{bind-is, completing}
-use Rattle.dm_line.specs.declared.line.Line.TheVariants as line
-use Rattle.dm_line.specs.declared.line.Stage.TheVariants as stage
-use Rattle.dm_rule.specs.Parts.{Spelled}
-use Rattle.dm_rule.specs.Point.{Point}
-use Rattle.dm_rule.specs.Rule.{group_of}
-use Rattle.dm_line.specs.Sets.{at_machine, at_record, without, moved_back}
-use Rattle.dm_rule.specs.View.{View, Told, Known, Unknown, Here, Frozen, Incoming, Forward, Ended, handled, handled_first, receiver_of, target_of, front_told, front_of, gone_to, served_told, rejoins, view_after}
+use Rattle.dm_rule.specs.View.{Ended}
 use Rattle.dm_rule.specs.View as view
-use Rattle.dm_rule.specs.Phases.{is_away, is_here}
-use Rattle.dm_rule.proofs.Lines.{at_machine_at}
-use Rattle.dm_rule.proofs.Phases.Always.{Phased}
-use Rattle.dm_rule.proofs.Phases.Quiet.{is_kill}
-use Rattle.dm_rule.proofs.Telling.{Sane}
-use Rattle.dm_rulelaws.specs.Fits.{is_server}
-use Rattle.dm_rulelaws.specs.KnownStands.{KnownStands, agrees, server_at, rings, turns_here}
 use Rattle.dm_rulelaws.proofs.Based.Groups.{group_keeps}
 use Rattle.dm_rulelaws.proofs.Based.Lives.{Alike, SetLife, life_sort, step_ends, step_serves, step_creates}
 use Rattle.dm_rulelaws.proofs.Based.Loud.{Loud, keeps_by}
@@ -64,19 +37,19 @@ unfolding agrees_by
 by_sort Unknown o = refl
 by_sort Here None = refl
 by_sort Here (Some (Alive x)) = refl
-by_sort Here (Some (kernels.Ended y)) = refl
+by_sort Here (Some (Life.Ended y)) = refl
 by_sort (Frozen to) None = refl
 by_sort (Frozen to) (Some (Alive x)) = refl
-by_sort (Frozen to) (Some (kernels.Ended y)) = refl
+by_sort (Frozen to) (Some (Life.Ended y)) = refl
 by_sort (Incoming from) None = refl
 by_sort (Incoming from) (Some (Alive x)) = refl
-by_sort (Incoming from) (Some (kernels.Ended y)) = refl
+by_sort (Incoming from) (Some (Life.Ended y)) = refl
 by_sort (Forward at moves) None = refl
 by_sort (Forward at moves) (Some (Alive x)) = refl
-by_sort (Forward at moves) (Some (kernels.Ended y)) = refl
+by_sort (Forward at moves) (Some (Life.Ended y)) = refl
 by_sort Ended None = refl
 by_sort Ended (Some (Alive x)) = refl
-by_sort Ended (Some (kernels.Ended y)) = refl
+by_sort Ended (Some (Life.Ended y)) = refl
 
 agrees_alike : (k : Known) (a b : Option Life) → life_sort a ≡ life_sort b → agrees k a ≡ agrees k b
 agrees_alike k a b e = by_sort k a ∙ ap (agrees_by k) e ∙ sym (by_sort k b)
@@ -84,7 +57,7 @@ agrees_alike k a b e = by_sort k a ∙ ap (agrees_by k) e ∙ sym (by_sort k b)
 some_sort : (o : Option Life) → is_some o ≡ is_some (life_sort o)
 some_sort None = refl
 some_sort (Some (Alive x)) = refl
-some_sort (Some (kernels.Ended y)) = refl
+some_sort (Some (Life.Ended y)) = refl
 
 some_alike : (a b : Option Life) → life_sort a ≡ life_sort b → is_some a ≡ is_some b
 some_alike a b e = some_sort a ∙ ap is_some e ∙ sym (some_sort b)
@@ -92,22 +65,19 @@ some_alike a b e = some_sort a ∙ ap is_some e ∙ sym (some_sort b)
 -- what agrees with an ended process, and with a living one
 away_ended : (k : Known) (o : Option Life) → life_sort o ≡ Some false → is_away k ≡ true → agrees k o ≡ true
 away_ended Unknown o e a = refl
-away_ended Here o e a = absurd (false≢true a)
-away_ended (Frozen to) o e a = absurd (false≢true a)
-away_ended (Incoming from) o e a = absurd (false≢true a)
 away_ended (Forward at moves) None e a = cc
 away_ended (Forward at moves) (Some l) e a = refl
-away_ended Ended o e a = absurd (false≢true a)
+away_ended _ o e a = absurd (false≢true a)
 
 ended_agrees : (o : Option Life) → life_sort o ≡ Some false → agrees Ended o ≡ true
 ended_agrees None e = cc
 ended_agrees (Some (Alive x)) e = absurd (false≢true (let f : true ≡ false = cc in sym f))
-ended_agrees (Some (kernels.Ended y)) e = refl
+ended_agrees (Some (Life.Ended y)) e = refl
 
 here_agrees : (o : Option Life) → life_sort o ≡ Some true → agrees Here o ≡ true
 here_agrees None e = cc
 here_agrees (Some (Alive x)) e = refl
-here_agrees (Some (kernels.Ended y)) e = absurd (false≢true (let f : false ≡ true = cc in f))
+here_agrees (Some (Life.Ended y)) e = absurd (false≢true (let f : false ≡ true = cc in f))
 
 left_agrees : (x : Known) (d n : ℕ) (o : Option Life) → x ≡ Frozen d → agrees x o ≡ true → agrees (gone_to x n) o ≡ true
 left_agrees x d n o e h = frozen_left o (sym (ap (λ (k : Known). agrees k o) e) ∙ h) ∙ refl
@@ -125,12 +95,8 @@ turns_off true k e = refl
 turns_off false k e = ap (λ (b : Bool). if b then 1 else 0) e
 
 away_off : (k : Known) → is_away k ≡ true → is_here k ≡ false
-away_off Unknown e = refl
 away_off Here e = absurd (false≢true e)
-away_off (Frozen to) e = refl
-away_off (Incoming from) e = refl
-away_off (Forward at moves) e = refl
-away_off Ended e = refl
+away_off _ e = refl
 
 -- nothing is learnt, and nobody ends
 known_same : (s t : OneKernel) (v w : View) → Alike s t → w.known ≡ v.known → ((m : ℕ) (q : Pid) → rings q (w.ring m) ≡ rings q (v.ring m)) → KnownStands s v → KnownStands t w
@@ -242,7 +208,7 @@ alive_set : (s : OneKernel) (p : Pid) (x : PlainProcess) → s.processes p ≡ S
 alive_set s p x e = record { at_ = ap life_sort e; off = λ q apart. refl }
 
 -- the lines
-ran_living : (s t : OneKernel) (p : Pid) (k : ℕ) → kernel.step s (label.Ran p k) ≡ Some t → (x : PlainProcess) × (kernel.alive (s.processes p) ≡ Some x)
+ran_living : (s t : OneKernel) (p : Pid) (k : ℕ) → kernel.step s (Label.Ran p k) ≡ Some t → (x : PlainProcess) × (kernel.alive (s.processes p) ≡ Some x)
 ran_living s t p k is =
     let (x, runs, rest) = bind-is (kernel.running s p) (λ (w : PlainProcess). bind (kernel.plain_steps k (kernel.machine_of w)) (λ (m : kernel.Machine). Some (kernel.goes_on s p (kernel.with_machine w m)))) t is in
     let (y, alive, ready) = bind-is (kernel.alive (s.processes p)) (λ v. kernel.if_ready v v.status) x runs in
@@ -253,7 +219,7 @@ served_known : (s t : OneKernel) (v : View) (told : Told) → is_server told.rec
 served_known s t v told server some kill other rests h =
     killed_or (KnownStands t) told.kind v told.receiver (λ k. ends_known s t v told.receiver server some (kill k) (rests k) h) (λ k. known_as s t v v (other k) refl refl h)
 
-served_line : (pt : Point) (t : OneKernel) (id : MsgId) → Serves pt.view id → Sane pt → kernel.step pt.kernel (label.Served id) ≡ Some t → KnownStands pt.kernel pt.view → KnownStands t (view_after pt.view (line.Label (label.Served id)))
+served_line : (pt : Point) (t : OneKernel) (id : MsgId) → Serves pt.view id → Sane pt → kernel.step pt.kernel (Label.Served id) ≡ Some t → KnownStands pt.kernel pt.view → KnownStands t (view_after pt.view (Line.Label (Label.Served id)))
 served_line pt t id serves sane is h =
     let s = pt.kernel in
     let v = handled pt.view id in
@@ -296,28 +262,28 @@ known_loud = record {
   quiet = λ pt w t l e s told alike sane is h. subst (KnownStands t) (sym e) (known_as pt.kernel t pt.view w alike s.known s.ring h);
   ran = λ pt t p k here alike sane is h.
       let (x, alive) = ran_living pt.kernel t p k is in
-      known_same pt.kernel t pt.view (view_after pt.view (line.Label (label.Ran p k))) alike refl (serving_ring pt.kernel pt.view p h (living pt p x sane alive).server here) h;
+      known_same pt.kernel t pt.view (view_after pt.view (Line.Label (Label.Ran p k))) alike refl (serving_ring pt.kernel pt.view p h (living pt p x sane alive).server here) h;
   receive = λ pt t p id here alike sane is h.
       let (c, done, last) = bind-is (kernel.completing pt.kernel p id) (kernel.receives pt.kernel p id) t is in
       let x = completing pt.kernel p id c done in
-      known_same pt.kernel t pt.view (view_after pt.view (line.Label (label.Receive p id))) alike refl (serving_ring pt.kernel pt.view p h (living pt p x.x sane (ap kernel.alive x.alive)).server here) h;
+      known_same pt.kernel t pt.view (view_after pt.view (Line.Label (Label.Receive p id))) alike refl (serving_ring pt.kernel pt.view p h (living pt p x.x sane (ap kernel.alive x.alive)).server here) h;
   refuse = λ pt t p id r here alike sane is h.
       let (c, done, last) = bind-is (kernel.completing pt.kernel p id) (kernel.refuses pt.kernel p r) t is in
       let x = completing pt.kernel p id c done in
-      known_same pt.kernel t pt.view (view_after pt.view (line.Label (label.Refuse p id r))) alike refl (serving_ring pt.kernel pt.view p h (living pt p x.x sane (ap kernel.alive x.alive)).server here) h;
+      known_same pt.kernel t pt.view (view_after pt.view (Line.Label (Label.Refuse p id r))) alike refl (serving_ring pt.kernel pt.view p h (living pt p x.x sane (ap kernel.alive x.alive)).server here) h;
   end = λ pt t p y rests sane is h.
       let l = step_ends pt.kernel t p y is in
       ends_known pt.kernel t pt.view p (living pt p l.process sane (ap kernel.alive l.alive)).server (ap is_some l.alive) l.set rests h;
   dropped = λ pt t id alike sane is h. dropped_known pt.kernel t (handled pt.view id) id (receiver_of (pt.view.told id)) alike (handled_known pt.kernel pt.view id h);
   served = λ pt t id serves sane is h. served_line pt t id serves sane is h;
   created = λ pt t id p unborn sane is h.
-      comes_known pt.kernel t pt.view (view_after pt.view (line.Label (label.Created id p))) p unborn.server refl refl (step_creates pt.kernel t id p is)
+      comes_known pt.kernel t pt.view (view_after pt.view (Line.Label (Label.Created id p))) p unborn.server refl refl (step_creates pt.kernel t id p is)
       (λ n off. ap (λ (k : Known). agrees k (t.processes p)) (unborn.unknown n)) (λ off. absurd (home_apart pt.view.acting p.home unborn.home off)) (ap is_here (unborn.unknown pt.view.acting)) h;
   queued = λ pt id need sane h. queued_known pt.kernel (handled pt.view id) id (receiver_of (pt.view.told id)) (handled_known pt.kernel pt.view id h);
   held = λ pt id need sane h. held_known pt.kernel (handled pt.view id) id (receiver_of (pt.view.told id)) (handled_known pt.kernel pt.view id h);
   frozen = λ pt p lives here h.
       let v = pt.view in
-      known_learns pt.kernel pt.kernel v (view_after v (line.Migration stage.Frozen p)) p (Frozen (target_of (front_told v (v.inbox v.acting)))) (record {
+      known_learns pt.kernel pt.kernel v (view_after v (Line.Migration Stage.Frozen p)) p (Frozen (target_of (front_told v (v.inbox v.acting)))) (record {
         server = lives.server;
         known = refl;
         others = λ q apart. refl;
@@ -330,7 +296,7 @@ known_loud = record {
       }) h;
   accepted = λ pt p lives away h.
       let v = pt.view in
-      known_learns pt.kernel pt.kernel v (view_after v (line.Migration stage.Accepted p)) p (Incoming (front_of (v.inbox v.acting))) (record {
+      known_learns pt.kernel pt.kernel v (view_after v (Line.Migration Stage.Accepted p)) p (Incoming (front_of (v.inbox v.acting))) (record {
         server = lives.server;
         known = refl;
         others = λ q apart. refl;
@@ -346,7 +312,7 @@ known_loud = record {
       let n = v.moves p + 1 in
       let k : gone_to (v.known v.acting p) n ≡ Forward leaves.to n = ap (λ (x : Known). gone_to x n) leaves.frozen in
       let agree = h.agree v.acting p leaves.server in
-      known_learns pt.kernel pt.kernel v (view_after v (line.Migration stage.Left p)) p (gone_to (v.known v.acting p) n) (record {
+      known_learns pt.kernel pt.kernel v (view_after v (Line.Migration Stage.Left p)) p (gone_to (v.known v.acting p) n) (record {
         server = leaves.server;
         known = refl;
         others = λ q apart. refl;
@@ -358,7 +324,7 @@ known_loud = record {
         rings_ = λ m q off. refl;
       }) h;
   restarted = λ pt p lives off h.
-      comes_known pt.kernel pt.kernel pt.view (view_after pt.view (line.Migration stage.Restarted p)) p lives.server refl refl (alive_set pt.kernel p lives.process lives.alive)
+      comes_known pt.kernel pt.kernel pt.view (view_after pt.view (Line.Migration Stage.Restarted p)) p lives.server refl refl (alive_set pt.kernel p lives.process lives.alive)
       (λ n o. h.agree n p lives.server) (λ e. ap is_some lives.alive) off h;
   stays_ = λ pt p lives off h.
       comes_known pt.kernel pt.kernel pt.view (rejoins (handled_first pt.view) p) p lives.server refl refl (alive_set pt.kernel p lives.process lives.alive)

@@ -1,29 +1,11 @@
 -- A queue only where a process is or leaves, and held messages only where it leaves or comes: each group keeps it.
-use Rattle.std.proofs.Common.{◌≡◌, ℕ, ◌+◌, Bool, true, false, List, [], ◌∷◌, ◌++◌, refl, ap, ◌∙◌, sym, subst}
-use Rattle.std.specs.Prelude.{if◌then◌else◌}
-use Rattle.std.proofs.lemmas.Bool.{false≢true}
-use Rattle.std.specs.declared.option.Option.{Option}
-use Rattle.std.specs.declared.option.Option.TheVariants.{None, Some}
-use Rattle.dm_link.specs.declared.Pid.{Pid}
-use Rattle.dm_message.specs.declared.MsgId.{MsgId}
-use Rattle.dm_onekernel.specs.declared.boot.Boot.{Boot}
-use Rattle.dm_schedule.specs.declared.Step.{Step}
-use Rattle.dm_onekernel.specs.declared.label.Label.TheVariants as label
-use Rattle.dm_line.specs.declared.line.Line.TheVariants as line
-use Rattle.dm_line.specs.declared.line.Stage.TheVariants as stage
-use Rattle.dm_rule.specs.Parts.{Spelled}
-use Rattle.dm_rule.specs.Point.{Point, first_point}
-use Rattle.dm_rule.specs.Rule.{group_of}
-use Rattle.dm_line.specs.Sets.{at_record, without_id, without_front}
-use Rattle.dm_rule.specs.View.{View, Told, Known, Unknown, Here, Frozen, Incoming, Forward, Ended, handled, handled_first, receiver_of, target_of, front_told, front_of, gone_to, served_told, rejoins}
+use Rattle.dm_rulelaws.proofs.Names.{◌≡◌, ℕ, ◌+◌, Bool, true, false, List, [], ◌∷◌, ◌++◌, refl, ap, ◌∙◌, sym, subst, if◌then◌else◌, false≢true, Option, None, Some, Pid, MsgId, Boot, Step, Label, Line, Stage, Spelled, Point, first_point}
+use Rattle.dm_rulelaws.proofs.Names.{group_of, at_record, without_id, without_front, View, Told, Known, Here, Frozen, Incoming, handled, handled_first, receiver_of, target_of, front_told, front_of, gone_to, served_told, rejoins, is_away}
+use Rattle.dm_rulelaws.proofs.Names.{Phased, ListsStand, has_no_queue, has_nothing_held, KnownStands, is_kill}
+use Rattle.dm_rule.specs.View.{Ended}
 use Rattle.dm_rule.specs.View as view
-use Rattle.dm_rule.specs.Phases.{is_away}
-use Rattle.dm_rule.proofs.Phases.Always.{Phased}
-use Rattle.dm_rulelaws.specs.Found.{ListsStand, has_no_queue, has_nothing_held}
-use Rattle.dm_rulelaws.specs.KnownStands.{KnownStands}
 use Rattle.dm_rulelaws.proofs.Based.Groups.{group_keeps}
 use Rattle.dm_rulelaws.proofs.Based.Needs.{Serves}
-use Rattle.dm_rule.proofs.Phases.Quiet.{is_kill}
 use Rattle.dm_rulelaws.proofs.Based.Loud.{Stays, Loud, keeps_by}
 use Rattle.dm_rulelaws.proofs.Based.Sets.{set_all, killed_or}
 
@@ -99,12 +81,10 @@ lists_rejoins v w p known queue held h =
     }
 
 away_queue : (k : Known) → is_away k ≡ true → has_no_queue k ≡ true
-away_queue Unknown e = refl
 away_queue Here e = absurd (false≢true e)
 away_queue (Frozen to) e = absurd (false≢true e)
-away_queue (Incoming from) e = refl
-away_queue (Forward at moves) e = refl
 away_queue Ended e = absurd (false≢true e)
+away_queue _ e = refl
 
 lists_loud : Loud (λ pt. ListsStand pt.view)
 lists_loud = record {
@@ -123,16 +103,16 @@ lists_loud = record {
   dropped = λ pt t id alike sane is h. lists_dropped (handled pt.view id) id (receiver_of (pt.view.told id)) (lists_handled pt.view id h);
   served = λ pt t id serves sane is h. lists_served (handled pt.view id) (pt.view.told id) (λ u told kills. kills_here pt.view id u serves told kills) (lists_handled pt.view id h);
   created = λ pt t id p unborn sane is h.
-      lists_learn pt.view (view.view_after pt.view (line.Label (label.Created id p))) p Here refl refl refl
+      lists_learn pt.view (view.view_after pt.view (Line.Label (Label.Created id p))) p Here refl refl refl
       (λ e. absurd (false≢true e)) (λ e. h.held pt.view.acting p (ap has_nothing_held (unborn.unknown pt.view.acting))) h;
   queued = λ pt id need sane h. lists_queued (handled pt.view id) id (pt.view.told id) (λ t e. ap has_no_queue (need t e).here) (lists_handled pt.view id h);
   held = λ pt id need sane h. lists_held_for (handled pt.view id) id (pt.view.told id) need (lists_handled pt.view id h);
   frozen = λ pt p lives here h.
-      lists_learn pt.view (view.after_stage pt.view p stage.Frozen) p (Frozen (target_of (front_told pt.view (pt.view.inbox pt.view.acting)))) refl refl refl (λ e. absurd (false≢true e)) (λ e. absurd (false≢true e)) h;
+      lists_learn pt.view (view.after_stage pt.view p Stage.Frozen) p (Frozen (target_of (front_told pt.view (pt.view.inbox pt.view.acting)))) refl refl refl (λ e. absurd (false≢true e)) (λ e. absurd (false≢true e)) h;
   accepted = λ pt p lives away h.
-      lists_learn pt.view (view.after_stage pt.view p stage.Accepted) p (Incoming (front_of (pt.view.inbox pt.view.acting))) refl refl refl (λ e. h.queue pt.view.acting p (away_queue (pt.view.known pt.view.acting p) away)) (λ e. absurd (false≢true e)) h;
-  left = λ pt p leaves h. lists_learn pt.view (view.after_stage pt.view p stage.Left) p (gone_to (pt.view.known pt.view.acting p) (pt.view.moves p + 1)) refl refl refl (λ e. leaves.queue) (λ e. leaves.held) h;
-  restarted = λ pt p lives off h. lists_rejoins pt.view (view.after_stage pt.view p stage.Restarted) p refl refl refl h;
+      lists_learn pt.view (view.after_stage pt.view p Stage.Accepted) p (Incoming (front_of (pt.view.inbox pt.view.acting))) refl refl refl (λ e. h.queue pt.view.acting p (away_queue (pt.view.known pt.view.acting p) away)) (λ e. absurd (false≢true e)) h;
+  left = λ pt p leaves h. lists_learn pt.view (view.after_stage pt.view p Stage.Left) p (gone_to (pt.view.known pt.view.acting p) (pt.view.moves p + 1)) refl refl refl (λ e. leaves.queue) (λ e. leaves.held) h;
+  restarted = λ pt p lives off h. lists_rejoins pt.view (view.after_stage pt.view p Stage.Restarted) p refl refl refl h;
   stays_ = λ pt p lives off h. lists_rejoins pt.view (rejoins (handled_first pt.view) p) p refl refl refl h;
   sent_on = λ pt p n h.
       let v = pt.view in

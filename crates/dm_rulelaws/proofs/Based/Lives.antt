@@ -1,40 +1,14 @@
 -- What each step of the kernel without machines does to lives: most leave who is alive, one ends, one is made.
-use Rattle.std.proofs.Common.{◌≡◌, ℕ, ◌+◌, ◌==◌, ◌&&◌, Bool, true, false, length, refl, ap, ◌∙◌, sym, subst, inl, inr}
-use Rattle.std.specs.Prelude.{if◌then◌else◌, slice_get}
-use Rattle.std.specs.declared.option.Option.{Option}
-use Rattle.std.specs.declared.option.Option.TheVariants.{None, Some}
-use Rattle.std.proofs.lemmas.Bool.{cases_Bool, false≢true}
-use Rattle.dm_link.specs.declared.Pid.{Pid}
-use Rattle.dm_link.specs.Names.{pid_eq, pid_of}
-use Rattle.dm_message.specs.declared.MsgId.{MsgId}
-use Rattle.dm_message.specs.Ids.{id_eq}
-use Rattle.dm_message.specs.Kinds.{plain_kind}
-use Rattle.dm_message.specs.Plain as said
-use Rattle.dm_message.specs.Plain.{PlainMessage, PlainWhat}
-use Rattle.dm_onekernel.specs.declared.label.Label.{Label}
-use Rattle.dm_onekernel.specs.declared.label.Label.TheVariants as label
-use Rattle.dm_onekernel.specs.declared.label.Reply.{Reply}
-use Rattle.dm_onekernel.specs.declared.label.Why.{Why}
-use Rattle.dm_onekernel.specs.declared.label.Why.TheVariants as why
-use Rattle.dm_onekernel.specs.Boot.{first_number, manager, switchboard}
-use Rattle.dm_onekernel.specs.Codes.{reply_eq, why_eq}
-use Rattle.dm_onekernel.specs.Options.{bind}
+use Rattle.dm_rulelaws.proofs.Names.{◌≡◌, ℕ, ◌+◌, ◌==◌, ◌&&◌, Bool, true, false, length, refl, ap, ◌∙◌, sym, subst, inl, inr, if◌then◌else◌, slice_get, Option, None, Some, cases_Bool, false≢true, Pid, pid_eq, pid_of, MsgId, id_eq}
+use Rattle.dm_rulelaws.proofs.Names.{plain_kind, Called, PlainMessage, PlainWhat, Label, Reply, Why, first_number, manager, switchboard, reply_eq, why_eq, bind, Alive, Ended, Life, OneKernel, PlainProcess, answer_to, without_message, begun}
+use Rattle.dm_rulelaws.proofs.Names.{pid_eq-is, pid_eq-same, bind-is, when-is, alive-is, nexts, completing, is_kill}
 use Rattle.dm_onekernel.specs.Kernel as kernels
-use Rattle.dm_onekernel.specs.Kernel.{Alive, Ended, Life, OneKernel}
-use Rattle.dm_onekernel.specs.PlainProcess.{PlainProcess}
-use Rattle.dm_onekernel.specs.Calls as calls
 use Rattle.dm_onekernel.specs.Manager as manage
 use Rattle.dm_onekernel.specs.Pieces as pieces
-use Rattle.dm_onekernel.specs.Pieces.{answer_to}
 use Rattle.dm_onekernel.specs.Receiving as receiving
 use Rattle.dm_onekernel.specs.Service as service
-use Rattle.dm_onekernel.specs.Service.{without_message}
-use Rattle.dm_onekernel.specs.Start.{begun}
 use Rattle.dm_onekernel.specs.Step as kernel
 use Rattle.dm_onekernel.specs.Switchboard as board
-use Rattle.dm_laws.proofs.Equal.{pid_eq-is, pid_eq-same}
-use Rattle.dm_laws.proofs.Steps.{bind-is, when-is, alive-is, nexts, completing}
-use Rattle.dm_rule.proofs.Phases.Quiet.{is_kill}
 
 -- nobody was made, alive or ended
 abbrev pub life_sort : Option Life → Option Bool
@@ -49,13 +23,6 @@ Alike s t = (q : Pid) → life_sort (t.processes q) ≡ life_sort (s.processes q
 pub record SetLife (s t : OneKernel) (p : Pid) (sort : Option Bool) : Type 0 where
   pub at_ : life_sort (t.processes p) ≡ sort
   pub off : (q : Pid) → pid_eq p q ≡ false → life_sort (t.processes q) ≡ life_sort (s.processes q)
-
-pub alike_same : (s : OneKernel) → Alike s s
-alike_same s q = refl
-
--- a kernel with the same processes
-pub alike_by : (s t : OneKernel) → t.processes ≡ s.processes → Alike s t
-alike_by s t e q = ap (λ (f : Pid → Option Life). life_sort (f q)) e
 
 sent_lives : (u : OneKernel) (o : Option PlainMessage) → (kernels.with_sent u o).processes ≡ u.processes
 sent_lives u None = refl
@@ -85,46 +52,46 @@ goes_life s p x y is = alike_goes s s p x y is refl
 
 -- calls
 replies_life : (s t : OneKernel) (p : Pid) (n : ℕ) (c : Reply) (x : kernel.Next) (z : PlainProcess) → s.processes p ≡ Some (Alive z) → kernel.replies s p n c x ≡ Some t → Alike s t
-replies_life s t p n c (kernel.Calls number (calls.Replies d y)) z is e = let k = when-is ((n == number) && reply_eq c d) (kernel.goes_on s p y) t e in subst (Alike s) k.1 (goes_life s p z y is)
-replies_life s t p n c (kernel.Calls number (calls.Sends m y)) z is e = cc
-replies_life s t p n c (kernel.Calls number (calls.Waits y)) z is e = cc
-replies_life s t p n c (kernel.Calls number (calls.Outputs w y)) z is e = cc
-replies_life s t p n c (kernel.Calls number (calls.Ends y)) z is e = cc
+replies_life s t p n c (kernel.Calls number (Called.Replies d y)) z is e = let k = when-is ((n == number) && reply_eq c d) (kernel.goes_on s p y) t e in subst (Alike s) k.1 (goes_life s p z y is)
+replies_life s t p n c (kernel.Calls number (Called.Sends m y)) z is e = cc
+replies_life s t p n c (kernel.Calls number (Called.Waits y)) z is e = cc
+replies_life s t p n c (kernel.Calls number (Called.Outputs w y)) z is e = cc
+replies_life s t p n c (kernel.Calls number (Called.Ends y)) z is e = cc
 replies_life s t p n c (kernel.Faults f) z is e = cc
 
 sends_life : (s t : OneKernel) (p : Pid) (id : MsgId) (x : kernel.Next) (z : PlainProcess) → s.processes p ≡ Some (Alive z) → kernel.sends s p id x ≡ Some t → Alike s t
-sends_life s t p id (kernel.Calls number (calls.Sends m y)) z is e =
+sends_life s t p id (kernel.Calls number (Called.Sends m y)) z is e =
     let k = when-is (id_eq id m.id) (kernels.with_sent (kernel.goes_on s p y) (Some m)) t e in
     subst (Alike s) k.1 (alike_sent s (kernel.goes_on s p y) (Some m) (goes_life s p z y is))
-sends_life s t p id (kernel.Calls number (calls.Replies d y)) z is e = cc
-sends_life s t p id (kernel.Calls number (calls.Waits y)) z is e = cc
-sends_life s t p id (kernel.Calls number (calls.Outputs w y)) z is e = cc
-sends_life s t p id (kernel.Calls number (calls.Ends y)) z is e = cc
+sends_life s t p id (kernel.Calls number (Called.Replies d y)) z is e = cc
+sends_life s t p id (kernel.Calls number (Called.Waits y)) z is e = cc
+sends_life s t p id (kernel.Calls number (Called.Outputs w y)) z is e = cc
+sends_life s t p id (kernel.Calls number (Called.Ends y)) z is e = cc
 sends_life s t p id (kernel.Faults f) z is e = cc
 
 waits_life : (s t : OneKernel) (p : Pid) (x : kernel.Next) (z : PlainProcess) → s.processes p ≡ Some (Alive z) → kernel.waits s p x ≡ Some t → Alike s t
-waits_life s t p (kernel.Calls number (calls.Waits y)) z is e = let f : kernel.goes_on s p y ≡ t = cc in subst (Alike s) f (goes_life s p z y is)
-waits_life s t p (kernel.Calls number (calls.Replies d y)) z is e = cc
-waits_life s t p (kernel.Calls number (calls.Sends m y)) z is e = cc
-waits_life s t p (kernel.Calls number (calls.Outputs w y)) z is e = cc
-waits_life s t p (kernel.Calls number (calls.Ends y)) z is e = cc
+waits_life s t p (kernel.Calls number (Called.Waits y)) z is e = let f : kernel.goes_on s p y ≡ t = cc in subst (Alike s) f (goes_life s p z y is)
+waits_life s t p (kernel.Calls number (Called.Replies d y)) z is e = cc
+waits_life s t p (kernel.Calls number (Called.Sends m y)) z is e = cc
+waits_life s t p (kernel.Calls number (Called.Outputs w y)) z is e = cc
+waits_life s t p (kernel.Calls number (Called.Ends y)) z is e = cc
 waits_life s t p (kernel.Faults f) z is e = cc
 
 outputs_life : (s t : OneKernel) (p : Pid) (word : ℕ) (x : kernel.Next) (z : PlainProcess) → s.processes p ≡ Some (Alive z) → kernel.outputs s p word x ≡ Some t → Alike s t
-outputs_life s t p word (kernel.Calls number (calls.Outputs w y)) z is e = let k = when-is (word == w) (kernel.goes_on s p y) t e in subst (Alike s) k.1 (goes_life s p z y is)
-outputs_life s t p word (kernel.Calls number (calls.Replies d y)) z is e = cc
-outputs_life s t p word (kernel.Calls number (calls.Sends m y)) z is e = cc
-outputs_life s t p word (kernel.Calls number (calls.Waits y)) z is e = cc
-outputs_life s t p word (kernel.Calls number (calls.Ends y)) z is e = cc
+outputs_life s t p word (kernel.Calls number (Called.Outputs w y)) z is e = let k = when-is (word == w) (kernel.goes_on s p y) t e in subst (Alike s) k.1 (goes_life s p z y is)
+outputs_life s t p word (kernel.Calls number (Called.Replies d y)) z is e = cc
+outputs_life s t p word (kernel.Calls number (Called.Sends m y)) z is e = cc
+outputs_life s t p word (kernel.Calls number (Called.Waits y)) z is e = cc
+outputs_life s t p word (kernel.Calls number (Called.Ends y)) z is e = cc
 outputs_life s t p word (kernel.Faults f) z is e = cc
 
 ends_life : (s t : OneKernel) (p : Pid) (y : Why) (x : kernel.Next) → kernel.ends s p y x ≡ Some t → SetLife s t p (Some false)
-ends_life s t p y (kernel.Calls number (calls.Ends z)) e = let k = when-is (why_eq y z) (kernels.with_process s p (Ended y)) t e in subst (λ (u : OneKernel). SetLife s u p (Some false)) k.1 (set_life s s p (Ended y) refl)
-ends_life s t p y (kernel.Faults f) e = let k = when-is (why_eq y (why.Fault f)) (kernels.with_process s p (Ended y)) t e in subst (λ (u : OneKernel). SetLife s u p (Some false)) k.1 (set_life s s p (Ended y) refl)
-ends_life s t p y (kernel.Calls number (calls.Replies d z)) e = cc
-ends_life s t p y (kernel.Calls number (calls.Sends m z)) e = cc
-ends_life s t p y (kernel.Calls number (calls.Waits z)) e = cc
-ends_life s t p y (kernel.Calls number (calls.Outputs w z)) e = cc
+ends_life s t p y (kernel.Calls number (Called.Ends z)) e = let k = when-is (why_eq y z) (kernels.with_process s p (Ended y)) t e in subst (λ (u : OneKernel). SetLife s u p (Some false)) k.1 (set_life s s p (Ended y) refl)
+ends_life s t p y (kernel.Faults f) e = let k = when-is (why_eq y (Why.Fault f)) (kernels.with_process s p (Ended y)) t e in subst (λ (u : OneKernel). SetLife s u p (Some false)) k.1 (set_life s s p (Ended y) refl)
+ends_life s t p y (kernel.Calls number (Called.Replies d z)) e = cc
+ends_life s t p y (kernel.Calls number (Called.Sends m z)) e = cc
+ends_life s t p y (kernel.Calls number (Called.Waits z)) e = cc
+ends_life s t p y (kernel.Calls number (Called.Outputs w z)) e = cc
 
 -- receives
 receives_life : (s t : OneKernel) (p : Pid) (id : MsgId) (d : receiving.Completed) (z : PlainProcess) → s.processes p ≡ Some (Alive z) → kernel.receives s p id d ≡ Some t → Alike s t
@@ -163,24 +130,19 @@ answered_life s t id m z o is e =
 changed_life : (s t : OneKernel) (id : MsgId) (p : Pid) (z y : PlainProcess) → s.processes p ≡ Some (Alive z) → Some (kernels.with_process (without_message s id) p (Alive y)) ≡ Some t → Alike s t
 changed_life s t id p z y is e = let f : kernels.with_process (without_message s id) p (Alive y) ≡ t = cc in subst (Alike s) f (alike_goes s (without_message s id) p z y is refl)
 
-killed_life : (s t : OneKernel) (id : MsgId) (p : Pid) → Some (kernels.with_process (without_message s id) p (Ended why.Killed)) ≡ Some t → SetLife s t p (Some false)
-killed_life s t id p e = let f : kernels.with_process (without_message s id) p (Ended why.Killed) ≡ t = cc in subst (λ (u : OneKernel). SetLife s u p (Some false)) f (set_life s (without_message s id) p (Ended why.Killed) refl)
+killed_life : (s t : OneKernel) (id : MsgId) (p : Pid) → Some (kernels.with_process (without_message s id) p (Ended Why.Killed)) ≡ Some t → SetLife s t p (Some false)
+killed_life s t id p e = let f : kernels.with_process (without_message s id) p (Ended Why.Killed) ≡ t = cc in subst (λ (u : OneKernel). SetLife s u p (Some false)) f (set_life s (without_message s id) p (Ended Why.Killed) refl)
 
 serves_life : (s t : OneKernel) (id : MsgId) (m : PlainMessage) (x : PlainProcess) (w : PlainWhat) → s.processes m.to ≡ Some (Alive x) → service.serves s id m x w ≡ Some t → ServedLife s t m.to w
-serves_life s t id m x said.Kill is e = record { kill = λ k. killed_life s t id m.to e; other = λ k. absurd (false≢true (sym k)) }
-serves_life s t id m x said.Stop is e = spared s t m.to said.Stop refl (changed_life s t id m.to x (record x { stopped = true }) is e)
-serves_life s t id m x said.Resume is e = spared s t m.to said.Resume refl (changed_life s t id m.to x (record x { stopped = false }) is e)
-serves_life s t id m x (said.Read base len) is e = spared s t m.to (said.Read base len) refl (answered_life s t id m x (pieces.reads x m base len) is e)
-serves_life s t id m x (said.Write base bytes) is e = spared s t m.to (said.Write base bytes) refl (answered_life s t id m x (pieces.writes x m base bytes) is e)
-serves_life s t id m x (said.Block bytes) is e = spared s t m.to (said.Block bytes) refl (lands_life s t id m x (pieces.lands m.to x m x.status) is e)
-serves_life s t id m x said.Written is e = spared s t m.to said.Written refl (lands_life s t id m x (pieces.lands m.to x m x.status) is e)
-serves_life s t id m x said.Gone is e = spared s t m.to said.Gone refl (lands_life s t id m x (pieces.lands m.to x m x.status) is e)
-serves_life s t id m x (said.User a b c d) is e = cc
-serves_life s t id m x (said.Create a b) is e = cc
-serves_life s t id m x (said.Created a) is e = cc
-serves_life s t id m x said.NoRoom is e = cc
-serves_life s t id m x (said.Move a) is e = cc
-serves_life s t id m x (said.Moved a) is e = cc
+serves_life s t id m x PlainWhat.Kill is e = record { kill = λ k. killed_life s t id m.to e; other = λ k. absurd (false≢true (sym k)) }
+serves_life s t id m x PlainWhat.Stop is e = spared s t m.to PlainWhat.Stop refl (changed_life s t id m.to x (record x { stopped = true }) is e)
+serves_life s t id m x PlainWhat.Resume is e = spared s t m.to PlainWhat.Resume refl (changed_life s t id m.to x (record x { stopped = false }) is e)
+serves_life s t id m x (PlainWhat.Read base len) is e = spared s t m.to (PlainWhat.Read base len) refl (answered_life s t id m x (pieces.reads x m base len) is e)
+serves_life s t id m x (PlainWhat.Write base bytes) is e = spared s t m.to (PlainWhat.Write base bytes) refl (answered_life s t id m x (pieces.writes x m base bytes) is e)
+serves_life s t id m x (PlainWhat.Block bytes) is e = spared s t m.to (PlainWhat.Block bytes) refl (lands_life s t id m x (pieces.lands m.to x m x.status) is e)
+serves_life s t id m x PlainWhat.Written is e = spared s t m.to PlainWhat.Written refl (lands_life s t id m x (pieces.lands m.to x m x.status) is e)
+serves_life s t id m x PlainWhat.Gone is e = spared s t m.to PlainWhat.Gone refl (lands_life s t id m x (pieces.lands m.to x m x.status) is e)
+serves_life s t id m x _ is e = cc
 
 takes_life : (s t : OneKernel) (id : MsgId) (m : PlainMessage) (b c : Bool)
     → (if b then bind (board.takes s.switchboard m m.what) (λ (k : board.Took). Some (service.switchboard_took s id k))
@@ -197,67 +159,53 @@ takes_life s t id m false true e =
 takes_life s t id m false false e = cc
 
 creates_life : (s t : OneKernel) (id : MsgId) (m : PlainMessage) (child : Pid) (w : PlainWhat) → service.creates s id m child w ≡ Some t → SetLife s t child (Some true)
-creates_life s t id m child (said.Create number ls) e =
+creates_life s t id m child (PlainWhat.Create number ls) e =
     let (i, is, last) = bind-is (slice_get s.images number) (service.creates_of s id m child ls) t e in
     let u = service.with_child (without_message s id) child i ls in
-    let k = when-is (service.is_kernel s m.to && pid_eq child (pid_of m.to.home (first_number + s.made m.to.home))) (kernels.with_sent u (Some (answer_to m (said.Created child)))) t last in
+    let k = when-is (service.is_kernel s m.to && pid_eq child (pid_of m.to.home (first_number + s.made m.to.home))) (kernels.with_sent u (Some (answer_to m (PlainWhat.Created child)))) t last in
     let h = set_life s (without_message s id) child (Alive (begun s.format i ls)) refl in
-    subst (λ (v : OneKernel). SetLife s v child (Some true)) k.1 (set_sent s u child (Some true) (Some (answer_to m (said.Created child))) (record { at_ = h.at_; off = h.off }))
-creates_life s t id m child (said.User a b c d) e = cc
-creates_life s t id m child said.Stop e = cc
-creates_life s t id m child said.Resume e = cc
-creates_life s t id m child said.Kill e = cc
-creates_life s t id m child (said.Read a b) e = cc
-creates_life s t id m child (said.Write a b) e = cc
-creates_life s t id m child (said.Block a) e = cc
-creates_life s t id m child said.Written e = cc
-creates_life s t id m child said.Gone e = cc
-creates_life s t id m child (said.Created a) e = cc
-creates_life s t id m child said.NoRoom e = cc
-creates_life s t id m child (said.Move a) e = cc
-creates_life s t id m child (said.Moved a) e = cc
+    subst (λ (v : OneKernel). SetLife s v child (Some true)) k.1 (set_sent s u child (Some true) (Some (answer_to m (PlainWhat.Created child))) (record { at_ = h.at_; off = h.off }))
+creates_life s t id m child _ e = cc
 
 no_room_life : (s t : OneKernel) (id : MsgId) (m : PlainMessage) (w : PlainWhat) → service.has_no_room s id m w ≡ Some t → Alike s t
-no_room_life s t id m (said.Create number ls) e =
-    let k = when-is (service.is_kernel s m.to) (kernels.with_sent (without_message s id) (Some (answer_to m said.NoRoom))) t e in
+no_room_life s t id m (PlainWhat.Create number ls) e =
+    let k = when-is (service.is_kernel s m.to) (kernels.with_sent (without_message s id) (Some (answer_to m PlainWhat.NoRoom))) t e in
     subst (Alike s) k.1 (λ q. refl)
 no_room_life s t id m w e = cc
 
 -- a step that ends nobody and makes nobody
 abbrev pub is_steady : Label → Bool
-is_steady (label.End p y) = false
-is_steady (label.Served id) = false
-is_steady (label.Created id p) = false
+is_steady (Label.End p y) = false
+is_steady (Label.Served id) = false
+is_steady (Label.Created id p) = false
 is_steady l = true
 
 pub step_alike : (s t : OneKernel) (e : Label) → is_steady e ≡ true → kernel.step s e ≡ Some t → Alike s t
-step_alike s t (label.Ran p k) steady is =
+step_alike s t (Label.Ran p k) steady is =
     let (x, runs, rest) = bind-is (kernel.running s p) (λ (w : PlainProcess). bind (kernel.plain_steps k (kernel.machine_of w)) (λ (m : kernel.Machine). Some (kernel.goes_on s p (kernel.with_machine w m)))) t is in
     let (y, alive, ready) = bind-is (kernel.alive (s.processes p)) (λ v. kernel.if_ready v v.status) x runs in
     let (m, plain, last) = bind-is (kernel.plain_steps k (kernel.machine_of x)) (λ (m : kernel.Machine). Some (kernel.goes_on s p (kernel.with_machine x m))) t rest in
     let f : kernel.goes_on s p (kernel.with_machine x m) ≡ t = cc in
     subst (Alike s) f (goes_life s p y (kernel.with_machine x m) (alive-is (s.processes p) y alive))
-step_alike s t (label.Call p n c) steady is = let (x, next, rest) = bind-is (kernel.next s p) (kernel.replies s p n c) t is in let w = nexts s p x next in replies_life s t p n c x w.x w.is.alive rest
-step_alike s t (label.Send p id) steady is = let (x, next, rest) = bind-is (kernel.next s p) (kernel.sends s p id) t is in let w = nexts s p x next in sends_life s t p id x w.x w.is.alive rest
-step_alike s t (label.Wait p) steady is = let (x, next, rest) = bind-is (kernel.next s p) (kernel.waits s p) t is in let w = nexts s p x next in waits_life s t p x w.x w.is.alive rest
-step_alike s t (label.Out p w) steady is = let (x, next, rest) = bind-is (kernel.next s p) (kernel.outputs s p w) t is in let n = nexts s p x next in outputs_life s t p w x n.x n.is.alive rest
-step_alike s t (label.Receive p id) steady is = let (d, c, rest) = bind-is (kernel.completing s p id) (kernel.receives s p id) t is in let w = completing s p id d c in receives_life s t p id d w.x w.alive rest
-step_alike s t (label.Refuse p id c) steady is = let (d, k, rest) = bind-is (kernel.completing s p id) (kernel.refuses s p c) t is in let w = completing s p id d k in refuses_life s t p c d w.x w.alive rest
-step_alike s t (label.Took id) steady is = let (m, there, rest) = bind-is (s.bag id) (service.takes s id) t is in takes_life s t id m (pid_eq m.to switchboard) (pid_eq m.to manager) rest
-step_alike s t (label.Dropped id) steady is =
+step_alike s t (Label.Call p n c) steady is = let (x, next, rest) = bind-is (kernel.next s p) (kernel.replies s p n c) t is in let w = nexts s p x next in replies_life s t p n c x w.x w.is.alive rest
+step_alike s t (Label.Send p id) steady is = let (x, next, rest) = bind-is (kernel.next s p) (kernel.sends s p id) t is in let w = nexts s p x next in sends_life s t p id x w.x w.is.alive rest
+step_alike s t (Label.Wait p) steady is = let (x, next, rest) = bind-is (kernel.next s p) (kernel.waits s p) t is in let w = nexts s p x next in waits_life s t p x w.x w.is.alive rest
+step_alike s t (Label.Out p w) steady is = let (x, next, rest) = bind-is (kernel.next s p) (kernel.outputs s p w) t is in let n = nexts s p x next in outputs_life s t p w x n.x n.is.alive rest
+step_alike s t (Label.Receive p id) steady is = let (d, c, rest) = bind-is (kernel.completing s p id) (kernel.receives s p id) t is in let w = completing s p id d c in receives_life s t p id d w.x w.alive rest
+step_alike s t (Label.Refuse p id c) steady is = let (d, k, rest) = bind-is (kernel.completing s p id) (kernel.refuses s p c) t is in let w = completing s p id d k in refuses_life s t p c d w.x w.alive rest
+step_alike s t (Label.Took id) steady is = let (m, there, rest) = bind-is (s.bag id) (service.takes s id) t is in takes_life s t id m (pid_eq m.to switchboard) (pid_eq m.to manager) rest
+step_alike s t (Label.Dropped id) steady is =
     let (m, there, rest) = bind-is (s.bag id) (λ (w : PlainMessage). bind (kernel.ended (s.processes w.to)) (kernel.drops s id w)) t is in
     let (y, gone, last) = bind-is (kernel.ended (s.processes m.to)) (kernel.drops s id m) t rest in
     let k = when-is (service.is_dropped m.what) (without_message s id) t last in
     subst (Alike s) k.1 (λ q. refl)
-step_alike s t (label.Gone id) steady is =
+step_alike s t (Label.Gone id) steady is =
     let (m, there, rest) = bind-is (s.bag id) (λ (w : PlainMessage). bind (kernel.ended (s.processes w.to)) (kernel.says_gone s id w)) t is in
     let (y, gone, last) = bind-is (kernel.ended (s.processes m.to)) (kernel.says_gone s id m) t rest in
-    let k = when-is (service.is_of_memory m.what) (kernels.with_sent (without_message s id) (Some (answer_to m said.Gone))) t last in
+    let k = when-is (service.is_of_memory m.what) (kernels.with_sent (without_message s id) (Some (answer_to m PlainWhat.Gone))) t last in
     subst (Alike s) k.1 (λ q. refl)
-step_alike s t (label.NoSpace id f b) steady is = let (m, there, rest) = bind-is (s.bag id) (λ (w : PlainMessage). service.has_no_room s id w w.what) t is in no_room_life s t id m m.what rest
-step_alike s t (label.End p y) steady is = absurd (false≢true steady)
-step_alike s t (label.Served id) steady is = absurd (false≢true steady)
-step_alike s t (label.Created id child) steady is = absurd (false≢true steady)
+step_alike s t (Label.NoSpace id f b) steady is = let (m, there, rest) = bind-is (s.bag id) (λ (w : PlainMessage). service.has_no_room s id w w.what) t is in no_room_life s t id m m.what rest
+step_alike s t _ steady is = absurd (false≢true steady)
 
 -- one that ends, one that a message ends, and one that is made
 pub record EndsLife (s t : OneKernel) (p : Pid) : Type 0 where
@@ -265,7 +213,7 @@ pub record EndsLife (s t : OneKernel) (p : Pid) : Type 0 where
   pub alive : s.processes p ≡ Some (Alive process)
   pub set : SetLife s t p (Some false)
 
-pub step_ends : (s t : OneKernel) (p : Pid) (y : Why) → kernel.step s (label.End p y) ≡ Some t → EndsLife s t p
+pub step_ends : (s t : OneKernel) (p : Pid) (y : Why) → kernel.step s (Label.End p y) ≡ Some t → EndsLife s t p
 step_ends s t p y is = let (x, next, rest) = bind-is (kernel.next s p) (kernel.ends s p y) t is in let w = nexts s p x next in record { process = w.x; alive = w.is.alive; set = ends_life s t p y x rest }
 
 pub record ServesLife (s t : OneKernel) (id : MsgId) : Type 0 where
@@ -275,12 +223,12 @@ pub record ServesLife (s t : OneKernel) (id : MsgId) : Type 0 where
   pub alive : s.processes message.to ≡ Some (Alive process)
   pub served : ServedLife s t message.to message.what
 
-pub step_serves : (s t : OneKernel) (id : MsgId) → kernel.step s (label.Served id) ≡ Some t → ServesLife s t id
+pub step_serves : (s t : OneKernel) (id : MsgId) → kernel.step s (Label.Served id) ≡ Some t → ServesLife s t id
 step_serves s t id is =
     let (m, there, rest) = bind-is (s.bag id) (λ (w : PlainMessage). bind (kernel.alive (s.processes w.to)) (λ (p : PlainProcess). service.serves s id w p w.what)) t is in
     let (x, alive, last) = bind-is (kernel.alive (s.processes m.to)) (λ (p : PlainProcess). service.serves s id m p m.what) t rest in
     let there_ = alive-is (s.processes m.to) x alive in
     record { message = m; there = there; process = x; alive = there_; served = serves_life s t id m x m.what there_ last }
 
-pub step_creates : (s t : OneKernel) (id : MsgId) (child : Pid) → kernel.step s (label.Created id child) ≡ Some t → SetLife s t child (Some true)
+pub step_creates : (s t : OneKernel) (id : MsgId) (child : Pid) → kernel.step s (Label.Created id child) ≡ Some t → SetLife s t child (Some true)
 step_creates s t id child is = let (m, there, rest) = bind-is (s.bag id) (λ (w : PlainMessage). service.creates s id w child w.what) t is in creates_life s t id m child m.what rest

@@ -1,38 +1,8 @@
 -- What a line of a group needs, so that each line keeps what is known of processes; and a walk over a group's parts.
-use Rattle.std.proofs.Common.{◌≡◌, ℕ, ◌==◌, Bool, true, false, List, [], ◌∷◌, length, refl, ap, ◌∙◌, subst}
-use Rattle.std.specs.Prelude.{⊤, if◌then◌else◌}
-use Rattle.std.specs.declared.option.Option.{Option}
-use Rattle.std.specs.declared.option.Option.TheVariants.{None, Some}
-use Rattle.dm_link.specs.declared.Pid.{Pid}
-use Rattle.dm_message.specs.declared.MsgId.{MsgId}
-use Rattle.dm_message.specs.declared.kind.MessageKind.{MessageKind}
-use Rattle.dm_message.specs.declared.kind.MessageKind.TheVariants as kind
-use Rattle.dm_message.specs.Kinds.{plain_kind}
-use Rattle.dm_onekernel.specs.declared.boot.Boot.{Boot}
-use Rattle.dm_onekernel.specs.declared.label.Label.{Label}
-use Rattle.dm_onekernel.specs.declared.label.Label.TheVariants as label
-use Rattle.dm_onekernel.specs.Options.{bind}
-use Rattle.dm_onekernel.specs.PlainProcess.{PlainProcess}
-use Rattle.dm_onekernel.specs.Kernel.{Alive, OneKernel}
-use Rattle.dm_laws.proofs.Steps.{bind-is}
-use Rattle.dm_schedule.specs.declared.Step.{Step}
-use Rattle.dm_line.specs.declared.line.Line.{Line}
-use Rattle.dm_line.specs.declared.line.Line.TheVariants as line
-use Rattle.dm_line.specs.declared.line.Load.{Load}
-use Rattle.dm_line.specs.declared.line.Load.TheVariants as load
-use Rattle.dm_line.specs.declared.line.Stage.TheVariants as stage
-use Rattle.dm_rule.specs.View.{View, Told, Unknown, Here, Frozen, is_kernels, own_id}
-use Rattle.dm_rule.specs.Addresses.{Receiver}
-use Rattle.dm_rule.specs.Point.{Point, label_of, kernel_after, moved, after_line, after}
-use Rattle.dm_rule.specs.Parts.{Part, Says, Routes, Again, Owns, Transmits, Spelled, lines_of, puts, goes_out, packet_line, behind, spelled}
-use Rattle.dm_rule.specs.Phases.{is_away, is_here}
+use Rattle.dm_rulelaws.proofs.Names.{◌≡◌, ℕ, ◌==◌, Bool, true, false, List, [], ◌∷◌, length, refl, ap, ◌∙◌, subst, ⊤, if◌then◌else◌, Option, None, Some, Pid, MsgId, MessageKind, Stage, plain_kind, Boot, Label, bind, PlainProcess, Alive}
+use Rattle.dm_rulelaws.proofs.Names.{OneKernel, bind-is, Step, Line, Load, View, Told, Unknown, Here, Frozen, is_kernels, own_id, Receiver, Point, label_of, kernel_after, moved, after_line, after, Part, Says, Routes, Again, Owns, Transmits}
+use Rattle.dm_rulelaws.proofs.Names.{Spelled, lines_of, puts, goes_out, packet_line, behind, spelled, is_away, is_here, group_of, group_is, is_kill, Sane, AllSayable, sane_line, part_sane, outcome_sayable, is_server, has_nothing_held}
 use Rattle.dm_rule.specs.Rule as rule
-use Rattle.dm_rule.specs.Rule.{group_of}
-use Rattle.dm_rule.proofs.Groups.{group_is}
-use Rattle.dm_rule.proofs.Phases.Quiet.{is_kill}
-use Rattle.dm_rule.proofs.Telling.{Sane, AllSayable, sane_line, part_sane, outcome_sayable}
-use Rattle.dm_rulelaws.specs.Fits.{is_server}
-use Rattle.dm_rulelaws.specs.Found.{has_nothing_held}
 
 -- a process is here, and away from every other machine
 pub record Resting (v : View) (p : Pid) : Type 0 where
@@ -59,7 +29,7 @@ pub record Living (s : OneKernel) (p : Pid) : Type 0 where
 -- a user message for a process that is here
 pub record Queues (v : View) (t : Told) (id : MsgId) : Type 0 where
   pub here : v.known v.acting t.receiver ≡ Here
-  pub kind : t.kind ≡ kind.User
+  pub kind : t.kind ≡ MessageKind.User
   pub other : is_kernels id ≡ false
 
 -- nothing waits any more for a process that leaves
@@ -71,57 +41,34 @@ pub record Leaving (v : View) (p : Pid) : Type 0 where
   pub held : v.held v.acting p ≡ []
 
 abbrev pub NeedsLabel : Point → Label → Type 0
-NeedsLabel pt (label.Ran p k) = pt.view.known pt.view.acting p ≡ Here
-NeedsLabel pt (label.Call p n c) = ⊤
-NeedsLabel pt (label.Send p id) = ⊤
-NeedsLabel pt (label.Wait p) = ⊤
-NeedsLabel pt (label.Out p w) = ⊤
-NeedsLabel pt (label.End p y) = Resting pt.view p
-NeedsLabel pt (label.Receive p id) = pt.view.known pt.view.acting p ≡ Here
-NeedsLabel pt (label.Refuse p id c) = pt.view.known pt.view.acting p ≡ Here
-NeedsLabel pt (label.Dropped id) = ⊤
-NeedsLabel pt (label.Served id) = Serves pt.view id
-NeedsLabel pt (label.Gone id) = ⊤
-NeedsLabel pt (label.Took id) = ⊤
-NeedsLabel pt (label.Created id p) = Unborn pt.view p
-NeedsLabel pt (label.NoSpace id a b) = ⊤
+NeedsLabel pt (Label.Ran p k) = pt.view.known pt.view.acting p ≡ Here
+NeedsLabel pt (Label.End p y) = Resting pt.view p
+NeedsLabel pt (Label.Receive p id) = pt.view.known pt.view.acting p ≡ Here
+NeedsLabel pt (Label.Refuse p id c) = pt.view.known pt.view.acting p ≡ Here
+NeedsLabel pt (Label.Served id) = Serves pt.view id
+NeedsLabel pt (Label.Created id p) = Unborn pt.view p
+NeedsLabel pt _ = ⊤
 
 abbrev pub Needs : Point → Line → Type 0
-Needs pt (line.Head s) = ⊤
-Needs pt (line.Idle m) = ⊤
-Needs pt (line.Label l) = NeedsLabel pt l
-Needs pt (line.Put a b i k q) = ⊥
-Needs pt (line.Packet a b k l) = ⊥
-Needs pt (line.Taken a b n) = ⊤
-Needs pt (line.Old a b n) = ⊤
-Needs pt (line.Early a b n) = ⊤
-Needs pt (line.Acked a b n) = ⊤
-Needs pt line.Nothing = ⊤
-Needs pt (line.Resent m n) = ⊤
-Needs pt (line.Queued i) = (t : Told) → pt.view.told i ≡ Some t → Queues pt.view t i
-Needs pt (line.Held i) = (t : Told) → pt.view.told i ≡ Some t → has_nothing_held (pt.view.known pt.view.acting t.receiver) ≡ false
-Needs pt (line.Forwarded i m) = ⊤
-Needs pt (line.Updated i n) = ⊤
-Needs pt (line.Migration stage.Frozen p) = Living pt.kernel p × (pt.view.known pt.view.acting p ≡ Here)
-Needs pt (line.Migration stage.Asked p) = ⊤
-Needs pt (line.Migration stage.Accepted p) = Living pt.kernel p × (is_away (pt.view.known pt.view.acting p) ≡ true)
-Needs pt (line.Migration stage.StateTaken p) = ⊤
-Needs pt (line.Migration stage.MemoryTaken p) = ⊤
-Needs pt (line.Migration stage.Left p) = Leaving pt.view p
-Needs pt (line.Migration stage.Restarted p) = Living pt.kernel p × (is_here (pt.view.known pt.view.acting p) ≡ false)
-Needs pt (line.SentOn p n) = ⊤
-Needs pt (line.Lacks p a b) = ⊤
-Needs pt (line.Stays p) = Living pt.kernel p × (is_here (pt.view.known pt.view.acting p) ≡ false)
-Needs pt (line.Here i) = ⊤
-Needs pt (line.NoMove i) = ⊤
-Needs pt (line.Proto i) = ⊤
-Needs pt (line.NoChild p) = ⊤
-Needs pt (line.Pinned p) = ⊤
+Needs pt (Line.Label l) = NeedsLabel pt l
+Needs pt (Line.Put a b i k q) = ⊥
+Needs pt (Line.Packet a b k l) = ⊥
+Needs pt (Line.Queued i) = (t : Told) → pt.view.told i ≡ Some t → Queues pt.view t i
+Needs pt (Line.Held i) = (t : Told) → pt.view.told i ≡ Some t → has_nothing_held (pt.view.known pt.view.acting t.receiver) ≡ false
+Needs pt (Line.Migration Stage.Frozen p) = Living pt.kernel p × (pt.view.known pt.view.acting p ≡ Here)
+Needs pt (Line.Migration Stage.Asked p) = ⊤
+Needs pt (Line.Migration Stage.Accepted p) = Living pt.kernel p × (is_away (pt.view.known pt.view.acting p) ≡ true)
+Needs pt (Line.Migration Stage.StateTaken p) = ⊤
+Needs pt (Line.Migration Stage.MemoryTaken p) = ⊤
+Needs pt (Line.Migration Stage.Left p) = Leaving pt.view p
+Needs pt (Line.Migration Stage.Restarted p) = Living pt.kernel p × (is_here (pt.view.known pt.view.acting p) ≡ false)
+Needs pt (Line.Stays p) = Living pt.kernel p × (is_here (pt.view.known pt.view.acting p) ≡ false)
+Needs pt _ = ⊤
 
 -- what puts and packets keep
 pub record Rides (P : Point → Type 0) : Type 0 where
-  pub put : (pt : Point) (a b : ℕ) (i : MsgId) (k : MessageKind) (q : Pid) → P pt → P (moved pt (line.Put a b i k q) pt.kernel)
-  pub packet : (pt : Point) (a b k : ℕ) (l : Load) → P pt → P (moved pt (line.Packet a b k l) pt.kernel)
+  pub put : (pt : Point) (a b : ℕ) (i : MsgId) (k : MessageKind) (q : Pid) → P pt → P (moved pt (Line.Put a b i k q) pt.kernel)
+  pub packet : (pt : Point) (a b k : ℕ) (l : Load) → P pt → P (moved pt (Line.Packet a b k l) pt.kernel)
 
 -- and what each other line keeps too, where it has what it needs
 pub record Keeps (P : Point → Type 0) : Type 0 where
@@ -131,10 +78,7 @@ pub record Keeps (P : Point → Type 0) : Type 0 where
 -- parts
 abbrev pub NeedsPart : Point → Part → Type 0
 NeedsPart pt (Says l) = Needs pt l
-NeedsPart pt (Routes i) = ⊤
-NeedsPart pt (Again i b) = ⊤
-NeedsPart pt (Owns k q b) = ⊤
-NeedsPart pt (Transmits a b l) = ⊤
+NeedsPart pt _ = ⊤
 
 pub record Steps (pt : Point) (p : Part) (next : Point) : Type 0 where
   pub lines : List Line
@@ -182,16 +126,16 @@ said_by pt next l s = one_said pt next l s.lines s.are s.leads
 
 -- a put and its packet
 puts_by : (P : Point → Type 0) (keeps : Rides P) (pt next : Point) (b : ℕ) (i : MsgId) (k : MessageKind) (q : Pid) (c d : Bool) → P pt
-    → after pt (line.Put pt.view.acting b i k q ∷ (if c then [] else if d then packet_line pt.view pt.view.acting b (load.Data (length (pt.view.pair pt.view.acting b).ids)) ∷ [] else [])) ≡ Some next → P next
+    → after pt (Line.Put pt.view.acting b i k q ∷ (if c then [] else if d then packet_line pt.view pt.view.acting b (Load.Data (length (pt.view.pair pt.view.acting b).ids)) ∷ [] else [])) ≡ Some next → P next
 puts_by P keeps pt next b i k q true d h is =
-    let f : moved pt (line.Put pt.view.acting b i k q) pt.kernel ≡ next = cc in subst P f (keeps.put pt pt.view.acting b i k q h)
+    let f : moved pt (Line.Put pt.view.acting b i k q) pt.kernel ≡ next = cc in subst P f (keeps.put pt pt.view.acting b i k q h)
 puts_by P keeps pt next b i k q false false h is =
-    let f : moved pt (line.Put pt.view.acting b i k q) pt.kernel ≡ next = cc in subst P f (keeps.put pt pt.view.acting b i k q h)
+    let f : moved pt (Line.Put pt.view.acting b i k q) pt.kernel ≡ next = cc in subst P f (keeps.put pt pt.view.acting b i k q h)
 puts_by P keeps pt next b i k q false true h is =
     let n = length (pt.view.pair pt.view.acting b).wire in
-    let l = load.Data (length (pt.view.pair pt.view.acting b).ids) in
-    let mid = moved pt (line.Put pt.view.acting b i k q) pt.kernel in
-    let f : moved mid (line.Packet pt.view.acting b n l) mid.kernel ≡ next = cc in
+    let l = Load.Data (length (pt.view.pair pt.view.acting b).ids) in
+    let mid = moved pt (Line.Put pt.view.acting b i k q) pt.kernel in
+    let f : moved mid (Line.Packet pt.view.acting b n l) mid.kernel ≡ next = cc in
     subst P f (keeps.packet mid pt.view.acting b n l (keeps.put pt pt.view.acting b i k q h))
 
 puts_keep : (P : Point → Type 0) (keeps : Rides P) (pt next : Point) (b : ℕ) (i : MsgId) (k : MessageKind) (q : Pid) (ls : List Line) → P pt → Some (puts pt.view b i k q) ≡ Some ls → after pt ls ≡ Some next → P next
@@ -231,13 +175,13 @@ parts_keep P keeps (p ∷ ps) pt w ok need sane is h =
 
 -- a group
 abbrev pub begun : Point → Step → Point
-begun pt d = moved pt (line.Head d) pt.kernel
+begun pt d = moved pt (Line.Head d) pt.kernel
 
 pub begun_sane : (pt : Point) (d : Step) → Sane pt → Sane (begun pt d)
-begun_sane pt d h = sane_line pt (begun pt d) (line.Head d) refl refl h
+begun_sane pt d h = sane_line pt (begun pt d) (Line.Head d) refl refl h
 
 pub outcome_keeps : (P : Point → Type 0) (keeps : Keeps P) (b : Boot) (pt : Point) (d : Step) (w : Spelled) → group_of b pt d ≡ Some w → WalksOf (begun pt d) (rule.outcome b pt d) → Sane pt → P pt → P w.point
 outcome_keeps P keeps b pt d w e walks sane h =
     let g = group_is b pt d w e in
     subst P g.point
-    (parts_keep P keeps g.parts (begun pt d) g.rest (outcome_sayable b pt d g.parts g.is) (subst (WalksOf (begun pt d)) g.is walks) (begun_sane pt d sane) g.said (keeps.says pt pt.kernel (line.Head d) tt sane refl h))
+    (parts_keep P keeps g.parts (begun pt d) g.rest (outcome_sayable b pt d g.parts g.is) (subst (WalksOf (begun pt d)) g.is walks) (begun_sane pt d sane) g.said (keeps.says pt pt.kernel (Line.Head d) tt sane refl h))

@@ -1,32 +1,9 @@
 -- What is queued for a process is a user message for it, and what is held for it is for it: each group keeps it.
-use Rattle.std.proofs.Common.{◌≡◌, ℕ, zero, suc, ◌≤◌, ◌⊎◌, Bool, true, false, List, [], ◌∷◌, ◌++◌, refl, ap, ◌∙◌, sym, subst, inl, inr, arith}
-use Rattle.std.specs.Prelude.{if◌then◌else◌}
-use Rattle.std.proofs.lemmas.Bool.{cases_Bool, false≢true}
-use Rattle.std.specs.declared.option.Option.{Option}
-use Rattle.std.specs.declared.option.Option.TheVariants.{None, Some}
-use Rattle.dm_link.specs.declared.Pid.{Pid}
-use Rattle.dm_message.specs.declared.MsgId.{MsgId}
-use Rattle.dm_message.specs.declared.kind.MessageKind.{MessageKind}
-use Rattle.dm_message.specs.declared.kind.MessageKind.TheVariants as kind
-use Rattle.dm_message.specs.Ids.{id_eq}
-use Rattle.dm_message.specs.Kinds.{plain_kind}
+use Rattle.dm_rulelaws.proofs.Names.{◌≡◌, ℕ, ◌≤◌, Bool, true, false, List, [], ◌∷◌, ◌++◌, refl, ap, ◌∙◌, sym, subst, inl, inr, arith, if◌then◌else◌, cases_Bool, false≢true, Option, None, Some, Pid, MsgId, MessageKind, id_eq, plain_kind}
+use Rattle.dm_rulelaws.proofs.Names.{PlainMessage, PlainWhat, Boot, Step, id_eq-is, Spelled, Point, first_point, group_of, at_record, without_id, without_front, to_of, Spot, Queue, times, standing, StandsAsBag, View, Told, handled}
+use Rattle.dm_rulelaws.proofs.Names.{receiver_of, served_told, first_told, is_kernels, letters, letters_bag, kernels_fresh, Phased, told_some, KnownStands, zero_cases}
 use Rattle.dm_message.specs.Plain as what
-use Rattle.dm_message.specs.Plain.{PlainMessage, PlainWhat}
-use Rattle.dm_onekernel.specs.declared.boot.Boot.{Boot}
-use Rattle.dm_schedule.specs.declared.Step.{Step}
-use Rattle.dm_laws.proofs.Equal.{id_eq-is}
-use Rattle.dm_rule.specs.Parts.{Spelled}
-use Rattle.dm_rule.specs.Point.{Point, first_point}
-use Rattle.dm_rule.specs.Rule.{group_of}
-use Rattle.dm_line.specs.Sets.{at_record, without_id, without_front}
-use Rattle.dm_rule.specs.Homes.{to_of}
-use Rattle.dm_rule.specs.Spots.{Spot, Queue, times, standing, StandsAsBag}
-use Rattle.dm_rule.specs.View.{View, Told, handled, receiver_of, served_told, first_told, is_kernels}
 use Rattle.dm_rule.specs.View as view
-use Rattle.dm_rule.proofs.Letters.{letters, letters_bag, kernels_fresh}
-use Rattle.dm_rule.proofs.Phases.Always.{Phased}
-use Rattle.dm_rule.proofs.Phases.Leaves.{told_some}
-use Rattle.dm_rulelaws.specs.KnownStands.{KnownStands}
 use Rattle.dm_rulelaws.proofs.Queued.{IsQueued, is_user}
 use Rattle.dm_rulelaws.proofs.Based.Groups.{group_keeps}
 use Rattle.dm_rulelaws.proofs.Based.Loud.{Loud, keeps_by}
@@ -36,7 +13,7 @@ use Rattle.dm_rulelaws.proofs.Based.Sets.{set_all, killed_or, without_fewer, fro
 pub record IsUsers (told : MsgId → Option Told) (p : Pid) (i : MsgId) : Type 0 where
   pub what : Told
   pub is : told i ≡ Some what
-  pub kind : what.kind ≡ kind.User
+  pub kind : what.kind ≡ MessageKind.User
   pub receiver : what.receiver ≡ p
   pub other : is_kernels i ≡ false
 
@@ -60,7 +37,7 @@ none_there : (T : Type 0) (i : MsgId) → 1 ≤ times i [] → T
 none_there T i least = absurd (let k : 1 ≤ 0 = least in omega (arith, k))
 
 -- what was told stays
-told_kept : (v : View) (a b : ℕ) (i : MsgId) (k : MessageKind) (q : Pid) (j : MsgId) (t : Told) → v.told j ≡ Some t → (view.after_put v a b i k q).told j ≡ Some t
+pub told_kept : (v : View) (a b : ℕ) (i : MsgId) (k : MessageKind) (q : Pid) (j : MsgId) (t : Told) → v.told j ≡ Some t → (view.after_put v a b i k q).told j ≡ Some t
 told_kept v a b i k q j t e =
     let new : Told = record { kind = k; receiver = q; about = v.topic } in
     elim (cases_Bool (id_eq i j)) [
@@ -100,7 +77,7 @@ waits_served : (v : View) (o : Option Told) → Waits v → Waits (served_told v
 waits_served v None h = h
 waits_served v (Some t) h = killed_or Waits t.kind v t.receiver (λ k. record { queue = h.queue; held = h.held }) (λ k. h)
 
-waits_queued : (v : View) (id : MsgId) (o : Option Told) → v.told id ≡ o → ((t : Told) → o ≡ Some t → (t.kind ≡ kind.User) × (is_kernels id ≡ false)) → Waits v → Waits (view.queued_for v id (receiver_of o))
+waits_queued : (v : View) (id : MsgId) (o : Option Told) → v.told id ≡ o → ((t : Told) → o ≡ Some t → (t.kind ≡ MessageKind.User) × (is_kernels id ≡ false)) → Waits v → Waits (view.queued_for v id (receiver_of o))
 waits_queued v id None told need h = h
 waits_queued v id (Some t) told need h =
     let k = need t refl in
@@ -158,26 +135,9 @@ waits_start b = record { queue = λ n p i least. none_there (IsUsers (first_poin
 pub waits_group : (b : Boot) (pt : Point) (d : Step) (w : Spelled) → group_of b pt d ≡ Some w → Phased pt → KnownStands pt.kernel pt.view → Waits pt.view → Waits w.point.view
 waits_group b pt d w is phased known h = group_keeps (λ q. Waits q.view) (keeps_by (λ q. Waits q.view) waits_loud) b pt d w is phased known h
 
--- so what is queued has entered, and is a user message for its process as long as it is in the bag
-zero_cases : (n : ℕ) → (n ≡ 0) ⊎ (1 ≤ n)
-zero_cases zero = inl refl
-zero_cases (suc n) = inr (omega arith)
-
-users_are : (w : PlainWhat) → plain_kind w ≡ kind.User → is_user w ≡ true
+users_are : (w : PlainWhat) → plain_kind w ≡ MessageKind.User → is_user w ≡ true
 users_are (what.User code channel body links) e = refl
-users_are what.Stop e = cc
-users_are what.Resume e = cc
-users_are what.Kill e = cc
-users_are (what.Read base len) e = cc
-users_are (what.Write base bytes) e = cc
-users_are (what.Block bytes) e = cc
-users_are what.Written e = cc
-users_are what.Gone e = cc
-users_are (what.Create image links) e = cc
-users_are (what.Created pid) e = cc
-users_are what.NoRoom e = cc
-users_are (what.Move machine) e = cc
-users_are (what.Moved outcome) e = cc
+users_are _ e = cc
 
 entered_of : (pt : Point) (h : Phased pt) (i : MsgId) (t : Told) → pt.view.told i ≡ Some t → is_kernels i ≡ false → 1 ≤ h.state.e i
 entered_of pt h i t told other = elim (zero_cases (h.state.e i)) [
@@ -209,21 +169,9 @@ entered_other : (pt : Point) (h : Phased pt) (i : MsgId) (c : Bool) → is_kerne
 entered_other pt h i true k least = absurd (let z = kernels_fresh h.state.r h.state.e pt.kernel i h.state.sound k in omega (arith, least, z))
 entered_other pt h i false k least = refl
 
-user_kind : (w : PlainWhat) → is_user w ≡ true → plain_kind w ≡ kind.User
+pub user_kind : (w : PlainWhat) → is_user w ≡ true → plain_kind w ≡ MessageKind.User
 user_kind (what.User code channel body links) e = refl
-user_kind what.Stop e = absurd (false≢true e)
-user_kind what.Resume e = absurd (false≢true e)
-user_kind what.Kill e = absurd (false≢true e)
-user_kind (what.Read base len) e = absurd (false≢true e)
-user_kind (what.Write base bytes) e = absurd (false≢true e)
-user_kind (what.Block bytes) e = absurd (false≢true e)
-user_kind what.Written e = absurd (false≢true e)
-user_kind what.Gone e = absurd (false≢true e)
-user_kind (what.Create image links) e = absurd (false≢true e)
-user_kind (what.Created pid) e = absurd (false≢true e)
-user_kind what.NoRoom e = absurd (false≢true e)
-user_kind (what.Move machine) e = absurd (false≢true e)
-user_kind (what.Moved outcome) e = absurd (false≢true e)
+user_kind _ e = absurd (false≢true e)
 
 users_by : (pt : Point) (h : Phased pt) (n : ℕ) (p : Pid) (i : MsgId) → 1 ≤ times i (pt.view.queue n p) → IsQueued (h.state.e i) p (pt.kernel.bag i) → IsUsers pt.view.told p i
 users_by pt h n p i least q =

@@ -1,13 +1,6 @@
 -- How often a process stands in a ring.
-use Rattle.std.proofs.Common.{◌≡◌, ℕ, ◌+◌, ◌==◌, Bool, true, false, not, List, [], ◌∷◌, ◌++◌, refl, ap, ◌∙◌, sym, inl, inr, arith}
-use Rattle.std.specs.Prelude.{if◌then◌else◌}
-use Rattle.std.proofs.lemmas.Bool.{cases_Bool}
-use Rattle.dm_link.specs.declared.Pid.{Pid}
-use Rattle.dm_link.specs.Names.{pid_eq}
-use Rattle.dm_laws.proofs.Equal.{pid_eq-is, pid_eq-same, pid_eq-swap}
-use Rattle.dm_line.specs.Sets.{at_machine, without, moved_back}
-use Rattle.dm_rule.proofs.Lines.{eq_is}
-use Rattle.dm_rulelaws.specs.KnownStands.{rings}
+use Rattle.dm_rulelaws.proofs.Names.{◌≡◌, ℕ, ◌+◌, ◌==◌, Bool, true, false, not, List, [], ◌∷◌, ◌++◌, refl, ap, ◌∙◌, sym, inl, inr, arith, if◌then◌else◌, cases_Bool, Pid, pid_eq, pid_eq-is, pid_eq-same, pid_eq-swap, at_machine, without}
+use Rattle.dm_rulelaws.proofs.Names.{moved_back, eq_is, rings}
 
 -- rings
 abbrev pub one_if : Bool → ℕ

@@ -1,56 +1,22 @@
 -- What a turn says of a message of the bag, and of a process that is served, has what its lines need.
-use Rattle.std.proofs.Common.{◌≡◌, ℕ, ◌+◌, ◌==◌, ◌||◌, Bool, true, false, List, [], ◌∷◌, length, refl, ap, ◌∙◌, sym, subst}
-use Rattle.std.specs.Prelude.{if◌then◌else◌, slice_get}
-use Rattle.std.specs.declared.option.Option.{Option}
-use Rattle.std.specs.declared.option.Option.TheVariants.{None, Some}
-use Rattle.std.proofs.Common.{arith}
-use Rattle.std.proofs.lemmas.Bool.Decides.{nat_tests}
-use Rattle.dm_link.specs.declared.Pid.{Pid}
-use Rattle.dm_link.specs.Names.{pid_of, pid_eq}
-use Rattle.dm_message.specs.declared.MsgId.{MsgId}
-use Rattle.dm_message.specs.declared.kind.MessageKind.{MessageKind}
-use Rattle.dm_message.specs.declared.kind.MessageKind.TheVariants as kind
-use Rattle.dm_message.specs.Kinds.{plain_kind}
-use Rattle.dm_message.specs.Plain as what
-use Rattle.dm_message.specs.Plain.{PlainMessage, PlainWhat}
-use Rattle.dm_processor.specs.Instructions.{instruction}
-use Rattle.dm_onekernel.specs.declared.boot.BootImage.{BootImage}
-use Rattle.dm_onekernel.specs.declared.boot.Boot.{Boot}
-use Rattle.dm_onekernel.specs.declared.label.Label.TheVariants as label
-use Rattle.dm_onekernel.specs.declared.label.Why.TheVariants as why
-use Rattle.dm_onekernel.specs.Boot.{first_number, switchboard, manager}
-use Rattle.dm_onekernel.specs.Options.{bind}
-use Rattle.dm_onekernel.specs.PlainProcess.{PlainProcess, PlainStatus, Ready, Waiting, Moving}
-use Rattle.dm_onekernel.specs.Kernel.{Alive, OneKernel}
+use Rattle.dm_rulelaws.proofs.Names.{◌≡◌, ℕ, ◌+◌, ◌==◌, ◌||◌, Bool, true, false, List, [], ◌∷◌, length, refl, ap, ◌∙◌, sym, subst, if◌then◌else◌, slice_get, Option, None, Some, arith, nat_tests, Pid, pid_of, pid_eq, MsgId, MessageKind}
+use Rattle.dm_rulelaws.proofs.Names.{Label, Why, Step, Line, plain_kind, PlainMessage, PlainWhat, instruction, BootImage, Boot, first_number, switchboard, manager, bind, PlainProcess, PlainStatus, Ready, Waiting, Moving, Alive, OneKernel}
+use Rattle.dm_rulelaws.proofs.Names.{with_machine, not_server, alive-is, View, Told, Known, Unknown, Here, Forward, Addresses, Sender, is_told_back, Point, moved, Part, Says, Routes, Owns, is_away, is_here, Phase, Rests, knows, forwards_on}
+use Rattle.dm_rulelaws.proofs.Names.{not_kernels, Sane, InPhases, rests_here, Rooted, has_nothing_held}
 use Rattle.dm_onekernel.specs.Calls as calls
 use Rattle.dm_onekernel.specs.Pieces as pieces
 use Rattle.dm_onekernel.specs.Receiving as receiving
 use Rattle.dm_onekernel.specs.Switchboard as board
 use Rattle.dm_onekernel.specs.Manager as manage
 use Rattle.dm_onekernel.specs.Step as kernel
-use Rattle.dm_onekernel.specs.Step.{machine_of, with_machine}
-use Rattle.dm_laws.proofs.Sound.{not_server}
-use Rattle.dm_laws.proofs.Steps.{alive-is}
-use Rattle.dm_schedule.specs.declared.Step.TheVariants as step
-use Rattle.dm_line.specs.declared.line.Line.TheVariants as line
-use Rattle.dm_rule.specs.View.{View, Told, Known, Unknown, Here, Frozen, Incoming, Forward, Ended}
-use Rattle.dm_rule.specs.Addresses.{Addresses, Sender, is_told_back}
-use Rattle.dm_rule.specs.Point.{Point, moved}
-use Rattle.dm_rule.specs.Parts.{Part, Says, Routes, Owns}
-use Rattle.dm_rule.specs.Phases.{is_away, is_here, Phase, Rests, knows}
-use Rattle.dm_rule.specs.Migrating.{forwards_on}
+use Rattle.dm_onekernel.specs.Step.{machine_of}
+use Rattle.dm_rule.specs.View.{Ended}
 use Rattle.dm_rule.specs.Rule as rule
-use Rattle.dm_rule.proofs.Letters.{not_kernels}
-use Rattle.dm_rule.proofs.Telling.{Sane}
-use Rattle.dm_rule.proofs.Phases.Stand.{InPhases}
-use Rattle.dm_rule.proofs.Phases.Rests.{rests_here}
-use Rattle.dm_rule.proofs.Phases.Groups.{Rooted}
-use Rattle.dm_rulelaws.specs.Found.{has_nothing_held}
 use Rattle.dm_rulelaws.proofs.Based.Needs.{Resting, Serves, Unborn, Living, Queues, NeedsPart, Walks, WalksOf, AllLoose, loose_walks, first_walks, said_by, begun}
 
 -- the point behind the head of a turn
 abbrev pub turned : Point → ℕ → Point
-turned o m = begun o (step.Turn m)
+turned o m = begun o (Step.Turn m)
 
 -- what is here rests here
 away_of : (m n : ℕ) (k : Known) → (m == n) ≡ false → knows (Rests m) n k ≡ true → is_away k ≡ true
@@ -87,16 +53,16 @@ drops_loose [] = tt
 drops_loose (i ∷ is) = (λ pt. tt, drops_loose is)
 
 called_walks : (pt : Point) (p : Pid) (n : ℕ) (queue : List MsgId) (c : calls.Called) → Resting pt.view p → Walks pt (rule.called p n queue c)
-called_walks pt p n queue (calls.Replies reply x) h = loose_walks (rule.says (label.Call p n reply) ∷ []) pt (λ q. tt, tt)
-called_walks pt p n queue (calls.Sends m x) h = loose_walks (rule.says (label.Send p m.id) ∷ Routes m.id ∷ []) pt (λ q. tt, (λ q. tt, tt))
-called_walks pt p n queue (calls.Waits x) h = loose_walks (rule.says (label.Wait p) ∷ []) pt (λ q. tt, tt)
-called_walks pt p n queue (calls.Outputs word x) h = loose_walks (rule.says (label.Out p word) ∷ []) pt (λ q. tt, tt)
-called_walks pt p n queue (calls.Ends because) h = first_walks (rule.says (label.End p because)) (rule.drops queue) pt h (drops_loose queue)
+called_walks pt p n queue (calls.Replies reply x) h = loose_walks (rule.says (Label.Call p n reply) ∷ []) pt (λ q. tt, tt)
+called_walks pt p n queue (calls.Sends m x) h = loose_walks (rule.says (Label.Send p m.id) ∷ Routes m.id ∷ []) pt (λ q. tt, (λ q. tt, tt))
+called_walks pt p n queue (calls.Waits x) h = loose_walks (rule.says (Label.Wait p) ∷ []) pt (λ q. tt, tt)
+called_walks pt p n queue (calls.Outputs word x) h = loose_walks (rule.says (Label.Out p word) ∷ []) pt (λ q. tt, tt)
+called_walks pt p n queue (calls.Ends because) h = first_walks (rule.says (Label.End p because)) (rule.drops queue) pt h (drops_loose queue)
 
 stops_walks : (pt : Point) (p : Pid) (queue : List MsgId) (o : Option kernel.Next) → Resting pt.view p → Walks pt (rule.stops p queue o)
 stops_walks pt p queue None h = tt
 stops_walks pt p queue (Some (kernel.Calls n c)) h = called_walks pt p n queue c h
-stops_walks pt p queue (Some (kernel.Faults fault)) h = first_walks (rule.says (label.End p (why.Fault fault))) (rule.drops queue) pt h (drops_loose queue)
+stops_walks pt p queue (Some (kernel.Faults fault)) h = first_walks (rule.says (Label.End p (Why.Fault fault))) (rule.drops queue) pt h (drops_loose queue)
 
 maybe_walks : (pt : Point) (p : Pid) (queue : List MsgId) (full : Bool) (o : Option kernel.Next) → Resting pt.view p → Walks pt (if full then [] else rule.stops p queue o)
 maybe_walks pt p queue true o h = tt
@@ -107,14 +73,14 @@ executes_walks pt quantum p queue x r h =
     let o = kernel.next_row p (with_machine x r.machine) (instruction r.machine.regs r.machine.bytes) in (
       h.here,
       λ next s.
-          let k = said_by pt next (line.Label (label.Ran p r.count)) s in
-          let after_ : Resting (moved pt (line.Label (label.Ran p r.count)) k.kernel).view p = record { here = h.here; away = h.away } in
+          let k = said_by pt next (Line.Label (Label.Ran p r.count)) s in
+          let after_ : Resting (moved pt (Line.Label (Label.Ran p r.count)) k.kernel).view p = record { here = h.here; away = h.away } in
           maybe_walks next p queue (r.count == quantum) o (subst (λ (q : Point). Resting q.view p) k.is after_),
     )
 
 completes_walks : (pt : Point) (p : Pid) (id : MsgId) (c : receiving.Completed) → Resting pt.view p → Walks pt (rule.completes p id c)
-completes_walks pt p id (receiving.Receives x) h = first_walks (rule.says (label.Receive p id)) [] pt h.here tt
-completes_walks pt p id (receiving.Refuses reply x) h = first_walks (rule.says (label.Refuse p id reply)) [] pt h.here tt
+completes_walks pt p id (receiving.Receives x) h = first_walks (rule.says (Label.Receive p id)) [] pt h.here tt
+completes_walks pt p id (receiving.Refuses reply x) h = first_walks (rule.says (Label.Refuse p id reply)) [] pt h.here tt
 
 receives_walks : (pt : Point) (s : OneKernel) (p : Pid) (x : PlainProcess) (o : Option MsgId) → Resting pt.view p → WalksOf pt (rule.receives s p x o)
 receives_walks pt s p x None h = tt
@@ -128,7 +94,7 @@ serves_walks pt quantum s p queue x (Waiting mask base size) h = receives_walks 
 serves_walks pt quantum s p queue x (Moving dir owner base own left pending) h = tt
 
 pub round_walks : (pt : Point) (b : Boot) (o : Point) (m : ℕ) (q : Option Pid) → ((p : Pid) → q ≡ Some p → Resting pt.view p) → WalksOf pt (rule.goes_round b o m q)
-round_walks pt b o m None h = loose_walks (Says (line.Idle m) ∷ []) pt (λ q. tt, tt)
+round_walks pt b o m None h = loose_walks (Says (Line.Idle m) ∷ []) pt (λ q. tt, tt)
 round_walks pt b o m (Some p) h =
     of_bind pt (kernel.alive (o.kernel.processes p)) (λ x. rule.serves_status b.quantum o.kernel p (o.view.queue m p) x x.status)
     (λ x is. serves_walks pt b.quantum o.kernel p (o.view.queue m p) x x.status (h p refl))
@@ -149,7 +115,7 @@ front_serves pt id msg sane phases f here = record {
   rests = λ k. resting pt.view f.told.receiver phases (ap (pt.view.known pt.view.acting) (front_for pt id msg f.told sane f f.is).1 ∙ here);
 }
 
-front_queues : (pt : Point) (id : MsgId) (msg : PlainMessage) → Sane pt → Front pt id msg → plain_kind msg.what ≡ kind.User → pt.view.known pt.view.acting msg.to ≡ Here → (t : Told) → pt.view.told id ≡ Some t → Queues pt.view t id
+front_queues : (pt : Point) (id : MsgId) (msg : PlainMessage) → Sane pt → Front pt id msg → plain_kind msg.what ≡ MessageKind.User → pt.view.known pt.view.acting msg.to ≡ Here → (t : Told) → pt.view.told id ≡ Some t → Queues pt.view t id
 front_queues pt id msg sane f user here t told =
     let k = front_for pt id msg t sane f told in
     record { here = ap (pt.view.known pt.view.acting) k.1 ∙ here; kind = k.0 ∙ user; other = not_kernels sane.r sane.e pt.kernel id msg f.there sane.sound }
@@ -159,60 +125,49 @@ front_held pt id msg sane f held t told = ap (λ (q : Pid). has_nothing_held (pt
 
 lands_walks : (pt : Point) (id : MsgId) (o : Option pieces.Landed) → Serves pt.view id → WalksOf pt (rule.lands id o)
 lands_walks pt id None h = tt
-lands_walks pt id (Some (pieces.Next request x)) h = first_walks (rule.says (label.Served id)) (Routes request.id ∷ []) pt h (λ q. tt, tt)
-lands_walks pt id (Some (pieces.Done reply x)) h = first_walks (rule.says (label.Served id)) [] pt h tt
+lands_walks pt id (Some (pieces.Next request x)) h = first_walks (rule.says (Label.Served id)) (Routes request.id ∷ []) pt h (λ q. tt, tt)
+lands_walks pt id (Some (pieces.Done reply x)) h = first_walks (rule.says (Label.Served id)) [] pt h tt
 
-here_walks : (pt o : Point) (m : ℕ) (id : MsgId) (msg : PlainMessage) (x : PlainProcess) (k : PlainWhat) → Serves pt.view id → (plain_kind k ≡ kind.User → (t : Told) → pt.view.told id ≡ Some t → Queues pt.view t id) → WalksOf pt (rule.here_handles o m id msg x k)
-here_walks pt o m id msg x (what.User x1 x2 x3 x4) h q = first_walks (Says (line.Queued id)) [] pt (q refl) tt
-here_walks pt o m id msg x what.Stop h q = first_walks (rule.says (label.Served id)) [] pt h tt
-here_walks pt o m id msg x what.Resume h q = first_walks (rule.says (label.Served id)) [] pt h tt
-here_walks pt o m id msg x what.Kill h q = first_walks (rule.says (label.Served id)) (rule.drops (o.view.queue m msg.to)) pt h (drops_loose (o.view.queue m msg.to))
-here_walks pt o m id msg x (what.Read x1 x2) h q = first_walks (rule.says (label.Served id)) (Routes (pieces.answer_id id) ∷ []) pt h (λ q. tt, tt)
-here_walks pt o m id msg x (what.Write x1 x2) h q = first_walks (rule.says (label.Served id)) (Routes (pieces.answer_id id) ∷ []) pt h (λ q. tt, tt)
-here_walks pt o m id msg x (what.Block x1) h q = lands_walks pt id (pieces.lands msg.to x msg x.status) h
-here_walks pt o m id msg x what.Written h q = lands_walks pt id (pieces.lands msg.to x msg x.status) h
-here_walks pt o m id msg x what.Gone h q = lands_walks pt id (pieces.lands msg.to x msg x.status) h
-here_walks pt o m id msg x (what.Create x1 x2) h q = tt
-here_walks pt o m id msg x (what.Created x1) h q = tt
-here_walks pt o m id msg x what.NoRoom h q = tt
-here_walks pt o m id msg x (what.Move x1) h q = tt
-here_walks pt o m id msg x (what.Moved x1) h q = tt
+here_walks : (pt o : Point) (m : ℕ) (id : MsgId) (msg : PlainMessage) (x : PlainProcess) (k : PlainWhat) → Serves pt.view id → (plain_kind k ≡ MessageKind.User → (t : Told) → pt.view.told id ≡ Some t → Queues pt.view t id) → WalksOf pt (rule.here_handles o m id msg x k)
+here_walks pt o m id msg x (PlainWhat.User x1 x2 x3 x4) h q = first_walks (Says (Line.Queued id)) [] pt (q refl) tt
+here_walks pt o m id msg x PlainWhat.Stop h q = first_walks (rule.says (Label.Served id)) [] pt h tt
+here_walks pt o m id msg x PlainWhat.Resume h q = first_walks (rule.says (Label.Served id)) [] pt h tt
+here_walks pt o m id msg x PlainWhat.Kill h q = first_walks (rule.says (Label.Served id)) (rule.drops (o.view.queue m msg.to)) pt h (drops_loose (o.view.queue m msg.to))
+here_walks pt o m id msg x (PlainWhat.Read x1 x2) h q = first_walks (rule.says (Label.Served id)) (Routes (pieces.answer_id id) ∷ []) pt h (λ q. tt, tt)
+here_walks pt o m id msg x (PlainWhat.Write x1 x2) h q = first_walks (rule.says (Label.Served id)) (Routes (pieces.answer_id id) ∷ []) pt h (λ q. tt, tt)
+here_walks pt o m id msg x (PlainWhat.Block x1) h q = lands_walks pt id (pieces.lands msg.to x msg x.status) h
+here_walks pt o m id msg x PlainWhat.Written h q = lands_walks pt id (pieces.lands msg.to x msg x.status) h
+here_walks pt o m id msg x PlainWhat.Gone h q = lands_walks pt id (pieces.lands msg.to x msg x.status) h
+here_walks pt o m id msg x _ h q = tt
 
-dropped_loose : (id : MsgId) → AllLoose (rule.says (label.Dropped id) ∷ [])
+dropped_loose : (id : MsgId) → AllLoose (rule.says (Label.Dropped id) ∷ [])
 dropped_loose id = (λ q. tt, tt)
 
-gone_loose : (id : MsgId) → AllLoose (rule.says (label.Gone id) ∷ Routes (pieces.answer_id id) ∷ [])
+gone_loose : (id : MsgId) → AllLoose (rule.says (Label.Gone id) ∷ Routes (pieces.answer_id id) ∷ [])
 gone_loose id = (λ q. tt, (λ q. tt, tt))
 
 ended_walks : (pt : Point) (id : MsgId) (k : PlainWhat) → WalksOf pt (rule.ended_handles id k)
-ended_walks pt id (what.User x1 x2 x3 x4) = loose_walks (rule.says (label.Dropped id) ∷ []) pt (dropped_loose id)
-ended_walks pt id what.Stop = loose_walks (rule.says (label.Dropped id) ∷ []) pt (dropped_loose id)
-ended_walks pt id what.Resume = loose_walks (rule.says (label.Dropped id) ∷ []) pt (dropped_loose id)
-ended_walks pt id what.Kill = loose_walks (rule.says (label.Dropped id) ∷ []) pt (dropped_loose id)
-ended_walks pt id (what.Read x1 x2) = loose_walks (rule.says (label.Gone id) ∷ Routes (pieces.answer_id id) ∷ []) pt (gone_loose id)
-ended_walks pt id (what.Write x1 x2) = loose_walks (rule.says (label.Gone id) ∷ Routes (pieces.answer_id id) ∷ []) pt (gone_loose id)
-ended_walks pt id (what.Block x1) = loose_walks (rule.says (label.Dropped id) ∷ []) pt (dropped_loose id)
-ended_walks pt id what.Written = loose_walks (rule.says (label.Dropped id) ∷ []) pt (dropped_loose id)
-ended_walks pt id what.Gone = loose_walks (rule.says (label.Dropped id) ∷ []) pt (dropped_loose id)
-ended_walks pt id (what.Create x1 x2) = tt
-ended_walks pt id (what.Created x1) = tt
-ended_walks pt id what.NoRoom = tt
-ended_walks pt id (what.Move x1) = tt
-ended_walks pt id (what.Moved x1) = tt
+ended_walks pt id (PlainWhat.Read x1 x2) = loose_walks (rule.says (Label.Gone id) ∷ Routes (pieces.answer_id id) ∷ []) pt (gone_loose id)
+ended_walks pt id (PlainWhat.Write x1 x2) = loose_walks (rule.says (Label.Gone id) ∷ Routes (pieces.answer_id id) ∷ []) pt (gone_loose id)
+ended_walks pt id (PlainWhat.Create x1 x2) = tt
+ended_walks pt id (PlainWhat.Created x1) = tt
+ended_walks pt id PlainWhat.NoRoom = tt
+ended_walks pt id (PlainWhat.Move x1) = tt
+ended_walks pt id (PlainWhat.Moved x1) = tt
+ended_walks pt id _ = loose_walks (rule.says (Label.Dropped id) ∷ []) pt (dropped_loose id)
 
 pub forwards_walks : (pt : Point) (a : Addresses) (id : MsgId) (k : MessageKind) (sender : Pid) (to : ℕ) → Walks pt (forwards_on a id k sender to)
 forwards_walks pt a id k sender to =
-    loose_walks (forwards_on a id k sender to) pt (λ q. tt, (λ q. tt, loose_if (is_told_back k) (Owns kind.Update sender (a (Sender id)).at ∷ []) (λ q. tt, tt)))
+    loose_walks (forwards_on a id k sender to) pt (λ q. tt, (λ q. tt, loose_if (is_told_back k) (Owns MessageKind.Update sender (a (Sender id)).at ∷ []) (λ q. tt, tt)))
 
 process_walks : (pt o : Point) (m : ℕ) (id : MsgId) (msg : PlainMessage) (k : Known) → Sane pt → InPhases pt.view → Front pt id msg → pt.view.known pt.view.acting msg.to ≡ k → WalksOf pt (rule.process_handles o m id msg k)
 process_walks pt o m id msg Unknown sane phases f known = tt
 process_walks pt o m id msg Here sane phases f known =
     of_bind pt (kernel.alive (o.kernel.processes msg.to)) (λ x. rule.here_handles o m id msg x msg.what)
     (λ x is. here_walks pt o m id msg x msg.what (front_serves pt id msg sane phases f known) (λ user. front_queues pt id msg sane f user known))
-process_walks pt o m id msg (Frozen to) sane phases f known = first_walks (Says (line.Held id)) [] pt (front_held pt id msg sane f (ap has_nothing_held known)) tt
-process_walks pt o m id msg (Incoming from) sane phases f known = first_walks (Says (line.Held id)) [] pt (front_held pt id msg sane f (ap has_nothing_held known)) tt
 process_walks pt o m id msg (Forward at moves) sane phases f known = forwards_walks pt o.addresses id (plain_kind msg.what) msg.sender at
 process_walks pt o m id msg Ended sane phases f known = ended_walks pt id msg.what
+process_walks pt o m id msg _ sane phases f known = first_walks (Says (Line.Held id)) [] pt (front_held pt id msg sane f (ap has_nothing_held known)) tt
 
 routes_loose : (o : Option PlainMessage) → AllLoose (rule.routes o)
 routes_loose None = tt
@@ -220,13 +175,13 @@ routes_loose (Some m) = (λ pt. tt, tt)
 
 board_walks : (pt : Point) (id : MsgId) (o : Option board.Took) → WalksOf pt (rule.board_took id o)
 board_walks pt id None = tt
-board_walks pt id (Some t) = loose_walks (rule.says (label.Took id) ∷ rule.routes t.answer) pt (λ q. tt, routes_loose t.answer)
+board_walks pt id (Some t) = loose_walks (rule.says (Label.Took id) ∷ rule.routes t.answer) pt (λ q. tt, routes_loose t.answer)
 
 manager_walks : (pt : Point) (id : MsgId) (o : Option manage.Took) → WalksOf pt (rule.manager_took id o)
 manager_walks pt id None = tt
-manager_walks pt id (Some t) = loose_walks (rule.says (label.Took id) ∷ rule.routes t.message) pt (λ q. tt, routes_loose t.message)
+manager_walks pt id (Some t) = loose_walks (rule.says (Label.Took id) ∷ rule.routes t.message) pt (λ q. tt, routes_loose t.message)
 
-created_needs : (pt : Point) (c : Bool) (id : MsgId) (p : Pid) (a b : ℕ) → Unborn pt.view p → NeedsPart pt (if c then rule.says (label.Created id p) else rule.says (label.NoSpace id a b))
+created_needs : (pt : Point) (c : Bool) (id : MsgId) (p : Pid) (a b : ℕ) → Unborn pt.view p → NeedsPart pt (if c then rule.says (Label.Created id p) else rule.says (Label.NoSpace id a b))
 created_needs pt true id p a b h = h
 created_needs pt false id p a b h = tt
 
@@ -234,24 +189,12 @@ creates_walks : (pt o : Point) (m : ℕ) (id : MsgId) (r : rule.Room) (i : Optio
 creates_walks pt o m id r None h = tt
 creates_walks pt o m id r (Some i) h =
     let child = pid_of m (first_number + o.kernel.made m) in
-    first_walks (if rule.has_room r i.blocks then rule.says (label.Created id child) else rule.says (label.NoSpace id r.slots r.blocks)) (Routes (pieces.answer_id id) ∷ []) pt
+    first_walks (if rule.has_room r i.blocks then rule.says (Label.Created id child) else rule.says (Label.NoSpace id r.slots r.blocks)) (Routes (pieces.answer_id id) ∷ []) pt
     (created_needs pt (rule.has_room r i.blocks) id child r.slots r.blocks h) (λ q. tt, tt)
 
 kernel_walks : (pt : Point) (b : Boot) (o : Point) (m : ℕ) (id : MsgId) (k : PlainWhat) → Unborn pt.view (pid_of m (first_number + o.kernel.made m)) → WalksOf pt (rule.kernel_handles b o m id k)
-kernel_walks pt b o m id (what.User x1 x2 x3 x4) h = tt
-kernel_walks pt b o m id what.Stop h = tt
-kernel_walks pt b o m id what.Resume h = tt
-kernel_walks pt b o m id what.Kill h = tt
-kernel_walks pt b o m id (what.Read x1 x2) h = tt
-kernel_walks pt b o m id (what.Write x1 x2) h = tt
-kernel_walks pt b o m id (what.Block x1) h = tt
-kernel_walks pt b o m id what.Written h = tt
-kernel_walks pt b o m id what.Gone h = tt
-kernel_walks pt b o m id (what.Create x1 x2) h = creates_walks pt o m id (rule.free_room b o m) (slice_get b.images x1) h
-kernel_walks pt b o m id (what.Created x1) h = tt
-kernel_walks pt b o m id what.NoRoom h = tt
-kernel_walks pt b o m id (what.Move x1) h = tt
-kernel_walks pt b o m id (what.Moved x1) h = tt
+kernel_walks pt b o m id (PlainWhat.Create x1 x2) h = creates_walks pt o m id (rule.free_room b o m) (slice_get b.images x1) h
+kernel_walks pt b o m id _ h = tt
 
 pub unborn : (o : Point) (m : ℕ) → Rooted o → Unborn (turned o m).view (pid_of m (first_number + o.kernel.made m))
 unborn o m h =

@@ -1,21 +1,6 @@
 -- A value set for one process on one machine, lists with messages taken out, and what a kill may do.
-use Rattle.std.proofs.Common.{◌≡◌, ℕ, ◌+◌, ◌≤◌, ◌==◌, ◌&&◌, Bool, true, false, List, [], ◌∷◌, ◌++◌, refl, ap, sym, subst, inl, inr, arith}
-use Rattle.std.specs.Prelude.{if◌then◌else◌}
-use Rattle.std.proofs.lemmas.Bool.{cases_Bool}
-use Rattle.std.specs.declared.option.Option.TheVariants.{Some}
-use Rattle.dm_link.specs.declared.Pid.{Pid}
-use Rattle.dm_link.specs.Names.{pid_eq}
-use Rattle.dm_message.specs.declared.MsgId.{MsgId}
-use Rattle.dm_message.specs.Ids.{id_eq}
-use Rattle.dm_message.specs.declared.kind.MessageKind.{MessageKind}
-use Rattle.dm_message.specs.declared.kind.MessageKind.TheVariants as kind
-use Rattle.dm_laws.proofs.Equal.{id_eq-is, pid_eq-is}
-use Rattle.dm_line.specs.Sets.{at_record, without_id, without_front}
-use Rattle.dm_rule.specs.Spots.{times}
-use Rattle.dm_rule.specs.View.{View, kills, ended}
-use Rattle.dm_rule.proofs.Lines.{parts, eq_is}
-use Rattle.dm_rule.proofs.Phases.Quiet.{is_kill}
-use Rattle.dm_rule.proofs.Standing.{times-append}
+use Rattle.dm_rulelaws.proofs.Names.{◌≡◌, ℕ, ◌+◌, ◌≤◌, ◌==◌, ◌&&◌, Bool, true, false, List, [], ◌∷◌, ◌++◌, refl, ap, sym, subst, inl, inr, arith, if◌then◌else◌, cases_Bool, Some, Pid, pid_eq, MsgId, id_eq, MessageKind, id_eq-is, pid_eq-is}
+use Rattle.dm_rulelaws.proofs.Names.{at_record, without_id, without_front, times, View, kills, ended, parts, eq_is, is_kill, times-append}
 
 -- one value set: there, and elsewhere
 pub set_all : {X : Type 0} (T : ℕ → Pid → X → Type 0) (f : ℕ → Pid → X) (a : ℕ) (p : Pid) (x : X) → T a p x → ((n : ℕ) (q : Pid) → ((a == n) && pid_eq p q) ≡ false → T n q (f n q)) → (n : ℕ) (q : Pid) → T n q (at_record f a p x n q)
@@ -55,29 +40,5 @@ last_of T i id xs least old new = elim (cases_Bool (id_eq i id)) [
 
 -- a message kills its receiver, or leaves what is known
 pub killed_or : (P : View → Type 0) (k : MessageKind) (v : View) (p : Pid) → (is_kill k ≡ true → P (ended v p)) → (is_kill k ≡ false → P v) → P (kills k v (Some p))
-killed_or P kind.Ask v p h g = g refl
-killed_or P kind.Refuse v p h g = g refl
-killed_or P kind.PullState v p h g = g refl
-killed_or P kind.State v p h g = g refl
-killed_or P kind.PullBlock v p h g = g refl
-killed_or P kind.Memory v p h g = g refl
-killed_or P kind.AllTaken v p h g = g refl
-killed_or P kind.Restart v p h g = g refl
-killed_or P kind.User v p h g = g refl
-killed_or P kind.Stop v p h g = g refl
-killed_or P kind.Resume v p h g = g refl
-killed_or P kind.Kill v p h g = h refl
-killed_or P kind.Read v p h g = g refl
-killed_or P kind.Write v p h g = g refl
-killed_or P kind.Block v p h g = g refl
-killed_or P kind.Written v p h g = g refl
-killed_or P kind.Gone v p h g = g refl
-killed_or P kind.Create v p h g = g refl
-killed_or P kind.Created v p h g = g refl
-killed_or P kind.NoRoom v p h g = g refl
-killed_or P kind.Migrate v p h g = g refl
-killed_or P kind.Update v p h g = g refl
-killed_or P kind.Move v p h g = g refl
-killed_or P kind.Moved v p h g = g refl
-killed_or P kind.CallOff v p h g = g refl
-killed_or P kind.Bury v p h g = g refl
+killed_or P MessageKind.Kill v p h g = h refl
+killed_or P _ v p h g = g refl

@@ -1,26 +1,8 @@
 -- Before the first line, what machines know agrees with the kernel without machines.
-use Rattle.std.proofs.Common.{◌≡◌, ℕ, ◌+◌, ◌==◌, ◌&&◌, ◌||◌, Bool, true, false, List, [], ◌∷◌, ◌++◌, length, map, refl, ap, ◌∙◌, sym, ◌≢◌, is_some, nat_le, nat_lt, inl, inr, arith}
-use Rattle.std.specs.Prelude.{if◌then◌else◌, slice_get, option_map}
-use Rattle.std.specs.declared.option.Option.{Option}
-use Rattle.std.specs.declared.option.Option.TheVariants.{None, Some}
-use Rattle.std.proofs.lemmas.Bool.{cases_Bool, false≢true}
-use Rattle.std.proofs.lemmas.Bool.Decides.{nat_tests}
-use Rattle.dm_link.specs.declared.Pid.{Pid}
-use Rattle.dm_link.specs.Names.{pid_eq}
-use Rattle.dm_link.specs.Plain.{plain_link}
-use Rattle.dm_onekernel.specs.declared.boot.BootImage.{BootImage}
-use Rattle.dm_onekernel.specs.declared.boot.BootProcess.{BootProcess}
-use Rattle.dm_onekernel.specs.declared.boot.Boot.{Boot}
-use Rattle.dm_onekernel.specs.Boot.{IsValid, switchboard, manager, starting_at, slots_of, links_are_valid, processes_are_valid, process_is_valid}
-use Rattle.dm_onekernel.specs.Kernel.{Life, Alive}
-use Rattle.dm_onekernel.specs.Kernel as kernels
-use Rattle.dm_onekernel.specs.Start.{begun, first_life, life_at}
-use Rattle.dm_laws.proofs.Equal.{pid_eq-is, pid_eq-same, pid_eq-swap}
-use Rattle.dm_rule.specs.Point.{first_point}
-use Rattle.dm_rule.specs.View.{Known, known_at, ring_at, first_view}
-use Rattle.dm_rule.specs.View as view
-use Rattle.dm_rulelaws.specs.Fits.{is_server}
-use Rattle.dm_rulelaws.specs.KnownStands.{KnownStands, agrees, server_at, rings, turns_here}
+use Rattle.dm_rulelaws.proofs.Names.{◌≡◌, ℕ, ◌+◌, ◌==◌, ◌&&◌, ◌||◌, Bool, true, false, List, [], ◌∷◌, ◌++◌, length, map, refl, ap, ◌∙◌, sym, ◌≢◌, is_some, nat_le, nat_lt, inl, inr, arith, if◌then◌else◌, slice_get, option_map, Option, None}
+use Rattle.dm_rulelaws.proofs.Names.{Some, cases_Bool, false≢true, nat_tests, Pid, pid_eq, plain_link, BootImage, BootProcess, Boot, IsValid, switchboard, manager, starting_at, slots_of, links_are_valid, processes_are_valid}
+use Rattle.dm_rulelaws.proofs.Names.{process_is_valid, Life, Alive, begun, first_life, life_at, pid_eq-is, pid_eq-same, pid_eq-swap, first_point, Known, known_at, ring_at, is_server, KnownStands, agrees, server_at, rings, turns_here}
+use Rattle.dm_rulelaws.proofs.Names.{eq_self}
 use Rattle.dm_rulelaws.proofs.Fits.Rises.{both}
 use Rattle.dm_rulelaws.proofs.Fits.Start.{get_some}
 
@@ -29,14 +11,14 @@ one_if c = if c then 1 else 0
 
 -- a process is here while it lives
 abbrev known_of_life : Option Life → Known
-known_of_life None = view.Unknown
-known_of_life (Some (Alive x)) = view.Here
-known_of_life (Some (kernels.Ended y)) = view.Ended
+known_of_life None = Known.Unknown
+known_of_life (Some (Alive x)) = Known.Here
+known_of_life (Some (Life.Ended y)) = Known.Ended
 
 abbrev is_alive : Option Life → Bool
 is_alive None = false
 is_alive (Some (Alive x)) = true
-is_alive (Some (kernels.Ended y)) = false
+is_alive (Some (Life.Ended y)) = false
 
 -- a process of a list after some others of the file
 record Listed (b : Boot) (earlier : List BootProcess) (p : BootProcess) (ps : List BootProcess) : Type 0 where
@@ -79,15 +61,15 @@ none_later b earlier (p ∷ ps) q h low =
         absurd (false≢true (sym off ∙ low))
 
 alive_first : (b : Boot) (p : BootProcess) (o : Option BootImage) → is_some o ≡ true
-    → (known_of_life (option_map (λ (image : BootImage). Alive (begun b.format image (map plain_link p.links))) o) ≡ view.Here) × (is_alive (option_map (λ (image : BootImage). Alive (begun b.format image (map plain_link p.links))) o) ≡ true)
+    → (known_of_life (option_map (λ (image : BootImage). Alive (begun b.format image (map plain_link p.links))) o) ≡ Known.Here) × (is_alive (option_map (λ (image : BootImage). Alive (begun b.format image (map plain_link p.links))) o) ≡ true)
 alive_first b p None e = cc
 alive_first b p (Some i) e = (refl, refl)
 
 -- what machines know at the start
-servers_known : (q : Pid) (m : ℕ) (c : Bool) → is_server q ≡ c → (if (m == 0) && c then view.Here else view.Unknown) ≡ (if q.home == m then (if c then view.Here else view.Unknown) else view.Unknown)
+pub servers_known : (q : Pid) (m : ℕ) (c : Bool) → is_server q ≡ c → (if (m == 0) && c then Known.Here else Known.Unknown) ≡ (if q.home == m then (if c then Known.Here else Known.Unknown) else Known.Unknown)
 servers_known q m false e = never (m == 0) (q.home == m)
   where
-    never : (c d : Bool) → (if c && false then view.Here else view.Unknown) ≡ (if d then view.Unknown else view.Unknown)
+    never : (c d : Bool) → (if c && false then Known.Here else Known.Unknown) ≡ (if d then Known.Unknown else Known.Unknown)
     never true true = refl
     never true false = refl
     never false true = refl
@@ -95,17 +77,17 @@ servers_known q m false e = never (m == 0) (q.home == m)
 servers_known q m true e =
     let home : q.home ≡ 0 = home_of (pid_eq q switchboard) refl e in
     let same : (m == 0) ≡ (q.home == m) = grind (arith, nat_tests) in
-    ap (λ (c : Bool). if c && true then view.Here else view.Unknown) same ∙ pick (q.home == m)
+    ap (λ (c : Bool). if c && true then Known.Here else Known.Unknown) same ∙ pick (q.home == m)
   where
     home_of : (c : Bool) → pid_eq q switchboard ≡ c → (c || pid_eq q manager) ≡ true → q.home ≡ 0
     home_of true f g = grind (arith, nat_tests)
     home_of false f g = grind (arith, nat_tests)
 
-    pick : (c : Bool) → (if c && true then view.Here else view.Unknown) ≡ (if c then view.Here else view.Unknown)
+    pick : (c : Bool) → (if c && true then Known.Here else Known.Unknown) ≡ (if c then Known.Here else Known.Unknown)
     pick true = refl
     pick false = refl
 
-known_first : (b : Boot) (earlier ps : List BootProcess) (m : ℕ) (q : Pid) → processes_are_valid b earlier ps ≡ true → known_at ps m q ≡ (if q.home == m then (if is_server q then view.Here else known_of_life (life_at b ps q)) else view.Unknown)
+known_first : (b : Boot) (earlier ps : List BootProcess) (m : ℕ) (q : Pid) → processes_are_valid b earlier ps ≡ true → known_at ps m q ≡ (if q.home == m then (if is_server q then Known.Here else known_of_life (life_at b ps q)) else Known.Unknown)
 known_first b earlier [] m q h = servers_known q m (is_server q) refl
 known_first b earlier (p ∷ ps) m q h = elim (cases_Bool (pid_eq p.pid q)) [
   | inl same ↦
@@ -113,20 +95,20 @@ known_first b earlier (p ∷ ps) m q h = elim (cases_Bool (pid_eq p.pid q)) [
       let is : p.pid ≡ q = pid_eq-is p.pid q same in
       let number : q.num ≡ 3 + starting_at q.home earlier = sym (ap (λ (v : Pid). v.num) is) ∙ k.number ∙ ap (λ (v : Pid). 3 + starting_at v.home earlier) is in
       let server : is_server q ≡ false = (let e : pid_eq q switchboard ≡ false = grind (arith, nat_tests) in let d : pid_eq q manager ≡ false = grind (arith, nat_tests) in ap (λ (c : Bool). c || pid_eq q manager) e ∙ d) in
-      let life : known_of_life (life_at b (p ∷ ps) q) ≡ view.Here = ap (λ (c : Bool). known_of_life (if c then first_life b p else life_at b ps q)) same ∙ (alive_first b p (slice_get b.images p.image) k.image).0 in
+      let life : known_of_life (life_at b (p ∷ ps) q) ≡ Known.Here = ap (λ (c : Bool). known_of_life (if c then first_life b p else life_at b ps q)) same ∙ (alive_first b p (slice_get b.images p.image) k.image).0 in
       let rest = known_first b (earlier ++ p ∷ []) ps m q k.rest in
-      ap (λ (c : Bool). if c && (p.pid.home == m) then view.Here else known_at ps m q) same
-      ∙ ap (λ (v : Pid). if v.home == m then view.Here else known_at ps m q) is
-      ∙ here_or (q.home == m) (known_at ps m q) (if is_server q then view.Here else known_of_life (life_at b ps q)) rest
-      ∙ ap (λ (v : Known). if q.home == m then v else view.Unknown) (sym life)
-      ∙ ap (λ (c : Bool). if q.home == m then (if c then view.Here else known_of_life (life_at b (p ∷ ps) q)) else view.Unknown) (sym server)
+      ap (λ (c : Bool). if c && (p.pid.home == m) then Known.Here else known_at ps m q) same
+      ∙ ap (λ (v : Pid). if v.home == m then Known.Here else known_at ps m q) is
+      ∙ here_or (q.home == m) (known_at ps m q) (if is_server q then Known.Here else known_of_life (life_at b ps q)) rest
+      ∙ ap (λ (v : Known). if q.home == m then v else Known.Unknown) (sym life)
+      ∙ ap (λ (c : Bool). if q.home == m then (if c then Known.Here else known_of_life (life_at b (p ∷ ps) q)) else Known.Unknown) (sym server)
   | inr apart ↦
       let k = listed b earlier p ps h in
-      ap (λ (c : Bool). if c && (p.pid.home == m) then view.Here else known_at ps m q) apart ∙ known_first b (earlier ++ p ∷ []) ps m q k.rest
-      ∙ ap (λ (c : Bool). if q.home == m then (if is_server q then view.Here else known_of_life (if c then first_life b p else life_at b ps q)) else view.Unknown) (sym apart)
+      ap (λ (c : Bool). if c && (p.pid.home == m) then Known.Here else known_at ps m q) apart ∙ known_first b (earlier ++ p ∷ []) ps m q k.rest
+      ∙ ap (λ (c : Bool). if q.home == m then (if is_server q then Known.Here else known_of_life (if c then first_life b p else life_at b ps q)) else Known.Unknown) (sym apart)
 ]
   where
-    here_or : (c : Bool) (x y : Known) → x ≡ (if c then y else view.Unknown) → (if c then view.Here else x) ≡ (if c then view.Here else view.Unknown)
+    here_or : (c : Bool) (x y : Known) → x ≡ (if c then y else Known.Unknown) → (if c then Known.Here else x) ≡ (if c then Known.Here else Known.Unknown)
     here_or true x y e = refl
     here_or false x y e = e
 
@@ -171,25 +153,25 @@ ring_first b earlier (p ∷ ps) m q h = elim (cases_Bool (pid_eq p.pid q)) [
     never false = refl
 
 -- what they know agrees
-agrees_first : (c : Bool) (o : Option Life) → agrees (if c then known_of_life o else view.Unknown) o ≡ true
+agrees_first : (c : Bool) (o : Option Life) → agrees (if c then known_of_life o else Known.Unknown) o ≡ true
 agrees_first true None = refl
 agrees_first true (Some (Alive x)) = refl
-agrees_first true (Some (kernels.Ended y)) = refl
+agrees_first true (Some (Life.Ended y)) = refl
 agrees_first false o = refl
 
-turns_first : (c : Bool) (o : Option Life) → one_if (c && is_alive o) ≡ turns_here false (if c then known_of_life o else view.Unknown)
+turns_first : (c : Bool) (o : Option Life) → one_if (c && is_alive o) ≡ turns_here false (if c then known_of_life o else Known.Unknown)
 turns_first true None = refl
 turns_first true (Some (Alive x)) = refl
-turns_first true (Some (kernels.Ended y)) = refl
+turns_first true (Some (Life.Ended y)) = refl
 turns_first false o = refl
 
-some_first : (o : Option Life) → is_some o ≡ true → known_of_life o ≢ view.Unknown
+some_first : (o : Option Life) → is_some o ≡ true → known_of_life o ≢ Known.Unknown
 some_first None e k = absurd (false≢true e)
 some_first (Some (Alive x)) e k = cc
-some_first (Some (kernels.Ended y)) e k = cc
+some_first (Some (Life.Ended y)) e k = cc
 
-is_first : (b : Boot) (m : ℕ) (q : Pid) (c : Bool) → IsValid b → is_server q ≡ c → known_at b.processes m q ≡ (if q.home == m then (if c then view.Here else known_of_life (life_at b b.processes q)) else view.Unknown)
-is_first b m q c valid e = known_first b [] b.processes m q valid.processes ∙ ap (λ (x : Bool). if q.home == m then (if x then view.Here else known_of_life (life_at b b.processes q)) else view.Unknown) e
+is_first : (b : Boot) (m : ℕ) (q : Pid) (c : Bool) → IsValid b → is_server q ≡ c → known_at b.processes m q ≡ (if q.home == m then (if c then Known.Here else known_of_life (life_at b b.processes q)) else Known.Unknown)
+is_first b m q c valid e = known_first b [] b.processes m q valid.processes ∙ ap (λ (x : Bool). if q.home == m then (if x then Known.Here else known_of_life (life_at b b.processes q)) else Known.Unknown) e
 
 server_home : (q : Pid) (c : Bool) → pid_eq q switchboard ≡ c → (c || pid_eq q manager) ≡ true → (q.home ≡ 0) × (nat_lt q.num 3 ≡ true)
 server_home q true f g = (grind (arith, nat_tests), grind (arith, nat_tests))
@@ -199,7 +181,7 @@ server_first : (b : Boot) (m : ℕ) (q : Pid) → IsValid b → is_server q ≡ 
 server_first b m q valid e =
     let home = (server_home q (pid_eq q switchboard) refl e).0 in
     let same : (q.home == m) ≡ (m == 0) = grind (arith, nat_tests) in
-    is_first b m q true valid e ∙ ap (λ (c : Bool). if c then view.Here else view.Unknown) same
+    is_first b m q true valid e ∙ ap (λ (c : Bool). if c then Known.Here else Known.Unknown) same
 
 server_none : (b : Boot) (q : Pid) → IsValid b → is_server q ≡ true → life_at b b.processes q ≡ None
 server_none b q valid e =
@@ -216,14 +198,11 @@ ring_by b m q true valid e =
 ring_by b m q false valid e =
     ring_first b [] b.processes m q valid.processes ∙ turns_first (q.home == m) (life_at b b.processes q) ∙ ap (turns_here false) (sym (is_first b m q false valid e))
 
-self : (n : ℕ) → (n == n) ≡ true
-self n = grind (arith, nat_tests)
-
 pub known_start : (b : Boot) → IsValid b → KnownStands (first_point b).kernel (first_point b).view
 known_start b valid = record {
   server = λ m q e. server_first b m q valid e;
   agree = λ m q e. ap (λ (k : Known). agrees k (life_at b b.processes q)) (is_first b m q false valid e) ∙ agrees_first (q.home == m) (life_at b b.processes q);
   home = λ q e some unknown. some_first (life_at b b.processes q) some
-      (sym (is_first b q.home q false valid e ∙ ap (λ (c : Bool). if c then known_of_life (life_at b b.processes q) else view.Unknown) (self q.home)) ∙ unknown);
+      (sym (is_first b q.home q false valid e ∙ ap (λ (c : Bool). if c then known_of_life (life_at b b.processes q) else Known.Unknown) (eq_self q.home)) ∙ unknown);
   ring = λ m q. ring_by b m q (is_server q) valid refl;
 }

@@ -1,32 +1,8 @@
 -- What was never made has never moved: each group keeps it.
-use Rattle.std.proofs.Common.{◌≡◌, ℕ, ◌+◌, Bool, refl, ap, ◌∙◌, sym, subst, inl, inr}
-use Rattle.std.specs.Prelude.{if◌then◌else◌}
-use Rattle.std.proofs.lemmas.Bool.{cases_Bool}
-use Rattle.std.specs.declared.option.Option.{Option}
-use Rattle.std.specs.declared.option.Option.TheVariants.{None, Some}
-use Rattle.dm_link.specs.declared.Pid.{Pid}
-use Rattle.dm_link.specs.Names.{pid_eq}
-use Rattle.dm_message.specs.declared.MsgId.{MsgId}
-use Rattle.dm_onekernel.specs.declared.boot.Boot.{Boot}
-use Rattle.dm_onekernel.specs.declared.label.Label.{Label}
-use Rattle.dm_onekernel.specs.declared.label.Label.TheVariants as label
-use Rattle.dm_onekernel.specs.PlainProcess.{PlainProcess}
-use Rattle.dm_onekernel.specs.Kernel.{Alive, OneKernel}
+use Rattle.dm_rulelaws.proofs.Names.{◌≡◌, ℕ, ◌+◌, Bool, refl, ap, ◌∙◌, sym, subst, inl, inr, if◌then◌else◌, cases_Bool, Option, None, Some, Pid, pid_eq, MsgId, Boot, Label, Line, Stage, PlainProcess, Alive, OneKernel, Step, pid_eq-is}
+use Rattle.dm_rulelaws.proofs.Names.{after_step, Spelled, Point, first_point, kernel_after, label_of, group_of, View, Told, handled, receiver_of, served_told, view_after, Kept, grown_none, Phased, Sane, KnownStands}
 use Rattle.dm_onekernel.specs.Step as kernel
-use Rattle.dm_schedule.specs.declared.Step.{Step}
-use Rattle.dm_laws.proofs.Equal.{pid_eq-is}
-use Rattle.dm_laws.proofs.Runs.{after_step}
-use Rattle.dm_line.specs.declared.line.Line.TheVariants as line
-use Rattle.dm_line.specs.declared.line.Stage.TheVariants as stage
-use Rattle.dm_rule.specs.Parts.{Spelled}
-use Rattle.dm_rule.specs.Point.{Point, first_point, kernel_after, label_of}
-use Rattle.dm_rule.specs.Rule.{group_of}
-use Rattle.dm_rule.specs.View.{View, Told, handled, receiver_of, served_told, view_after}
 use Rattle.dm_rule.specs.View as view
-use Rattle.dm_rule.proofs.Lives.{Kept, grown_none}
-use Rattle.dm_rule.proofs.Phases.Always.{Phased}
-use Rattle.dm_rule.proofs.Telling.{Sane}
-use Rattle.dm_rulelaws.specs.KnownStands.{KnownStands}
 use Rattle.dm_rulelaws.proofs.Based.Groups.{group_keeps}
 use Rattle.dm_rulelaws.proofs.Based.Loud.{Loud, keeps_by}
 use Rattle.dm_rulelaws.proofs.Based.Sets.{killed_or}
@@ -47,18 +23,18 @@ kept_by pt t (Some l) h e p none = kept_label pt t l h e p none
 unmoved_as : (s t : OneKernel) (v w : View) → Kept s t → w.moves ≡ v.moves → Unmoved s v → Unmoved t w
 unmoved_as s t v w kept moves h = record { none = λ p none. ap (λ (f : Pid → ℕ). f p) moves ∙ h.none p (kept p none) }
 
-by_label : (pt : Point) (t : OneKernel) (l : Label) → Sane pt → kernel.step pt.kernel l ≡ Some t → (view_after pt.view (line.Label l)).moves ≡ pt.view.moves → Unmoved pt.kernel pt.view → Unmoved t (view_after pt.view (line.Label l))
-by_label pt t l sane is moves h = unmoved_as pt.kernel t pt.view (view_after pt.view (line.Label l)) (kept_label pt t l sane is) moves h
+by_label : (pt : Point) (t : OneKernel) (l : Label) → Sane pt → kernel.step pt.kernel l ≡ Some t → (view_after pt.view (Line.Label l)).moves ≡ pt.view.moves → Unmoved pt.kernel pt.view → Unmoved t (view_after pt.view (Line.Label l))
+by_label pt t l sane is moves h = unmoved_as pt.kernel t pt.view (view_after pt.view (Line.Label l)) (kept_label pt t l sane is) moves h
 
-dropped_moves : (v : View) (id : MsgId) (o : Option Pid) → (view.dropped_for v id o).moves ≡ v.moves
+pub dropped_moves : (v : View) (id : MsgId) (o : Option Pid) → (view.dropped_for v id o).moves ≡ v.moves
 dropped_moves v id None = refl
 dropped_moves v id (Some p) = refl
 
-queued_moves : (v : View) (id : MsgId) (o : Option Pid) → (view.queued_for v id o).moves ≡ v.moves
+pub queued_moves : (v : View) (id : MsgId) (o : Option Pid) → (view.queued_for v id o).moves ≡ v.moves
 queued_moves v id None = refl
 queued_moves v id (Some p) = refl
 
-held_moves : (v : View) (id : MsgId) (o : Option Pid) → (view.held_for v id o).moves ≡ v.moves
+pub held_moves : (v : View) (id : MsgId) (o : Option Pid) → (view.held_for v id o).moves ≡ v.moves
 held_moves v id None = refl
 held_moves v id (Some p) = refl
 
@@ -82,19 +58,19 @@ unmoved_loud = record {
     packet = λ pt a b k l h. record { none = h.none };
   };
   quiet = λ pt w t l e s told alike sane is h. subst (Unmoved t) (sym e) (unmoved_as pt.kernel t pt.view w (kept_by pt t (label_of l) sane is) s.moves h);
-  ran = λ pt t p k here alike sane is h. by_label pt t (label.Ran p k) sane is refl h;
-  receive = λ pt t p id here alike sane is h. by_label pt t (label.Receive p id) sane is refl h;
-  refuse = λ pt t p id c here alike sane is h. by_label pt t (label.Refuse p id c) sane is refl h;
-  end = λ pt t p y rests sane is h. by_label pt t (label.End p y) sane is refl h;
-  dropped = λ pt t id alike sane is h. by_label pt t (label.Dropped id) sane is (dropped_moves (handled pt.view id) id (receiver_of (pt.view.told id))) h;
-  served = λ pt t id serves sane is h. by_label pt t (label.Served id) sane is (served_moves (handled pt.view id) (pt.view.told id)) h;
-  created = λ pt t id p unborn sane is h. by_label pt t (label.Created id p) sane is refl h;
-  queued = λ pt id need sane h. unmoved_as pt.kernel pt.kernel pt.view (view_after pt.view (line.Queued id)) (λ p e. e) (queued_moves (handled pt.view id) id (receiver_of (pt.view.told id))) h;
-  held = λ pt id need sane h. unmoved_as pt.kernel pt.kernel pt.view (view_after pt.view (line.Held id)) (λ p e. e) (held_moves (handled pt.view id) id (receiver_of (pt.view.told id))) h;
+  ran = λ pt t p k here alike sane is h. by_label pt t (Label.Ran p k) sane is refl h;
+  receive = λ pt t p id here alike sane is h. by_label pt t (Label.Receive p id) sane is refl h;
+  refuse = λ pt t p id c here alike sane is h. by_label pt t (Label.Refuse p id c) sane is refl h;
+  end = λ pt t p y rests sane is h. by_label pt t (Label.End p y) sane is refl h;
+  dropped = λ pt t id alike sane is h. by_label pt t (Label.Dropped id) sane is (dropped_moves (handled pt.view id) id (receiver_of (pt.view.told id))) h;
+  served = λ pt t id serves sane is h. by_label pt t (Label.Served id) sane is (served_moves (handled pt.view id) (pt.view.told id)) h;
+  created = λ pt t id p unborn sane is h. by_label pt t (Label.Created id p) sane is refl h;
+  queued = λ pt id need sane h. unmoved_as pt.kernel pt.kernel pt.view (view_after pt.view (Line.Queued id)) (λ p e. e) (queued_moves (handled pt.view id) id (receiver_of (pt.view.told id))) h;
+  held = λ pt id need sane h. unmoved_as pt.kernel pt.kernel pt.view (view_after pt.view (Line.Held id)) (λ p e. e) (held_moves (handled pt.view id) id (receiver_of (pt.view.told id))) h;
   frozen = λ pt p lives here h. record { none = h.none };
   accepted = λ pt p lives away h. record { none = h.none };
   left = λ pt p leaves h. record { none = h.none };
-  restarted = λ pt p lives off h. restarted_moves pt.kernel pt.view (view_after pt.view (line.Migration stage.Restarted p)) p lives.process lives.alive refl h;
+  restarted = λ pt p lives off h. restarted_moves pt.kernel pt.view (view_after pt.view (Line.Migration Stage.Restarted p)) p lives.process lives.alive refl h;
   stays_ = λ pt p lives off h. record { none = h.none };
   sent_on = λ pt p n h. record { none = h.none };
 }

@@ -1,28 +1,10 @@
 -- What a call gives fits.
-use Rattle.std.proofs.Common.{◌≡◌, ℕ, zero, suc, ◌+◌, ◌≤◌, ◌==◌, ◌&&◌, ◌||◌, Bool, true, false, not, List, [], ◌∷◌, length, take, drop, filter_map, refl, ap, ◌∙◌, sym, subst, nat_le, nat_lt, min, arith}
-use Rattle.std.specs.Prelude.{⊤, if◌then◌else◌, slice_set}
-use Rattle.std.specs.List.{cons_option}
-use Rattle.std.specs.declared.option.Option.{Option}
-use Rattle.std.specs.declared.option.Option.TheVariants.{None, Some}
-use Rattle.std.proofs.lemmas.Bool.Decides.{nat_tests}
-use Rattle.std.proofs.lemmas.List.{length-take}
-use Rattle.dm_link.specs.declared.Pid.{Pid}
-use Rattle.dm_link.specs.Plain.{PlainLink}
-use Rattle.dm_linktable.specs.Slots.{first_empty, link_at}
-use Rattle.dm_message.specs.Plain as what
-use Rattle.dm_message.specs.Plain.{PlainMessage, PlainWhat}
-use Rattle.dm_process.specs.Directions.{direction_numbered}
-use Rattle.dm_process.specs.declared.process.Direction.{Direction}
-use Rattle.dm_process.specs.declared.process.Direction.TheVariants as direction
-use Rattle.dm_onekernel.specs.declared.label.Reply.{Reply}
-use Rattle.dm_onekernel.specs.declared.label.Reply.TheVariants as reply
-use Rattle.dm_onekernel.specs.PlainProcess.{PlainProcess, PlainStatus, Waiting, reg}
-use Rattle.dm_onekernel.specs.Kernel.{Life, Alive, Ended}
-use Rattle.dm_onekernel.specs.Refusals.{first_failed}
+use Rattle.dm_rulelaws.proofs.Names.{◌≡◌, ℕ, zero, suc, ◌+◌, ◌≤◌, ◌==◌, ◌&&◌, ◌||◌, Bool, true, false, not, List, [], ◌∷◌, length, take, drop, filter_map, refl, ap, ◌∙◌, sym, subst, nat_le, nat_lt, min, arith, ⊤, if◌then◌else◌, slice_set}
+use Rattle.dm_rulelaws.proofs.Names.{cons_option, Option, None, Some, nat_tests, length-take, Pid, PlainLink, first_empty, link_at, PlainMessage, PlainWhat, direction_numbered, Direction, Reply, PlainProcess, PlainStatus, Waiting, reg}
+use Rattle.dm_rulelaws.proofs.Names.{Life, Alive, Ended, first_failed, Called, Replies, Sends, Waits, Outputs, Ends, CallNumber, Each, Lives, has_bytes, is_server, takes_users, gives_no_right, LinkFits, SlotFits, move_fits, ProcessFits}
+use Rattle.dm_rulelaws.proofs.Names.{status_awaits, eq_self, or_first}
 use Rattle.dm_onekernel.specs.Pieces as pieces
 use Rattle.dm_onekernel.specs.Calls as calls
-use Rattle.dm_onekernel.specs.Calls.{Called, Replies, Sends, Waits, Outputs, Ends, CallNumber}
-use Rattle.dm_rulelaws.specs.Fits.{Each, Lives, has_bytes, is_server, takes_users, gives_no_right, LinkFits, SlotFits, move_fits, ProcessFits, status_awaits}
 use Rattle.dm_rulelaws.proofs.Fits.Rises.{two, move_on}
 
 -- lists of slots
@@ -68,9 +50,9 @@ pub record Goes (ps : Lives) (x y : PlainProcess) : Type 0 where
 
 -- what a process sends: a user message, or the request that it waits for
 abbrev pub SentFits : Lives → PlainProcess → PlainMessage → PlainWhat → Type 0
-SentFits ps y m (what.User code channel body links) = (takes_users ps m.to ≡ true) × Each (LinkFits ps) links
-SentFits ps y m (what.Read base len) = (has_bytes (base + len) (ps m.to) ≡ true) × (status_awaits y.status m.id.n (what.Read base len) ≡ true)
-SentFits ps y m (what.Write base bytes) = (has_bytes (base + length bytes) (ps m.to) ≡ true) × (status_awaits y.status m.id.n (what.Write base bytes) ≡ true)
+SentFits ps y m (PlainWhat.User code channel body links) = (takes_users ps m.to ≡ true) × Each (LinkFits ps) links
+SentFits ps y m (PlainWhat.Read base len) = (has_bytes (base + len) (ps m.to) ≡ true) × (status_awaits y.status m.id.n (PlainWhat.Read base len) ≡ true)
+SentFits ps y m (PlainWhat.Write base bytes) = (has_bytes (base + length bytes) (ps m.to) ≡ true) × (status_awaits y.status m.id.n (PlainWhat.Write base bytes) ≡ true)
 SentFits ps y m w = ⊥
 
 pub record Requests (ps : Lives) (x : PlainProcess) (m : PlainMessage) (y : PlainProcess) : Type 0 where
@@ -98,38 +80,34 @@ refused_fits : (ps : Lives) (x : PlainProcess) (c : Reply) → ProcessFits ps x 
 refused_fits ps x c h = regs_go ps x (calls.replied c x) refl refl refl h
 
 puts_link_fits : (ps : Lives) (x : PlainProcess) (l : PlainLink) (o : Option ℕ) → LinkFits ps l → ProcessFits ps x → CallFits ps x (calls.puts_link x l o)
-puts_link_fits ps x l None f h = refused_fits ps x reply.TableFull h
+puts_link_fits ps x l None f h = refused_fits ps x Reply.TableFull h
 puts_link_fits ps x l (Some slot) f h = record { memory = refl; slots = slots_set ps x.links slot (Some l) f h.slots; move = move_on ps ps (λ p n e. e) x (record x { links = slice_set x.links slot (Some l) }) (omega arith) x.status h.move }
 
 -- the bytes that a process has
 abbrev pub Has : Lives → Pid → PlainProcess → Type 0
 Has ps p x = (n : ℕ) → nat_le n (length x.memory) ≡ true → has_bytes n (ps p) ≡ true
 
-or-second : (a b : Bool) → b ≡ true → (a || b) ≡ true
-or-second true b e = refl
-or-second false b e = e
-
 makes_by : (ps : Lives) (p : Pid) (x : PlainProcess) (b c d : Bool) → d ≡ calls.is_outside x (reg x.regs 4) (reg x.regs 5) → Has ps p x → ProcessFits ps x
-    → CallFits ps x (calls.unless_refused (first_failed (record { fails = b; reply = reply.BadKind } ∷ record { fails = c || d; reply = reply.BadRange } ∷ [])) x (calls.puts_link x (calls.own_link p x) (first_empty x.links)))
-makes_by ps p x true c d e has h = refused_fits ps x reply.BadKind h
-makes_by ps p x false true d e has h = refused_fits ps x reply.BadRange h
-makes_by ps p x false false true e has h = refused_fits ps x reply.BadRange h
+    → CallFits ps x (calls.unless_refused (first_failed (record { fails = b; reply = Reply.BadKind } ∷ record { fails = c || d; reply = Reply.BadRange } ∷ [])) x (calls.puts_link x (calls.own_link p x) (first_empty x.links)))
+makes_by ps p x true c d e has h = refused_fits ps x Reply.BadKind h
+makes_by ps p x false true d e has h = refused_fits ps x Reply.BadRange h
+makes_by ps p x false false true e has h = refused_fits ps x Reply.BadRange h
 makes_by ps p x false false false e has h =
     let a = (calls.own_link p x).area in
     let within : nat_le (reg x.regs 4 + reg x.regs 5) (length x.memory) ≡ true = grind (arith, nat_tests) in
-    puts_link_fits ps x (calls.own_link p x) (first_empty x.links) (or-second (is_server p && gives_no_right a) (has_bytes (reg x.regs 4 + reg x.regs 5) (ps p)) (has (reg x.regs 4 + reg x.regs 5) within)) h
+    puts_link_fits ps x (calls.own_link p x) (first_empty x.links) (or_first (is_server p && gives_no_right a) (has_bytes (reg x.regs 4 + reg x.regs 5) (ps p)) (has (reg x.regs 4 + reg x.regs 5) within)) h
 
 if_fits : (ps : Lives) (x : PlainProcess) (b : Bool) (c d : Called) → CallFits ps x c → CallFits ps x d → CallFits ps x (if b then c else d)
 if_fits ps x true c d h k = h
 if_fits ps x false c d h k = k
 
 copies_fit : (ps : Lives) (x : PlainProcess) (o : Option PlainLink) → SlotFits ps o → ProcessFits ps x → CallFits ps x (calls.copies x o)
-copies_fit ps x None f h = refused_fits ps x reply.NoLink h
+copies_fit ps x None f h = refused_fits ps x Reply.NoLink h
 copies_fit ps x (Some l) f h =
-    if_fits ps x (calls.is_reply l.kind) (calls.refused reply.NotCopyable x) (calls.puts_link x l (first_empty x.links)) (refused_fits ps x reply.NotCopyable h) (puts_link_fits ps x l (first_empty x.links) f h)
+    if_fits ps x (calls.is_reply l.kind) (calls.refused Reply.NotCopyable x) (calls.puts_link x l (first_empty x.links)) (refused_fits ps x Reply.NotCopyable h) (puts_link_fits ps x l (first_empty x.links) f h)
 
 drops_fit : (ps : Lives) (x : PlainProcess) (o : Option PlainLink) → ProcessFits ps x → CallFits ps x (calls.drops x o)
-drops_fit ps x None h = refused_fits ps x reply.NoLink h
+drops_fit ps x None h = refused_fits ps x Reply.NoLink h
 drops_fit ps x (Some l) h = record { memory = refl; slots = slots_set ps x.links (reg x.regs 1) None tt h.slots; move = move_on ps ps (λ p n e. e) x (record x { links = slice_set x.links (reg x.regs 1) None }) (omega arith) x.status h.move }
 
 has_less : (m n : ℕ) (o : Option Life) → m ≤ n → has_bytes n o ≡ true → has_bytes m o ≡ true
@@ -146,7 +124,7 @@ pub link_users : (ps : Lives) (l : PlainLink) → LinkFits ps l → takes_users 
 link_users ps l h = users_of ps l (is_server l.to) (gives_no_right l.area) refl refl h
 
 sends_fit : (ps : Lives) (p : Pid) (x : PlainProcess) (o : Option PlainLink) → SlotFits ps o → ProcessFits ps x → CallFits ps x (calls.sends p x o)
-sends_fit ps p x None f h = refused_fits ps x reply.NoLink h
+sends_fit ps p x None f h = refused_fits ps x Reply.NoLink h
 sends_fit ps p x (Some l) f h = unless_fits ps x (first_failed (calls.send_refusals x)) (Sends (calls.message_over p x l) (calls.after_send x)) h (record {
   goes = record { memory = refl; slots = without_replies_fit ps (reg x.regs 1 ∷ calls.listed x) x.links h.slots; move = still_move ps x (calls.after_send x) refl refl h.move };
   what = (link_users ps l f, links_of_fit ps x.links (calls.listed x) h.slots);
@@ -159,35 +137,32 @@ sends_fit ps p x (Some l) f h = unless_fits ps x (first_failed (calls.send_refus
 piece_less : (left : ℕ) → pieces.piece_of left ≤ left
 piece_less left = grind (arith, nat_tests)
 
-eq_same : (n : ℕ) → (n == n) ≡ true
-eq_same n = grind (arith, nat_tests)
-
 min_less : (a b : ℕ) → min a b ≤ a
 min_less a b = omega arith
 
 -- the request for a piece of a move that lies within both memories
 pub requests_fit : (ps : Lives) (p : Pid) (x z : PlainProcess) (dir : Direction) (owner : Pid) (base own left : ℕ) → z.memory ≡ x.memory → z.links ≡ x.links → has_bytes (base + left) (ps owner) ≡ true → nat_le (own + left) (length x.memory) ≡ true → Each (SlotFits ps) x.links
     → Requests ps x (pieces.requests p z dir owner base own left).message (pieces.requests p z dir owner base own left).process
-requests_fit ps p x z direction.FromArea owner base own left memory links has within slots = record {
+requests_fit ps p x z Direction.FromArea owner base own left memory links has within slots = record {
   goes = record { memory = memory; slots = subst (Each (SlotFits ps)) (sym links) slots; move = two (has_bytes (base + left) (ps owner)) (nat_le (own + left) (length z.memory)) has (ap (λ (xs : List ℕ). nat_le (own + left) (length xs)) memory ∙ within) };
   what = (
     (let le = piece_less left in has_less (base + pieces.piece_of left) (base + left) (ps owner) (omega (arith, le)) has),
-    two (z.sent == z.sent) (pieces.piece_of left == pieces.piece_of left) (eq_same z.sent) (eq_same (pieces.piece_of left)),
+    two (z.sent == z.sent) (pieces.piece_of left == pieces.piece_of left) (eq_self z.sent) (eq_self (pieces.piece_of left)),
   );
 }
-requests_fit ps p x z direction.IntoArea owner base own left memory links has within slots =
+requests_fit ps p x z Direction.IntoArea owner base own left memory links has within slots =
     let bytes = take (pieces.piece_of left) (drop own z.memory) in
     let le = piece_less left in
     let size : length bytes ≡ min (pieces.piece_of left) (length (drop own z.memory)) = length-take (pieces.piece_of left) (drop own z.memory) in
     let less = min_less (pieces.piece_of left) (length (drop own z.memory)) in
     record {
       goes = record { memory = memory; slots = subst (Each (SlotFits ps)) (sym links) slots; move = two (has_bytes (base + left) (ps owner)) (nat_le (own + left) (length z.memory)) has (ap (λ (xs : List ℕ). nat_le (own + left) (length xs)) memory ∙ within) };
-      what = (has_less (base + length bytes) (base + left) (ps owner) (omega (arith, le, size, less)) has, two (z.sent == z.sent) true (eq_same z.sent) refl);
+      what = (has_less (base + length bytes) (base + left) (ps owner) (omega (arith, le, size, less)) has, two (z.sent == z.sent) true (eq_self z.sent) refl);
     }
 
 -- a link with a right leads to a process whose memory has its area
 right_is : (ps : Lives) (l : PlainLink) (dir : Direction) → calls.lacks_right dir l.area ≡ false → LinkFits ps l → has_bytes (l.area.base + l.area.len) (ps l.to) ≡ true
-right_is ps l direction.FromArea e h = right_of (is_server l.to) (l.area.read) (l.area.write) (has_bytes (l.area.base + l.area.len) (ps l.to)) (read_of l.area.read e) h
+right_is ps l Direction.FromArea e h = right_of (is_server l.to) (l.area.read) (l.area.write) (has_bytes (l.area.base + l.area.len) (ps l.to)) (read_of l.area.read e) h
   where
     read_of : (b : Bool) → (if b then false else true) ≡ false → (not b) ≡ false
     read_of true e = refl
@@ -197,7 +172,7 @@ right_is ps l direction.FromArea e h = right_of (is_server l.to) (l.area.read) (
     right_of true true w c e h = h
     right_of true false w c e h = cc
     right_of false r w c e h = h
-right_is ps l direction.IntoArea e h = right_of (is_server l.to) (l.area.read) (l.area.write) (has_bytes (l.area.base + l.area.len) (ps l.to)) (read_of l.area.write e) h
+right_is ps l Direction.IntoArea e h = right_of (is_server l.to) (l.area.read) (l.area.write) (has_bytes (l.area.base + l.area.len) (ps l.to)) (read_of l.area.write e) h
   where
     read_of : (b : Bool) → (if b then false else true) ≡ false → (not b) ≡ false
     read_of true e = refl
@@ -211,39 +186,38 @@ right_is ps l direction.IntoArea e h = right_of (is_server l.to) (l.area.read) (
 
 moves_by : (ps : Lives) (p : Pid) (x : PlainProcess) (l : PlainLink) (dir : Direction) (b c d : Bool) → b ≡ calls.lacks_right dir l.area → c ≡ nat_lt l.area.len (reg x.regs 3 + reg x.regs 5) → d ≡ calls.is_outside x (reg x.regs 4) (reg x.regs 5)
     → LinkFits ps l → ProcessFits ps x
-    → CallFits ps x (calls.unless_refused (first_failed (record { fails = b; reply = reply.NoRight } ∷ record { fails = c || d; reply = reply.BadRange } ∷ [])) x (calls.moves_bytes p x l dir))
-moves_by ps p x l dir true c d e f g fits h = refused_fits ps x reply.NoRight h
-moves_by ps p x l dir false true d e f g fits h = refused_fits ps x reply.BadRange h
-moves_by ps p x l dir false false true e f g fits h = refused_fits ps x reply.BadRange h
+    → CallFits ps x (calls.unless_refused (first_failed (record { fails = b; reply = Reply.NoRight } ∷ record { fails = c || d; reply = Reply.BadRange } ∷ [])) x (calls.moves_bytes p x l dir))
+moves_by ps p x l dir true c d e f g fits h = refused_fits ps x Reply.NoRight h
+moves_by ps p x l dir false true d e f g fits h = refused_fits ps x Reply.BadRange h
+moves_by ps p x l dir false false true e f g fits h = refused_fits ps x Reply.BadRange h
 moves_by ps p x l dir false false false e f g fits h =
     let r = pieces.requests p x dir l.to (l.area.base + reg x.regs 3) (reg x.regs 4) (reg x.regs 5) in
     let area = right_is ps l dir (sym e) fits in
     let lies : reg x.regs 3 + reg x.regs 5 ≤ l.area.len = grind (arith, nat_tests) in
     let has : has_bytes (l.area.base + reg x.regs 3 + reg x.regs 5) (ps l.to) ≡ true = has_less (l.area.base + reg x.regs 3 + reg x.regs 5) (l.area.base + l.area.len) (ps l.to) (omega (arith, lies)) area in
     let within : nat_le (reg x.regs 4 + reg x.regs 5) (length x.memory) ≡ true = grind (arith, nat_tests) in
-    if_fits ps x (reg x.regs 5 == 0) (calls.refused reply.Done x) (calls.begins r) (refused_fits ps x reply.Done h)
+    if_fits ps x (reg x.regs 5 == 0) (calls.refused Reply.Done x) (calls.begins r) (refused_fits ps x Reply.Done h)
     (requests_fit ps p x x dir l.to (l.area.base + reg x.regs 3) (reg x.regs 4) (reg x.regs 5) refl refl has within h.slots)
 
 moves_over_fit : (ps : Lives) (p : Pid) (x : PlainProcess) (l : PlainLink) (o : Option Direction) → LinkFits ps l → ProcessFits ps x → CallFits ps x (calls.moves_over p x l o)
-moves_over_fit ps p x l None f h = refused_fits ps x reply.BadKind h
+moves_over_fit ps p x l None f h = refused_fits ps x Reply.BadKind h
 moves_over_fit ps p x l (Some dir) f h = moves_by ps p x l dir (calls.lacks_right dir l.area) (nat_lt l.area.len (reg x.regs 3 + reg x.regs 5)) (calls.is_outside x (reg x.regs 4) (reg x.regs 5)) refl refl refl f h
 
 moves_fit : (ps : Lives) (p : Pid) (x : PlainProcess) (o : Option PlainLink) → SlotFits ps o → ProcessFits ps x → CallFits ps x (calls.moves p x o)
-moves_fit ps p x None f h = refused_fits ps x reply.NoLink h
+moves_fit ps p x None f h = refused_fits ps x Reply.NoLink h
 moves_fit ps p x (Some l) f h = moves_over_fit ps p x l (direction_numbered (reg x.regs 2)) f h
 
 does_call_fits : (ps : Lives) (p : Pid) (x : PlainProcess) (n : CallNumber) → Has ps p x → ProcessFits ps x → CallFits ps x (calls.does_call p x n)
-does_call_fits ps p x calls.Exit has h = tt
-does_call_fits ps p x calls.Out has h = refused_fits ps x reply.Done h
+does_call_fits ps p x calls.Out has h = refused_fits ps x Reply.Done h
 does_call_fits ps p x calls.Make has h = makes_by ps p x (nat_lt 7 (reg x.regs 3)) (nat_lt 31 (reg x.regs 2)) (calls.is_outside x (reg x.regs 4) (reg x.regs 5)) refl has h
 does_call_fits ps p x calls.Copy has h = copies_fit ps x (link_at x.links (reg x.regs 1)) (slots_at ps x.links (reg x.regs 1) h.slots) h
 does_call_fits ps p x calls.Drop has h = drops_fit ps x (link_at x.links (reg x.regs 1)) h
 does_call_fits ps p x calls.Send has h = sends_fit ps p x (link_at x.links (reg x.regs 1)) (slots_at ps x.links (reg x.regs 1) h.slots) h
 does_call_fits ps p x calls.Receive has h =
-    if_fits ps x (calls.is_outside x (reg x.regs 2) (reg x.regs 3)) (calls.refused reply.BadRange x) (Waits (record x { status = Waiting (reg x.regs 1) (reg x.regs 2) (reg x.regs 3) }))
-    (refused_fits ps x reply.BadRange h) (record { memory = refl; slots = h.slots; move = refl })
+    if_fits ps x (calls.is_outside x (reg x.regs 2) (reg x.regs 3)) (calls.refused Reply.BadRange x) (Waits (record x { status = Waiting (reg x.regs 1) (reg x.regs 2) (reg x.regs 3) }))
+    (refused_fits ps x Reply.BadRange h) (record { memory = refl; slots = h.slots; move = refl })
 does_call_fits ps p x calls.Move has h = moves_fit ps p x (link_at x.links (reg x.regs 1)) (slots_at ps x.links (reg x.regs 1) h.slots) h
-does_call_fits ps p x calls.Unknown has h = tt
+does_call_fits ps p x _ has h = tt
 
 pub call_fits : (ps : Lives) (p : Pid) (x : PlainProcess) (n : ℕ) → Has ps p x → ProcessFits ps x → CallFits ps x (calls.call p x n)
 call_fits ps p x n has h = does_call_fits ps p x (calls.call_number n) has h

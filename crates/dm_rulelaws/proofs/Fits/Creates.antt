@@ -1,31 +1,10 @@
 -- A process that is made, or not for want of room, keeps that all fits.
-use Rattle.std.proofs.Common.{◌≡◌, ℕ, zero, suc, ◌+◌, ◌-◌, ◌&&◌, true, false, List, [], ◌∷◌, ◌++◌, length, map, replicate, refl, ap, ◌∙◌, sym, subst, is_some, nat_le, nat_lt, arith}
-use Rattle.std.specs.Prelude.{slice_get}
-use Rattle.std.specs.declared.option.Option.{Option}
-use Rattle.std.specs.declared.option.Option.TheVariants.{None, Some}
-use Rattle.std.proofs.lemmas.Bool.{false≢true}
-use Rattle.std.proofs.lemmas.Bool.Decides.{nat_tests}
-use Rattle.dm_link.specs.declared.Pid.{Pid}
-use Rattle.dm_link.specs.Names.{pid_eq, pid_of}
-use Rattle.dm_link.specs.Plain.{PlainLink}
-use Rattle.dm_message.specs.declared.MsgId.{MsgId}
-use Rattle.dm_message.specs.Plain as what
-use Rattle.dm_message.specs.Plain.{PlainMessage, PlainWhat}
-use Rattle.dm_onekernel.specs.declared.boot.BootImage.{BootImage}
-use Rattle.dm_onekernel.specs.declared.label.Label.TheVariants as label
-use Rattle.dm_onekernel.specs.Boot.{first_number, slots_of}
-use Rattle.dm_onekernel.specs.declared.boot.Format.{Format}
+use Rattle.dm_rulelaws.proofs.Names.{◌≡◌, ℕ, zero, suc, ◌+◌, ◌-◌, ◌&&◌, true, false, List, [], ◌∷◌, ◌++◌, length, map, replicate, refl, ap, ◌∙◌, sym, subst, is_some, nat_le, nat_lt, arith, slice_get, Option, None, Some, false≢true}
+use Rattle.dm_rulelaws.proofs.Names.{nat_tests, Pid, pid_eq, pid_of, PlainLink, MsgId, Label, PlainMessage, PlainWhat, BootImage, first_number, slots_of, Format, Life, Alive, Manager, OneKernel, with_process, with_sent, answer_id}
+use Rattle.dm_rulelaws.proofs.Names.{answer_to, without_message, begun, pid_eq-is, Sound, bind-is, when-is, Each, Lives, has_bytes, LinkFits, SlotFits, ProcessFits, awaits, IsPending, WhatFits, KernelFits}
 use Rattle.dm_onekernel.specs.Manager as manage
-use Rattle.dm_onekernel.specs.Kernel.{Life, Alive, Manager, OneKernel, with_process, with_sent}
-use Rattle.dm_onekernel.specs.Pieces.{answer_id, answer_to}
 use Rattle.dm_onekernel.specs.Service as service
-use Rattle.dm_onekernel.specs.Service.{without_message, is_of_memory, is_dropped}
-use Rattle.dm_onekernel.specs.Start.{begun}
 use Rattle.dm_onekernel.specs.Step as kernel
-use Rattle.dm_laws.proofs.Equal.{pid_eq-is}
-use Rattle.dm_laws.proofs.Sound.{Sound}
-use Rattle.dm_laws.proofs.Steps.{bind-is, when-is}
-use Rattle.dm_rulelaws.specs.Fits.{Each, Lives, has_bytes, LinkFits, SlotFits, ProcessFits, awaits, IsPending, WhatFits, KernelFits}
 use Rattle.dm_rulelaws.proofs.Fits.Rises.{both, Becomes, carries, set_fits, set_at, out_fits, put_fits}
 
 -- a request to make a process is answered under its number
@@ -36,25 +15,13 @@ pending_at s u id m name same p = record {
 }
 
 no_space_row : (r e : MsgId → ℕ) (s t : OneKernel) (id : MsgId) (m : PlainMessage) (w : PlainWhat) → m.what ≡ w → WhatFits s id m w → s.bag id ≡ Some m → service.has_no_room s id m w ≡ Some t → Sound r e s → KernelFits s → KernelFits t
-no_space_row r e s t id m (what.Create image links) w f there is h fits =
-    let k = when-is (service.is_kernel s m.to) (with_sent (without_message s id) (Some (answer_to m what.NoRoom))) t is in
+no_space_row r e s t id m (PlainWhat.Create image links) w f there is h fits =
+    let k = when-is (service.is_kernel s m.to) (with_sent (without_message s id) (Some (answer_to m PlainWhat.NoRoom))) t is in
     let (num, home, numbered, sender, request, pending, each) = f in
-    subst KernelFits k.1 (put_fits (without_message s id) (answer_to m what.NoRoom) (sender, refl, pending_at s (without_message s id) id m (h.entered.named id m there) refl pending) (out_fits s id fits))
-no_space_row r e s t id m (what.User z1 z2 z3 z4) w f there is h fits = cc
-no_space_row r e s t id m what.Stop w f there is h fits = cc
-no_space_row r e s t id m what.Resume w f there is h fits = cc
-no_space_row r e s t id m what.Kill w f there is h fits = cc
-no_space_row r e s t id m (what.Read z1 z2) w f there is h fits = cc
-no_space_row r e s t id m (what.Write z1 z2) w f there is h fits = cc
-no_space_row r e s t id m (what.Block z1) w f there is h fits = cc
-no_space_row r e s t id m what.Written w f there is h fits = cc
-no_space_row r e s t id m what.Gone w f there is h fits = cc
-no_space_row r e s t id m (what.Created z1) w f there is h fits = cc
-no_space_row r e s t id m what.NoRoom w f there is h fits = cc
-no_space_row r e s t id m (what.Move z1) w f there is h fits = cc
-no_space_row r e s t id m (what.Moved z1) w f there is h fits = cc
+    subst KernelFits k.1 (put_fits (without_message s id) (answer_to m PlainWhat.NoRoom) (sender, refl, pending_at s (without_message s id) id m (h.entered.named id m there) refl pending) (out_fits s id fits))
+no_space_row r e s t id m _ w f there is h fits = cc
 
-pub no_space_step : (r e : MsgId → ℕ) (s t : OneKernel) (id : MsgId) (a b : ℕ) → kernel.step s (label.NoSpace id a b) ≡ Some t → Sound r e s → KernelFits s → KernelFits t
+pub no_space_step : (r e : MsgId → ℕ) (s t : OneKernel) (id : MsgId) (a b : ℕ) → kernel.step s (Label.NoSpace id a b) ≡ Some t → Sound r e s → KernelFits s → KernelFits t
 no_space_step r e s t id a b is h fits =
     let (m, there, rest) = bind-is (s.bag id) (λ (v : PlainMessage). service.has_no_room s id v v.what) t is in
     no_space_row r e s t id m m.what refl (fits.messages id m there) there rest h fits
@@ -86,10 +53,10 @@ fresh_child r e s child home is h =
     let off : nat_lt child.num (3 + s.made home) ≡ false = grind (arith, nat_tests) in
     false≢true (sym off ∙ below))
 
-created_row : (r e : MsgId → ℕ) (s t : OneKernel) (id : MsgId) (m : PlainMessage) (child : Pid) (image : BootImage) (links : List PlainLink) (number : ℕ) → WhatFits s id m (what.Create number links) → s.bag id ≡ Some m
+created_row : (r e : MsgId → ℕ) (s t : OneKernel) (id : MsgId) (m : PlainMessage) (child : Pid) (image : BootImage) (links : List PlainLink) (number : ℕ) → WhatFits s id m (PlainWhat.Create number links) → s.bag id ≡ Some m
     → service.creates_of s id m child links image ≡ Some t → Sound r e s → KernelFits s → KernelFits t
 created_row r e s t id m child image links number f there is h fits =
-    let k = when-is (service.is_kernel s m.to && pid_eq child (pid_of m.to.home (first_number + s.made m.to.home))) (with_sent (service.with_child (without_message s id) child image links) (Some (answer_to m (what.Created child)))) t is in
+    let k = when-is (service.is_kernel s m.to && pid_eq child (pid_of m.to.home (first_number + s.made m.to.home))) (with_sent (service.with_child (without_message s id) child image links) (Some (answer_to m (PlainWhat.Created child)))) t is in
     let name : child ≡ pid_of m.to.home (first_number + s.made m.to.home) = pid_eq-is child (pid_of m.to.home (first_number + s.made m.to.home)) (both (service.is_kernel s m.to) (pid_eq child (pid_of m.to.home (first_number + s.made m.to.home))) k.0).1 in
     let none = fresh_child r e s child m.to.home name h in
     let (num, home, numbered, sender, request, pending, each) = f in
@@ -116,27 +83,15 @@ created_row r e s t id m child image links number f there is h fits =
       children = on.children;
     }) on in
     subst KernelFits k.1
-    (put_fits u (answer_to m (what.Created child)) (sender, refl, pending_at s u id m (h.entered.named id m there) refl pending, ap (has_bytes 0) (set_at v child (Alive y)) ∙ (let z : nat_le 0 (length y.memory) ≡ true = grind (arith, nat_tests) in z)) up)
+    (put_fits u (answer_to m (PlainWhat.Created child)) (sender, refl, pending_at s u id m (h.entered.named id m there) refl pending, ap (has_bytes 0) (set_at v child (Alive y)) ∙ (let z : nat_le 0 (length y.memory) ≡ true = grind (arith, nat_tests) in z)) up)
 
 creates_row : (r e : MsgId → ℕ) (s t : OneKernel) (id : MsgId) (m : PlainMessage) (child : Pid) (w : PlainWhat) → WhatFits s id m w → s.bag id ≡ Some m → service.creates s id m child w ≡ Some t → Sound r e s → KernelFits s → KernelFits t
-creates_row r e s t id m child (what.Create image links) f there is h fits =
+creates_row r e s t id m child (PlainWhat.Create image links) f there is h fits =
     let (i, found, rest) = bind-is (slice_get s.images image) (service.creates_of s id m child links) t is in
     created_row r e s t id m child i links image f there rest h fits
-creates_row r e s t id m child (what.User z1 z2 z3 z4) f there is h fits = cc
-creates_row r e s t id m child what.Stop f there is h fits = cc
-creates_row r e s t id m child what.Resume f there is h fits = cc
-creates_row r e s t id m child what.Kill f there is h fits = cc
-creates_row r e s t id m child (what.Read z1 z2) f there is h fits = cc
-creates_row r e s t id m child (what.Write z1 z2) f there is h fits = cc
-creates_row r e s t id m child (what.Block z1) f there is h fits = cc
-creates_row r e s t id m child what.Written f there is h fits = cc
-creates_row r e s t id m child what.Gone f there is h fits = cc
-creates_row r e s t id m child (what.Created z1) f there is h fits = cc
-creates_row r e s t id m child what.NoRoom f there is h fits = cc
-creates_row r e s t id m child (what.Move z1) f there is h fits = cc
-creates_row r e s t id m child (what.Moved z1) f there is h fits = cc
+creates_row r e s t id m child _ f there is h fits = cc
 
-pub created_step : (r e : MsgId → ℕ) (s t : OneKernel) (id : MsgId) (child : Pid) → kernel.step s (label.Created id child) ≡ Some t → Sound r e s → KernelFits s → KernelFits t
+pub created_step : (r e : MsgId → ℕ) (s t : OneKernel) (id : MsgId) (child : Pid) → kernel.step s (Label.Created id child) ≡ Some t → Sound r e s → KernelFits s → KernelFits t
 created_step r e s t id child is h fits =
     let (m, there, rest) = bind-is (s.bag id) (λ (v : PlainMessage). service.creates s id v child v.what) t is in
     creates_row r e s t id m child m.what (fits.messages id m there) there rest h fits

@@ -1,34 +1,10 @@
 -- What a process becomes by its instructions, its calls and its receives fits.
-use Rattle.std.proofs.Common.{◌≡◌, ℕ, zero, suc, ◌+◌, ◌≤◌, ◌&&◌, Bool, true, false, List, [], ◌∷◌, length, refl, ap, ◌∙◌, sym, subst, nat_le, arith}
-use Rattle.std.specs.Prelude.{⊤, if◌then◌else◌}
-use Rattle.std.specs.declared.option.Option.{Option}
-use Rattle.std.specs.declared.option.Option.TheVariants.{None, Some}
-use Rattle.std.proofs.lemmas.Grind.{common_steps}
-use Rattle.dm_link.specs.declared.Pid.{Pid}
-use Rattle.dm_link.specs.Names.{pid_eq}
-use Rattle.dm_link.specs.Plain.{PlainLink}
-use Rattle.dm_linktable.specs.Slots.{first_empty}
-use Rattle.dm_message.specs.declared.MsgId.{MsgId}
-use Rattle.dm_message.specs.Plain as what
-use Rattle.dm_message.specs.Plain.{PlainMessage, PlainWhat}
-use Rattle.dm_process.specs.Mail.{on_mask}
-use Rattle.dm_processor.specs.Instructions.{Row, instruction}
-use Rattle.dm_processor.specs.Instructions as row
-use Rattle.dm_processor.specs.declared.registers.Regs.{Regs}
-use Rattle.dm_processor.specs.Kept.{KeepsLengths}
-use Rattle.dm_processor.proofs.Lengths.{instruction-lengths}
-use Rattle.dm_onekernel.specs.declared.label.Reply.{Reply}
-use Rattle.dm_onekernel.specs.Options.{bind}
-use Rattle.dm_onekernel.specs.PlainProcess.{PlainProcess, PlainStatus, Ready, Waiting, Moving}
-use Rattle.dm_onekernel.specs.Kernel.{Alive, OneKernel}
-use Rattle.dm_onekernel.specs.Pieces.{written_at}
+use Rattle.dm_rulelaws.proofs.Names.{◌≡◌, ℕ, zero, suc, ◌+◌, ◌≤◌, ◌&&◌, Bool, true, false, List, [], ◌∷◌, length, refl, ap, ◌∙◌, sym, subst, nat_le, arith, ⊤, if◌then◌else◌, Option, None, Some, common_steps, Pid, pid_eq, PlainLink}
+use Rattle.dm_rulelaws.proofs.Names.{first_empty, MsgId, PlainMessage, PlainWhat, on_mask, Row, instruction, Regs, KeepsLengths, instruction-lengths, Reply, bind, PlainProcess, PlainStatus, Ready, Waiting, Moving, Alive, OneKernel}
+use Rattle.dm_rulelaws.proofs.Names.{written_at, first_failed, pending_of, bind-is, alive-is, Runs, Each, Lives, has_bytes, LinkFits, SlotFits, move_fits, ProcessFits, WhatFits, KernelFits}
 use Rattle.dm_onekernel.specs.Receiving as receiving
-use Rattle.dm_onekernel.specs.Refusals.{first_failed}
 use Rattle.dm_onekernel.specs.Calls as calls
 use Rattle.dm_onekernel.specs.Step as kernel
-use Rattle.dm_laws.proofs.Counted.{pending_of}
-use Rattle.dm_laws.proofs.Steps.{bind-is, alive-is, Runs}
-use Rattle.dm_rulelaws.specs.Fits.{Each, Lives, has_bytes, LinkFits, SlotFits, move_fits, ProcessFits, WhatFits, KernelFits}
 use Rattle.dm_rulelaws.proofs.Fits.Rises.{move_on}
 use Rattle.dm_rulelaws.proofs.Fits.Calls.{CallFits, call_fits, slots_set}
 
@@ -53,12 +29,12 @@ pub written_longer : (memory : List ℕ) (base : ℕ) (bytes : List ℕ) → len
 written_longer memory base bytes = grind (arith, common_steps)
 
 plain_length : (w : Row) (regs : Regs) (bytes : List ℕ) (m : kernel.Machine) → KeepsLengths w regs bytes → kernel.plain_row w ≡ Some m → length m.bytes ≡ length bytes
-plain_length (row.Plain r b) regs bytes m h e =
+plain_length (Row.Plain r b) regs bytes m h e =
     let f : record { regs = r; bytes = b } ≡ m = cc in
     let g = h.1 in
     sym (ap (λ (v : kernel.Machine). length v.bytes) f) ∙ g
-plain_length (row.Calls n r) regs bytes m h e = cc
-plain_length (row.Faults f) regs bytes m h e = cc
+plain_length (Row.Calls n r) regs bytes m h e = cc
+plain_length (Row.Faults f) regs bytes m h e = cc
 
 pub steps_length : (k : ℕ) (m n : kernel.Machine) → kernel.plain_steps k m ≡ Some n → length n.bytes ≡ length m.bytes
 steps_length zero m n e = let f : m ≡ n = cc in sym (ap (λ (v : kernel.Machine). length v.bytes) f)
@@ -88,8 +64,8 @@ alive_has : (s : OneKernel) (p : Pid) (x : PlainProcess) (n : ℕ) → s.process
 alive_has s p x n is e = ap (has_bytes n) is ∙ e
 
 next_row_is : (s : OneKernel) (p : Pid) (x : PlainProcess) (w : Row) (n : kernel.Next) → Runs s p x → KernelFits s → kernel.next_row p x w ≡ Some n → NextIs s p n
-next_row_is s p x (row.Plain regs bytes) n is h e = cc
-next_row_is s p x (row.Calls number regs) n is h e =
+next_row_is s p x (Row.Plain regs bytes) n is h e = cc
+next_row_is s p x (Row.Calls number regs) n is h e =
     let z = record x { regs = regs } in
     let f : kernel.Calls number (calls.call p z number) ≡ n = cc in
     let fits = h.processes p x is.alive in
@@ -100,7 +76,7 @@ next_row_is s p x (row.Calls number regs) n is h e =
       memory = refl;
       fits = subst (NextFits s.processes z) f (call_fits s.processes p z number (λ k e. alive_has s p x k is.alive e) (record { slots = fits.slots; move = move_on s.processes s.processes (λ q k g. g) x z (omega arith) x.status fits.move }));
     }
-next_row_is s p x (row.Faults fault) n is h e =
+next_row_is s p x (Row.Faults fault) n is h e =
     let f : kernel.Faults fault ≡ n = cc in
     record { x = x; is = is; z = x; memory = refl; fits = subst (NextFits s.processes x) f tt }
 
@@ -136,22 +112,10 @@ if_completes ps x false c d h e = cc
 
 completes_what_fits : (s : OneKernel) (p : Pid) (x : PlainProcess) (i : MsgId) (m : PlainMessage) (mask base size : ℕ) (w : PlainWhat) (d : receiving.Completed) → WhatFits s i m w → ProcessFits s.processes x → receiving.completes_what p x m mask base size w ≡ Some d
     → CompletedFits s.processes x d
-completes_what_fits s p x i m mask base size (what.User code channel body links) d f h e =
+completes_what_fits s p x i m mask base size (PlainWhat.User code channel body links) d f h e =
     if_completes s.processes x (pid_eq m.to p && on_mask mask channel) (receiving.completes x base size code channel body links) d
     (unless_fits s.processes x base code channel body links (first_failed (receiving.receive_refusals x size body links)) f.1 h) e
-completes_what_fits s p x i m mask base size what.Stop d f h e = cc
-completes_what_fits s p x i m mask base size what.Resume d f h e = cc
-completes_what_fits s p x i m mask base size what.Kill d f h e = cc
-completes_what_fits s p x i m mask base size (what.Read a b) d f h e = cc
-completes_what_fits s p x i m mask base size (what.Write a b) d f h e = cc
-completes_what_fits s p x i m mask base size (what.Block a) d f h e = cc
-completes_what_fits s p x i m mask base size what.Written d f h e = cc
-completes_what_fits s p x i m mask base size what.Gone d f h e = cc
-completes_what_fits s p x i m mask base size (what.Create a b) d f h e = cc
-completes_what_fits s p x i m mask base size (what.Created a) d f h e = cc
-completes_what_fits s p x i m mask base size what.NoRoom d f h e = cc
-completes_what_fits s p x i m mask base size (what.Move a) d f h e = cc
-completes_what_fits s p x i m mask base size (what.Moved a) d f h e = cc
+completes_what_fits s p x i m mask base size _ d f h e = cc
 
 abbrev StatusCompletes : OneKernel → PlainProcess → PlainStatus → receiving.Completed → Type 0
 StatusCompletes s x st d = (pending_of st ≡ None) × CompletedFits s.processes x d

@@ -1,22 +1,9 @@
 -- What fits goes on fitting as long as processes are only made, end, and keep their memory.
-use Rattle.std.proofs.Common.{◌≡◌, ℕ, ◌+◌, ◌≤◌, ◌&&◌, ◌||◌, Bool, true, false, List, [], ◌∷◌, length, refl, ap, ◌∙◌, sym, subst, nat_le, nat_lt, inl, inr, arith}
-use Rattle.std.specs.Prelude.{if◌then◌else◌}
-use Rattle.std.specs.declared.option.Option.{Option}
-use Rattle.std.specs.declared.option.Option.TheVariants.{None, Some}
-use Rattle.std.proofs.lemmas.Bool.{cases_Bool}
-use Rattle.std.proofs.lemmas.Bool.Decides.{nat_tests}
-use Rattle.dm_link.specs.declared.Pid.{Pid}
-use Rattle.dm_link.specs.Names.{pid_eq}
-use Rattle.dm_link.specs.Plain.{PlainLink}
-use Rattle.dm_message.specs.declared.MsgId.{MsgId}
-use Rattle.dm_message.specs.Plain as what
-use Rattle.dm_message.specs.Plain.{PlainMessage, PlainWhat}
-use Rattle.dm_onekernel.specs.PlainProcess.{PlainProcess, PlainStatus, Ready, Waiting, Moving}
-use Rattle.dm_onekernel.specs.Kernel.{Life, Alive, Ended, NamedLink, Pending, OneKernel, with_process, with_sent}
-use Rattle.dm_onekernel.specs.Service.{without_message}
-use Rattle.dm_laws.proofs.Equal.{pid_eq-is, pid_eq-same}
-use Rattle.dm_laws.proofs.Movers.{stayed, came}
-use Rattle.dm_rulelaws.specs.Fits.{Each, Lives, has_bytes, is_server, takes_users, gives_no_right, LinkFits, SlotFits, move_fits, ProcessFits, awaits, IsPending, WhatFits, KernelFits}
+use Rattle.dm_rulelaws.proofs.Names.{◌≡◌, ℕ, ◌+◌, ◌≤◌, ◌&&◌, ◌||◌, Bool, true, false, List, [], ◌∷◌, length, refl, ap, ◌∙◌, sym, subst, nat_le, nat_lt, inl, inr, arith, if◌then◌else◌, Option, None, Some, cases_Bool, nat_tests, Pid, pid_eq}
+use Rattle.dm_rulelaws.proofs.Names.{PlainLink, MsgId, PlainMessage, PlainWhat, PlainProcess, PlainStatus, Ready, Waiting, Moving, Life, Alive, Ended, NamedLink, Pending, OneKernel, with_process, with_sent, without_message, pid_eq-is}
+use Rattle.dm_rulelaws.proofs.Names.{pid_eq-same, stayed, came, Each, Lives, has_bytes, is_server, takes_users, gives_no_right, LinkFits, SlotFits, move_fits, ProcessFits, awaits, IsPending, WhatFits, KernelFits}
+pub use Rattle.dm_rule.proofs.Homes.Servers.{and-both as both}
+pub use Rattle.dm_line.proofs.Below.{both_true as two}
 
 abbrev pub Rises : Lives → Lives → Type 0
 Rises ps qs = (p : Pid) (n : ℕ) → has_bytes n (ps p) ≡ true → has_bytes n (qs p) ≡ true
@@ -24,14 +11,6 @@ Rises ps qs = (p : Pid) (n : ℕ) → has_bytes n (ps p) ≡ true → has_bytes 
 pub or_on : (a b c : Bool) → (b ≡ true → c ≡ true) → (a || b) ≡ true → (a || c) ≡ true
 or_on true b c f h = refl
 or_on false b c f h = f h
-
-pub both : (b c : Bool) → (b && c) ≡ true → (b ≡ true) × (c ≡ true)
-both true c e = (refl, e)
-both false c e = cc
-
-pub two : (b c : Bool) → b ≡ true → c ≡ true → (b && c) ≡ true
-two true c e f = f
-two false c e f = e
 
 pub Each-on : {X : Type 0} (P Q : X → Type 0) → ((x : X) → P x → Q x) → (xs : List X) → Each P xs → Each Q xs
 Each-on P Q f [] h = tt
@@ -61,25 +40,22 @@ process_on ps qs up x h = record { slots = Each-on (SlotFits ps) (SlotFits qs) (
 
 -- kinds that are about children
 abbrev pub of_child : PlainWhat → Bool
-of_child (what.Create image links) = true
-of_child (what.Created child) = true
-of_child what.NoRoom = true
+of_child (PlainWhat.Create image links) = true
+of_child (PlainWhat.Created child) = true
+of_child PlainWhat.NoRoom = true
 of_child w = false
 
 -- a message fits on where processes rise, whoever awaits it still does, and its request is still pending
 pub what_on : (s t : OneKernel) (i : MsgId) (m : PlainMessage) (w : PlainWhat) → Rises s.processes t.processes → (awaits (s.processes i.from) i.n w ≡ true → awaits (t.processes i.from) i.n w ≡ true)
     → (of_child w ≡ true → IsPending s i → IsPending t i) → t.machines ≡ s.machines → t.images ≡ s.images → WhatFits s i m w → WhatFits t i m w
-what_on s t i m (what.User code channel body links) up waits pending machines images h =
+what_on s t i m (PlainWhat.User code channel body links) up waits pending machines images h =
     (users_on s.processes t.processes up m.to h.0, Each-on (LinkFits s.processes) (LinkFits t.processes) (link_on s.processes t.processes up) links h.1)
-what_on s t i m what.Stop up waits pending machines images h = up m.to 0 h
-what_on s t i m what.Resume up waits pending machines images h = up m.to 0 h
-what_on s t i m what.Kill up waits pending machines images h = up m.to 0 h
-what_on s t i m (what.Read base len) up waits pending machines images h = (up m.to (base + len) h.0, waits h.1)
-what_on s t i m (what.Write base bytes) up waits pending machines images h = (up m.to (base + length bytes) h.0, waits h.1)
-what_on s t i m (what.Block bytes) up waits pending machines images h = (h.0, waits h.1)
-what_on s t i m what.Written up waits pending machines images h = (h.0, waits h.1)
-what_on s t i m what.Gone up waits pending machines images h = (h.0, waits h.1)
-what_on s t i m (what.Create image links) up waits pending machines images h =
+what_on s t i m (PlainWhat.Read base len) up waits pending machines images h = (up m.to (base + len) h.0, waits h.1)
+what_on s t i m (PlainWhat.Write base bytes) up waits pending machines images h = (up m.to (base + length bytes) h.0, waits h.1)
+what_on s t i m (PlainWhat.Block bytes) up waits pending machines images h = (h.0, waits h.1)
+what_on s t i m PlainWhat.Written up waits pending machines images h = (h.0, waits h.1)
+what_on s t i m PlainWhat.Gone up waits pending machines images h = (h.0, waits h.1)
+what_on s t i m (PlainWhat.Create image links) up waits pending machines images h =
     let (kernel, home, numbered, sender, request, is, fits) = h in (
       kernel,
       ap (nat_lt m.to.home) machines ∙ home,
@@ -89,12 +65,13 @@ what_on s t i m (what.Create image links) up waits pending machines images h =
       pending refl is,
       Each-on (LinkFits s.processes) (LinkFits t.processes) (link_on s.processes t.processes up) links fits,
     )
-what_on s t i m (what.Created child) up waits pending machines images h =
+what_on s t i m (PlainWhat.Created child) up waits pending machines images h =
     let (to, answer, is, made) = h in (to, answer, pending refl is, up child 0 made)
-what_on s t i m what.NoRoom up waits pending machines images h =
+what_on s t i m PlainWhat.NoRoom up waits pending machines images h =
     let (to, answer, is) = h in (to, answer, pending refl is)
-what_on s t i m (what.Move machine) up waits pending machines images h = absurd h
-what_on s t i m (what.Moved outcome) up waits pending machines images h = absurd h
+what_on s t i m (PlainWhat.Move machine) up waits pending machines images h = absurd h
+what_on s t i m (PlainWhat.Moved outcome) up waits pending machines images h = absurd h
+what_on s t i m _ up waits pending machines images h = up m.to 0 h
 
 -- a kernel that goes on from another, with no new message
 pub record Carries (s t : OneKernel) : Type 0 where

@@ -1,33 +1,11 @@
 -- What the servers do keeps that all fits.
-use Rattle.std.proofs.Common.{◌≡◌, ℕ, zero, suc, ◌+◌, ◌*◌, ◌==◌, ◌&&◌, Bool, true, false, List, [], ◌∷◌, ◌++◌, length, refl, ap, ◌∙◌, sym, subst, is_some, nat_lt, inl, inr, arith}
-use Rattle.std.specs.Prelude.{⊤, if◌then◌else◌, slice_get}
-use Rattle.std.specs.declared.option.Option.{Option}
-use Rattle.std.specs.declared.option.Option.TheVariants.{None, Some}
-use Rattle.std.proofs.lemmas.Bool.{cases_Bool}
-use Rattle.std.proofs.lemmas.Bool.Decides.{nat_tests}
-use Rattle.dm_link.specs.declared.Pid.{Pid}
-use Rattle.dm_link.specs.Names.{pid_eq}
-use Rattle.dm_link.specs.Plain.{PlainLink}
-use Rattle.dm_message.specs.declared.MsgId.{MsgId}
-use Rattle.dm_message.specs.Ids.{id_eq}
-use Rattle.dm_message.specs.Plain as what
-use Rattle.dm_message.specs.Plain.{PlainMessage, PlainWhat}
-use Rattle.dm_onekernel.specs.declared.label.Label.TheVariants as label
-use Rattle.dm_onekernel.specs.Boot.{is_general, switchboard, manager}
-use Rattle.dm_onekernel.specs.Options.{bind}
-use Rattle.dm_onekernel.specs.Kernel.{NamedLink, Pending, Manager, OneKernel, with_sent}
+use Rattle.dm_rulelaws.proofs.Names.{◌≡◌, ℕ, zero, suc, ◌+◌, ◌*◌, ◌==◌, ◌&&◌, Bool, true, false, List, [], ◌∷◌, ◌++◌, length, refl, ap, ◌∙◌, sym, subst, is_some, nat_lt, inl, inr, arith, ⊤, if◌then◌else◌, slice_get, Option, None, Some}
+use Rattle.dm_rulelaws.proofs.Names.{cases_Bool, nat_tests, Pid, pid_eq, PlainLink, MsgId, id_eq, Label, PlainMessage, PlainWhat, is_general, switchboard, manager, bind, NamedLink, Pending, Manager, OneKernel, with_sent, without_message}
+use Rattle.dm_rulelaws.proofs.Names.{in_bag, request_id, id_eq-same, stayed, out_at, Sound, bind-is, Each, Lives, has_bytes, LinkFits, awaits, WhatFits, KernelFits}
 use Rattle.dm_onekernel.specs.Switchboard as board
 use Rattle.dm_onekernel.specs.Manager as manage
 use Rattle.dm_onekernel.specs.Service as service
-use Rattle.dm_onekernel.specs.Service.{without_message}
 use Rattle.dm_onekernel.specs.Step as kernel
-use Rattle.dm_laws.specs.Laws.{in_bag}
-use Rattle.dm_laws.proofs.Entered.{request_id}
-use Rattle.dm_laws.proofs.Equal.{id_eq-same}
-use Rattle.dm_laws.proofs.Movers.{stayed, out_at}
-use Rattle.dm_laws.proofs.Sound.{Sound}
-use Rattle.dm_laws.proofs.Steps.{bind-is}
-use Rattle.dm_rulelaws.specs.Fits.{Each, Lives, has_bytes, LinkFits, awaits, WhatFits, KernelFits}
 use Rattle.dm_rulelaws.proofs.Fits.Rises.{carries, what_on, out_fits, put_fits}
 use Rattle.dm_rulelaws.proofs.Fits.Calls.{link_users}
 
@@ -50,11 +28,7 @@ NamesFit ps names = Each (λ (k : NamedLink). LinkFits ps k.link) names
 
 abbrev AnswerFits : Lives → board.Answer → Type 0
 AnswerFits ps (board.Found link) = LinkFits ps link
-AnswerFits ps board.Registered = ⊤
-AnswerFits ps board.Unknown = ⊤
-AnswerFits ps board.Taken = ⊤
-AnswerFits ps board.BadLink = ⊤
-AnswerFits ps board.BadRequest = ⊤
+AnswerFits ps _ = ⊤
 
 record AskedFits (ps : Lives) (a : board.Asked) : Type 0 where
   names : NamesFit ps a.names
@@ -100,11 +74,7 @@ asks_fit ps names (operation ∷ name) ls f h =
 
 answer_links : (ps : Lives) (a : board.Answer) → AnswerFits ps a → Each (LinkFits ps) (board.links_of_answer a)
 answer_links ps (board.Found link) h = (h, tt)
-answer_links ps board.Registered h = tt
-answer_links ps board.Unknown h = tt
-answer_links ps board.Taken h = tt
-answer_links ps board.BadLink h = tt
-answer_links ps board.BadRequest h = tt
+answer_links ps _ h = tt
 
 record BoardFits (s : OneKernel) (k : board.Took) : Type 0 where
   names : NamesFit s.processes k.switchboard.names
@@ -143,23 +113,11 @@ board_on s id k b fits =
     sends_off s u (Some m) ps machines images g h = what_same s u m.id m m.what ps machines images g h
 
 board_row : (s t : OneKernel) (id : MsgId) (m : PlainMessage) (w : PlainWhat) → WhatFits s id m w → bind (board.takes s.switchboard m w) (λ (k : board.Took). Some (service.switchboard_took s id k)) ≡ Some t → KernelFits s → KernelFits t
-board_row s t id m (what.User code channel body links) f is fits =
+board_row s t id m (PlainWhat.User code channel body links) f is fits =
     let k = board.takes_request s.switchboard body links in
     let g : service.switchboard_took s id k ≡ t = cc in
     subst KernelFits g (board_on s id k (board_fits s body links f.1 fits.names) fits)
-board_row s t id m what.Stop f is fits = cc
-board_row s t id m what.Resume f is fits = cc
-board_row s t id m what.Kill f is fits = cc
-board_row s t id m (what.Read z1 z2) f is fits = cc
-board_row s t id m (what.Write z1 z2) f is fits = cc
-board_row s t id m (what.Block z1) f is fits = cc
-board_row s t id m what.Written f is fits = cc
-board_row s t id m what.Gone f is fits = cc
-board_row s t id m (what.Create z1 z2) f is fits = cc
-board_row s t id m (what.Created z1) f is fits = cc
-board_row s t id m what.NoRoom f is fits = cc
-board_row s t id m (what.Move z1) f is fits = cc
-board_row s t id m (what.Moved z1) f is fits = cc
+board_row s t id m _ f is fits = cc
 
 -- requests by their numbers
 pending_if : (b : Bool) (r : Pending) (o : Option Pending) → is_some o ≡ true → is_some (if b then Some r else o) ≡ true
@@ -269,7 +227,7 @@ requests_fits s (a ∷ b ∷ c ∷ d ∷ []) links f h =
 requests_fits s (a ∷ b ∷ c ∷ d ∷ g ∷ gs) links f h = bad_fits s links f h
 
 control_by : (s : OneKernel) (child : Pid) (b c d : Bool) (links : List PlainLink) → has_bytes 0 (s.processes child) ≡ true → Each (LinkFits s.processes) links → KernelFits s
-    → ManagerFits s Any (manage.controls_child s.manager child (if b then Some what.Stop else if c then Some what.Resume else if d then Some what.Kill else None) links)
+    → ManagerFits s Any (manage.controls_child s.manager child (if b then Some PlainWhat.Stop else if c then Some PlainWhat.Resume else if d then Some PlainWhat.Kill else None) links)
 control_by s child true c d links made f h = record { answers = h.answers; children = h.children; sends = made; stays = λ n t e. e }
 control_by s child false true d links made f h = record { answers = h.answers; children = h.children; sends = made; stays = λ n t e. e }
 control_by s child false false true links made f h = record { answers = h.answers; children = h.children; sends = made; stays = λ n t e. e }
@@ -373,11 +331,11 @@ manager_on s id T k b others fits =
 
 manager_row : (r e : MsgId → ℕ) (s t : OneKernel) (id : MsgId) (m : PlainMessage) (w : PlainWhat) → m.id ≡ id → s.bag id ≡ Some m → WhatFits s id m w → bind (manage.takes s.manager s.machines (length s.images) m w) (λ (k : manage.Took). Some (service.manager_took s id k)) ≡ Some t → Sound r e s
     → KernelFits s → KernelFits t
-manager_row r e s t id m (what.User code channel body links) name there f is h fits =
+manager_row r e s t id m (PlainWhat.User code channel body links) name there f is h fits =
     let k = manage.takes_user s.manager s.machines (length s.images) code body links in
     let g : service.manager_took s id k ≡ t = cc in
     subst KernelFits g (manager_on s id Any k (user_fits s code body links f.1 fits) (λ i x stands from. tt) fits)
-manager_row r e s t id m (what.Created child) name there f is h fits =
+manager_row r e s t id m (PlainWhat.Created child) name there f is h fits =
     let (to, answer, pending, made) = f in
     let o = manage.takes_created s.manager m.id.n child (manage.pending_numbered m.id.n s.manager.pending) in
     let (k, took, last) = bind-is o (λ (x : manage.Took). Some (service.manager_took s id x)) t is in
@@ -385,7 +343,7 @@ manager_row r e s t id m (what.Created child) name there f is h fits =
     subst KernelFits g
     (manager_on s id (OtherThan m.id.n) k (created_fits s m.id.n child (manage.pending_numbered m.id.n s.manager.pending) k refl took made fits)
     (λ i x stands from. ap (λ (v : MsgId). i.n == v.n) name ∙ other_number r e s id i m x there answer stands (from ∙ sym pending.from) h) fits)
-manager_row r e s t id m what.NoRoom name there f is h fits =
+manager_row r e s t id m PlainWhat.NoRoom name there f is h fits =
     let (to, answer, pending) = f in
     let o = manage.takes_no_room s.manager m.id.n (manage.pending_numbered m.id.n s.manager.pending) in
     let (k, took, last) = bind-is o (λ (x : manage.Took). Some (service.manager_took s id x)) t is in
@@ -393,17 +351,7 @@ manager_row r e s t id m what.NoRoom name there f is h fits =
     subst KernelFits g
     (manager_on s id (OtherThan m.id.n) k (no_room_fits s m.id.n (manage.pending_numbered m.id.n s.manager.pending) k refl took fits)
     (λ i x stands from. ap (λ (v : MsgId). i.n == v.n) name ∙ other_number r e s id i m x there answer stands (from ∙ sym pending.from) h) fits)
-manager_row r e s t id m what.Stop name there f is h fits = cc
-manager_row r e s t id m what.Resume name there f is h fits = cc
-manager_row r e s t id m what.Kill name there f is h fits = cc
-manager_row r e s t id m (what.Read z1 z2) name there f is h fits = cc
-manager_row r e s t id m (what.Write z1 z2) name there f is h fits = cc
-manager_row r e s t id m (what.Block z1) name there f is h fits = cc
-manager_row r e s t id m what.Written name there f is h fits = cc
-manager_row r e s t id m what.Gone name there f is h fits = cc
-manager_row r e s t id m (what.Create z1 z2) name there f is h fits = cc
-manager_row r e s t id m (what.Move z1) name there f is h fits = cc
-manager_row r e s t id m (what.Moved z1) name there f is h fits = cc
+manager_row r e s t id m _ name there f is h fits = cc
 
 takes_by : (r e : MsgId → ℕ) (s t : OneKernel) (id : MsgId) (m : PlainMessage) (b c : Bool) → s.bag id ≡ Some m
     → (if b then bind (board.takes s.switchboard m m.what) (λ (k : board.Took). Some (service.switchboard_took s id k))
@@ -413,7 +361,7 @@ takes_by r e s t id m true c there is h fits = board_row s t id m m.what (fits.m
 takes_by r e s t id m false true there is h fits = manager_row r e s t id m m.what (h.entered.named id m there) there (fits.messages id m there) is h fits
 takes_by r e s t id m false false there is h fits = cc
 
-pub took_step : (r e : MsgId → ℕ) (s t : OneKernel) (id : MsgId) → kernel.step s (label.Took id) ≡ Some t → Sound r e s → KernelFits s → KernelFits t
+pub took_step : (r e : MsgId → ℕ) (s t : OneKernel) (id : MsgId) → kernel.step s (Label.Took id) ≡ Some t → Sound r e s → KernelFits s → KernelFits t
 took_step r e s t id is h fits =
     let (m, there, rest) = bind-is (s.bag id) (service.takes s id) t is in
     takes_by r e s t id m (pid_eq m.to switchboard) (pid_eq m.to manager) there rest h fits

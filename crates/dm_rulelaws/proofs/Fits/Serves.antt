@@ -1,35 +1,11 @@
 -- What kernels do with messages keeps that all fits.
-use Rattle.std.proofs.Common.{◌≡◌, ℕ, ◌+◌, ◌-◌, ◌≤◌, ◌==◌, ◌&&◌, Bool, true, false, List, length, take, drop, refl, ap, ◌∙◌, sym, subst, nat_le, arith}
-use Rattle.std.specs.Prelude.{if◌then◌else◌}
-use Rattle.std.specs.declared.option.Option.{Option}
-use Rattle.std.specs.declared.option.Option.TheVariants.{None, Some}
-use Rattle.std.proofs.lemmas.Bool.Decides.{nat_tests}
-use Rattle.std.proofs.lemmas.List.{length-take, length-drop}
-use Rattle.dm_link.specs.declared.Pid.{Pid}
-use Rattle.dm_message.specs.declared.MsgId.{MsgId}
-use Rattle.dm_message.specs.Ids.{id_eq, id_of}
-use Rattle.dm_message.specs.Plain as what
-use Rattle.dm_message.specs.Plain.{PlainMessage, PlainWhat}
-use Rattle.dm_process.specs.declared.process.Direction.{Direction}
-use Rattle.dm_process.specs.declared.process.Direction.TheVariants as direction
-use Rattle.dm_onekernel.specs.declared.label.Label.TheVariants as label
-use Rattle.dm_onekernel.specs.declared.label.Why.{Why}
-use Rattle.dm_onekernel.specs.declared.label.Why.TheVariants as why
-use Rattle.dm_onekernel.specs.declared.label.Reply.TheVariants as reply
-use Rattle.dm_onekernel.specs.Options.{bind}
-use Rattle.dm_onekernel.specs.PlainProcess.{PlainProcess, PlainStatus, Ready, Waiting, Moving}
-use Rattle.dm_onekernel.specs.Kernel.{Life, Alive, Ended, OneKernel, with_process, with_sent}
+use Rattle.dm_rulelaws.proofs.Names.{◌≡◌, ℕ, ◌+◌, ◌-◌, ◌≤◌, ◌==◌, ◌&&◌, Bool, true, false, List, length, take, drop, refl, ap, ◌∙◌, sym, subst, nat_le, arith, if◌then◌else◌, Option, None, Some, nat_tests, length-take, length-drop, Pid}
+use Rattle.dm_rulelaws.proofs.Names.{MsgId, id_eq, id_of, Label, Reply, PlainMessage, PlainWhat, Direction, Why, bind, PlainProcess, PlainStatus, Ready, Waiting, Moving, Life, Alive, Ended, OneKernel, with_process, with_sent, answer_id}
+use Rattle.dm_rulelaws.proofs.Names.{answer_to, without_message, is_of_memory, is_dropped, is_piece, pending_of, id_eq-same, One, stayed, out_at, Sound, bind-is, when-is, alive-is, Each, Lives, has_bytes, SlotFits, move_fits, ProcessFits}
+use Rattle.dm_rulelaws.proofs.Names.{piece_fits, status_awaits, awaits, WhatFits, KernelFits}
 use Rattle.dm_onekernel.specs.Pieces as pieces
-use Rattle.dm_onekernel.specs.Pieces.{answer_id, answer_to}
 use Rattle.dm_onekernel.specs.Service as service
-use Rattle.dm_onekernel.specs.Service.{without_message, is_of_memory, is_dropped}
 use Rattle.dm_onekernel.specs.Step as kernel
-use Rattle.dm_laws.proofs.Counted.{is_piece, pending_of}
-use Rattle.dm_laws.proofs.Equal.{id_eq-same}
-use Rattle.dm_laws.proofs.Movers.{One, stayed, out_at}
-use Rattle.dm_laws.proofs.Sound.{Sound}
-use Rattle.dm_laws.proofs.Steps.{bind-is, when-is, alive-is}
-use Rattle.dm_rulelaws.specs.Fits.{Each, Lives, has_bytes, SlotFits, move_fits, ProcessFits, piece_fits, status_awaits, awaits, WhatFits, KernelFits}
 use Rattle.dm_rulelaws.proofs.Fits.Rises.{both, two, move_on, Becomes, set_if, set_fits, set_at, set_rises, out_fits, put_fits, end_fits}
 use Rattle.dm_rulelaws.proofs.Fits.Calls.{SentFits, requests_fit}
 use Rattle.dm_rulelaws.proofs.Fits.Receives.{GoesOn, written_longer}
@@ -66,21 +42,21 @@ turns None n v w f h = cc
 turns (Some (Alive x)) n v w f h = status_turns x.status n v w f h
 turns (Some (Ended y)) n v w f h = refl
 
-read_block : (base len : ℕ) (bytes : List ℕ) → length bytes ≡ len → (dir : Direction) (left : ℕ) → piece_fits dir left (what.Read base len) ≡ true → piece_fits dir left (what.Block bytes) ≡ true
-read_block base len bytes e direction.FromArea left h = ap (λ n. n == pieces.piece_of left) e ∙ h
-read_block base len bytes e direction.IntoArea left h = cc
+read_block : (base len : ℕ) (bytes : List ℕ) → length bytes ≡ len → (dir : Direction) (left : ℕ) → piece_fits dir left (PlainWhat.Read base len) ≡ true → piece_fits dir left (PlainWhat.Block bytes) ≡ true
+read_block base len bytes e Direction.FromArea left h = ap (λ n. n == pieces.piece_of left) e ∙ h
+read_block base len bytes e Direction.IntoArea left h = cc
 
-read_gone : (base len : ℕ) (dir : Direction) (left : ℕ) → piece_fits dir left (what.Read base len) ≡ true → piece_fits dir left what.Gone ≡ true
-read_gone base len direction.FromArea left h = refl
-read_gone base len direction.IntoArea left h = refl
+read_gone : (base len : ℕ) (dir : Direction) (left : ℕ) → piece_fits dir left (PlainWhat.Read base len) ≡ true → piece_fits dir left PlainWhat.Gone ≡ true
+read_gone base len Direction.FromArea left h = refl
+read_gone base len Direction.IntoArea left h = refl
 
-write_written : (base : ℕ) (bytes : List ℕ) (dir : Direction) (left : ℕ) → piece_fits dir left (what.Write base bytes) ≡ true → piece_fits dir left what.Written ≡ true
-write_written base bytes direction.FromArea left h = cc
-write_written base bytes direction.IntoArea left h = refl
+write_written : (base : ℕ) (bytes : List ℕ) (dir : Direction) (left : ℕ) → piece_fits dir left (PlainWhat.Write base bytes) ≡ true → piece_fits dir left PlainWhat.Written ≡ true
+write_written base bytes Direction.FromArea left h = cc
+write_written base bytes Direction.IntoArea left h = refl
 
-write_gone : (base : ℕ) (bytes : List ℕ) (dir : Direction) (left : ℕ) → piece_fits dir left (what.Write base bytes) ≡ true → piece_fits dir left what.Gone ≡ true
-write_gone base bytes direction.FromArea left h = refl
-write_gone base bytes direction.IntoArea left h = refl
+write_gone : (base : ℕ) (bytes : List ℕ) (dir : Direction) (left : ℕ) → piece_fits dir left (PlainWhat.Write base bytes) ≡ true → piece_fits dir left PlainWhat.Gone ≡ true
+write_gone base bytes Direction.FromArea left h = refl
+write_gone base bytes Direction.IntoArea left h = refl
 
 -- an answer to a request of a data move fits wherever whoever awaited the request still awaits it
 answered_fits : (u : OneKernel) (id : MsgId) (m : PlainMessage) (v w : PlainWhat) → m.id ≡ id → m.sender ≡ id.from → ((dir : Direction) (left : ℕ) → piece_fits dir left v ≡ true → piece_fits dir left w ≡ true) → awaits (u.processes id.from) id.n v ≡ true
@@ -118,12 +94,9 @@ done_fits ps p x z c le links h = record { memory = le; slots = subst (Each (Slo
 piece_less : (left : ℕ) → pieces.piece_of left ≤ left
 piece_less left = grind (arith, nat_tests)
 
-requests_from : (p : Pid) (z : PlainProcess) (dir : Direction) (owner : Pid) (base own left : ℕ) → (pieces.requests p z dir owner base own left).message.id.from ≡ p
-requests_from p z dir owner base own left = refl
-
 goes_on_by : (ps : Lives) (p : Pid) (x z : PlainProcess) (dir : Direction) (owner : Pid) (base own left : ℕ) (b : Bool) → length x.memory ≤ length z.memory → z.links ≡ x.links → ProcessFits ps x → has_bytes (base + left) (ps owner) ≡ true → nat_le (own + left) (length x.memory) ≡ true
-    → LandedFits ps p x (if b then pieces.done reply.Done z else pieces.next_request (pieces.requests p z dir owner (base + pieces.piece_of left) (own + pieces.piece_of left) (left - pieces.piece_of left)))
-goes_on_by ps p x z dir owner base own left true le links h has within = done_fits ps p x z reply.Done le links h
+    → LandedFits ps p x (if b then pieces.done Reply.Done z else pieces.next_request (pieces.requests p z dir owner (base + pieces.piece_of left) (own + pieces.piece_of left) (left - pieces.piece_of left)))
+goes_on_by ps p x z dir owner base own left true le links h has within = done_fits ps p x z Reply.Done le links h
 goes_on_by ps p x z dir owner base own left false le links h has within =
     let piece = pieces.piece_of left in
     let less = piece_less left in
@@ -141,39 +114,39 @@ if_lands ps p x false k c h e = cc
 
 lands_what_fits : (ps : Lives) (p : Pid) (x : PlainProcess) (dir : Direction) (owner : Pid) (base own left : ℕ) (w : PlainWhat) (c : pieces.Landed) → ProcessFits ps x → has_bytes (base + left) (ps owner) ≡ true → nat_le (own + left) (length x.memory) ≡ true
     → pieces.lands_what p x dir owner base own left w ≡ Some c → LandedFits ps p x c
-lands_what_fits ps p x direction.FromArea owner base own left (what.Block bytes) c h has within e =
+lands_what_fits ps p x Direction.FromArea owner base own left (PlainWhat.Block bytes) c h has within e =
     let z = record x { memory = pieces.written_at x.memory own bytes } in
-    if_lands ps p x ((length bytes == pieces.piece_of left) && nat_le (own + left) (length x.memory)) (pieces.goes_on p z direction.FromArea owner base own left (pieces.piece_of left)) c
-    (goes_on_by ps p x z direction.FromArea owner base own left (left - pieces.piece_of left == 0) (written_longer x.memory own bytes) refl h has within) e
-lands_what_fits ps p x direction.IntoArea owner base own left what.Written c h has within e =
-    if_lands ps p x (nat_le (own + left) (length x.memory)) (pieces.goes_on p x direction.IntoArea owner base own left (pieces.piece_of left)) c
-    (goes_on_by ps p x x direction.IntoArea owner base own left (left - pieces.piece_of left == 0) (omega arith) refl h has within) e
-lands_what_fits ps p x direction.FromArea owner base own left what.Gone c h has within e = let k : pieces.done reply.Gone x ≡ c = cc in subst (LandedFits ps p x) k (done_fits ps p x x reply.Gone (omega arith) refl h)
-lands_what_fits ps p x direction.IntoArea owner base own left what.Gone c h has within e = let k : pieces.done reply.Gone x ≡ c = cc in subst (LandedFits ps p x) k (done_fits ps p x x reply.Gone (omega arith) refl h)
-lands_what_fits ps p x direction.FromArea owner base own left what.Written c h has within e = cc
-lands_what_fits ps p x direction.IntoArea owner base own left (what.Block bytes) c h has within e = cc
-lands_what_fits ps p x direction.FromArea owner base own left (what.User z1 z2 z3 z4) c h has within e = cc
-lands_what_fits ps p x direction.FromArea owner base own left what.Stop c h has within e = cc
-lands_what_fits ps p x direction.FromArea owner base own left what.Resume c h has within e = cc
-lands_what_fits ps p x direction.FromArea owner base own left what.Kill c h has within e = cc
-lands_what_fits ps p x direction.FromArea owner base own left (what.Read z1 z2) c h has within e = cc
-lands_what_fits ps p x direction.FromArea owner base own left (what.Write z1 z2) c h has within e = cc
-lands_what_fits ps p x direction.FromArea owner base own left (what.Create z1 z2) c h has within e = cc
-lands_what_fits ps p x direction.FromArea owner base own left (what.Created z1) c h has within e = cc
-lands_what_fits ps p x direction.FromArea owner base own left what.NoRoom c h has within e = cc
-lands_what_fits ps p x direction.FromArea owner base own left (what.Move z1) c h has within e = cc
-lands_what_fits ps p x direction.FromArea owner base own left (what.Moved z1) c h has within e = cc
-lands_what_fits ps p x direction.IntoArea owner base own left (what.User z1 z2 z3 z4) c h has within e = cc
-lands_what_fits ps p x direction.IntoArea owner base own left what.Stop c h has within e = cc
-lands_what_fits ps p x direction.IntoArea owner base own left what.Resume c h has within e = cc
-lands_what_fits ps p x direction.IntoArea owner base own left what.Kill c h has within e = cc
-lands_what_fits ps p x direction.IntoArea owner base own left (what.Read z1 z2) c h has within e = cc
-lands_what_fits ps p x direction.IntoArea owner base own left (what.Write z1 z2) c h has within e = cc
-lands_what_fits ps p x direction.IntoArea owner base own left (what.Create z1 z2) c h has within e = cc
-lands_what_fits ps p x direction.IntoArea owner base own left (what.Created z1) c h has within e = cc
-lands_what_fits ps p x direction.IntoArea owner base own left what.NoRoom c h has within e = cc
-lands_what_fits ps p x direction.IntoArea owner base own left (what.Move z1) c h has within e = cc
-lands_what_fits ps p x direction.IntoArea owner base own left (what.Moved z1) c h has within e = cc
+    if_lands ps p x ((length bytes == pieces.piece_of left) && nat_le (own + left) (length x.memory)) (pieces.goes_on p z Direction.FromArea owner base own left (pieces.piece_of left)) c
+    (goes_on_by ps p x z Direction.FromArea owner base own left (left - pieces.piece_of left == 0) (written_longer x.memory own bytes) refl h has within) e
+lands_what_fits ps p x Direction.IntoArea owner base own left PlainWhat.Written c h has within e =
+    if_lands ps p x (nat_le (own + left) (length x.memory)) (pieces.goes_on p x Direction.IntoArea owner base own left (pieces.piece_of left)) c
+    (goes_on_by ps p x x Direction.IntoArea owner base own left (left - pieces.piece_of left == 0) (omega arith) refl h has within) e
+lands_what_fits ps p x Direction.FromArea owner base own left PlainWhat.Gone c h has within e = let k : pieces.done Reply.Gone x ≡ c = cc in subst (LandedFits ps p x) k (done_fits ps p x x Reply.Gone (omega arith) refl h)
+lands_what_fits ps p x Direction.IntoArea owner base own left PlainWhat.Gone c h has within e = let k : pieces.done Reply.Gone x ≡ c = cc in subst (LandedFits ps p x) k (done_fits ps p x x Reply.Gone (omega arith) refl h)
+lands_what_fits ps p x Direction.FromArea owner base own left PlainWhat.Written c h has within e = cc
+lands_what_fits ps p x Direction.IntoArea owner base own left (PlainWhat.Block bytes) c h has within e = cc
+lands_what_fits ps p x Direction.FromArea owner base own left (PlainWhat.User z1 z2 z3 z4) c h has within e = cc
+lands_what_fits ps p x Direction.FromArea owner base own left PlainWhat.Stop c h has within e = cc
+lands_what_fits ps p x Direction.FromArea owner base own left PlainWhat.Resume c h has within e = cc
+lands_what_fits ps p x Direction.FromArea owner base own left PlainWhat.Kill c h has within e = cc
+lands_what_fits ps p x Direction.FromArea owner base own left (PlainWhat.Read z1 z2) c h has within e = cc
+lands_what_fits ps p x Direction.FromArea owner base own left (PlainWhat.Write z1 z2) c h has within e = cc
+lands_what_fits ps p x Direction.FromArea owner base own left (PlainWhat.Create z1 z2) c h has within e = cc
+lands_what_fits ps p x Direction.FromArea owner base own left (PlainWhat.Created z1) c h has within e = cc
+lands_what_fits ps p x Direction.FromArea owner base own left PlainWhat.NoRoom c h has within e = cc
+lands_what_fits ps p x Direction.FromArea owner base own left (PlainWhat.Move z1) c h has within e = cc
+lands_what_fits ps p x Direction.FromArea owner base own left (PlainWhat.Moved z1) c h has within e = cc
+lands_what_fits ps p x Direction.IntoArea owner base own left (PlainWhat.User z1 z2 z3 z4) c h has within e = cc
+lands_what_fits ps p x Direction.IntoArea owner base own left PlainWhat.Stop c h has within e = cc
+lands_what_fits ps p x Direction.IntoArea owner base own left PlainWhat.Resume c h has within e = cc
+lands_what_fits ps p x Direction.IntoArea owner base own left PlainWhat.Kill c h has within e = cc
+lands_what_fits ps p x Direction.IntoArea owner base own left (PlainWhat.Read z1 z2) c h has within e = cc
+lands_what_fits ps p x Direction.IntoArea owner base own left (PlainWhat.Write z1 z2) c h has within e = cc
+lands_what_fits ps p x Direction.IntoArea owner base own left (PlainWhat.Create z1 z2) c h has within e = cc
+lands_what_fits ps p x Direction.IntoArea owner base own left (PlainWhat.Created z1) c h has within e = cc
+lands_what_fits ps p x Direction.IntoArea owner base own left PlainWhat.NoRoom c h has within e = cc
+lands_what_fits ps p x Direction.IntoArea owner base own left (PlainWhat.Move z1) c h has within e = cc
+lands_what_fits ps p x Direction.IntoArea owner base own left (PlainWhat.Moved z1) c h has within e = cc
 
 -- a mover whose request is answered is awaited by no other message
 record LandsIs (ps : Lives) (p : Pid) (x : PlainProcess) (m : PlainMessage) (c : pieces.Landed) : Type 0 where
@@ -209,34 +182,34 @@ abbrev of_move : PlainWhat → Type 0
 of_move w = (b : Bool) → (is_of_memory w ≡ true → b ≡ true) → (is_piece w ≡ true → b ≡ true) → b ≡ true
 
 piece_of_move : (dir : Direction) (left : ℕ) (w : PlainWhat) → piece_fits dir left w ≡ true → of_move w
-piece_of_move direction.FromArea left (what.Read base len) h b f g = f refl
-piece_of_move direction.FromArea left (what.Block bytes) h b f g = g refl
-piece_of_move direction.FromArea left what.Gone h b f g = g refl
-piece_of_move direction.IntoArea left (what.Write base bytes) h b f g = f refl
-piece_of_move direction.IntoArea left what.Written h b f g = g refl
-piece_of_move direction.IntoArea left what.Gone h b f g = g refl
-piece_of_move direction.IntoArea left (what.Read base len) h b f g = f refl
-piece_of_move direction.IntoArea left (what.Block bytes) h b f g = g refl
-piece_of_move direction.FromArea left (what.Write base bytes) h b f g = f refl
-piece_of_move direction.FromArea left what.Written h b f g = g refl
-piece_of_move direction.FromArea left (what.User z1 z2 z3 z4) h b f g = cc
-piece_of_move direction.FromArea left what.Stop h b f g = cc
-piece_of_move direction.FromArea left what.Resume h b f g = cc
-piece_of_move direction.FromArea left what.Kill h b f g = cc
-piece_of_move direction.FromArea left (what.Create z1 z2) h b f g = cc
-piece_of_move direction.FromArea left (what.Created z1) h b f g = cc
-piece_of_move direction.FromArea left what.NoRoom h b f g = cc
-piece_of_move direction.FromArea left (what.Move z1) h b f g = cc
-piece_of_move direction.FromArea left (what.Moved z1) h b f g = cc
-piece_of_move direction.IntoArea left (what.User z1 z2 z3 z4) h b f g = cc
-piece_of_move direction.IntoArea left what.Stop h b f g = cc
-piece_of_move direction.IntoArea left what.Resume h b f g = cc
-piece_of_move direction.IntoArea left what.Kill h b f g = cc
-piece_of_move direction.IntoArea left (what.Create z1 z2) h b f g = cc
-piece_of_move direction.IntoArea left (what.Created z1) h b f g = cc
-piece_of_move direction.IntoArea left what.NoRoom h b f g = cc
-piece_of_move direction.IntoArea left (what.Move z1) h b f g = cc
-piece_of_move direction.IntoArea left (what.Moved z1) h b f g = cc
+piece_of_move Direction.FromArea left (PlainWhat.Read base len) h b f g = f refl
+piece_of_move Direction.FromArea left (PlainWhat.Block bytes) h b f g = g refl
+piece_of_move Direction.FromArea left PlainWhat.Gone h b f g = g refl
+piece_of_move Direction.IntoArea left (PlainWhat.Write base bytes) h b f g = f refl
+piece_of_move Direction.IntoArea left PlainWhat.Written h b f g = g refl
+piece_of_move Direction.IntoArea left PlainWhat.Gone h b f g = g refl
+piece_of_move Direction.IntoArea left (PlainWhat.Read base len) h b f g = f refl
+piece_of_move Direction.IntoArea left (PlainWhat.Block bytes) h b f g = g refl
+piece_of_move Direction.FromArea left (PlainWhat.Write base bytes) h b f g = f refl
+piece_of_move Direction.FromArea left PlainWhat.Written h b f g = g refl
+piece_of_move Direction.FromArea left (PlainWhat.User z1 z2 z3 z4) h b f g = cc
+piece_of_move Direction.FromArea left PlainWhat.Stop h b f g = cc
+piece_of_move Direction.FromArea left PlainWhat.Resume h b f g = cc
+piece_of_move Direction.FromArea left PlainWhat.Kill h b f g = cc
+piece_of_move Direction.FromArea left (PlainWhat.Create z1 z2) h b f g = cc
+piece_of_move Direction.FromArea left (PlainWhat.Created z1) h b f g = cc
+piece_of_move Direction.FromArea left PlainWhat.NoRoom h b f g = cc
+piece_of_move Direction.FromArea left (PlainWhat.Move z1) h b f g = cc
+piece_of_move Direction.FromArea left (PlainWhat.Moved z1) h b f g = cc
+piece_of_move Direction.IntoArea left (PlainWhat.User z1 z2 z3 z4) h b f g = cc
+piece_of_move Direction.IntoArea left PlainWhat.Stop h b f g = cc
+piece_of_move Direction.IntoArea left PlainWhat.Resume h b f g = cc
+piece_of_move Direction.IntoArea left PlainWhat.Kill h b f g = cc
+piece_of_move Direction.IntoArea left (PlainWhat.Create z1 z2) h b f g = cc
+piece_of_move Direction.IntoArea left (PlainWhat.Created z1) h b f g = cc
+piece_of_move Direction.IntoArea left PlainWhat.NoRoom h b f g = cc
+piece_of_move Direction.IntoArea left (PlainWhat.Move z1) h b f g = cc
+piece_of_move Direction.IntoArea left (PlainWhat.Moved z1) h b f g = cc
 
 awaited_of_move : (st : PlainStatus) (n : ℕ) (w : PlainWhat) → status_awaits st n w ≡ true → of_move w
 awaited_of_move Ready n w h b f g = cc
@@ -248,7 +221,7 @@ one_not (Some v) (Some w) x y c e f h = absurd h
 one_not None b x y c e f h = cc
 one_not (Some v) None x y c e f h = cc
 
-name_is : (i : MsgId) (p : Pid) (n : ℕ) → i.from ≡ p → i.n ≡ n → i.answer ≡ false → i ≡ id_of p n
+pub name_is : (i : MsgId) (p : Pid) (n : ℕ) → i.from ≡ p → i.n ≡ n → i.answer ≡ false → i ≡ id_of p n
 name_is i p n e f g = λ j. record { from = e j; n = f j; answer = g j }
 
 answer_is : (i : MsgId) (p : Pid) (n : ℕ) → i.from ≡ p → i.n ≡ n → i.answer ≡ true → i ≡ answer_id (id_of p n)
@@ -297,50 +270,45 @@ lands_row r e s t id m x there is piece e_ h fits =
 -- served: a row a kind
 serves_row : (r e : MsgId → ℕ) (s t : OneKernel) (id : MsgId) (m : PlainMessage) (x : PlainProcess) (w : PlainWhat) → m.what ≡ w → WhatFits s id m w → s.bag id ≡ Some m → s.processes m.to ≡ Some (Alive x) → service.serves s id m x w ≡ Some t → Sound r e s → KernelFits s
     → KernelFits t
-serves_row r e s t id m x what.Stop w f there is e_ h fits =
+serves_row r e s t id m x PlainWhat.Stop w f there is e_ h fits =
     let y = record x { stopped = true } in
     let k : service.changed s id m y ≡ t = cc in
     subst KernelFits k (changed_fits s id m x y is refl (goes_same s m.to x y (omega arith) refl refl is fits) fits)
-serves_row r e s t id m x what.Resume w f there is e_ h fits =
+serves_row r e s t id m x PlainWhat.Resume w f there is e_ h fits =
     let y = record x { stopped = false } in
     let k : service.changed s id m y ≡ t = cc in
     subst KernelFits k (changed_fits s id m x y is refl (goes_same s m.to x y (omega arith) refl refl is fits) fits)
-serves_row r e s t id m x what.Kill w f there is e_ h fits =
-    let k : with_process (without_message s id) m.to (Ended why.Killed) ≡ t = cc in
-    subst KernelFits k (end_fits (without_message s id) m.to why.Killed (out_fits s id fits))
-serves_row r e s t id m x (what.Read base len) w f there is e_ h fits =
+serves_row r e s t id m x PlainWhat.Kill w f there is e_ h fits =
+    let k : with_process (without_message s id) m.to (Ended Why.Killed) ≡ t = cc in
+    subst KernelFits k (end_fits (without_message s id) m.to Why.Killed (out_fits s id fits))
+serves_row r e s t id m x (PlainWhat.Read base len) w f there is e_ h fits =
     let (c, served, last) = bind-is (pieces.reads x m base len) (λ (v : pieces.Served). Some (service.answered s id m v)) t e_ in
     let bytes = take len (drop base x.memory) in
-    let k = some_of (nat_le (base + len) (length x.memory)) (record { process = x; answer = answer_to m (what.Block bytes) }) c served in
+    let k = some_of (nat_le (base + len) (length x.memory)) (record { process = x; answer = answer_to m (PlainWhat.Block bytes) }) c served in
     let g : service.answered s id m c ≡ t = cc in
     let within = k.0 in
     let size : length bytes ≡ len = read_length x.memory base len (let le : base + len ≤ length x.memory = grind (arith, nat_tests) in le) in
     subst KernelFits (ap (service.answered s id m) k.1 ∙ g)
-    (put_fits (service.changed s id m x) (answer_to m (what.Block bytes))
-    (answered_fits (service.changed s id m x) id m (what.Read base len) (what.Block bytes) (h.entered.named id m there) (h.movers.senders id m there (ap is_of_memory w)) (read_block base len bytes size)
-    (waits_on s id m x x id.n (what.Read base len) id.from is refl f.1))
+    (put_fits (service.changed s id m x) (answer_to m (PlainWhat.Block bytes))
+    (answered_fits (service.changed s id m x) id m (PlainWhat.Read base len) (PlainWhat.Block bytes) (h.entered.named id m there) (h.movers.senders id m there (ap is_of_memory w)) (read_block base len bytes size)
+    (waits_on s id m x x id.n (PlainWhat.Read base len) id.from is refl f.1))
     (changed_fits s id m x x is refl (goes_same s m.to x x (omega arith) refl refl is fits) fits))
-serves_row r e s t id m x (what.Write base bytes) w f there is e_ h fits =
+serves_row r e s t id m x (PlainWhat.Write base bytes) w f there is e_ h fits =
     let (c, served, last) = bind-is (pieces.writes x m base bytes) (λ (v : pieces.Served). Some (service.answered s id m v)) t e_ in
     let y = record x { memory = pieces.written_at x.memory base bytes } in
-    let k = some_of (nat_le (base + length bytes) (length x.memory)) (record { process = y; answer = answer_to m what.Written }) c served in
+    let k = some_of (nat_le (base + length bytes) (length x.memory)) (record { process = y; answer = answer_to m PlainWhat.Written }) c served in
     let g : service.answered s id m c ≡ t = cc in
     subst KernelFits (ap (service.answered s id m) k.1 ∙ g)
-    (put_fits (service.changed s id m y) (answer_to m what.Written)
-    (answered_fits (service.changed s id m y) id m (what.Write base bytes) what.Written (h.entered.named id m there) (h.movers.senders id m there (ap is_of_memory w)) (write_written base bytes)
-    (waits_on s id m x y id.n (what.Write base bytes) id.from is refl f.1))
+    (put_fits (service.changed s id m y) (answer_to m PlainWhat.Written)
+    (answered_fits (service.changed s id m y) id m (PlainWhat.Write base bytes) PlainWhat.Written (h.entered.named id m there) (h.movers.senders id m there (ap is_of_memory w)) (write_written base bytes)
+    (waits_on s id m x y id.n (PlainWhat.Write base bytes) id.from is refl f.1))
     (changed_fits s id m x y is refl (goes_same s m.to x y (written_longer x.memory base bytes) refl refl is fits) fits))
-serves_row r e s t id m x (what.Block bytes) w f there is e_ h fits = lands_row r e s t id m x there is (ap is_piece w) e_ h fits
-serves_row r e s t id m x what.Written w f there is e_ h fits = lands_row r e s t id m x there is (ap is_piece w) e_ h fits
-serves_row r e s t id m x what.Gone w f there is e_ h fits = lands_row r e s t id m x there is (ap is_piece w) e_ h fits
-serves_row r e s t id m x (what.User a b c d) w f there is e_ h fits = cc
-serves_row r e s t id m x (what.Create a b) w f there is e_ h fits = cc
-serves_row r e s t id m x (what.Created a) w f there is e_ h fits = cc
-serves_row r e s t id m x what.NoRoom w f there is e_ h fits = cc
-serves_row r e s t id m x (what.Move a) w f there is e_ h fits = cc
-serves_row r e s t id m x (what.Moved a) w f there is e_ h fits = cc
+serves_row r e s t id m x (PlainWhat.Block bytes) w f there is e_ h fits = lands_row r e s t id m x there is (ap is_piece w) e_ h fits
+serves_row r e s t id m x PlainWhat.Written w f there is e_ h fits = lands_row r e s t id m x there is (ap is_piece w) e_ h fits
+serves_row r e s t id m x PlainWhat.Gone w f there is e_ h fits = lands_row r e s t id m x there is (ap is_piece w) e_ h fits
+serves_row r e s t id m x _ w f there is e_ h fits = cc
 
-pub served_step : (r e : MsgId → ℕ) (s t : OneKernel) (id : MsgId) → kernel.step s (label.Served id) ≡ Some t → Sound r e s → KernelFits s → KernelFits t
+pub served_step : (r e : MsgId → ℕ) (s t : OneKernel) (id : MsgId) → kernel.step s (Label.Served id) ≡ Some t → Sound r e s → KernelFits s → KernelFits t
 served_step r e s t id is h fits =
     let (m, there, rest) = bind-is (s.bag id) (λ (v : PlainMessage). bind (kernel.alive (s.processes v.to)) (λ (p : PlainProcess). service.serves s id v p v.what)) t is in
     let (x, alive, last) = bind-is (kernel.alive (s.processes m.to)) (λ (p : PlainProcess). service.serves s id m p m.what) t rest in
@@ -350,33 +318,22 @@ served_step r e s t id is h fits =
 drops_row : (s t : OneKernel) (id : MsgId) (m : PlainMessage) (y : Why) → kernel.drops s id m y ≡ Some t → KernelFits s → KernelFits t
 drops_row s t id m y is fits = let k = when-is (is_dropped m.what) (without_message s id) t is in subst KernelFits k.1 (out_fits s id fits)
 
-pub dropped_step : (s t : OneKernel) (id : MsgId) → kernel.step s (label.Dropped id) ≡ Some t → KernelFits s → KernelFits t
+pub dropped_step : (s t : OneKernel) (id : MsgId) → kernel.step s (Label.Dropped id) ≡ Some t → KernelFits s → KernelFits t
 dropped_step s t id is fits =
     let (m, there, rest) = bind-is (s.bag id) (λ (v : PlainMessage). bind (kernel.ended (s.processes v.to)) (kernel.drops s id v)) t is in
     let (y, ended, last) = bind-is (kernel.ended (s.processes m.to)) (kernel.drops s id m) t rest in
     drops_row s t id m y last fits
 
-gone_fits : (r e : MsgId → ℕ) (s : OneKernel) (id : MsgId) (m : PlainMessage) (w : PlainWhat) → m.what ≡ w → is_of_memory w ≡ true → WhatFits s id m w → s.bag id ≡ Some m → Sound r e s → WhatFits (without_message s id) (answer_id m.id) (answer_to m what.Gone) what.Gone
-gone_fits r e s id m (what.Read base len) is memory f there h =
-    answered_fits (without_message s id) id m (what.Read base len) what.Gone (h.entered.named id m there) (h.movers.senders id m there (ap is_of_memory is)) (read_gone base len) f.1
-gone_fits r e s id m (what.Write base bytes) is memory f there h =
-    answered_fits (without_message s id) id m (what.Write base bytes) what.Gone (h.entered.named id m there) (h.movers.senders id m there (ap is_of_memory is)) (write_gone base bytes) f.1
-gone_fits r e s id m (what.User z1 z2 z3 z4) is memory f there h = cc
-gone_fits r e s id m what.Stop is memory f there h = cc
-gone_fits r e s id m what.Resume is memory f there h = cc
-gone_fits r e s id m what.Kill is memory f there h = cc
-gone_fits r e s id m (what.Block z1) is memory f there h = cc
-gone_fits r e s id m what.Written is memory f there h = cc
-gone_fits r e s id m what.Gone is memory f there h = cc
-gone_fits r e s id m (what.Create z1 z2) is memory f there h = cc
-gone_fits r e s id m (what.Created z1) is memory f there h = cc
-gone_fits r e s id m what.NoRoom is memory f there h = cc
-gone_fits r e s id m (what.Move z1) is memory f there h = cc
-gone_fits r e s id m (what.Moved z1) is memory f there h = cc
+gone_fits : (r e : MsgId → ℕ) (s : OneKernel) (id : MsgId) (m : PlainMessage) (w : PlainWhat) → m.what ≡ w → is_of_memory w ≡ true → WhatFits s id m w → s.bag id ≡ Some m → Sound r e s → WhatFits (without_message s id) (answer_id m.id) (answer_to m PlainWhat.Gone) PlainWhat.Gone
+gone_fits r e s id m (PlainWhat.Read base len) is memory f there h =
+    answered_fits (without_message s id) id m (PlainWhat.Read base len) PlainWhat.Gone (h.entered.named id m there) (h.movers.senders id m there (ap is_of_memory is)) (read_gone base len) f.1
+gone_fits r e s id m (PlainWhat.Write base bytes) is memory f there h =
+    answered_fits (without_message s id) id m (PlainWhat.Write base bytes) PlainWhat.Gone (h.entered.named id m there) (h.movers.senders id m there (ap is_of_memory is)) (write_gone base bytes) f.1
+gone_fits r e s id m _ is memory f there h = cc
 
-pub gone_step : (r e : MsgId → ℕ) (s t : OneKernel) (id : MsgId) → kernel.step s (label.Gone id) ≡ Some t → Sound r e s → KernelFits s → KernelFits t
+pub gone_step : (r e : MsgId → ℕ) (s t : OneKernel) (id : MsgId) → kernel.step s (Label.Gone id) ≡ Some t → Sound r e s → KernelFits s → KernelFits t
 gone_step r e s t id is h fits =
     let (m, there, rest) = bind-is (s.bag id) (λ (v : PlainMessage). bind (kernel.ended (s.processes v.to)) (kernel.says_gone s id v)) t is in
     let (y, ended, last) = bind-is (kernel.ended (s.processes m.to)) (kernel.says_gone s id m) t rest in
-    let k = when-is (is_of_memory m.what) (with_sent (without_message s id) (Some (answer_to m what.Gone))) t last in
-    subst KernelFits k.1 (put_fits (without_message s id) (answer_to m what.Gone) (gone_fits r e s id m m.what refl k.0 (fits.messages id m there) there h) (out_fits s id fits))
+    let k = when-is (is_of_memory m.what) (with_sent (without_message s id) (Some (answer_to m PlainWhat.Gone))) t last in
+    subst KernelFits k.1 (put_fits (without_message s id) (answer_to m PlainWhat.Gone) (gone_fits r e s id m m.what refl k.0 (fits.messages id m there) there h) (out_fits s id fits))

@@ -1,29 +1,10 @@
 -- All fits where a run begins, and wherever it comes.
-use Rattle.std.proofs.Common.{◌≡◌, ℕ, zero, suc, ◌+◌, ◌*◌, ◌-◌, ◌≤◌, ◌==◌, ◌&&◌, ◌||◌, Bool, true, false, not, List, [], ◌∷◌, ◌++◌, length, map, replicate, refl, ap, ◌∙◌, sym, subst, is_some, nat_le, nat_lt, inl, inr, arith}
-use Rattle.std.specs.Prelude.{if◌then◌else◌, slice_get, option_map}
-use Rattle.std.specs.declared.option.Option.{Option}
-use Rattle.std.specs.declared.option.Option.TheVariants.{None, Some}
-use Rattle.std.proofs.lemmas.Bool.{cases_Bool, false≢true}
-use Rattle.std.proofs.lemmas.Bool.Decides.{nat_tests}
-use Rattle.std.proofs.lemmas.List.{length-append, length-replicate}
-use Rattle.dm_link.specs.declared.Link.{Link}
-use Rattle.dm_link.specs.declared.Pid.{Pid}
-use Rattle.dm_link.specs.Names.{pid_eq}
-use Rattle.dm_link.specs.Plain.{plain_link}
-use Rattle.dm_message.specs.declared.MsgId.{MsgId}
-use Rattle.dm_onekernel.specs.declared.boot.BootImage.{BootImage}
-use Rattle.dm_onekernel.specs.declared.boot.BootProcess.{BootProcess}
-use Rattle.dm_onekernel.specs.declared.boot.Boot.{Boot}
-use Rattle.dm_onekernel.specs.declared.label.Label.{Label}
-use Rattle.dm_onekernel.specs.declared.label.Label.TheVariants as label
-use Rattle.dm_onekernel.specs.Boot.{IsValid, switchboard, manager, starting_at, processes_are_valid, process_is_valid, links_are_valid, link_is_valid, leads_somewhere, leads_to_process, leads_to_server, controls_child, process_named, memory_size, area_is_within, area_is_empty, is_general, slots_of, blocks_of_image}
-use Rattle.dm_onekernel.specs.PlainProcess.{PlainProcess}
-use Rattle.dm_onekernel.specs.Kernel.{Life, Alive, OneKernel}
-use Rattle.dm_onekernel.specs.Start.{start, begun, memory_of, first_life, life_at}
+use Rattle.dm_rulelaws.proofs.Names.{◌≡◌, ℕ, zero, suc, ◌+◌, ◌*◌, ◌-◌, ◌≤◌, ◌==◌, ◌&&◌, ◌||◌, Bool, true, false, not, List, [], ◌∷◌, ◌++◌, length, map, replicate, refl, ap, ◌∙◌, sym, subst, is_some, nat_le, nat_lt, inl, inr, arith}
+use Rattle.dm_rulelaws.proofs.Names.{if◌then◌else◌, slice_get, option_map, Option, None, Some, cases_Bool, false≢true, nat_tests, length-append, length-replicate, Link, Pid, pid_eq, plain_link, MsgId, BootImage, BootProcess, Boot, Label}
+use Rattle.dm_rulelaws.proofs.Names.{IsValid, switchboard, manager, starting_at, processes_are_valid, process_is_valid, links_are_valid, link_is_valid, leads_somewhere, leads_to_process, leads_to_server, controls_child, process_named}
+use Rattle.dm_rulelaws.proofs.Names.{memory_size, area_is_within, area_is_empty, is_general, slots_of, blocks_of_image, PlainProcess, Life, Alive, OneKernel, start, begun, memory_of, first_life, life_at, pid_eq-same, Sound, Each, has_bytes}
+use Rattle.dm_rulelaws.proofs.Names.{gives_no_right, LinkFits, ProcessFits, KernelFits}
 use Rattle.dm_onekernel.specs.Step as kernel
-use Rattle.dm_laws.proofs.Equal.{pid_eq-same}
-use Rattle.dm_laws.proofs.Sound.{Sound}
-use Rattle.dm_rulelaws.specs.Fits.{Each, has_bytes, gives_no_right, LinkFits, ProcessFits, KernelFits}
 use Rattle.dm_rulelaws.proofs.Fits.Rises.{both, Each-on}
 use Rattle.dm_rulelaws.proofs.Fits.Creates.{begun_fits, created_step, no_space_step}
 use Rattle.dm_rulelaws.proofs.Fits.Serves.{served_step, dropped_step, gone_step}
@@ -32,20 +13,20 @@ use Rattle.dm_rulelaws.proofs.Fits.Steps.{ran_fits, call_step, send_step, wait_s
 
 -- each step keeps that all fits
 pub fits_step : (r e : MsgId → ℕ) (s t : OneKernel) (l : Label) → kernel.step s l ≡ Some t → Sound r e s → KernelFits s → KernelFits t
-fits_step r e s t (label.Ran p k) is h fits = ran_fits s t p k is fits
-fits_step r e s t (label.Call p n c) is h fits = call_step s t p n c is fits
-fits_step r e s t (label.Send p id) is h fits = send_step s t p id is fits
-fits_step r e s t (label.Wait p) is h fits = wait_step s t p is fits
-fits_step r e s t (label.Out p w) is h fits = out_step s t p w is fits
-fits_step r e s t (label.End p y) is h fits = end_step s t p y is fits
-fits_step r e s t (label.Receive p id) is h fits = receive_step s t p id is fits
-fits_step r e s t (label.Refuse p id c) is h fits = refuse_step s t p id c is fits
-fits_step r e s t (label.Dropped id) is h fits = dropped_step s t id is fits
-fits_step r e s t (label.Served id) is h fits = served_step r e s t id is h fits
-fits_step r e s t (label.Gone id) is h fits = gone_step r e s t id is h fits
-fits_step r e s t (label.Took id) is h fits = took_step r e s t id is h fits
-fits_step r e s t (label.Created id child) is h fits = created_step r e s t id child is h fits
-fits_step r e s t (label.NoSpace id a b) is h fits = no_space_step r e s t id a b is h fits
+fits_step r e s t (Label.Ran p k) is h fits = ran_fits s t p k is fits
+fits_step r e s t (Label.Call p n c) is h fits = call_step s t p n c is fits
+fits_step r e s t (Label.Send p id) is h fits = send_step s t p id is fits
+fits_step r e s t (Label.Wait p) is h fits = wait_step s t p is fits
+fits_step r e s t (Label.Out p w) is h fits = out_step s t p w is fits
+fits_step r e s t (Label.End p y) is h fits = end_step s t p y is fits
+fits_step r e s t (Label.Receive p id) is h fits = receive_step s t p id is fits
+fits_step r e s t (Label.Refuse p id c) is h fits = refuse_step s t p id c is fits
+fits_step r e s t (Label.Dropped id) is h fits = dropped_step s t id is fits
+fits_step r e s t (Label.Served id) is h fits = served_step r e s t id is h fits
+fits_step r e s t (Label.Gone id) is h fits = gone_step r e s t id is h fits
+fits_step r e s t (Label.Took id) is h fits = took_step r e s t id is h fits
+fits_step r e s t (Label.Created id child) is h fits = created_step r e s t id child is h fits
+fits_step r e s t (Label.NoSpace id a b) is h fits = no_space_step r e s t id a b is h fits
 
 -- an image's process has the bytes of its blocks
 memory_long : (i : BootImage) → 256 * i.blocks ≤ length (memory_of i)

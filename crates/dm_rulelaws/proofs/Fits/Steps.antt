@@ -1,28 +1,9 @@
 -- Each label of a process keeps that all fits.
-use Rattle.std.proofs.Common.{◌≡◌, ℕ, ◌+◌, ◌==◌, ◌&&◌, Bool, true, length, ap, ◌∙◌, sym, subst, nat_le, arith}
-use Rattle.std.specs.declared.option.Option.{Option}
-use Rattle.std.specs.declared.option.Option.TheVariants.{None, Some}
-use Rattle.std.proofs.lemmas.Bool.Decides.{nat_tests}
-use Rattle.dm_link.specs.declared.Pid.{Pid}
-use Rattle.dm_message.specs.declared.MsgId.{MsgId}
-use Rattle.dm_message.specs.Ids.{id_eq}
-use Rattle.dm_message.specs.Plain as what
-use Rattle.dm_message.specs.Plain.{PlainMessage, PlainWhat}
-use Rattle.dm_onekernel.specs.declared.label.Label.TheVariants as label
-use Rattle.dm_onekernel.specs.declared.label.Reply.{Reply}
-use Rattle.dm_onekernel.specs.declared.label.Why.{Why}
-use Rattle.dm_onekernel.specs.declared.label.Why.TheVariants as why
-use Rattle.dm_onekernel.specs.Codes.{reply_eq, why_eq}
-use Rattle.dm_onekernel.specs.Options.{bind}
-use Rattle.dm_onekernel.specs.PlainProcess.{PlainProcess, PlainStatus, Ready, Waiting, Moving}
-use Rattle.dm_onekernel.specs.Kernel.{Life, Alive, Ended, OneKernel, with_process, with_sent}
-use Rattle.dm_onekernel.specs.Calls as calls
+use Rattle.dm_rulelaws.proofs.Names.{◌≡◌, ℕ, ◌+◌, ◌==◌, ◌&&◌, Bool, true, length, ap, ◌∙◌, sym, subst, nat_le, arith, Option, None, Some, nat_tests, Pid, MsgId, id_eq, Label, Called, PlainMessage, PlainWhat, Reply, Why, reply_eq, why_eq}
+use Rattle.dm_rulelaws.proofs.Names.{bind, PlainProcess, PlainStatus, Ready, Waiting, Moving, Life, Alive, Ended, OneKernel, with_process, with_sent, without_message, pending_of, bind-is, when-is, Nexts, nexts, Lives, has_bytes, LinkFits}
+use Rattle.dm_rulelaws.proofs.Names.{ProcessFits, status_awaits, awaits, WhatFits, KernelFits}
 use Rattle.dm_onekernel.specs.Receiving as receiving
-use Rattle.dm_onekernel.specs.Service.{without_message}
 use Rattle.dm_onekernel.specs.Step as kernel
-use Rattle.dm_laws.proofs.Counted.{pending_of}
-use Rattle.dm_laws.proofs.Steps.{bind-is, when-is, Nexts, nexts}
-use Rattle.dm_rulelaws.specs.Fits.{Lives, has_bytes, LinkFits, ProcessFits, status_awaits, awaits, WhatFits, KernelFits}
 use Rattle.dm_rulelaws.proofs.Fits.Rises.{Rises, Each-on, link_on, users_on, move_on, Becomes, set_fits, set_at, set_rises, out_fits, put_fits, end_fits}
 use Rattle.dm_rulelaws.proofs.Fits.Calls.{Goes, SentFits}
 use Rattle.dm_rulelaws.proofs.Fits.Receives.{GoesOn, NextIs, next_is, running_is, steps_length, Completing, completing_is}
@@ -56,7 +37,7 @@ goes_of ps x z y memory g =
     record { memory = omega (arith, f); slots = g.slots; move = g.move }
 
 -- ran
-pub ran_fits : (s t : OneKernel) (p : Pid) (k : ℕ) → kernel.step s (label.Ran p k) ≡ Some t → KernelFits s → KernelFits t
+pub ran_fits : (s t : OneKernel) (p : Pid) (k : ℕ) → kernel.step s (Label.Ran p k) ≡ Some t → KernelFits s → KernelFits t
 ran_fits s t p k is h =
     let (x, running, rest) = bind-is (kernel.running s p) (λ (w : PlainProcess). bind (kernel.plain_steps k (kernel.machine_of w)) (λ (m : kernel.Machine). Some (kernel.goes_on s p (kernel.with_machine w m)))) t is in
     let (m, plain, last) = bind-is (kernel.plain_steps k (kernel.machine_of x)) (λ (m : kernel.Machine). Some (kernel.goes_on s p (kernel.with_machine x m))) t rest in
@@ -71,41 +52,31 @@ ran_fits s t p k is h =
     }) h)
 
 reply_row : (s t : OneKernel) (p : Pid) (n : ℕ) (c : Reply) (next : kernel.Next) → NextIs s p next → kernel.replies s p n c next ≡ Some t → KernelFits s → KernelFits t
-reply_row s t p n c (kernel.Calls number (calls.Replies d y)) w is h =
+reply_row s t p n c (kernel.Calls number (Called.Replies d y)) w is h =
     let k = when-is ((n == number) && reply_eq c d) (kernel.goes_on s p y) t is in
     subst KernelFits k.1 (goes_fits s p w.x y w.is.alive w.is.still (goes_of s.processes w.x w.z y w.memory w.fits) h)
-reply_row s t p n c (kernel.Calls number (calls.Sends m y)) w is h = cc
-reply_row s t p n c (kernel.Calls number (calls.Waits y)) w is h = cc
-reply_row s t p n c (kernel.Calls number (calls.Outputs word y)) w is h = cc
-reply_row s t p n c (kernel.Calls number (calls.Ends because)) w is h = cc
+reply_row s t p n c (kernel.Calls number (Called.Sends m y)) w is h = cc
+reply_row s t p n c (kernel.Calls number (Called.Waits y)) w is h = cc
+reply_row s t p n c (kernel.Calls number (Called.Outputs word y)) w is h = cc
+reply_row s t p n c (kernel.Calls number (Called.Ends because)) w is h = cc
 reply_row s t p n c (kernel.Faults fault) w is h = cc
 
-pub call_step : (s t : OneKernel) (p : Pid) (n : ℕ) (c : Reply) → kernel.step s (label.Call p n c) ≡ Some t → KernelFits s → KernelFits t
+pub call_step : (s t : OneKernel) (p : Pid) (n : ℕ) (c : Reply) → kernel.step s (Label.Call p n c) ≡ Some t → KernelFits s → KernelFits t
 call_step s t p n c is h =
     let (x, next, rest) = bind-is (kernel.next s p) (kernel.replies s p n c) t is in
     reply_row s t p n c x (next_is s p x h next) rest h
 
 -- what is sent fits where its sender goes on
 pub sent_fits : (s u : OneKernel) (p : Pid) (y : PlainProcess) (m : PlainMessage) (w : PlainWhat) → Rises s.processes u.processes → u.processes p ≡ Some (Alive y) → m.id.from ≡ p → SentFits s.processes y m w → WhatFits u m.id m w
-sent_fits s u p y m (what.User code channel body links) up at from f = (users_on s.processes u.processes up m.to f.0, Each-on (LinkFits s.processes) (LinkFits u.processes) (link_on s.processes u.processes up) links f.1)
-sent_fits s u p y m (what.Read base len) up at from f =
-    (up m.to (base + len) f.0, ap (λ (q : Pid). awaits (u.processes q) m.id.n (what.Read base len)) from ∙ ap (λ (o : Option Life). awaits o m.id.n (what.Read base len)) at ∙ f.1)
-sent_fits s u p y m (what.Write base bytes) up at from f =
-    (up m.to (base + length bytes) f.0, ap (λ (q : Pid). awaits (u.processes q) m.id.n (what.Write base bytes)) from ∙ ap (λ (o : Option Life). awaits o m.id.n (what.Write base bytes)) at ∙ f.1)
-sent_fits s u p y m what.Stop up at from f = absurd f
-sent_fits s u p y m what.Resume up at from f = absurd f
-sent_fits s u p y m what.Kill up at from f = absurd f
-sent_fits s u p y m (what.Block a) up at from f = absurd f
-sent_fits s u p y m what.Written up at from f = absurd f
-sent_fits s u p y m what.Gone up at from f = absurd f
-sent_fits s u p y m (what.Create a b) up at from f = absurd f
-sent_fits s u p y m (what.Created a) up at from f = absurd f
-sent_fits s u p y m what.NoRoom up at from f = absurd f
-sent_fits s u p y m (what.Move a) up at from f = absurd f
-sent_fits s u p y m (what.Moved a) up at from f = absurd f
+sent_fits s u p y m (PlainWhat.User code channel body links) up at from f = (users_on s.processes u.processes up m.to f.0, Each-on (LinkFits s.processes) (LinkFits u.processes) (link_on s.processes u.processes up) links f.1)
+sent_fits s u p y m (PlainWhat.Read base len) up at from f =
+    (up m.to (base + len) f.0, ap (λ (q : Pid). awaits (u.processes q) m.id.n (PlainWhat.Read base len)) from ∙ ap (λ (o : Option Life). awaits o m.id.n (PlainWhat.Read base len)) at ∙ f.1)
+sent_fits s u p y m (PlainWhat.Write base bytes) up at from f =
+    (up m.to (base + length bytes) f.0, ap (λ (q : Pid). awaits (u.processes q) m.id.n (PlainWhat.Write base bytes)) from ∙ ap (λ (o : Option Life). awaits o m.id.n (PlainWhat.Write base bytes)) at ∙ f.1)
+sent_fits s u p y m _ up at from f = absurd f
 
 send_row : (s t : OneKernel) (p : Pid) (id : MsgId) (next : kernel.Next) → Nexts s p next → NextIs s p next → kernel.sends s p id next ≡ Some t → KernelFits s → KernelFits t
-send_row s t p id (kernel.Calls number (calls.Sends m y)) v w is h =
+send_row s t p id (kernel.Calls number (Called.Sends m y)) v w is h =
     let (z, sent, pending, counted) = v.counts in
     let k = when-is (id_eq id m.id) (with_sent (kernel.goes_on s p y) (Some m)) t is in
     let u = kernel.goes_on s p y in
@@ -113,56 +84,56 @@ send_row s t p id (kernel.Calls number (calls.Sends m y)) v w is h =
     let b = becomes s p w.x y w.is.alive goes (λ i n there from e. unawaited w.x.status i.n n.what (status_awaits y.status i.n n.what) w.is.still e) in
     subst KernelFits k.1
     (put_fits u m (sent_fits s u p y m m.what (set_rises s p (Alive y) b.bytes) (set_at s p (Alive y)) (ap (λ (i : MsgId). i.from) counted.id) w.fits.what) (set_fits s p (Alive y) b h))
-send_row s t p id (kernel.Calls number (calls.Replies d y)) v w is h = cc
-send_row s t p id (kernel.Calls number (calls.Waits y)) v w is h = cc
-send_row s t p id (kernel.Calls number (calls.Outputs word y)) v w is h = cc
-send_row s t p id (kernel.Calls number (calls.Ends because)) v w is h = cc
+send_row s t p id (kernel.Calls number (Called.Replies d y)) v w is h = cc
+send_row s t p id (kernel.Calls number (Called.Waits y)) v w is h = cc
+send_row s t p id (kernel.Calls number (Called.Outputs word y)) v w is h = cc
+send_row s t p id (kernel.Calls number (Called.Ends because)) v w is h = cc
 send_row s t p id (kernel.Faults fault) v w is h = cc
 
-pub send_step : (s t : OneKernel) (p : Pid) (id : MsgId) → kernel.step s (label.Send p id) ≡ Some t → KernelFits s → KernelFits t
+pub send_step : (s t : OneKernel) (p : Pid) (id : MsgId) → kernel.step s (Label.Send p id) ≡ Some t → KernelFits s → KernelFits t
 send_step s t p id is h =
     let (x, next, rest) = bind-is (kernel.next s p) (kernel.sends s p id) t is in
     send_row s t p id x (nexts s p x next) (next_is s p x h next) rest h
 
 wait_row : (s t : OneKernel) (p : Pid) (next : kernel.Next) → NextIs s p next → kernel.waits s p next ≡ Some t → KernelFits s → KernelFits t
-wait_row s t p (kernel.Calls number (calls.Waits y)) w is h =
+wait_row s t p (kernel.Calls number (Called.Waits y)) w is h =
     let eq : kernel.goes_on s p y ≡ t = cc in
     subst KernelFits eq (goes_fits s p w.x y w.is.alive w.is.still (goes_of s.processes w.x w.z y w.memory w.fits) h)
-wait_row s t p (kernel.Calls number (calls.Replies d y)) w is h = cc
-wait_row s t p (kernel.Calls number (calls.Sends m y)) w is h = cc
-wait_row s t p (kernel.Calls number (calls.Outputs word y)) w is h = cc
-wait_row s t p (kernel.Calls number (calls.Ends because)) w is h = cc
+wait_row s t p (kernel.Calls number (Called.Replies d y)) w is h = cc
+wait_row s t p (kernel.Calls number (Called.Sends m y)) w is h = cc
+wait_row s t p (kernel.Calls number (Called.Outputs word y)) w is h = cc
+wait_row s t p (kernel.Calls number (Called.Ends because)) w is h = cc
 wait_row s t p (kernel.Faults fault) w is h = cc
 
-pub wait_step : (s t : OneKernel) (p : Pid) → kernel.step s (label.Wait p) ≡ Some t → KernelFits s → KernelFits t
+pub wait_step : (s t : OneKernel) (p : Pid) → kernel.step s (Label.Wait p) ≡ Some t → KernelFits s → KernelFits t
 wait_step s t p is h =
     let (x, next, rest) = bind-is (kernel.next s p) (kernel.waits s p) t is in
     wait_row s t p x (next_is s p x h next) rest h
 
 out_row : (s t : OneKernel) (p : Pid) (word : ℕ) (next : kernel.Next) → NextIs s p next → kernel.outputs s p word next ≡ Some t → KernelFits s → KernelFits t
-out_row s t p word (kernel.Calls number (calls.Outputs other y)) w is h =
+out_row s t p word (kernel.Calls number (Called.Outputs other y)) w is h =
     let k = when-is (word == other) (kernel.goes_on s p y) t is in
     subst KernelFits k.1 (goes_fits s p w.x y w.is.alive w.is.still (goes_of s.processes w.x w.z y w.memory w.fits) h)
-out_row s t p word (kernel.Calls number (calls.Replies d y)) w is h = cc
-out_row s t p word (kernel.Calls number (calls.Sends m y)) w is h = cc
-out_row s t p word (kernel.Calls number (calls.Waits y)) w is h = cc
-out_row s t p word (kernel.Calls number (calls.Ends because)) w is h = cc
+out_row s t p word (kernel.Calls number (Called.Replies d y)) w is h = cc
+out_row s t p word (kernel.Calls number (Called.Sends m y)) w is h = cc
+out_row s t p word (kernel.Calls number (Called.Waits y)) w is h = cc
+out_row s t p word (kernel.Calls number (Called.Ends because)) w is h = cc
 out_row s t p word (kernel.Faults fault) w is h = cc
 
-pub out_step : (s t : OneKernel) (p : Pid) (word : ℕ) → kernel.step s (label.Out p word) ≡ Some t → KernelFits s → KernelFits t
+pub out_step : (s t : OneKernel) (p : Pid) (word : ℕ) → kernel.step s (Label.Out p word) ≡ Some t → KernelFits s → KernelFits t
 out_step s t p word is h =
     let (x, next, rest) = bind-is (kernel.next s p) (kernel.outputs s p word) t is in
     out_row s t p word x (next_is s p x h next) rest h
 
 end_row : (s t : OneKernel) (p : Pid) (y : Why) (next : kernel.Next) → kernel.ends s p y next ≡ Some t → KernelFits s → KernelFits t
-end_row s t p y (kernel.Calls number (calls.Ends because)) is h = let k = when-is (why_eq y because) (with_process s p (Ended y)) t is in subst KernelFits k.1 (end_fits s p y h)
-end_row s t p y (kernel.Faults fault) is h = let k = when-is (why_eq y (why.Fault fault)) (with_process s p (Ended y)) t is in subst KernelFits k.1 (end_fits s p y h)
-end_row s t p y (kernel.Calls number (calls.Replies d z)) is h = cc
-end_row s t p y (kernel.Calls number (calls.Sends m z)) is h = cc
-end_row s t p y (kernel.Calls number (calls.Waits z)) is h = cc
-end_row s t p y (kernel.Calls number (calls.Outputs word z)) is h = cc
+end_row s t p y (kernel.Calls number (Called.Ends because)) is h = let k = when-is (why_eq y because) (with_process s p (Ended y)) t is in subst KernelFits k.1 (end_fits s p y h)
+end_row s t p y (kernel.Faults fault) is h = let k = when-is (why_eq y (Why.Fault fault)) (with_process s p (Ended y)) t is in subst KernelFits k.1 (end_fits s p y h)
+end_row s t p y (kernel.Calls number (Called.Replies d z)) is h = cc
+end_row s t p y (kernel.Calls number (Called.Sends m z)) is h = cc
+end_row s t p y (kernel.Calls number (Called.Waits z)) is h = cc
+end_row s t p y (kernel.Calls number (Called.Outputs word z)) is h = cc
 
-pub end_step : (s t : OneKernel) (p : Pid) (y : Why) → kernel.step s (label.End p y) ≡ Some t → KernelFits s → KernelFits t
+pub end_step : (s t : OneKernel) (p : Pid) (y : Why) → kernel.step s (Label.End p y) ≡ Some t → KernelFits s → KernelFits t
 end_step s t p y is h =
     let (x, next, rest) = bind-is (kernel.next s p) (kernel.ends s p y) t is in
     end_row s t p y x rest h
@@ -174,7 +145,7 @@ receive_row s t p id (receiving.Receives y) w is h =
     subst KernelFits eq (goes_fits (without_message s id) p w.x y w.alive w.still (record { memory = g.memory; slots = g.slots; move = g.move }) (out_fits s id h))
 receive_row s t p id (receiving.Refuses d y) w is h = cc
 
-pub receive_step : (s t : OneKernel) (p : Pid) (id : MsgId) → kernel.step s (label.Receive p id) ≡ Some t → KernelFits s → KernelFits t
+pub receive_step : (s t : OneKernel) (p : Pid) (id : MsgId) → kernel.step s (Label.Receive p id) ≡ Some t → KernelFits s → KernelFits t
 receive_step s t p id is h =
     let (c, e, rest) = bind-is (kernel.completing s p id) (kernel.receives s p id) t is in
     receive_row s t p id c (completing_is s p id c h e) rest h
@@ -185,7 +156,7 @@ refuse_row s t p d (receiving.Refuses c y) w is h =
     let k = when-is (reply_eq d c) (kernel.goes_on s p y) t is in
     subst KernelFits k.1 (goes_fits s p w.x y w.alive w.still w.fits h)
 
-pub refuse_step : (s t : OneKernel) (p : Pid) (id : MsgId) (d : Reply) → kernel.step s (label.Refuse p id d) ≡ Some t → KernelFits s → KernelFits t
+pub refuse_step : (s t : OneKernel) (p : Pid) (id : MsgId) (d : Reply) → kernel.step s (Label.Refuse p id d) ≡ Some t → KernelFits s → KernelFits t
 refuse_step s t p id d is h =
     let (c, e, rest) = bind-is (kernel.completing s p id) (kernel.refuses s p d) t is in
     refuse_row s t p d c (completing_is s p id c h e) rest h

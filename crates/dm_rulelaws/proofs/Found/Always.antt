@@ -1,32 +1,9 @@
 -- Each message stands where its receiver is known, wherever the rule leads.
-use Rattle.std.proofs.Common.{◌≡◌, ◌≢◌, ℕ, ◌<◌, ◌≤◌, ◌==◌, ◌&&◌, ◌||◌, Bool, true, false, is_some, List, [], ◌∷◌, ◌++◌, length, refl, ap, ◌∙◌, sym, subst, inl, inr, arith}
-use Rattle.std.specs.Prelude.{if◌then◌else◌}
-use Rattle.std.specs.declared.option.Option.{Option}
-use Rattle.std.specs.declared.option.Option.TheVariants.{None, Some}
-use Rattle.std.proofs.lemmas.Bool.{cases_Bool, false≢true}
-use Rattle.std.proofs.lemmas.Bool.Decides.{nat_tests}
-use Rattle.dm_link.specs.declared.Pid.{Pid}
-use Rattle.dm_link.specs.Names.{Place, pid_eq}
-use Rattle.dm_message.specs.declared.MsgId.{MsgId}
-use Rattle.dm_message.specs.Plain.{PlainMessage}
-use Rattle.dm_onekernel.specs.declared.boot.BootProcess.{BootProcess}
-use Rattle.dm_onekernel.specs.declared.boot.Boot.{Boot}
-use Rattle.dm_onekernel.specs.Boot.{IsValid, processes_are_valid, switchboard, manager}
-use Rattle.dm_onekernel.specs.Start.{first_life, life_at}
-use Rattle.dm_schedule.specs.declared.Step.{Step}
-use Rattle.dm_rule.specs.View.{View, Told, Unknown, Here, is_kernels, known_at, first_view}
-use Rattle.dm_rule.specs.Addresses.{Holder, Receiver, Sender}
-use Rattle.dm_rule.specs.Homes.{names, to_of}
-use Rattle.dm_rule.specs.Laws.{IsStep, Leads}
-use Rattle.dm_rule.specs.Parts.{Spelled}
-use Rattle.dm_rule.specs.Point.{Point, first_point}
-use Rattle.dm_rule.specs.Rule.{group_of}
-use Rattle.dm_rule.specs.Spots.{Spot, Queue, Held, Inbox, Untaken, StandsOutside, standing}
-use Rattle.dm_rule.proofs.Groups.{stands_right}
-use Rattle.dm_rule.proofs.Homes.Start.{Homes-start}
-use Rattle.dm_rule.proofs.Phases.Always.{Phased, phased_start, phased_group, phased_on}
-use Rattle.dm_rule.proofs.Trails.Places.{Goes, Comes, Named, Links, Owns}
-use Rattle.dm_rulelaws.specs.Found.{Found, machine_of, is_fixed}
+use Rattle.dm_rulelaws.proofs.Names.{◌≡◌, ◌≢◌, ℕ, ◌<◌, ◌≤◌, ◌==◌, ◌&&◌, ◌||◌, Bool, true, false, is_some, List, [], ◌∷◌, ◌++◌, length, refl, ap, ◌∙◌, sym, subst, inl, inr, arith, if◌then◌else◌, Option, None, Some, cases_Bool, false≢true}
+use Rattle.dm_rulelaws.proofs.Names.{nat_tests, Pid, Place, pid_eq, MsgId, PlainMessage, BootProcess, Boot, IsValid, processes_are_valid, switchboard, manager, first_life, life_at, Step, View, Told, Unknown, Here, is_kernels, known_at}
+use Rattle.dm_rulelaws.proofs.Names.{first_view, Holder, Receiver, Sender, names, to_of, IsStep, Spelled, Point, first_point, group_of, Spot, Queue, StandsOutside, standing, stands_right, Homes-start, Phased, Goes, Comes, Named, Links}
+use Rattle.dm_rulelaws.proofs.Names.{Found, machine_of, is_fixed}
+use Rattle.dm_rule.proofs.Trails.Places.{Owns}
 use Rattle.dm_rulelaws.proofs.Fits.Start.{start_fits}
 use Rattle.dm_rulelaws.proofs.Found.Core.{KnowsAt, Knows, IsReal, AboutIs, KnownIs, Core, known_within}
 use Rattle.dm_rulelaws.proofs.Found.Groups.{core_group}
@@ -54,9 +31,7 @@ start_knows b v earlier (p ∷ ps) m q valid some =
 
 nothing_stands : (b : Boot) (i : MsgId) (z : Spot) → standing (first_view b) i z ≡ 0
 nothing_stands b i (Queue m p) = refl
-nothing_stands b i (Held m p) = refl
-nothing_stands b i (Inbox m) = refl
-nothing_stands b i (Untaken c d) = refl
+nothing_stands b i _ = refl
 
 start_all : (b : Boot) → IsValid b → (h : Holder) (q : Pid) → Named (first_point b).kernel (first_point b).view h q → Knows (first_point b).view q ((first_point b).addresses h)
 start_all b valid h q (Links e) = inl (ap (λ (p : Place). p.at) ((Homes-start b valid).home h q e))
@@ -156,13 +131,3 @@ found_of pt base h =
       incoming_within = λ m k p e. (subst (KnownIs n v m p) e (h.known m p)).1;
       known_within = λ m p known. known_within n v m p (v.known m p) known (h.known m p);
     }
-
--- wherever the rule leads
-found_on : (b : Boot) (es : List Step) (pt end : Point) → Leads b pt es end → Phased pt → FoundBy pt → FoundBy end
-found_on b [] pt end leads phased h = subst FoundBy leads h
-found_on b (d ∷ es) pt end (w, fit, is, rest) phased h = found_on b es w.point end rest (phased_group b pt d w fit is phased) (found_group b pt d w fit is phased h)
-
-pub found_always : (b : Boot) (es : List Step) (pt : Point) → IsValid b → Leads b (first_point b) es pt → Found pt
-found_always b es pt valid leads =
-    let first = phased_start b valid in
-    found_of pt (phased_on b es (first_point b) pt leads first) (found_on b es (first_point b) pt leads first (found_start b valid))

@@ -1,24 +1,7 @@
 -- What each line keeps: where addresses lead, what machines know, and where messages stand.
-use Rattle.std.proofs.Common.{◌≡◌, ◌≢◌, ◌⊎◌, ℕ, ◌<◌, ◌==◌, ◌&&◌, Bool, true, false, is_some, refl, ap, ◌∙◌, sym, subst, inl, inr}
-use Rattle.std.specs.Prelude.{⊤, if◌then◌else◌}
-use Rattle.std.specs.declared.option.Option.{Option}
-use Rattle.std.specs.declared.option.Option.TheVariants.{Some}
-use Rattle.std.proofs.lemmas.Bool.{cases_Bool}
-use Rattle.dm_link.specs.declared.Pid.{Pid}
-use Rattle.dm_link.specs.Names.{Place, pid_eq}
-use Rattle.dm_message.specs.declared.MsgId.{MsgId}
-use Rattle.dm_message.specs.Plain.{PlainMessage}
-use Rattle.dm_laws.proofs.Equal.{pid_eq-is}
-use Rattle.dm_line.specs.Sets.{at_record}
-use Rattle.dm_rule.specs.View as view
-use Rattle.dm_rule.specs.View.{View, Told, About, NothingElse, Target, Of, Known, Unknown, Here, Frozen, Incoming, Forward, Ended, is_kernels}
-use Rattle.dm_rule.specs.Addresses.{Addresses, Receiver}
-use Rattle.dm_rule.specs.Homes.{ascends}
-use Rattle.dm_rule.specs.Point.{Point}
-use Rattle.dm_rule.proofs.Lines.{eq_is, parts}
-use Rattle.dm_rule.proofs.Trails.Puts.{is_own}
-use Rattle.dm_rulelaws.specs.Fits.{KernelFits}
-use Rattle.dm_rulelaws.specs.Found.{is_fixed}
+use Rattle.dm_rulelaws.proofs.Names.{◌≡◌, ◌≢◌, ◌⊎◌, ℕ, ◌<◌, ◌==◌, ◌&&◌, Bool, true, false, is_some, refl, ap, ◌∙◌, sym, subst, inl, inr, ⊤, if◌then◌else◌, Option, Some, cases_Bool, Pid, Place, pid_eq, MsgId, PlainMessage, pid_eq-is}
+use Rattle.dm_rulelaws.proofs.Names.{at_record, View, Told, About, Target, Known, Unknown, Here, Frozen, Incoming, Forward, is_kernels, Addresses, Receiver, ascends, Point, eq_is, parts, is_own, KernelFits, is_fixed}
+use Rattle.dm_rule.specs.View.{Ended}
 use Rattle.dm_rulelaws.proofs.Found.Steps.{Sends}
 use Rattle.dm_rulelaws.proofs.Found.Lists.{Places}
 use Rattle.dm_rulelaws.proofs.Found.Held.{HeldFor}
@@ -40,20 +23,18 @@ abbrev pub IsOwn : ℕ → View → Told → Type 0
 IsOwn n v u = IsReal n v u.receiver × (is_own u.kind ≡ true)
 
 abbrev pub AboutIs : ℕ → View → About → Type 0
-AboutIs n v NothingElse = ⊤
 AboutIs n v (Target m) = m < n
-AboutIs n v (Of p) = ⊤
-AboutIs n v (view.Place p m c) = KnowsAt v p m
+AboutIs n v (About.Place p m c) = KnowsAt v p m
+AboutIs n v _ = ⊤
 
 -- what a machine knows of a process names machines that there are, and a forward one that knows the process; neither kernels
 -- nor servers move
 abbrev pub KnownIs : ℕ → View → ℕ → Pid → Known → Type 0
 KnownIs n v m p Unknown = ⊤
-KnownIs n v m p Here = m < n
 KnownIs n v m p (Frozen to) = (m < n) × (to < n) × (is_fixed p ≡ false)
 KnownIs n v m p (Incoming from) = (m < n) × (from < n) × (is_fixed p ≡ false)
 KnownIs n v m p (Forward at moves) = (m < n) × (v.known at p ≢ Unknown) × (is_fixed p ≡ false)
-KnownIs n v m p Ended = m < n
+KnownIs n v m p _ = m < n
 
 -- a message's address names this machine, and its first put told of it
 abbrev pub IsAt : Addresses → View → MsgId → ℕ → Type 0
@@ -94,26 +75,20 @@ pub own_grows : (n : ℕ) (v w : View) (u : Told) → Grows v w → IsOwn n v u 
 own_grows n v w u grows h = (real_grows n v w u.receiver grows h.0, h.1)
 
 pub about_grows : (n : ℕ) (v w : View) (a : About) → Grows v w → AboutIs n v a → AboutIs n w a
-about_grows n v w NothingElse grows h = tt
 about_grows n v w (Target m) grows h = h
-about_grows n v w (Of p) grows h = tt
-about_grows n v w (view.Place p m c) grows h = knows_grow v w p m grows h
+about_grows n v w (About.Place p m c) grows h = knows_grow v w p m grows h
+about_grows n v w _ grows h = tt
 
 pub known_grows : (n : ℕ) (v w : View) (m : ℕ) (p : Pid) (k : Known) → Grows v w → KnownIs n v m p k → KnownIs n w m p k
 known_grows n v w m p Unknown grows h = tt
-known_grows n v w m p Here grows h = h
-known_grows n v w m p (Frozen to) grows h = h
-known_grows n v w m p (Incoming from) grows h = h
 known_grows n v w m p (Forward at moves) grows h = (h.0, grows at p h.1, h.2)
-known_grows n v w m p Ended grows h = h
+known_grows n v w m p _ grows h = h
 
 pub known_within : (n : ℕ) (v : View) (m : ℕ) (p : Pid) (k : Known) → k ≢ Unknown → KnownIs n v m p k → m < n
 known_within n v m p Unknown some h = absurd (some refl)
 known_within n v m p Here some h = h
-known_within n v m p (Frozen to) some h = h.0
-known_within n v m p (Incoming from) some h = h.0
-known_within n v m p (Forward at moves) some h = h.0
 known_within n v m p Ended some h = h
+known_within n v m p _ some h = h.0
 
 pub all_grow : (v w : View) (pt : Point) → Grows v w → w.told ≡ v.told → AllAre (Knows v) pt.kernel v pt.addresses → AllAre (Knows w) pt.kernel w pt.addresses
 all_grow v w pt grows told h g q e = knows_grow v w q (pt.addresses g).at grows (all_as (Knows v) pt.kernel v w pt.addresses told h g q e)

@@ -1,39 +1,10 @@
 -- What a turn needs where a message goes on, and where those of a process that leaves do.
-use Rattle.std.proofs.Common.{◌≡◌, ◌≢◌, ℕ, ◌<◌, ◌≤◌, Bool, true, false, List, [], ◌∷◌, ◌++◌, length, refl, ap, ◌∙◌, sym, subst, inl, inr, arith}
-use Rattle.std.specs.Prelude.{if◌then◌else◌}
-use Rattle.std.specs.declared.option.Option.{Option}
-use Rattle.std.specs.declared.option.Option.TheVariants.{None, Some}
-use Rattle.std.proofs.lemmas.Bool.{cases_Bool, false≢true}
-use Rattle.dm_link.specs.declared.Pid.{Pid}
-use Rattle.dm_link.specs.Names.{Place}
-use Rattle.dm_message.specs.declared.MsgId.{MsgId}
-use Rattle.dm_message.specs.Ids.{id_eq}
-use Rattle.dm_message.specs.Plain.{PlainMessage}
-use Rattle.dm_message.specs.declared.kind.MessageKind.{MessageKind}
-use Rattle.dm_message.specs.declared.kind.MessageKind.TheVariants as kind
-use Rattle.dm_laws.proofs.Equal.{id_eq-is, id_eq-same}
-use Rattle.dm_line.specs.declared.line.Line.TheVariants as line
-use Rattle.dm_line.specs.declared.line.Stage.TheVariants as stage
-use Rattle.dm_rule.specs.View.{View, Told, Known, Unknown, Here, Frozen, Incoming, Forward, Ended, is_kernels, own_id, handled, forwarded_for, forward_about, receiver_of, view_after}
-use Rattle.dm_rule.specs.Addresses.{Addresses, Receiver, Sender, given, place_known, all_follow, is_told_back, tells_back, forwards}
-use Rattle.dm_rule.specs.Homes.{to_of}
-use Rattle.dm_rule.specs.Point.{Point, moved}
-use Rattle.dm_rule.specs.Parts.{Part, Says, Again, Owns}
-use Rattle.dm_rule.specs.Migrating.{to_kernel, forwards_on, sends_on, leaves}
-use Rattle.dm_rule.specs.Spots.{Spot, times, standing, StandsAsBag}
-use Rattle.dm_rule.proofs.Letters.{letters}
-use Rattle.dm_rule.proofs.Lines.{not_true}
-use Rattle.dm_rule.proofs.Moves.Lists.{both_lists, without_all, without_at, first_off}
-use Rattle.dm_rule.proofs.Moves.Sent.{sent_way}
-use Rattle.dm_rule.proofs.Once.{one_of}
-use Rattle.dm_rule.proofs.Phases.Answers.{front_gone}
-use Rattle.dm_rule.proofs.Phases.Lines.{forwarded_known}
-use Rattle.dm_rule.proofs.States.{State}
-use Rattle.dm_rule.proofs.Telling.{Sane}
-use Rattle.dm_rule.proofs.Trails.Places.{Goes, Comes, Named, Links, Owns}
-use Rattle.dm_rule.proofs.Trails.Lines.{forwarded_back}
-use Rattle.dm_rule.proofs.Trails.Puts.{is_own}
-use Rattle.dm_rulelaws.specs.Found.{is_fixed}
+use Rattle.dm_rulelaws.proofs.Names.{◌≡◌, ◌≢◌, ℕ, ◌<◌, ◌≤◌, Bool, true, false, List, [], ◌∷◌, ◌++◌, length, refl, ap, ◌∙◌, sym, subst, inl, inr, arith, if◌then◌else◌, Option, None, Some, cases_Bool, false≢true, Pid, Place, MsgId, id_eq}
+use Rattle.dm_rulelaws.proofs.Names.{PlainMessage, MessageKind, Line, Stage, id_eq-is, id_eq-same, View, Told, Known, Unknown, Here, Frozen, Forward, is_kernels, own_id, handled, forwarded_for, forward_about, receiver_of, view_after}
+use Rattle.dm_rulelaws.proofs.Names.{Addresses, Receiver, Sender, given, place_known, all_follow, is_told_back, tells_back, forwards, to_of, Point, moved, Part, Says, Again, Owns, to_kernel, forwards_on, sends_on, leaves, Spot, times}
+use Rattle.dm_rulelaws.proofs.Names.{standing, StandsAsBag, letters, not_true, both_lists, without_all, without_at, first_off, sent_way, one_of, front_gone, forwarded_known, State, Sane, Goes, Comes, Named, Links, forwarded_back, is_own}
+use Rattle.dm_rulelaws.proofs.Names.{is_fixed}
+use Rattle.dm_rule.proofs.Trails.Places.{Owns}
 use Rattle.dm_rulelaws.proofs.Found.Core.{AboutIs, KnowsAt, Knows, IsReal, KnownIs, Core, Grows, knows_grow, real_grows}
 use Rattle.dm_rulelaws.proofs.Found.Given.{NeedsForward, NeedsSent}
 use Rattle.dm_rulelaws.proofs.Found.Parts.{AllNeed, NeedOf, NeedsOwn, Same, again_same, loose_need, own_outside, own_fresh}
@@ -58,7 +29,7 @@ named_for pt id u q sane told (Owns (Comes i t is own now move to)) = cc
 forward_known : (n : ℕ) (v : View) (m : ℕ) (p : Pid) (to c : ℕ) (k : Known) → k ≡ Forward to c → KnownIs n v m p k → v.known to p ≢ Unknown
 forward_known n v m p to c k e h = (subst (KnownIs n v m p) e h).1
 
-forwarded_own : (v : View) (o : Option Pid) → own_id (forwarded_for v o) ≡ own_id v
+pub forwarded_own : (v : View) (o : Option Pid) → own_id (forwarded_for v o) ≡ own_id v
 forwarded_own v None = refl
 forwarded_own v (Some p) = refl
 
@@ -69,13 +40,13 @@ goes_to v a id u to c o told at =
     ∙ ap (λ (b : Bool). (if b then place_known (v.known v.acting u.receiver) (v.moves u.receiver) (a (Receiver id)) else given a (tells_back v a id (is_told_back u.kind)) (Receiver id)).at) (id_eq-same id)
     ∙ ap (λ (k : Known). (place_known k (v.moves u.receiver) (a (Receiver id))).at) at
 
-other_id : (v : View) (id : MsgId) (u : Told) → v.told id ≡ Some u → v.told (own_id v) ≡ None → id_eq id (own_id v) ≡ false
+pub other_id : (v : View) (id : MsgId) (u : Told) → v.told id ≡ Some u → v.told (own_id v) ≡ None → id_eq id (own_id v) ≡ false
 other_id v id u told none = not_true (id_eq id (own_id v)) (λ e. let f : Some u ≡ None = sym told ∙ ap v.told (id_eq-is id (own_id v) e) ∙ none in cc)
 
 -- the update that follows
 back_need : (n : ℕ) (pt mid next : Point) (id : MsgId) (u : Told) (sender : Pid) → pt.view.told id ≡ Some u → is_told_back u.kind ≡ true → Sane pt
     → ((m : ℕ) (q : Pid) → mid.view.known m q ≡ pt.view.known m q) → own_id mid.view ≡ own_id pt.view → mid.addresses ≡ given pt.addresses (forwards pt.view pt.addresses id (pt.view.told id)) → Same mid next
-    → Knows pt.view sender (pt.addresses (Sender id)) → IsReal n pt.view sender → NeedsOwn n next kind.Update sender (pt.addresses (Sender id)).at
+    → Knows pt.view sender (pt.addresses (Sender id)) → IsReal n pt.view sender → NeedsOwn n next MessageKind.Update sender (pt.addresses (Sender id)).at
 back_need n pt mid next id u sender told back sane known own addresses same knows real =
     let v = pt.view in
     let a = pt.addresses in
@@ -91,7 +62,7 @@ back_need n pt mid next id u sender told back sane known own addresses same know
       own = refl;
     }
 
-back_if : (n : ℕ) (pt : Point) (sender : Pid) (m : ℕ) (c : Bool) → (c ≡ true → NeedsOwn n pt kind.Update sender m) → AllNeed n pt (if c then Owns kind.Update sender m ∷ [] else [])
+back_if : (n : ℕ) (pt : Point) (sender : Pid) (m : ℕ) (c : Bool) → (c ≡ true → NeedsOwn n pt MessageKind.Update sender m) → AllNeed n pt (if c then Owns MessageKind.Update sender m ∷ [] else [])
 back_if n pt sender m true h = (h refl, λ ls next is leads. tt)
 back_if n pt sender m false h = tt
 
@@ -109,13 +80,13 @@ forwards_need n pt id is u sender to c front state sane h told at free back =
       topic = subst (λ (x : Known). AboutIs n v (forward_about u.receiver x)) (sym at) (inr (free, there));
       outside = own_outside pt sane;
       fresh = own_fresh pt sane;
-      gone = λ z. front_gone pt (line.Here id) id is state refl front (λ y. sym (first_off v id is front y)) z;
+      gone = λ z. front_gone pt (Line.Here id) id is state refl front (λ y. sym (first_off v id is front y)) z;
     } in (
       needs,
       (λ ls mid is_ leads.
-          let (s, same) = said_next pt mid (line.Forwarded id to) ls is_ leads in
-          let first = moved pt (line.Forwarded id to) s in
-          subst (λ (p : Point). AllNeed n p (Again id to ∷ (if is_told_back u.kind then Owns kind.Update sender (a (Sender id)).at ∷ [] else []))) same (
+          let (s, same) = said_next pt mid (Line.Forwarded id to) ls is_ leads in
+          let first = moved pt (Line.Forwarded id to) s in
+          subst (λ (p : Point). AllNeed n p (Again id to ∷ (if is_told_back u.kind then Owns MessageKind.Update sender (a (Sender id)).at ∷ [] else []))) same (
             goes_to v a id u to c (v.told id) told at,
             (λ xs next is__ leads_.
                 let stays = again_same first next id to xs is__ leads_ in
@@ -125,33 +96,16 @@ forwards_need n pt id is u sender to c front state sane h told at free back =
     )
 
 -- of a kernel's own messages only a request to move is told back
-pub moves_back : (k : MessageKind) → is_own k ≡ true → is_told_back k ≡ true → k ≡ kind.Migrate
-moves_back kind.User e f = absurd (false≢true e)
-moves_back kind.Stop e f = absurd (false≢true e)
-moves_back kind.Resume e f = absurd (false≢true e)
-moves_back kind.Kill e f = absurd (false≢true e)
-moves_back kind.Read e f = absurd (false≢true e)
-moves_back kind.Write e f = absurd (false≢true e)
-moves_back kind.Block e f = absurd (false≢true f)
-moves_back kind.Written e f = absurd (false≢true f)
-moves_back kind.Gone e f = absurd (false≢true f)
-moves_back kind.Create e f = absurd (false≢true f)
-moves_back kind.Created e f = absurd (false≢true f)
-moves_back kind.NoRoom e f = absurd (false≢true f)
-moves_back kind.Migrate e f = refl
-moves_back kind.Update e f = absurd (false≢true f)
-moves_back kind.Ask e f = absurd (false≢true f)
-moves_back kind.Refuse e f = absurd (false≢true f)
-moves_back kind.PullState e f = absurd (false≢true f)
-moves_back kind.State e f = absurd (false≢true f)
-moves_back kind.PullBlock e f = absurd (false≢true f)
-moves_back kind.Memory e f = absurd (false≢true f)
-moves_back kind.AllTaken e f = absurd (false≢true f)
-moves_back kind.Restart e f = absurd (false≢true f)
-moves_back kind.Move e f = absurd (false≢true e)
-moves_back kind.Moved e f = absurd (false≢true f)
-moves_back kind.CallOff e f = absurd (false≢true f)
-moves_back kind.Bury e f = absurd (false≢true f)
+pub moves_back : (k : MessageKind) → is_own k ≡ true → is_told_back k ≡ true → k ≡ MessageKind.Migrate
+moves_back MessageKind.User e f = absurd (false≢true e)
+moves_back MessageKind.Stop e f = absurd (false≢true e)
+moves_back MessageKind.Resume e f = absurd (false≢true e)
+moves_back MessageKind.Kill e f = absurd (false≢true e)
+moves_back MessageKind.Read e f = absurd (false≢true e)
+moves_back MessageKind.Write e f = absurd (false≢true e)
+moves_back MessageKind.Move e f = absurd (false≢true e)
+moves_back MessageKind.Migrate e f = refl
+moves_back _ e f = absurd (false≢true f)
 
 -- all that wait for a process go on
 follow_at : (v : View) (a : Addresses) (p : Pid) (to : ℕ) (ids : List MsgId) (i : MsgId) → v.known v.acting p ≡ Frozen to → 1 ≤ times i ids → (given a (all_follow v a p ids) (Receiver i)).at ≡ to
@@ -178,19 +132,19 @@ frozen_is : (a b : ℕ) → Frozen a ≡ Frozen b → a ≡ b
 frozen_is a b e = cc
 
 left_need : (n : ℕ) (start q : Point) (p : Pid) (to from : ℕ) → q.view.acting ≡ start.view.acting → ((m : ℕ) (r : Pid) → q.view.known m r ≡ start.view.known m r) → start.view.known start.view.acting p ≡ Frozen to → start.view.known to p ≢ Unknown → from < n
-    → AllNeed n q (Says (line.Migration stage.Left p) ∷ to_kernel kind.Restart from ∷ [])
+    → AllNeed n q (Says (Line.Migration Stage.Left p) ∷ to_kernel MessageKind.Restart from ∷ [])
 left_need n start q p to from acting known at there le = (
   (λ d e f. there (
       let is : Frozen to ≡ Frozen d = sym at ∙ sym (ap (λ (m : ℕ). start.view.known m p) acting) ∙ sym (known q.view.acting p) ∙ e in
       ap (λ (m : ℕ). start.view.known m p) (frozen_is to d is) ∙ sym (known d p) ∙ f)),
-  (λ ls next is leads. loose_need n next (to_kernel kind.Restart from ∷ []) (to_restart n from le)),
+  (λ ls next is leads. loose_need n next (to_kernel MessageKind.Restart from ∷ []) (to_restart n from le)),
 )
 
-sent_gone : (pt : Point) (p : Pid) (id : MsgId) (is : List MsgId) → State None pt → pt.view.inbox pt.view.acting ≡ id ∷ is → is_kernels id ≡ true → (i : MsgId) (z : Spot) (k : ℕ) → 1 ≤ times i (both_lists pt.view p) → standing (view_after pt.view (line.SentOn p k)) i z ≡ 0
+sent_gone : (pt : Point) (p : Pid) (id : MsgId) (is : List MsgId) → State None pt → pt.view.inbox pt.view.acting ≡ id ∷ is → is_kernels id ≡ true → (i : MsgId) (z : Spot) (k : ℕ) → 1 ≤ times i (both_lists pt.view p) → standing (view_after pt.view (Line.SentOn p k)) i z ≡ 0
 sent_gone pt p id is state front own i z k least =
     let b = sent_way pt p k id is state front own in
     let bag = letters b.own pt.kernel.bag in
-    nowhere (without_all (both_lists pt.view p) bag i) (standing (view_after pt.view (line.SentOn p k)) i) (without_at (both_lists pt.view p) bag i least) (b.stands.kept i) z
+    nowhere (without_all (both_lists pt.view p) bag i) (standing (view_after pt.view (Line.SentOn p k)) i) (without_at (both_lists pt.view p) bag i least) (b.stands.kept i) z
   where
     nowhere : (o : Option Pid) (f : Spot → ℕ) → o ≡ None → StandsAsBag o f → (z : Spot) → f z ≡ 0
     nowhere None f e h z = h z
@@ -200,8 +154,6 @@ sent_gone pt p id is state front own i z k least =
 pub leaves_need : (n : ℕ) (pt : Point) (id : MsgId) (is : List MsgId) (p : Pid) (k : Known) → pt.view.inbox pt.view.acting ≡ id ∷ is → State None pt → Core n pt → is_kernels id ≡ true → pt.view.known pt.view.acting p ≡ k
     → ((to : ℕ) → k ≡ Frozen to → pt.view.known to p ≢ Unknown) → is_fixed p ≡ false → ((i : MsgId) (q : Pid) → 1 ≤ times i (both_lists pt.view p) → Named pt.kernel pt.view (Receiver i) q → q ≡ p) → id.from.home < n
     → NeedOf n pt (leaves id p (both_lists pt.view p) k)
-leaves_need n pt id is p Unknown front state h own at there free for le = tt
-leaves_need n pt id is p Here front state h own at there free for le = tt
 leaves_need n pt id is p (Frozen to) front state h own at there free for le =
     let v = pt.view in
     let a = pt.addresses in
@@ -213,12 +165,10 @@ leaves_need n pt id is p (Frozen to) front state h own at there free for le =
     } in (
       needs,
       (λ ls next is_ leads.
-          let (s, same) = said_next pt next (line.SentOn p (length ids)) ls is_ leads in
-          let first = moved pt (line.SentOn p (length ids)) s in
-          subst (λ (q : Point). AllNeed n q (sends_on to ids ++ Says (line.Migration stage.Left p) ∷ to_kernel kind.Restart id.from.home ∷ [])) same
-          (agains_need n pt first to ids (Says (line.Migration stage.Left p) ∷ to_kernel kind.Restart id.from.home ∷ []) (λ i least. follow_at v a p to ids i at least) refl (λ m q. refl)
+          let (s, same) = said_next pt next (Line.SentOn p (length ids)) ls is_ leads in
+          let first = moved pt (Line.SentOn p (length ids)) s in
+          subst (λ (q : Point). AllNeed n q (sends_on to ids ++ Says (Line.Migration Stage.Left p) ∷ to_kernel MessageKind.Restart id.from.home ∷ [])) same
+          (agains_need n pt first to ids (Says (Line.Migration Stage.Left p) ∷ to_kernel MessageKind.Restart id.from.home ∷ []) (λ i least. follow_at v a p to ids i at least) refl (λ m q. refl)
           (λ q acting same_known. left_need n pt q p to id.from.home acting same_known at known le))),
     )
-leaves_need n pt id is p (Incoming from) front state h own at there free for le = tt
-leaves_need n pt id is p (Forward to c) front state h own at there free for le = tt
-leaves_need n pt id is p Ended front state h own at there free for le = tt
+leaves_need n pt id is p _ front state h own at there free for le = tt

@@ -1,21 +1,7 @@
 -- Lines that give addresses keep where messages stand: a message that goes on, messages that are sent on, and an update.
-use Rattle.std.proofs.Common.{◌≡◌, ◌⊎◌, ℕ, zero, suc, ◌<◌, ◌≤◌, Bool, true, false, is_some, List, [], ◌∷◌, ◌++◌, refl, ap, ◌∙◌, sym, subst, inl, inr, arith}
-use Rattle.std.specs.Prelude.{if◌then◌else◌}
-use Rattle.std.specs.declared.option.Option.{Option}
-use Rattle.std.specs.declared.option.Option.TheVariants.{None, Some}
-use Rattle.dm_link.specs.declared.Pid.{Pid}
-use Rattle.dm_link.specs.Names.{Place}
-use Rattle.dm_message.specs.declared.MsgId.{MsgId}
-use Rattle.dm_message.specs.Ids.{id_eq}
-use Rattle.dm_laws.proofs.Equal.{id_eq-is, id_eq-same}
-use Rattle.dm_line.specs.declared.line.Line.TheVariants as line
-use Rattle.dm_rule.specs.View.{View, Told, own_id, view_after, handled, forwarded_for, forward_about, receiver_of}
-use Rattle.dm_rule.specs.Addresses.{Addresses, Receiver, Sender, given, place_known, all_follow, tells_back, is_told_back, forwards, updated}
-use Rattle.dm_rule.specs.Point.{Point, moved}
-use Rattle.dm_rule.specs.Spots.{Spot, times, standing}
-use Rattle.dm_rule.proofs.Lines.{not_true}
-use Rattle.dm_rule.proofs.Once.{one_of}
-use Rattle.dm_rule.proofs.Trails.Places.{Named}
+use Rattle.dm_rulelaws.proofs.Names.{◌≡◌, ℕ, ◌<◌, ◌≤◌, Bool, true, false, is_some, List, [], ◌∷◌, ◌++◌, refl, ap, ◌∙◌, sym, subst, inl, inr, arith, if◌then◌else◌, Option, None, Some, Pid, Place, MsgId, id_eq, id_eq-is, Line, View, Told}
+use Rattle.dm_rulelaws.proofs.Names.{own_id, view_after, handled, forwarded_for, forward_about, receiver_of, Addresses, Receiver, Sender, given, place_known, all_follow, tells_back, is_told_back, forwards, updated, Point, moved, Spot}
+use Rattle.dm_rulelaws.proofs.Names.{times, standing, not_true, one_of, Named, zero_cases, flip_zero}
 use Rattle.dm_rulelaws.proofs.Found.Lists.{Places, places_line, places_handled, places_forwarded}
 use Rattle.dm_rulelaws.proofs.Found.Held.{HeldFor, held_as, held_line}
 use Rattle.dm_rulelaws.proofs.Found.Places.{AllAre, all_as, forwarded_all, sent_on_all, updated_all, updated_leaves}
@@ -64,7 +50,7 @@ pub record NeedsForward (n : ℕ) (pt : Point) (id : MsgId) : Type 0 where
   pub fresh : pt.view.told (own_id pt.view) ≡ None
   pub gone : (z : Spot) → standing (handled pt.view id) id z ≡ 0
 
-pub forwarded_core : (n : ℕ) (pt : Point) (id : MsgId) (m : ℕ) → NeedsForward n pt id → Core n pt → Core n (moved pt (line.Forwarded id m) pt.kernel)
+pub forwarded_core : (n : ℕ) (pt : Point) (id : MsgId) (m : ℕ) → NeedsForward n pt id → Core n pt → Core n (moved pt (Line.Forwarded id m) pt.kernel)
 forwarded_core n pt id m need h =
     let v = pt.view in
     let a = pt.addresses in
@@ -78,44 +64,36 @@ forwarded_core n pt id m need h =
     (given_core n pt w b refl (λ k q. refl) refl need.topic all
     (λ i z e. let k = apart i z e in (ap (λ (p : Place). p.at) (forwards_off v a id i need.u k.0 (told_apart v (own_id v) i need.fresh k.1.1)) ∙ k.1.0, k.1.1)) (held_as v w refl refl h.held) h)
 
--- messages that are sent on
-zero_cases : (n : ℕ) → (n ≡ 0) ⊎ (1 ≤ n)
-zero_cases zero = inl refl
-zero_cases (suc n) = inr (omega arith)
-
-one_not : (i j : MsgId) → one_of i j ≡ 0 → id_eq j i ≡ false
-one_not i j e = not_true (id_eq j i) (λ k. let f : one_of i j ≡ 1 = ap (λ (x : MsgId). one_of i x) (id_eq-is j i k) ∙ ap (λ (c : Bool). if c then 1 else 0) (id_eq-same i) in absurd (omega (arith, e, f)))
-
 follow_off : (v : View) (a : Addresses) (p : Pid) (i : MsgId) (ids : List MsgId) → times i ids ≡ 0 → given a (all_follow v a p ids) (Receiver i) ≡ a (Receiver i)
 follow_off v a p i [] e = refl
 follow_off v a p i (j ∷ js) e =
     let first : one_of i j ≡ 0 = omega (arith, e) in
     let rest : times i js ≡ 0 = omega (arith, e) in
-    ap (λ (c : Bool). if c then place_known (v.known v.acting p) (v.moves p) (a (Receiver j)) else given a (all_follow v a p js) (Receiver i)) (one_not i j first) ∙ follow_off v a p i js rest
+    ap (λ (c : Bool). if c then place_known (v.known v.acting p) (v.moves p) (a (Receiver j)) else given a (all_follow v a p js) (Receiver i)) (flip_zero i j first) ∙ follow_off v a p i js rest
 
 pub record NeedsSent (pt : Point) (p : Pid) : Type 0 where
   pub knows : (i : MsgId) (q : Pid) → 1 ≤ times i (pt.view.queue pt.view.acting p ++ pt.view.held pt.view.acting p) → Named pt.kernel pt.view (Receiver i) q
       → Knows pt.view q (place_known (pt.view.known pt.view.acting p) (pt.view.moves p) (pt.addresses (Receiver i)))
-  pub gone : (i : MsgId) (z : Spot) (k : ℕ) → 1 ≤ times i (pt.view.queue pt.view.acting p ++ pt.view.held pt.view.acting p) → standing (view_after pt.view (line.SentOn p k)) i z ≡ 0
+  pub gone : (i : MsgId) (z : Spot) (k : ℕ) → 1 ≤ times i (pt.view.queue pt.view.acting p ++ pt.view.held pt.view.acting p) → standing (view_after pt.view (Line.SentOn p k)) i z ≡ 0
 
-pub sent_core : (n : ℕ) (pt : Point) (p : Pid) (k : ℕ) → NeedsSent pt p → Core n pt → Core n (moved pt (line.SentOn p k) pt.kernel)
+pub sent_core : (n : ℕ) (pt : Point) (p : Pid) (k : ℕ) → NeedsSent pt p → Core n pt → Core n (moved pt (Line.SentOn p k) pt.kernel)
 sent_core n pt p k need h =
     let v = pt.view in
     let a = pt.addresses in
     let ids = v.queue v.acting p ++ v.held v.acting p in
     let b = given a (all_follow v a p ids) in
-    let w = view_after v (line.SentOn p k) in
+    let w = view_after v (Line.SentOn p k) in
     given_core n pt w b refl (λ m q. refl) refl tt (sent_on_all (Knows v) pt.kernel v a p ids need.knows h.all)
-    (λ i z e. let x = places_line (IsAt a v) v (line.SentOn p k) tt h.places i z e in (
+    (λ i z e. let x = places_line (IsAt a v) v (Line.SentOn p k) tt h.places i z e in (
       elim (zero_cases (times i ids)) [
         | inl none ↦ ap (λ (q : Place). q.at) (follow_off v a p i ids none) ∙ x.0
         | inr least ↦ absurd (let f = need.gone i z k least in omega (arith, e, f))
       ],
       x.1,
-    )) (held_line v (line.SentOn p k) refl h.held) h
+    )) (held_line v (Line.SentOn p k) refl h.held) h
 
 -- an update
-pub updated_core : (n : ℕ) (pt : Point) (id : MsgId) (k : ℕ) → Core n pt → Core n (moved pt (line.Updated id k) pt.kernel)
+pub updated_core : (n : ℕ) (pt : Point) (id : MsgId) (k : ℕ) → Core n pt → Core n (moved pt (Line.Updated id k) pt.kernel)
 updated_core n pt id k h =
     let v = pt.view in
     let a = pt.addresses in

@@ -1,55 +1,14 @@
 -- Each group keeps where addresses lead, what machines know, and where messages stand.
-use Rattle.std.proofs.Common.{◌≡◌, ◌⊎◌, ℕ, zero, suc, ◌+◌, ◌<◌, ◌≤◌, ◌==◌, not, Bool, true, false, is_some, List, [], ◌∷◌, refl, ap, ◌∙◌, sym, subst, inl, inr, arith}
-use Rattle.std.specs.Prelude.{if◌then◌else◌, slice_get}
-use Rattle.std.specs.declared.option.Option.{Option}
-use Rattle.std.specs.declared.option.Option.TheVariants.{None, Some}
-use Rattle.std.proofs.lemmas.Bool.{false≢true}
-use Rattle.std.proofs.lemmas.Bool.Decides.{nat_tests}
-use Rattle.dm_link.specs.declared.Pid.{Pid}
-use Rattle.dm_link.specs.Names.{Place, pid_eq}
-use Rattle.dm_message.specs.declared.MsgId.{MsgId}
-use Rattle.dm_message.specs.Kinds.{plain_kind}
-use Rattle.dm_message.specs.Plain.{PlainMessage}
-use Rattle.dm_message.specs.declared.kind.MessageKind.{MessageKind}
-use Rattle.dm_message.specs.declared.kind.MessageKind.TheVariants as kind
-use Rattle.dm_onekernel.specs.declared.boot.Boot.{Boot}
-use Rattle.dm_onekernel.specs.Boot.{switchboard, manager}
-use Rattle.dm_schedule.specs.declared.Step.{Step}
-use Rattle.dm_schedule.specs.declared.Step.TheVariants as step
-use Rattle.dm_laws.proofs.Equal.{id_eq-same}
-use Rattle.dm_laws.proofs.Steps.{alive-is}
-use Rattle.dm_line.specs.declared.line.Line.{Line}
-use Rattle.dm_line.specs.declared.line.Line.TheVariants as line
-use Rattle.dm_rule.specs.View as view
-use Rattle.dm_rule.specs.View.{View, Told, About, NothingElse, Target, Of, Known, Unknown, Here, Frozen, Incoming, Forward, Ended, is_kernels, own_id, receiver_of, target_in, target_of, front_told, front_of}
-use Rattle.dm_rule.specs.Addresses.{Child, Receiver, Sender, given, child_number, place_of_child, unmoved, own_gives}
-use Rattle.dm_rule.specs.Homes.{names, sender_of}
-use Rattle.dm_rule.specs.Laws.{IsStep}
-use Rattle.dm_rule.specs.Migrating.{forwards_on, migrates_child}
-use Rattle.dm_rule.specs.Parts.{Part, Says, Routes, Again, Owns, Transmits, Spelled}
-use Rattle.dm_rule.specs.Phases.{Phase, Moves, is_between, is_restart, is_early, knows, sender_in, receiver_in, is_of_source}
+use Rattle.dm_rulelaws.proofs.Names.{◌≡◌, ℕ, ◌<◌, ◌≤◌, ◌==◌, not, Bool, true, false, is_some, List, [], ◌∷◌, refl, ap, ◌∙◌, sym, subst, inl, inr, arith, if◌then◌else◌, slice_get, Option, None, Some, false≢true, Pid, Place, pid_eq, MsgId}
+use Rattle.dm_rulelaws.proofs.Names.{plain_kind, PlainMessage, MessageKind, Boot, switchboard, manager, Step, id_eq-same, alive-is, Line, View, Told, About, Target, Of, Known, Unknown, Here, Frozen, Incoming, Forward, is_kernels, own_id}
+use Rattle.dm_rulelaws.proofs.Names.{receiver_of, target_in, target_of, front_told, front_of, Child, Receiver, Sender, given, child_number, place_of_child, unmoved, own_gives, names, sender_of, IsStep, forwards_on, migrates_child, Part}
+use Rattle.dm_rulelaws.proofs.Names.{Says, Routes, Again, Owns, Transmits, Spelled, Moves, is_between, is_restart, is_early, knows, receiver_in, is_of_source, Point, moved, group_of, Inbox, Queue, Held, times, standing, IsNet, IsNetLine}
+use Rattle.dm_rulelaws.proofs.Names.{arrives_net, resends_net, group_is, turn_off, letters, eq_is, parts, both_lists, both_times, under_way, front_kernels, Phased, due, head_calm, InPhases, calm_phases, rooted, State, Sane, sane_line}
+use Rattle.dm_rulelaws.proofs.Names.{outcome_sayable, Comes, Named, Links, child_is, source_holds, destination_expects, is_fixed, eq_self, about_same, front_one, least_of}
 use Rattle.dm_rule.specs.Phases as phases
-use Rattle.dm_rule.specs.Point.{Point, moved}
 use Rattle.dm_rule.specs.Rule as rule
-use Rattle.dm_rule.specs.Rule.{group_of}
-use Rattle.dm_rule.specs.Spots.{Inbox, Queue, Held, times, standing}
-use Rattle.dm_rule.proofs.Groups.{IsNet, IsNetLine, arrives_net, resends_net, group_is, begun, turn_off}
-use Rattle.dm_rule.proofs.Letters.{letters}
-use Rattle.dm_rule.proofs.Lines.{eq_is, parts}
-use Rattle.dm_rule.proofs.Moves.Lists.{both_lists, both_times, under_way}
-use Rattle.dm_rule.proofs.Moves.States.{front_kernels}
-use Rattle.dm_rule.proofs.Once.{one_of}
-use Rattle.dm_rule.proofs.Phases.Always.{Phased}
-use Rattle.dm_rule.proofs.Phases.Answers.{due}
-use Rattle.dm_rule.proofs.Phases.Net.{head_calm}
-use Rattle.dm_rule.proofs.Phases.Stand.{InPhases, calm_phases}
-use Rattle.dm_rule.proofs.Rooted.Groups.{rooted}
-use Rattle.dm_rule.proofs.States.{State}
-use Rattle.dm_rule.proofs.Telling.{Sane, sane_line, outcome_sayable}
-use Rattle.dm_rule.proofs.Trails.Places.{Comes, Named, Links, Owns}
-use Rattle.dm_rule.proofs.Trails.Puts.{child_is}
-use Rattle.dm_rule.proofs.Trails.Steps.{source_holds, destination_expects}
-use Rattle.dm_rulelaws.specs.Found.{is_fixed}
+use Rattle.dm_rule.proofs.Groups.{begun}
+use Rattle.dm_rule.proofs.Trails.Places.{Owns}
 use Rattle.dm_rulelaws.proofs.Found.Core.{Knows, IsReal, AboutIs, KnownIs, Core, known_within}
 use Rattle.dm_rulelaws.proofs.Found.Forward.{forwards_need, moves_back, leaves_need, named_for}
 use Rattle.dm_rulelaws.proofs.Found.Hears.{Heard, told_by_need}
@@ -60,19 +19,18 @@ use Rattle.dm_rulelaws.proofs.Found.Rows.{round_need, handles_need}
 
 -- behind the head of a group
 abbrev headed : Point → Step → Point
-headed pt d = moved pt (line.Head d) pt.kernel
+headed pt d = moved pt (Line.Head d) pt.kernel
 
 head_sane : (pt : Point) (d : Step) → Sane pt → Sane (headed pt d)
-head_sane pt d h = sane_line pt (headed pt d) (line.Head d) refl refl h
+head_sane pt d h = sane_line pt (headed pt d) (Line.Head d) refl refl h
 
 step_head : (n : ℕ) (d : Step) → 0 < n → IsStep n d → NeedsHead n d
-step_head n (step.Turn m) some h = h
-step_head n (step.Tick m) some h = h
-step_head n (step.Deliver a b k) some h = h.1
-step_head n (step.Migrate p m) some h = (some, h)
+step_head n (Step.Deliver a b k) some h = h.1
+step_head n (Step.Migrate p m) some h = (some, h)
+step_head n _ some h = h
 
 head_core : (n : ℕ) (pt : Point) (d : Step) → IsStep n d → Sane pt → Core n pt → Core n (headed pt d)
-head_core n pt d fit sane h = line_core n pt pt.kernel (line.Head d) (step_head n d (let le = h.acting in omega (arith, le)) fit) sane refl h
+head_core n pt d fit sane h = line_core n pt pt.kernel (Line.Head d) (step_head n d (let le = h.acting in omega (arith, le)) fit) sane refl h
 
 group_core : (n : ℕ) (b : Boot) (pt : Point) (d : Step) (w : Spelled) → IsStep n d → group_of b pt d ≡ Some w → ((ps : List Part) → rule.outcome b pt d ≡ Some ps → Core n (headed pt d) → AllNeed n (headed pt d) ps) → Sane pt → Core n pt → Core n w.point
 group_core n b pt d w fit e needs sane h =
@@ -82,30 +40,13 @@ group_core n b pt d w fit e needs sane h =
 
 -- ticks and deliveries
 net_need : (n : ℕ) (l : Line) → IsNetLine l → (pt : Point) → NeedsLine n pt l
-net_need n (line.Taken a b k) h pt = tt
-net_need n (line.Old a b k) h pt = tt
-net_need n (line.Early a b k) h pt = tt
-net_need n (line.Acked a b k) h pt = tt
-net_need n (line.Resent m k) h pt = tt
-net_need n line.Nothing h pt = tt
-net_need n (line.Head d) h pt = absurd h
-net_need n (line.Idle m) h pt = absurd h
-net_need n (line.Label l) h pt = absurd h
-net_need n (line.Put a b i c q) h pt = absurd h
-net_need n (line.Packet a b c l) h pt = absurd h
-net_need n (line.Queued i) h pt = absurd h
-net_need n (line.Held i) h pt = absurd h
-net_need n (line.Forwarded i m) h pt = absurd h
-net_need n (line.Updated i k) h pt = absurd h
-net_need n (line.Migration s p) h pt = absurd h
-net_need n (line.SentOn p k) h pt = absurd h
-net_need n (line.Lacks p a b) h pt = absurd h
-net_need n (line.Stays p) h pt = absurd h
-net_need n (line.Here i) h pt = absurd h
-net_need n (line.NoMove i) h pt = absurd h
-net_need n (line.Proto i) h pt = absurd h
-net_need n (line.NoChild p) h pt = absurd h
-net_need n (line.Pinned p) h pt = absurd h
+net_need n (Line.Taken a b k) h pt = tt
+net_need n (Line.Old a b k) h pt = tt
+net_need n (Line.Early a b k) h pt = tt
+net_need n (Line.Acked a b k) h pt = tt
+net_need n (Line.Resent m k) h pt = tt
+net_need n Line.Nothing h pt = tt
+net_need n _ h pt = absurd h
 
 net_loose : (n : ℕ) (ps : List Part) → IsNet ps → AllLoose n ps
 net_loose n [] h = tt
@@ -117,46 +58,36 @@ net_loose n (Owns k q b ∷ ps) h = absurd h.0
 
 -- a directive to move a process
 child_need : (n : ℕ) (pt : Point) (p : Pid) (o : Option ℕ) → pt.view.acting ≡ 0 → child_number pt.kernel p ≡ o → Core n pt → ((k : ℕ) → names pt.kernel (Child k) ≡ Some p → IsReal n pt.view p) → AllNeed n pt (migrates_child pt.addresses p o)
-child_need n pt p None first is h real = first_need n pt (Says (line.NoChild p)) [] tt tt
+child_need n pt p None first is h real = first_need n pt (Says (Line.NoChild p)) [] tt tt
 child_need n pt p (Some k) first is h real =
     let id = own_id pt.view in
     let a = pt.addresses in
     let named = child_is pt.kernel p k is in
-    let to : given a (own_gives pt.kernel pt.view a id p kind.Migrate) (Receiver id) ≡ a (Child k) =
+    let to : given a (own_gives pt.kernel pt.view a id p MessageKind.Migrate) (Receiver id) ≡ a (Child k) =
     ap (λ (c : Bool). if c then place_of_child a (child_number pt.kernel p) else a (Receiver id)) (id_eq-same id) ∙ ap (place_of_child a) is in
-    let from : (given a (own_gives pt.kernel pt.view a id p kind.Migrate) (Sender id)).at ≡ 0 =
+    let from : (given a (own_gives pt.kernel pt.view a id p MessageKind.Migrate) (Sender id)).at ≡ 0 =
     ap (λ (c : Bool). (if c then unmoved pt.view.acting else a (Sender id)).at) (id_eq-same id) ∙ first in
-    let needs : NeedsOwn n pt kind.Migrate p (a (Child k)).at = record {
+    let needs : NeedsOwn n pt MessageKind.Migrate p (a (Child k)).at = record {
       knows = subst (Knows pt.view p) (sym to) (h.all (Child k) p (Links named));
       from = λ e. inl from;
       at = ap (λ (x : Place). x.at) to;
       real = real k named;
       own = refl;
     } in
-    first_need n pt (Owns kind.Migrate p (a (Child k)).at) [] needs tt
+    first_need n pt (Owns MessageKind.Migrate p (a (Child k)).at) [] needs tt
 
-migrates_by : (n : ℕ) (pt : Point) (p : Pid) (c d : Bool) (ps : List Part) → AllNeed n pt ps → AllNeed n pt (if c then Says (line.Pinned p) ∷ [] else if d then Says (line.Pinned p) ∷ [] else ps)
-migrates_by n pt p true d ps h = first_need n pt (Says (line.Pinned p)) [] tt tt
-migrates_by n pt p false true ps h = first_need n pt (Says (line.Pinned p)) [] tt tt
+migrates_by : (n : ℕ) (pt : Point) (p : Pid) (c d : Bool) (ps : List Part) → AllNeed n pt ps → AllNeed n pt (if c then Says (Line.Pinned p) ∷ [] else if d then Says (Line.Pinned p) ∷ [] else ps)
+migrates_by n pt p true d ps h = first_need n pt (Says (Line.Pinned p)) [] tt tt
+migrates_by n pt p false true ps h = first_need n pt (Says (Line.Pinned p)) [] tt tt
 migrates_by n pt p false false ps h = h
 
--- a turn: the message at the front stands there
-front_stands : (v : View) (m : ℕ) (i : MsgId) (is : List MsgId) → v.inbox m ≡ i ∷ is → 1 ≤ standing v i (Inbox m)
-front_stands v m i is front =
-    let a : times i (v.inbox m) ≡ times i (i ∷ is) = ap (times i) front in
-    let b : one_of i i ≡ 1 = ap (λ (c : Bool). if c then 1 else 0) (id_eq-same i) in
-    omega (arith, a, b)
-
-told_there : (o : Option Told) → is_some o ≡ true → (t : Told) × (o ≡ Some t)
+pub told_there : (o : Option Told) → is_some o ≡ true → (t : Told) × (o ≡ Some t)
 told_there None e = cc
 told_there (Some t) e = (t, refl)
 
 -- the machines of a migration
 abbrev AllKnown : ℕ → View → Type 0
 AllKnown n v = (m : ℕ) (p : Pid) → KnownIs n v m p (v.known m p)
-
-same_number : (s : ℕ) → (s == s) ≡ true
-same_number s = grind (arith, nat_tests)
 
 left_by : (n : ℕ) (v : View) (m d : ℕ) (p : Pid) (k : MessageKind) (x : Known) → phases.leaves k d x ≡ true → v.known m p ≡ x → AllKnown n v → (m < n) × (d < n) × (is_fixed p ≡ false)
 left_by n v m d p k (Frozen to) e is h =
@@ -167,14 +98,11 @@ left_by n v m d p k (Forward to c) e is h =
     let both = parts (is_restart k) (d == to) e in
     let f = subst (KnownIs n v m p) is (h m p) in
     (f.0, subst (λ (j : ℕ). j < n) (sym (eq_is d to both.1)) (known_within n v to p (v.known to p) f.1 (h to p)), f.2)
-left_by n v m d p k Unknown e is h = absurd (false≢true e)
-left_by n v m d p k Here e is h = absurd (false≢true e)
-left_by n v m d p k (Incoming from) e is h = absurd (false≢true e)
-left_by n v m d p k Ended e is h = absurd (false≢true e)
+left_by n v m d p k _ e is h = absurd (false≢true e)
 
 moves_within : (n : ℕ) (v : View) (p : Pid) (k : MessageKind) (s d : ℕ) (o : Option MsgId) → knows (Moves k s d o) s (v.known s p) ≡ true → AllKnown n v → (s < n) × (d < n) × (is_fixed p ≡ false)
 moves_within n v p k s d o e h =
-    left_by n v s d p k (v.known s p) (sym (ap (λ (c : Bool). if c then phases.leaves k d (v.known s p) else if d == s then phases.comes k s (v.known s p) else phases.is_away (v.known s p)) (same_number s)) ∙ e) refl h
+    left_by n v s d p k (v.known s p) (sym (ap (λ (c : Bool). if c then phases.leaves k d (v.known s p) else if d == s then phases.comes k s (v.known s p) else phases.is_away (v.known s p)) (eq_self s)) ∙ e) refl h
 
 sender_within : (n s d : ℕ) (c : Bool) → s < n → d < n → (if c then s else d) < n
 sender_within n s d true le ld = le
@@ -182,43 +110,34 @@ sender_within n s d false le ld = ld
 
 -- the message is the one of a migration that is under way
 target_within : (n : ℕ) (v : View) (a : About) → 0 < n → AboutIs n v a → target_in a < n
-target_within n v NothingElse some h = some
 target_within n v (Target m) some h = h
-target_within n v (Of p) some h = some
-target_within n v (view.Place p at moves) some h = some
+target_within n v _ some h = some
 
 frozen_same : (a b : ℕ) → Frozen a ≡ Frozen b → a ≡ b
 frozen_same a b e = cc
 
-about_same : (p q : Pid) → Of p ≡ Of q → p ≡ q
-about_same p q e = cc
-
 -- what waits for a process is for it
-queued_for : (pt : Point) (p : Pid) (i : MsgId) → State None pt → 1 ≤ times i (pt.view.queue pt.view.acting p) → receiver_of (pt.view.told i) ≡ Some p
+pub queued_for : (pt : Point) (p : Pid) (i : MsgId) → State None pt → 1 ≤ times i (pt.view.queue pt.view.acting p) → receiver_of (pt.view.told i) ≡ Some p
 queued_for pt p i state least =
     let bag = letters state.own pt.kernel.bag in
     let (x, is) = under_way (bag i) (standing pt.view i) (Queue pt.view.acting p) least (state.stands.kept i) in
     state.stands.told i x is ∙ ap Some (state.stands.mine pt.view.acting p i x least is)
 
-told_for : (pt : Point) (o : Option Told) (i : MsgId) (p q : Pid) → Sane pt → pt.view.told i ≡ o → receiver_of o ≡ Some p → Named pt.kernel pt.view (Receiver i) q → q ≡ p
+pub told_for : (pt : Point) (o : Option Told) (i : MsgId) (p q : Pid) → Sane pt → pt.view.told i ≡ o → receiver_of o ≡ Some p → Named pt.kernel pt.view (Receiver i) q → q ≡ p
 told_for pt None i p q sane is e named = cc
 told_for pt (Some t) i p q sane is e named = named_for pt i t q sane is named ∙ (let f : t.receiver ≡ p = cc in f)
 
-either : (a b : ℕ) → 1 ≤ a + b → (1 ≤ a) ⊎ (1 ≤ b)
-either zero b e = inr (omega (arith, e))
-either (suc a) b e = inl (omega arith)
-
 waits_for : (n : ℕ) (pt : Point) (p : Pid) (i : MsgId) (q : Pid) → Core n pt → State None pt → Sane pt → 1 ≤ times i (both_lists pt.view p) → Named pt.kernel pt.view (Receiver i) q → q ≡ p
-waits_for n pt p i q h state sane least named = elim (either (standing pt.view i (Queue pt.view.acting p)) (standing pt.view i (Held pt.view.acting p)) (let f = both_times pt.view p i in omega (arith, least, f))) [
+waits_for n pt p i q h state sane least named = elim (least_of (standing pt.view i (Queue pt.view.acting p)) (standing pt.view i (Held pt.view.acting p)) (let f = both_times pt.view p i in omega (arith, least, f))) [
   | inl queue ↦ told_for pt (pt.view.told i) i p q sane refl (queued_for pt p i state queue) named
   | inr hold ↦ told_for pt (pt.view.told i) i p q sane refl (h.held pt.view.acting p i hold) named
 ]
 
 -- a message of a migration is heard
-heard : (n : ℕ) (pt : Point) (m : ℕ) (i : MsgId) (is : List MsgId) (t : Told) (p : Pid) → Core n (headed pt (step.Turn m)) → Sane (headed pt (step.Turn m)) → State None (headed pt (step.Turn m)) → InPhases (headed pt (step.Turn m)).view
-    → pt.view.inbox m ≡ i ∷ is → pt.view.told i ≡ Some t → is_kernels i ≡ true → t.about ≡ Of p → is_between t.kind ≡ true → Heard n (headed pt (step.Turn m)) pt m i p t.kind
+heard : (n : ℕ) (pt : Point) (m : ℕ) (i : MsgId) (is : List MsgId) (t : Told) (p : Pid) → Core n (headed pt (Step.Turn m)) → Sane (headed pt (Step.Turn m)) → State None (headed pt (Step.Turn m)) → InPhases (headed pt (Step.Turn m)).view
+    → pt.view.inbox m ≡ i ∷ is → pt.view.told i ≡ Some t → is_kernels i ≡ true → t.about ≡ Of p → is_between t.kind ≡ true → Heard n (headed pt (Step.Turn m)) pt m i p t.kind
 heard n pt m i is t p h sane state in_ front told own about between =
-    let start = headed pt (step.Turn m) in
+    let start = headed pt (Step.Turn m) in
     let v = start.view in
     let u = due start i is t in_ front told between in
     let pq : p ≡ u.p = about_same p u.p (sym about ∙ ap (λ (x : Told). x.about) u.told) in
@@ -229,7 +148,7 @@ heard n pt m i is t p h sane state in_ front told own about between =
       from,
       (subst (λ (x : ℕ). x < n) (sym (ap front_of front)) from, free),
       (λ all.
-          let kind_ : u.k ≡ kind.AllTaken = sym (ap (λ (x : Told). x.kind) u.told) ∙ all in
+          let kind_ : u.k ≡ MessageKind.AllTaken = sym (ap (λ (x : Told). x.kind) u.told) ∙ all in
           let late : is_restart u.k ≡ false = ap is_restart kind_ in
           let at : m ≡ u.s = u.acting ∙ ap (λ (x : MessageKind). receiver_in x u.s u.d) kind_ in
           let held : pt.view.known m p ≡ Frozen u.d = ap (pt.view.known m) pq ∙ ap (λ (x : ℕ). pt.view.known x u.p) at ∙ source_holds v u.p u.k u.s u.d (Some i) isin late in
@@ -245,11 +164,11 @@ heard n pt m i is t p h sane state in_ front told own about between =
 forward_free : (n : ℕ) (v : View) (m : ℕ) (p : Pid) (to c : ℕ) → v.known m p ≡ Forward to c → AllKnown n v → is_fixed p ≡ false
 forward_free n v m p to c e h = (subst (KnownIs n v m p) e (h m p)).2
 
-comes_need : (n : ℕ) (b : Boot) (pt : Point) (m : ℕ) (i : MsgId) (is : List MsgId) (o : Option PlainMessage) → Core n (headed pt (step.Turn m)) → Sane (headed pt (step.Turn m)) → State None (headed pt (step.Turn m)) → InPhases (headed pt (step.Turn m)).view
-    → pt.view.inbox m ≡ i ∷ is → pt.kernel.bag i ≡ o → NeedOf n (headed pt (step.Turn m)) (rule.comes_to b pt m i o)
+comes_need : (n : ℕ) (b : Boot) (pt : Point) (m : ℕ) (i : MsgId) (is : List MsgId) (o : Option PlainMessage) → Core n (headed pt (Step.Turn m)) → Sane (headed pt (Step.Turn m)) → State None (headed pt (Step.Turn m)) → InPhases (headed pt (Step.Turn m)).view
+    → pt.view.inbox m ≡ i ∷ is → pt.kernel.bag i ≡ o → NeedOf n (headed pt (Step.Turn m)) (rule.comes_to b pt m i o)
 comes_need n b pt m i is (Some k) h sane state in_ front there =
-    let start = headed pt (step.Turn m) in
-    let at = h.places i (Inbox m) (front_stands start.view m i is front) in
+    let start = headed pt (Step.Turn m) in
+    let at = h.places i (Inbox m) (front_one start.view m i is front) in
     let (t, told) = told_there (start.view.told i) at.1 in
     let to_same : t.receiver ≡ k.to = sane.tells.receiver i k t there told in
     let kind_same : t.kind ≡ plain_kind k.what = sane.tells.kind i k t there told in
@@ -258,8 +177,8 @@ comes_need n b pt m i is (Some k) h sane state in_ front there =
     (forwards_need n start i is t k.sender to c front state sane h told (ap (pt.view.known m) to_same ∙ e) (subst (λ (x : Pid). is_fixed x ≡ false) (sym to_same) (forward_free n start.view m k.to to c e h.known))
     (λ back. (h.all (Sender i) k.sender (Links (ap sender_of there)), sends_real start n k.sender h (h.senders i k there)))))
 comes_need n b pt m i is None h sane state in_ front there =
-    let start = headed pt (step.Turn m) in
-    let at = h.places i (Inbox m) (front_stands start.view m i is front) in
+    let start = headed pt (Step.Turn m) in
+    let at = h.places i (Inbox m) (front_one start.view m i is front) in
     let (t, told) = told_there (start.view.told i) at.1 in
     let own : is_kernels i ≡ true = front_kernels start i is state front there in
     let some : 0 < n = let le = h.acting in omega (arith, le) in
@@ -271,10 +190,10 @@ comes_need n b pt m i is None h sane state in_ front there =
     (λ to c e. forwards_need n start i is t manager to c front state sane h told e (forward_free n start.view m t.receiver to c e h.known)
     (λ back. (h.all (Sender i) manager (Owns (Comes i t refl own told (moves_back t.kind (h.real i t told own).1 back) refl)), inl (refl, some)))))
 
-turns_need : (n : ℕ) (b : Boot) (pt : Point) (m : ℕ) (inbox : List MsgId) → Phased pt → Core n (headed pt (step.Turn m)) → Sane (headed pt (step.Turn m)) → State None (headed pt (step.Turn m)) → InPhases (headed pt (step.Turn m)).view
-    → pt.view.inbox m ≡ inbox → NeedOf n (headed pt (step.Turn m)) (rule.turns b pt m inbox)
+turns_need : (n : ℕ) (b : Boot) (pt : Point) (m : ℕ) (inbox : List MsgId) → Phased pt → Core n (headed pt (Step.Turn m)) → Sane (headed pt (Step.Turn m)) → State None (headed pt (Step.Turn m)) → InPhases (headed pt (Step.Turn m)).view
+    → pt.view.inbox m ≡ inbox → NeedOf n (headed pt (Step.Turn m)) (rule.turns b pt m inbox)
 turns_need n b pt m [] base h sane state in_ front =
-    let start = headed pt (step.Turn m) in
+    let start = headed pt (Step.Turn m) in
     round_need n start b pt m (rule.first_runnable pt.kernel (pt.view.queue m) (pt.view.ring m))
     (λ p x runs alive. inr (
       made_free pt p base.sane.sound.made (ap is_some (alive-is (pt.kernel.processes p) x alive)),
@@ -287,25 +206,25 @@ need_some n pt o ps e h = subst (NeedOf n pt) e h
 
 -- each group
 pub core_group : (n : ℕ) (b : Boot) (pt : Point) (d : Step) (w : Spelled) → IsStep n d → group_of b pt d ≡ Some w → Phased pt → Core n pt → Core n w.point
-core_group n b pt (step.Turn m) w fit e base h =
+core_group n b pt (Step.Turn m) w fit e base h =
     let sane = base.sane in
-    let start = headed pt (step.Turn m) in
-    group_core n b pt (step.Turn m) w fit e
+    let start = headed pt (Step.Turn m) in
+    group_core n b pt (Step.Turn m) w fit e
     (λ ps is begins. need_some n start (rule.turns b pt m (pt.view.inbox m)) ps is
-    (turns_need n b pt m (pt.view.inbox m) base begins (head_sane pt (step.Turn m) sane) (begun pt (step.Turn m) base.state (λ z. turn_off pt.view m z) (λ i. refl))
-    (calm_phases pt.view start.view (head_calm pt.view (step.Turn m)) base.phases) refl)) sane h
-core_group n b pt (step.Tick m) w fit e base h =
-    group_core n b pt (step.Tick m) w fit e
-    (λ ps is begins. need_some n (headed pt (step.Tick m)) (rule.outcome b pt (step.Tick m)) ps is
-    (first_need n (headed pt (step.Tick m)) (Says (line.Resent m (rule.outstanding pt.view m pt.kernel.machines))) (rule.resends pt.view m pt.kernel.machines) tt (net_loose n (rule.resends pt.view m pt.kernel.machines) (resends_net pt.view m pt.kernel.machines)))) base.sane h
-core_group n b pt (step.Deliver a c k) w fit e base h =
+    (turns_need n b pt m (pt.view.inbox m) base begins (head_sane pt (Step.Turn m) sane) (begun pt (Step.Turn m) base.state (λ z. turn_off pt.view m z) (λ i. refl))
+    (calm_phases pt.view start.view (head_calm pt.view (Step.Turn m)) base.phases) refl)) sane h
+core_group n b pt (Step.Tick m) w fit e base h =
+    group_core n b pt (Step.Tick m) w fit e
+    (λ ps is begins. need_some n (headed pt (Step.Tick m)) (rule.outcome b pt (Step.Tick m)) ps is
+    (first_need n (headed pt (Step.Tick m)) (Says (Line.Resent m (rule.outstanding pt.view m pt.kernel.machines))) (rule.resends pt.view m pt.kernel.machines) tt (net_loose n (rule.resends pt.view m pt.kernel.machines) (resends_net pt.view m pt.kernel.machines)))) base.sane h
+core_group n b pt (Step.Deliver a c k) w fit e base h =
     let qs = rule.arrives a c (pt.view.pair a c) (pt.view.pair c a) (slice_get (pt.view.pair a c).wire k) in
-    group_core n b pt (step.Deliver a c k) w fit e
-    (λ ps is begins. need_some n (headed pt (step.Deliver a c k)) (rule.outcome b pt (step.Deliver a c k)) ps is
-    (loose_need n (headed pt (step.Deliver a c k)) qs (net_loose n qs (arrives_net a c (pt.view.pair a c) (pt.view.pair c a) (slice_get (pt.view.pair a c).wire k))))) base.sane h
-core_group n b pt (step.Migrate p m) w fit e base h =
-    let start = headed pt (step.Migrate p m) in
-    group_core n b pt (step.Migrate p m) w fit e
-    (λ ps is begins. need_some n start (rule.outcome b pt (step.Migrate p m)) ps is
+    group_core n b pt (Step.Deliver a c k) w fit e
+    (λ ps is begins. need_some n (headed pt (Step.Deliver a c k)) (rule.outcome b pt (Step.Deliver a c k)) ps is
+    (loose_need n (headed pt (Step.Deliver a c k)) qs (net_loose n qs (arrives_net a c (pt.view.pair a c) (pt.view.pair c a) (slice_get (pt.view.pair a c).wire k))))) base.sane h
+core_group n b pt (Step.Migrate p m) w fit e base h =
+    let start = headed pt (Step.Migrate p m) in
+    group_core n b pt (Step.Migrate p m) w fit e
+    (λ ps is begins. need_some n start (rule.outcome b pt (Step.Migrate p m)) ps is
     (migrates_by n start p (pid_eq p switchboard) (pid_eq p manager) (migrates_child pt.addresses p (child_number pt.kernel p))
     (child_need n start p (child_number pt.kernel p) refl refl begins (λ k named. child_real pt n k p h named)))) base.sane h

@@ -1,40 +1,12 @@
 -- Each label keeps where addresses lead, what machines know, and where messages stand.
-use Rattle.std.proofs.Common.{◌≡◌, ◌≢◌, ◌⊎◌, ℕ, zero, suc, ◌+◌, ◌<◌, ◌≤◌, true, false, is_some, refl, ap, ◌∙◌, sym, subst, inl, inr, arith}
-use Rattle.std.specs.Prelude.{⊤}
-use Rattle.std.specs.declared.option.Option.{Option}
-use Rattle.std.specs.declared.option.Option.TheVariants.{None, Some}
-use Rattle.std.proofs.lemmas.Bool.{cases_Bool, false≢true}
-use Rattle.dm_link.specs.declared.Pid.{Pid}
-use Rattle.dm_link.specs.Names.{Place}
-use Rattle.dm_message.specs.declared.MsgId.{MsgId}
-use Rattle.dm_message.specs.Plain.{PlainMessage}
-use Rattle.dm_message.specs.declared.kind.MessageKind.{MessageKind}
-use Rattle.dm_message.specs.declared.kind.MessageKind.TheVariants as kind
-use Rattle.dm_onekernel.specs.declared.label.Label.{Label}
-use Rattle.dm_onekernel.specs.declared.label.Label.TheVariants as label
-use Rattle.dm_onekernel.specs.Kernel.{Life, OneKernel}
+use Rattle.dm_rulelaws.proofs.Names.{◌≡◌, ◌≢◌, ℕ, ◌+◌, ◌<◌, ◌≤◌, true, false, is_some, refl, ap, ◌∙◌, sym, subst, inl, inr, arith, ⊤, Option, None, Some, cases_Bool, false≢true, Pid, Place, MsgId, PlainMessage, MessageKind, Line, Label}
+use Rattle.dm_rulelaws.proofs.Names.{Life, OneKernel, entry, reception, Grown, after_step, View, Told, Unknown, Here, is_kernels, after_label, handled, kills, served_told, receiver_of, Holder, Receiver, Sender, given, gives, to_of, Point}
+use Rattle.dm_rulelaws.proofs.Names.{moved, at_record_at, grown_none, not_kernels, AtHome, homes_are, at_home, SaidOn, label_on, ReceivedAt, dropped_known, Sane, Goes, Comes, Links, Outside, gives_spares, spared_receiver, spared_sender}
+use Rattle.dm_rulelaws.proofs.Names.{label_told, label_topic, is_fixed, zero_cases, acting_dropped}
 use Rattle.dm_onekernel.specs.Step as kernel
-use Rattle.dm_laws.specs.Laws.{entry, reception}
-use Rattle.dm_laws.proofs.Grown.{Grown}
-use Rattle.dm_laws.proofs.Runs.{after_step}
-use Rattle.dm_line.specs.declared.line.Line.TheVariants as line
 use Rattle.dm_rule.specs.View as view
-use Rattle.dm_rule.specs.View.{View, Told, Known, Unknown, Here, Ended, is_kernels, after_label, handled, kills, served_told, receiver_of, dropped_for}
-use Rattle.dm_rule.specs.Addresses.{Holder, Receiver, Sender, given, gives}
-use Rattle.dm_rule.specs.Homes.{to_of}
-use Rattle.dm_rule.specs.Point.{Point, moved}
-use Rattle.dm_rule.proofs.Lines.{at_record_at}
-use Rattle.dm_rule.proofs.Lives.{grown_none}
-use Rattle.dm_rule.proofs.Letters.{not_kernels}
-use Rattle.dm_rule.proofs.Homes.{AtHome, homes_are, at_home}
-use Rattle.dm_rule.proofs.Homes.Labels.{SaidOn, label_on}
-use Rattle.dm_rule.proofs.Homes.Serves.{ReceivedAt}
-use Rattle.dm_rule.proofs.Phases.Lines.{dropped_known}
-use Rattle.dm_rule.proofs.Telling.{Sane}
-use Rattle.dm_rule.proofs.Trails.Places.{Goes, Comes, Links, Owns}
-use Rattle.dm_rule.proofs.Trails.Spares.{Outside, gives_spares, spared_receiver, spared_sender}
-use Rattle.dm_rule.proofs.Trails.Labels.{label_told, label_topic}
-use Rattle.dm_rulelaws.specs.Found.{is_fixed}
+use Rattle.dm_rule.specs.View.{Ended}
+use Rattle.dm_rule.proofs.Trails.Places.{Owns}
 use Rattle.dm_rulelaws.proofs.Found.Steps.{Sends, step_leaves, took_for, created_for, no_space_for}
 use Rattle.dm_rulelaws.proofs.Fits.Start.{fits_step}
 use Rattle.dm_rulelaws.proofs.Found.Made.{MadeBefore, created_made, step_made}
@@ -46,40 +18,12 @@ use Rattle.dm_rulelaws.proofs.Found.Core.{AboutIs, KnowsAt, Knows, IsAt, KnownIs
 
 -- what the acting machine knows behind a label
 kills_learn : (n : ℕ) (v : View) (k : MessageKind) (p : Pid) → v.acting < n → ((m : ℕ) (q : Pid) → KnownIs n v m q (v.known m q)) → Learns n v (kills k v (Some p))
-kills_learn n v kind.User p le h = learns_nothing n v v refl (λ m q. refl) h
-kills_learn n v kind.Stop p le h = learns_nothing n v v refl (λ m q. refl) h
-kills_learn n v kind.Resume p le h = learns_nothing n v v refl (λ m q. refl) h
-kills_learn n v kind.Kill p le h = learns n v (kills kind.Kill v (Some p)) p Ended refl refl (λ e. absurd (let f : Ended ≡ Unknown = e in cc)) le h
-kills_learn n v kind.Read p le h = learns_nothing n v v refl (λ m q. refl) h
-kills_learn n v kind.Write p le h = learns_nothing n v v refl (λ m q. refl) h
-kills_learn n v kind.Block p le h = learns_nothing n v v refl (λ m q. refl) h
-kills_learn n v kind.Written p le h = learns_nothing n v v refl (λ m q. refl) h
-kills_learn n v kind.Gone p le h = learns_nothing n v v refl (λ m q. refl) h
-kills_learn n v kind.Create p le h = learns_nothing n v v refl (λ m q. refl) h
-kills_learn n v kind.Created p le h = learns_nothing n v v refl (λ m q. refl) h
-kills_learn n v kind.NoRoom p le h = learns_nothing n v v refl (λ m q. refl) h
-kills_learn n v kind.Migrate p le h = learns_nothing n v v refl (λ m q. refl) h
-kills_learn n v kind.Update p le h = learns_nothing n v v refl (λ m q. refl) h
-kills_learn n v kind.Ask p le h = learns_nothing n v v refl (λ m q. refl) h
-kills_learn n v kind.Refuse p le h = learns_nothing n v v refl (λ m q. refl) h
-kills_learn n v kind.PullState p le h = learns_nothing n v v refl (λ m q. refl) h
-kills_learn n v kind.State p le h = learns_nothing n v v refl (λ m q. refl) h
-kills_learn n v kind.PullBlock p le h = learns_nothing n v v refl (λ m q. refl) h
-kills_learn n v kind.Memory p le h = learns_nothing n v v refl (λ m q. refl) h
-kills_learn n v kind.AllTaken p le h = learns_nothing n v v refl (λ m q. refl) h
-kills_learn n v kind.Restart p le h = learns_nothing n v v refl (λ m q. refl) h
-kills_learn n v kind.Move p le h = learns_nothing n v v refl (λ m q. refl) h
-kills_learn n v kind.Moved p le h = learns_nothing n v v refl (λ m q. refl) h
-kills_learn n v kind.CallOff p le h = learns_nothing n v v refl (λ m q. refl) h
-kills_learn n v kind.Bury p le h = learns_nothing n v v refl (λ m q. refl) h
+kills_learn n v MessageKind.Kill p le h = learns n v (kills MessageKind.Kill v (Some p)) p Ended refl refl (λ e. absurd (let f : Ended ≡ Unknown = e in cc)) le h
+kills_learn n v _ p le h = learns_nothing n v v refl (λ m q. refl) h
 
 served_learns : (n : ℕ) (v : View) (o : Option Told) → v.acting < n → ((m : ℕ) (q : Pid) → KnownIs n v m q (v.known m q)) → Learns n v (served_told v o)
 served_learns n v None le h = learns_nothing n v v refl (λ m q. refl) h
 served_learns n v (Some t) le h = kills_learn n v t.kind t.receiver le h
-
-dropped_acting : (v : View) (i : MsgId) (o : Option Pid) → (dropped_for v i o).acting ≡ v.acting
-dropped_acting v i None = refl
-dropped_acting v i (Some p) = refl
 
 -- where a message was handled
 behind_handled : (n : ℕ) (v w : View) (i : MsgId) → Learns n (handled v i) w → Learns n v w
@@ -89,44 +33,31 @@ handled_known : (n : ℕ) (v : View) (i : MsgId) → ((m : ℕ) (q : Pid) → Kn
 handled_known n v i h = (learns_nothing n v (handled v i) refl (λ m q. refl) h).known
 
 label_learns : (n : ℕ) (v : View) (l : Label) → v.acting < n → ((m : ℕ) (q : Pid) → KnownIs n v m q (v.known m q)) → Learns n v (after_label v l)
-label_learns n v (label.Ran p k) le h = learns_nothing n v (after_label v (label.Ran p k)) refl (λ m q. refl) h
-label_learns n v (label.Call p k c) le h = learns_nothing n v (after_label v (label.Call p k c)) refl (λ m q. refl) h
-label_learns n v (label.Send p id) le h = learns_nothing n v (after_label v (label.Send p id)) refl (λ m q. refl) h
-label_learns n v (label.Wait p) le h = learns_nothing n v (after_label v (label.Wait p)) refl (λ m q. refl) h
-label_learns n v (label.Out p x) le h = learns_nothing n v (after_label v (label.Out p x)) refl (λ m q. refl) h
-label_learns n v (label.Receive p id) le h = learns_nothing n v (after_label v (label.Receive p id)) refl (λ m q. refl) h
-label_learns n v (label.Refuse p id c) le h = learns_nothing n v (after_label v (label.Refuse p id c)) refl (λ m q. refl) h
-label_learns n v (label.Gone id) le h = learns_nothing n v (after_label v (label.Gone id)) refl (λ m q. refl) h
-label_learns n v (label.Took id) le h = learns_nothing n v (after_label v (label.Took id)) refl (λ m q. refl) h
-label_learns n v (label.NoSpace id a b) le h = learns_nothing n v (after_label v (label.NoSpace id a b)) refl (λ m q. refl) h
-label_learns n v (label.End p y) le h = learns n v (after_label v (label.End p y)) p Ended refl refl (λ e. absurd (let f : Ended ≡ Unknown = e in cc)) le h
-label_learns n v (label.Created id p) le h = learns n v (after_label v (label.Created id p)) p Here refl refl (λ e. absurd (let f : Here ≡ Unknown = e in cc)) le h
-label_learns n v (label.Dropped id) le h =
-    learns_nothing n v (after_label v (label.Dropped id)) (dropped_acting (handled v id) id (receiver_of (v.told id))) (λ m q. dropped_known (handled v id) id (receiver_of (v.told id)) m q) h
-label_learns n v (label.Served id) le h = behind_handled n v (after_label v (label.Served id)) id (served_learns n (handled v id) (v.told id) le (handled_known n v id h))
+label_learns n v (Label.End p y) le h = learns n v (after_label v (Label.End p y)) p Ended refl refl (λ e. absurd (let f : Ended ≡ Unknown = e in cc)) le h
+label_learns n v (Label.Created id p) le h = learns n v (after_label v (Label.Created id p)) p Here refl refl (λ e. absurd (let f : Here ≡ Unknown = e in cc)) le h
+label_learns n v (Label.Dropped id) le h =
+    learns_nothing n v (after_label v (Label.Dropped id)) (acting_dropped (handled v id) id (receiver_of (v.told id))) (λ m q. dropped_known (handled v id) id (receiver_of (v.told id)) m q) h
+label_learns n v (Label.Served id) le h = behind_handled n v (after_label v (Label.Served id)) id (served_learns n (handled v id) (v.told id) le (handled_known n v id h))
+label_learns n v any_ le h = learns_nothing n v (after_label v any_) refl (λ m q. refl) h
 
 -- what a label needs: its process is known where it is said, or its message's address names that machine
 abbrev pub NeedsLabel : Point → Label → Type 0
-NeedsLabel pt (label.Ran p k) = ⊤
-NeedsLabel pt (label.Call p n c) = KnowsAt pt.view p pt.view.acting
-NeedsLabel pt (label.Send p id) = KnowsAt pt.view p pt.view.acting
-NeedsLabel pt (label.Wait p) = KnowsAt pt.view p pt.view.acting
-NeedsLabel pt (label.Out p w) = KnowsAt pt.view p pt.view.acting
-NeedsLabel pt (label.End p y) = ⊤
-NeedsLabel pt (label.Receive p id) = ⊤
-NeedsLabel pt (label.Refuse p id c) = ⊤
-NeedsLabel pt (label.Dropped id) = ⊤
-NeedsLabel pt (label.Served id) = IsAt pt.addresses pt.view id pt.view.acting
-NeedsLabel pt (label.Gone id) = IsAt pt.addresses pt.view id pt.view.acting
-NeedsLabel pt (label.Took id) = IsAt pt.addresses pt.view id pt.view.acting
-NeedsLabel pt (label.Created id child) = IsAt pt.addresses pt.view id pt.view.acting
-NeedsLabel pt (label.NoSpace id a b) = IsAt pt.addresses pt.view id pt.view.acting
+NeedsLabel pt (Label.Call p n c) = KnowsAt pt.view p pt.view.acting
+NeedsLabel pt (Label.Send p id) = KnowsAt pt.view p pt.view.acting
+NeedsLabel pt (Label.Wait p) = KnowsAt pt.view p pt.view.acting
+NeedsLabel pt (Label.Out p w) = KnowsAt pt.view p pt.view.acting
+NeedsLabel pt (Label.Served id) = IsAt pt.addresses pt.view id pt.view.acting
+NeedsLabel pt (Label.Gone id) = IsAt pt.addresses pt.view id pt.view.acting
+NeedsLabel pt (Label.Took id) = IsAt pt.addresses pt.view id pt.view.acting
+NeedsLabel pt (Label.Created id child) = IsAt pt.addresses pt.view id pt.view.acting
+NeedsLabel pt (Label.NoSpace id a b) = IsAt pt.addresses pt.view id pt.view.acting
+NeedsLabel pt _ = ⊤
 
 -- a message's receiver is known where it stands, or at home
 there_known : (n : ℕ) (pt : Point) (id : MsgId) (m : PlainMessage) → pt.kernel.bag id ≡ Some m → (pt.addresses (Receiver id)).at ≡ pt.view.acting → Core n pt → KnowsAt pt.view m.to pt.view.acting
 there_known n pt id m there at h = subst (KnowsAt pt.view m.to) at (h.all (Receiver id) m.to (Links (ap to_of there)))
 
-fixed_home : (v : View) (q : Pid) (m : ℕ) → is_fixed q ≡ true → KnowsAt v q m → q.home ≡ m
+pub fixed_home : (v : View) (q : Pid) (m : ℕ) → is_fixed q ≡ true → KnowsAt v q m → q.home ≡ m
 fixed_home v q m fixed h = elim h [
   | inl home ↦ sym home
   | inr away ↦ absurd (false≢true (sym away.0 ∙ fixed))
@@ -136,25 +67,16 @@ received_at : (n : ℕ) (pt : Point) (id : MsgId) → ((m : PlainMessage) → pt
 received_at n pt id fixed at h m there = fixed_home pt.view m.to pt.view.acting (fixed m there) (there_known n pt id m there at h)
 
 said_on : (n : ℕ) (pt : Point) (s : OneKernel) (l : Label) → kernel.step pt.kernel l ≡ Some s → NeedsLabel pt l → Core n pt → SaidOn (Knows pt.view) pt.kernel pt.view pt.addresses l
-said_on n pt s (label.Ran p k) is need h = tt
-said_on n pt s (label.Call p k c) is need h = need
-said_on n pt s (label.Send p id) is need h = need
-said_on n pt s (label.Wait p) is need h = need
-said_on n pt s (label.Out p w) is need h = need
-said_on n pt s (label.End p y) is need h = tt
-said_on n pt s (label.Receive p id) is need h = tt
-said_on n pt s (label.Refuse p id c) is need h = tt
-said_on n pt s (label.Dropped id) is need h = tt
-said_on n pt s (label.Served id) is need h = λ m there. there_known n pt id m there need.0 h
-said_on n pt s (label.Gone id) is need h = λ m there. there_known n pt id m there need.0 h
-said_on n pt s (label.Took id) is need h = received_at n pt id (took_for pt.kernel s id is) need.0 h
-said_on n pt s (label.Created id child) is need h = received_at n pt id (created_for pt.kernel s id child is) need.0 h
-said_on n pt s (label.NoSpace id a b) is need h = received_at n pt id (no_space_for pt.kernel s id a b is) need.0 h
-
--- a message that was told of keeps its receiver's address
-zero_cases : (n : ℕ) → (n ≡ 0) ⊎ (1 ≤ n)
-zero_cases zero = inl refl
-zero_cases (suc n) = inr (omega arith)
+said_on n pt s (Label.Call p k c) is need h = need
+said_on n pt s (Label.Send p id) is need h = need
+said_on n pt s (Label.Wait p) is need h = need
+said_on n pt s (Label.Out p w) is need h = need
+said_on n pt s (Label.Served id) is need h = λ m there. there_known n pt id m there need.0 h
+said_on n pt s (Label.Gone id) is need h = λ m there. there_known n pt id m there need.0 h
+said_on n pt s (Label.Took id) is need h = received_at n pt id (took_for pt.kernel s id is) need.0 h
+said_on n pt s (Label.Created id child) is need h = received_at n pt id (created_for pt.kernel s id child is) need.0 h
+said_on n pt s (Label.NoSpace id a b) is need h = received_at n pt id (no_space_for pt.kernel s id a b is) need.0 h
+said_on n pt s _ is need h = tt
 
 told_some : (o : Option Told) → is_some o ≡ true → o ≡ None → ⊥
 told_some None some e = false≢true some
@@ -206,29 +128,29 @@ other_home : (n : ℕ) (pt : Point) (s : OneKernel) (w : View) → Grows pt.view
 other_home n pt s w grows made h q some = grows q.home q (h.home q (made q some))
 
 label_home : (n : ℕ) (pt : Point) (s : OneKernel) (l : Label) → NeedsLabel pt l → kernel.step pt.kernel l ≡ Some s → Grows pt.view (after_label pt.view l) → Core n pt → (q : Pid) → is_some (s.processes q) ≡ true → (after_label pt.view l).known q.home q ≢ Unknown
-label_home n pt s (label.Created id child) need is grows h q some = elim (created_made pt.kernel s id child is q some) [
+label_home n pt s (Label.Created id child) need is grows h q some = elim (created_made pt.kernel s id child is q some) [
   | inl old ↦ grows q.home q (h.home q old)
   | inr new ↦
-      let w = after_label pt.view (label.Created id child) in
+      let w = after_label pt.view (Label.Created id child) in
       let at : child.home ≡ pt.view.acting = new.home ∙ received_at n pt id (created_for pt.kernel s id child is) need.0 h new.m new.there in
       let here : w.known child.home child ≡ Here = ap (λ (m : ℕ). w.known m child) at ∙ at_record_at pt.view.known pt.view.acting child Here in
       subst (λ (r : Pid). w.known r.home r ≢ Unknown) new.is (λ e. let f : Here ≡ Unknown = sym here ∙ e in cc)
 ]
-label_home n pt s (label.Ran p k) need is grows h q some = other_home n pt s (after_label pt.view (label.Ran p k)) grows (step_made pt.kernel s (label.Ran p k) refl is) h q some
-label_home n pt s (label.Call p k c) need is grows h q some = other_home n pt s (after_label pt.view (label.Call p k c)) grows (step_made pt.kernel s (label.Call p k c) refl is) h q some
-label_home n pt s (label.Send p id) need is grows h q some = other_home n pt s (after_label pt.view (label.Send p id)) grows (step_made pt.kernel s (label.Send p id) refl is) h q some
-label_home n pt s (label.Wait p) need is grows h q some = other_home n pt s (after_label pt.view (label.Wait p)) grows (step_made pt.kernel s (label.Wait p) refl is) h q some
-label_home n pt s (label.Out p x) need is grows h q some = other_home n pt s (after_label pt.view (label.Out p x)) grows (step_made pt.kernel s (label.Out p x) refl is) h q some
-label_home n pt s (label.End p y) need is grows h q some = other_home n pt s (after_label pt.view (label.End p y)) grows (step_made pt.kernel s (label.End p y) refl is) h q some
-label_home n pt s (label.Receive p id) need is grows h q some = other_home n pt s (after_label pt.view (label.Receive p id)) grows (step_made pt.kernel s (label.Receive p id) refl is) h q some
-label_home n pt s (label.Refuse p id c) need is grows h q some = other_home n pt s (after_label pt.view (label.Refuse p id c)) grows (step_made pt.kernel s (label.Refuse p id c) refl is) h q some
-label_home n pt s (label.Dropped id) need is grows h q some = other_home n pt s (after_label pt.view (label.Dropped id)) grows (step_made pt.kernel s (label.Dropped id) refl is) h q some
-label_home n pt s (label.Served id) need is grows h q some = other_home n pt s (after_label pt.view (label.Served id)) grows (step_made pt.kernel s (label.Served id) refl is) h q some
-label_home n pt s (label.Gone id) need is grows h q some = other_home n pt s (after_label pt.view (label.Gone id)) grows (step_made pt.kernel s (label.Gone id) refl is) h q some
-label_home n pt s (label.Took id) need is grows h q some = other_home n pt s (after_label pt.view (label.Took id)) grows (step_made pt.kernel s (label.Took id) refl is) h q some
-label_home n pt s (label.NoSpace id a b) need is grows h q some = other_home n pt s (after_label pt.view (label.NoSpace id a b)) grows (step_made pt.kernel s (label.NoSpace id a b) refl is) h q some
+label_home n pt s (Label.Ran p k) need is grows h q some = other_home n pt s (after_label pt.view (Label.Ran p k)) grows (step_made pt.kernel s (Label.Ran p k) refl is) h q some
+label_home n pt s (Label.Call p k c) need is grows h q some = other_home n pt s (after_label pt.view (Label.Call p k c)) grows (step_made pt.kernel s (Label.Call p k c) refl is) h q some
+label_home n pt s (Label.Send p id) need is grows h q some = other_home n pt s (after_label pt.view (Label.Send p id)) grows (step_made pt.kernel s (Label.Send p id) refl is) h q some
+label_home n pt s (Label.Wait p) need is grows h q some = other_home n pt s (after_label pt.view (Label.Wait p)) grows (step_made pt.kernel s (Label.Wait p) refl is) h q some
+label_home n pt s (Label.Out p x) need is grows h q some = other_home n pt s (after_label pt.view (Label.Out p x)) grows (step_made pt.kernel s (Label.Out p x) refl is) h q some
+label_home n pt s (Label.End p y) need is grows h q some = other_home n pt s (after_label pt.view (Label.End p y)) grows (step_made pt.kernel s (Label.End p y) refl is) h q some
+label_home n pt s (Label.Receive p id) need is grows h q some = other_home n pt s (after_label pt.view (Label.Receive p id)) grows (step_made pt.kernel s (Label.Receive p id) refl is) h q some
+label_home n pt s (Label.Refuse p id c) need is grows h q some = other_home n pt s (after_label pt.view (Label.Refuse p id c)) grows (step_made pt.kernel s (Label.Refuse p id c) refl is) h q some
+label_home n pt s (Label.Dropped id) need is grows h q some = other_home n pt s (after_label pt.view (Label.Dropped id)) grows (step_made pt.kernel s (Label.Dropped id) refl is) h q some
+label_home n pt s (Label.Served id) need is grows h q some = other_home n pt s (after_label pt.view (Label.Served id)) grows (step_made pt.kernel s (Label.Served id) refl is) h q some
+label_home n pt s (Label.Gone id) need is grows h q some = other_home n pt s (after_label pt.view (Label.Gone id)) grows (step_made pt.kernel s (Label.Gone id) refl is) h q some
+label_home n pt s (Label.Took id) need is grows h q some = other_home n pt s (after_label pt.view (Label.Took id)) grows (step_made pt.kernel s (Label.Took id) refl is) h q some
+label_home n pt s (Label.NoSpace id a b) need is grows h q some = other_home n pt s (after_label pt.view (Label.NoSpace id a b)) grows (step_made pt.kernel s (Label.NoSpace id a b) refl is) h q some
 
-pub label_core : (n : ℕ) (pt : Point) (s : OneKernel) (l : Label) → Sane pt → NeedsLabel pt l → kernel.step pt.kernel l ≡ Some s → Core n pt → Core n (moved pt (line.Label l) s)
+pub label_core : (n : ℕ) (pt : Point) (s : OneKernel) (l : Label) → Sane pt → NeedsLabel pt l → kernel.step pt.kernel l ≡ Some s → Core n pt → Core n (moved pt (Line.Label l) s)
 label_core n pt s l sane need is h =
     let v = pt.view in
     let w = after_label v l in
@@ -249,7 +171,7 @@ label_core n pt s l sane need is h =
       topic = subst (λ (x : view.About). AboutIs n w x) (sym (label_topic v l)) (about_grows n v w v.topic learnt.grows h.topic);
       known = learnt.known;
       places = λ i z e. let k = places_label (IsAt a v) v l h.places i z e in (ap (λ (p : Place). p.at) (keeps_receiver pt s l i sane is k.1) ∙ k.0, ap (λ (f : MsgId → Option Told). is_some (f i)) told ∙ k.1);
-      held = held_line v (line.Label l) refl h.held;
+      held = held_line v (Line.Label l) refl h.held;
       senders = λ i m there. elim (left.senders i m there) [
         | inl old ↦ sends_grow n pt.kernel s m.sender (after_step sane.r sane.e pt.kernel s l is sane.sound).grown (h.senders i m old)
         | inr new ↦ sends_grow n pt.kernel s m.sender (after_step sane.r sane.e pt.kernel s l is sane.sound).grown new

@@ -1,32 +1,9 @@
 -- Each line leaves messages where they stood, moves them within a machine, or brings one.
-use Rattle.std.proofs.Common.{◌≡◌, ◌⊎◌, ℕ, zero, suc, ◌+◌, ◌≤◌, ◌==◌, ◌&&◌, Bool, true, false, not, filter, List, [], ◌∷◌, ◌++◌, refl, ap, sym, subst, inl, inr, arith}
-use Rattle.std.specs.Prelude.{⊤, if◌then◌else◌, drop}
-use Rattle.std.specs.declared.option.Option.{Option}
-use Rattle.std.specs.declared.option.Option.TheVariants.{None, Some}
-use Rattle.std.proofs.lemmas.Bool.{cases_Bool}
-use Rattle.dm_link.specs.declared.Pid.{Pid}
-use Rattle.dm_link.specs.Names.{pid_eq}
-use Rattle.dm_message.specs.declared.MsgId.{MsgId}
-use Rattle.dm_message.specs.Ids.{id_eq}
-use Rattle.dm_message.specs.declared.kind.MessageKind.{MessageKind}
-use Rattle.dm_message.specs.declared.kind.MessageKind.TheVariants as kind
-use Rattle.dm_onekernel.specs.declared.label.Label.{Label}
-use Rattle.dm_onekernel.specs.declared.label.Label.TheVariants as label
-use Rattle.dm_schedule.specs.declared.Step.{Step}
-use Rattle.dm_schedule.specs.declared.Step.TheVariants as step
-use Rattle.dm_laws.proofs.Equal.{id_eq-is, id_eq-same}
-use Rattle.dm_line.specs.declared.line.Line.{Line}
-use Rattle.dm_line.specs.declared.line.Line.TheVariants as line
-use Rattle.dm_line.specs.declared.line.Stage.{Stage}
-use Rattle.dm_line.specs.declared.line.Stage.TheVariants as stage
-use Rattle.dm_line.specs.Sets.{at_machine, at_pair, at_record, without_id, without_front}
+use Rattle.dm_rulelaws.proofs.Names.{◌≡◌, ◌⊎◌, ℕ, zero, suc, ◌+◌, ◌≤◌, ◌==◌, ◌&&◌, Bool, true, false, not, filter, List, [], ◌∷◌, ◌++◌, refl, ap, sym, subst, inl, inr, arith, ⊤, if◌then◌else◌, drop, Option, None, Some, cases_Bool, Pid}
+use Rattle.dm_rulelaws.proofs.Names.{pid_eq, MsgId, id_eq, MessageKind, Label, Step, id_eq-is, id_eq-same, Line, Stage, at_machine, at_pair, at_record, without_id, without_front, View, Pair, Told, About, Of, view_after, after_head}
+use Rattle.dm_rulelaws.proofs.Names.{after_label, after_put, after_taken, after_stage, after_proto, follows_up, asks_on, handled, handled_first, queued_for, held_for, dropped_for, forwarded_for, rejoins, served_told, kills, receiver_of}
+use Rattle.dm_rulelaws.proofs.Names.{taken_id, oldest, routed_on, Spot, Queue, Held, Inbox, Untaken, times, untaken, standing, eq_is, parts, at_place, pair_keeps, one_of, times-append, machine_of}
 use Rattle.dm_rule.specs.View as view
-use Rattle.dm_rule.specs.View.{View, Pair, Told, About, NothingElse, Target, Of, view_after, after_head, after_label, after_put, after_taken, after_stage, after_proto, follows_up, asks_on, handled, handled_first, queued_for, held_for, dropped_for, forwarded_for, rejoins, served_told, kills, receiver_of, taken_id, oldest, routed_on}
-use Rattle.dm_rule.specs.Spots.{Spot, Queue, Held, Inbox, Untaken, times, untaken, standing}
-use Rattle.dm_rule.proofs.Lines.{eq_is, parts, at_place, pair_keeps}
-use Rattle.dm_rule.proofs.Once.{one_of}
-use Rattle.dm_rule.proofs.Standing.{times-append}
-use Rattle.dm_rulelaws.specs.Found.{machine_of}
 
 -- of each message that stands somewhere, with the machine
 abbrev pub Places : (MsgId → ℕ → Type 0) → View → Type 0
@@ -68,7 +45,7 @@ one_step i j xs ys h e = grow (one_of i j) (times i xs) (times i ys) h e
     grow zero b c h e = let f = h (omega (arith, e)) in omega (arith, f)
     grow (suc a) b c h e = omega arith
 
-more_front : (i j : MsgId) (xs : List MsgId) → 1 ≤ times i xs → 1 ≤ times i (j ∷ xs)
+pub more_front : (i j : MsgId) (xs : List MsgId) → 1 ≤ times i xs → 1 ≤ times i (j ∷ xs)
 more_front i j xs e = omega (arith, e)
 
 front_fewer : (i j : MsgId) (xs : List MsgId) → 1 ≤ times i (without_front j xs) → 1 ≤ times i xs
@@ -230,96 +207,41 @@ places_put G v a b id k q new h =
 
 -- labels
 places_kills : (G : MsgId → ℕ → Type 0) (v : View) (k : MessageKind) (p : Pid) → Places G v → Places G (kills k v (Some p))
-places_kills G v kind.User p h = h
-places_kills G v kind.Stop p h = h
-places_kills G v kind.Resume p h = h
-places_kills G v kind.Kill p h = places_as G v (kills kind.Kill v (Some p)) refl refl refl (λ a b. refl) h
-places_kills G v kind.Read p h = h
-places_kills G v kind.Write p h = h
-places_kills G v kind.Block p h = h
-places_kills G v kind.Written p h = h
-places_kills G v kind.Gone p h = h
-places_kills G v kind.Create p h = h
-places_kills G v kind.Created p h = h
-places_kills G v kind.NoRoom p h = h
-places_kills G v kind.Migrate p h = h
-places_kills G v kind.Update p h = h
-places_kills G v kind.Ask p h = h
-places_kills G v kind.Refuse p h = h
-places_kills G v kind.PullState p h = h
-places_kills G v kind.State p h = h
-places_kills G v kind.PullBlock p h = h
-places_kills G v kind.Memory p h = h
-places_kills G v kind.AllTaken p h = h
-places_kills G v kind.Restart p h = h
-places_kills G v kind.Move p h = h
-places_kills G v kind.Moved p h = h
-places_kills G v kind.CallOff p h = h
-places_kills G v kind.Bury p h = h
+places_kills G v MessageKind.Kill p h = places_as G v (kills MessageKind.Kill v (Some p)) refl refl refl (λ a b. refl) h
+places_kills G v _ p h = h
 
 places_served : (G : MsgId → ℕ → Type 0) (v : View) (o : Option Told) → Places G v → Places G (served_told v o)
 places_served G v None h = h
 places_served G v (Some t) h = places_kills G v t.kind t.receiver h
 
 pub places_label : (G : MsgId → ℕ → Type 0) (v : View) (l : Label) → Places G v → Places G (after_label v l)
-places_label G v (label.Ran p k) h = places_as G v (after_label v (label.Ran p k)) refl refl refl (λ a b. refl) h
-places_label G v (label.Call p n c) h = h
-places_label G v (label.Send p id) h = h
-places_label G v (label.Wait p) h = h
-places_label G v (label.Out p x) h = h
-places_label G v (label.End p y) h = places_as G v (after_label v (label.End p y)) refl refl refl (λ a b. refl) h
-places_label G v (label.Refuse p id c) h = places_as G v (after_label v (label.Refuse p id c)) refl refl refl (λ a b. refl) h
-places_label G v (label.Receive p id) h = places_queue_less G v (after_label v (label.Receive p id)) p (without_id id (v.queue v.acting p)) refl refl refl refl (λ i e. id_fewer i id (v.queue v.acting p) e) h
-places_label G v (label.Dropped id) h = places_dropped G (handled v id) id (receiver_of (v.told id)) (places_handled G v id h)
-places_label G v (label.Served id) h = places_served G (handled v id) (v.told id) (places_handled G v id h)
-places_label G v (label.Gone id) h = places_handled G v id h
-places_label G v (label.Took id) h = places_handled G v id h
-places_label G v (label.Created id p) h = places_as G (handled v id) (after_label v (label.Created id p)) refl refl refl (λ a b. refl) (places_handled G v id h)
-places_label G v (label.NoSpace id f b) h = places_handled G v id h
+places_label G v (Label.Ran p k) h = places_as G v (after_label v (Label.Ran p k)) refl refl refl (λ a b. refl) h
+places_label G v (Label.End p y) h = places_as G v (after_label v (Label.End p y)) refl refl refl (λ a b. refl) h
+places_label G v (Label.Refuse p id c) h = places_as G v (after_label v (Label.Refuse p id c)) refl refl refl (λ a b. refl) h
+places_label G v (Label.Receive p id) h = places_queue_less G v (after_label v (Label.Receive p id)) p (without_id id (v.queue v.acting p)) refl refl refl refl (λ i e. id_fewer i id (v.queue v.acting p) e) h
+places_label G v (Label.Dropped id) h = places_dropped G (handled v id) id (receiver_of (v.told id)) (places_handled G v id h)
+places_label G v (Label.Served id) h = places_served G (handled v id) (v.told id) (places_handled G v id h)
+places_label G v (Label.Gone id) h = places_handled G v id h
+places_label G v (Label.Took id) h = places_handled G v id h
+places_label G v (Label.Created id p) h = places_as G (handled v id) (after_label v (Label.Created id p)) refl refl refl (λ a b. refl) (places_handled G v id h)
+places_label G v (Label.NoSpace id f b) h = places_handled G v id h
+places_label G v _ h = h
 
 -- steps of migrations
 pub places_stage : (G : MsgId → ℕ → Type 0) (v : View) (p : Pid) (s : Stage) → Places G v → Places G (after_stage v p s)
-places_stage G v p stage.Frozen h = places_as G (handled_first v) (after_stage v p stage.Frozen) refl refl refl (λ a b. refl) (places_first G v h)
-places_stage G v p stage.Asked h = h
-places_stage G v p stage.Accepted h = places_as G (handled_first v) (after_stage v p stage.Accepted) refl refl refl (λ a b. refl) (places_first G v h)
-places_stage G v p stage.StateTaken h = places_as G (handled_first v) (after_stage v p stage.StateTaken) refl refl refl (λ a b. refl) (places_first G v h)
-places_stage G v p stage.MemoryTaken h = places_as G (handled_first v) (after_stage v p stage.MemoryTaken) refl refl refl (λ a b. refl) (places_first G v h)
-places_stage G v p stage.Left h = places_as G v (after_stage v p stage.Left) refl refl refl (λ a b. refl) h
-places_stage G v p stage.Restarted h = places_as G (rejoins (handled_first v) p) (after_stage v p stage.Restarted) refl refl refl (λ a b. refl) (places_rejoins G (handled_first v) p (places_first G v h))
+places_stage G v p Stage.Asked h = h
+places_stage G v p Stage.Left h = places_as G v (after_stage v p Stage.Left) refl refl refl (λ a b. refl) h
+places_stage G v p Stage.Restarted h = places_as G (rejoins (handled_first v) p) (after_stage v p Stage.Restarted) refl refl refl (λ a b. refl) (places_rejoins G (handled_first v) p (places_first G v h))
+places_stage G v p any_ h = places_as G (handled_first v) (after_stage v p any_) refl refl refl (λ a b. refl) (places_first G v h)
 
 places_asks : (G : MsgId → ℕ → Type 0) (v : View) (a : About) → Places G v → Places G (asks_on v a)
-places_asks G v NothingElse h = h
-places_asks G v (Target m) h = h
 places_asks G v (Of p) h = places_as G v (asks_on v (Of p)) refl refl refl (λ a b. refl) h
-places_asks G v (view.Place p at moves) h = h
+places_asks G v _ h = h
 
 places_follows : (G : MsgId → ℕ → Type 0) (v : View) (a : About) (k : MessageKind) → Places G v → Places G (follows_up v a k)
-places_follows G v a kind.User h = h
-places_follows G v a kind.Stop h = h
-places_follows G v a kind.Resume h = h
-places_follows G v a kind.Kill h = h
-places_follows G v a kind.Read h = h
-places_follows G v a kind.Write h = h
-places_follows G v a kind.Block h = h
-places_follows G v a kind.Written h = h
-places_follows G v a kind.Gone h = h
-places_follows G v a kind.Create h = h
-places_follows G v a kind.Created h = h
-places_follows G v a kind.NoRoom h = h
-places_follows G v a kind.Migrate h = h
-places_follows G v a kind.Update h = h
-places_follows G v a kind.Ask h = h
-places_follows G v a kind.Refuse h = h
-places_follows G v a kind.PullState h = h
-places_follows G v a kind.State h = places_asks G v a h
-places_follows G v a kind.PullBlock h = h
-places_follows G v a kind.Memory h = places_asks G v a h
-places_follows G v a kind.AllTaken h = h
-places_follows G v a kind.Restart h = h
-places_follows G v a kind.Move h = h
-places_follows G v a kind.Moved h = h
-places_follows G v a kind.CallOff h = h
-places_follows G v a kind.Bury h = h
+places_follows G v a MessageKind.State h = places_asks G v a h
+places_follows G v a MessageKind.Memory h = places_asks G v a h
+places_follows G v a _ h = h
 
 places_proto : (G : MsgId → ℕ → Type 0) (v : View) (o : Option Told) → Places G v → Places G (after_proto v o)
 places_proto G v None h = places_as G v (after_proto v None) refl refl refl (λ a b. refl) h
@@ -331,40 +253,33 @@ places_forwarded G v (Some p) h = places_as G v (forwarded_for v (Some p)) refl 
 
 -- heads
 places_head : (G : MsgId → ℕ → Type 0) (v : View) (d : Step) → Places G v → Places G (after_head v d)
-places_head G v (step.Turn m) h = places_as G v (after_head v (step.Turn m)) refl refl refl (λ a b. refl) h
-places_head G v (step.Tick m) h = places_as G v (after_head v (step.Tick m)) refl refl refl (λ a b. refl) h
-places_head G v (step.Deliver a b k) h = places_as G v (after_head v (step.Deliver a b k)) refl refl refl (λ c d. pair_keeps v.pair a b (view.marked (v.pair a b) k) refl c d) h
-places_head G v (step.Migrate p m) h = places_as G v (after_head v (step.Migrate p m)) refl refl refl (λ a b. refl) h
+places_head G v (Step.Deliver a b k) h = places_as G v (after_head v (Step.Deliver a b k)) refl refl refl (λ c d. pair_keeps v.pair a b (view.marked (v.pair a b) k) refl c d) h
+places_head G v any_ h = places_as G v (after_head v any_) refl refl refl (λ a b. refl) h
 
 -- what a line brings
 abbrev pub Brings : (MsgId → ℕ → Type 0) → View → Line → Type 0
-Brings G v (line.Put a b id k q) = G id b
-Brings G v (line.Queued id) = G id v.acting
-Brings G v (line.Held id) = G id v.acting
+Brings G v (Line.Put a b id k q) = G id b
+Brings G v (Line.Queued id) = G id v.acting
+Brings G v (Line.Held id) = G id v.acting
 Brings G v _ = ⊤
 
 pub places_line : (G : MsgId → ℕ → Type 0) (v : View) (l : Line) → Brings G v l → Places G v → Places G (view_after v l)
-places_line G v (line.Head d) new h = places_head G v d h
-places_line G v (line.Label l) new h = places_label G v l h
-places_line G v (line.Put a b id k q) new h = places_put G v a b id k q new h
-places_line G v (line.Packet a b k l) new h = places_as G v (view_after v (line.Packet a b k l)) refl refl refl (λ c d. pair_keeps v.pair a b (record (v.pair a b) { gone = view.gone_after l (v.pair a b).gone; wire = (v.pair a b).wire ++ record { load = l; delivered = false } ∷ [] }) refl c d) h
-places_line G v (line.Taken a b n) new h = places_taken G v a b n h
-places_line G v (line.Early a b n) new h = places_as G v (view_after v (line.Early a b n)) refl refl refl (λ c d. pair_keeps v.pair a b (record (v.pair a b) { kept = n ∷ filter (λ k. not (k == n)) (v.pair a b).kept }) refl c d) h
-places_line G v (line.Acked a b n) new h = places_as G v (view_after v (line.Acked a b n)) refl refl refl (λ c d. pair_keeps v.pair b a (record (v.pair b a) { acked = view.at_least (v.pair b a).acked n }) refl c d) h
-places_line G v (line.Queued id) new h = places_queued G (handled v id) id (receiver_of (v.told id)) new (places_handled G v id h)
-places_line G v (line.Held id) new h = places_held G (handled v id) id (receiver_of (v.told id)) new (places_handled G v id h)
-places_line G v (line.Forwarded id m) new h = places_forwarded G (handled v id) (receiver_of (v.told id)) (places_handled G v id h)
-places_line G v (line.Updated id n) new h = places_handled G v id h
-places_line G v (line.Migration s p) new h = places_stage G v p s h
-places_line G v (line.SentOn p n) new h = places_cleared G (handled_first v) (view_after v (line.SentOn p n)) p refl refl refl refl (places_first G v h)
-places_line G v (line.Lacks p a b) new h = places_as G (handled_first v) (view_after v (line.Lacks p a b)) refl refl refl (λ c d. refl) (places_first G v h)
-places_line G v (line.Stays p) new h = places_rejoins G (handled_first v) p (places_first G v h)
-places_line G v (line.Here id) new h = places_handled G v id h
-places_line G v (line.NoMove id) new h = places_handled G v id h
-places_line G v (line.Proto id) new h = places_proto G (handled v id) (v.told id) (places_handled G v id h)
-places_line G v (line.Idle m) new h = h
-places_line G v (line.Old a b n) new h = h
-places_line G v line.Nothing new h = h
-places_line G v (line.Resent m n) new h = h
-places_line G v (line.NoChild p) new h = h
-places_line G v (line.Pinned p) new h = h
+places_line G v (Line.Head d) new h = places_head G v d h
+places_line G v (Line.Label l) new h = places_label G v l h
+places_line G v (Line.Put a b id k q) new h = places_put G v a b id k q new h
+places_line G v (Line.Packet a b k l) new h = places_as G v (view_after v (Line.Packet a b k l)) refl refl refl (λ c d. pair_keeps v.pair a b (record (v.pair a b) { gone = view.gone_after l (v.pair a b).gone; wire = (v.pair a b).wire ++ record { load = l; delivered = false } ∷ [] }) refl c d) h
+places_line G v (Line.Taken a b n) new h = places_taken G v a b n h
+places_line G v (Line.Early a b n) new h = places_as G v (view_after v (Line.Early a b n)) refl refl refl (λ c d. pair_keeps v.pair a b (record (v.pair a b) { kept = n ∷ filter (λ k. not (k == n)) (v.pair a b).kept }) refl c d) h
+places_line G v (Line.Acked a b n) new h = places_as G v (view_after v (Line.Acked a b n)) refl refl refl (λ c d. pair_keeps v.pair b a (record (v.pair b a) { acked = view.at_least (v.pair b a).acked n }) refl c d) h
+places_line G v (Line.Queued id) new h = places_queued G (handled v id) id (receiver_of (v.told id)) new (places_handled G v id h)
+places_line G v (Line.Held id) new h = places_held G (handled v id) id (receiver_of (v.told id)) new (places_handled G v id h)
+places_line G v (Line.Forwarded id m) new h = places_forwarded G (handled v id) (receiver_of (v.told id)) (places_handled G v id h)
+places_line G v (Line.Updated id n) new h = places_handled G v id h
+places_line G v (Line.Migration s p) new h = places_stage G v p s h
+places_line G v (Line.SentOn p n) new h = places_cleared G (handled_first v) (view_after v (Line.SentOn p n)) p refl refl refl refl (places_first G v h)
+places_line G v (Line.Lacks p a b) new h = places_as G (handled_first v) (view_after v (Line.Lacks p a b)) refl refl refl (λ c d. refl) (places_first G v h)
+places_line G v (Line.Stays p) new h = places_rejoins G (handled_first v) p (places_first G v h)
+places_line G v (Line.Here id) new h = places_handled G v id h
+places_line G v (Line.NoMove id) new h = places_handled G v id h
+places_line G v (Line.Proto id) new h = places_proto G (handled v id) (v.told id) (places_handled G v id h)
+places_line G v _ new h = h

@@ -1,36 +1,13 @@
 -- Which processes a step of the kernel without machines makes.
-use Rattle.std.proofs.Common.{◌≡◌, ◌⊎◌, ℕ, ◌&&◌, Bool, true, false, length, refl, ap, ◌∙◌, sym, inl, inr, is_some}
-use Rattle.std.specs.Prelude.{if◌then◌else◌, slice_get, ◌+◌}
-use Rattle.std.specs.declared.option.Option.{Option}
-use Rattle.std.specs.declared.option.Option.TheVariants.{None, Some}
-use Rattle.std.proofs.lemmas.Bool.{cases_Bool, false≢true}
-use Rattle.dm_link.specs.declared.Pid.{Pid}
-use Rattle.dm_link.specs.Names.{pid_of, pid_eq}
-use Rattle.dm_message.specs.declared.MsgId.{MsgId}
-use Rattle.dm_message.specs.Plain as what
-use Rattle.dm_message.specs.Plain.{PlainMessage, PlainWhat}
-use Rattle.dm_onekernel.specs.declared.label.Label.{Label}
-use Rattle.dm_onekernel.specs.declared.label.Label.TheVariants as label
-use Rattle.dm_onekernel.specs.declared.label.Reply.{Reply}
-use Rattle.dm_onekernel.specs.declared.label.Why.{Why}
-use Rattle.dm_onekernel.specs.declared.label.Why.TheVariants as why
-use Rattle.dm_onekernel.specs.Boot.{switchboard, manager}
-use Rattle.dm_onekernel.specs.Options.{bind}
-use Rattle.dm_onekernel.specs.Start.{begun}
-use Rattle.dm_onekernel.specs.PlainProcess.{PlainProcess}
-use Rattle.dm_onekernel.specs.Kernel.{Life, Alive, Ended, Switchboard, Manager, OneKernel, with_process, with_sent}
-use Rattle.dm_onekernel.specs.Calls as calls
+use Rattle.dm_rulelaws.proofs.Names.{◌≡◌, ◌⊎◌, ℕ, ◌&&◌, Bool, true, false, length, refl, ap, ◌∙◌, sym, inl, inr, is_some, if◌then◌else◌, slice_get, ◌+◌, Option, None, Some, cases_Bool, false≢true, Pid, pid_of, pid_eq, MsgId, Called}
+use Rattle.dm_rulelaws.proofs.Names.{PlainMessage, PlainWhat, Label, Reply, Why, switchboard, manager, bind, begun, PlainProcess, Life, Alive, Ended, Switchboard, Manager, OneKernel, with_process, with_sent, answer_to, without_message}
+use Rattle.dm_rulelaws.proofs.Names.{is_dropped, is_of_memory, pid_eq-is, bind-is, when-is, alive-is, nexts, Nexts, completing, and-both}
 use Rattle.dm_onekernel.specs.Pieces as pieces
-use Rattle.dm_onekernel.specs.Pieces.{answer_to}
 use Rattle.dm_onekernel.specs.Receiving as receiving
 use Rattle.dm_onekernel.specs.Switchboard as board
 use Rattle.dm_onekernel.specs.Manager as manage
 use Rattle.dm_onekernel.specs.Service as service
-use Rattle.dm_onekernel.specs.Service.{without_message, is_dropped, is_of_memory}
 use Rattle.dm_onekernel.specs.Step as kernel
-use Rattle.dm_laws.proofs.Equal.{pid_eq-is}
-use Rattle.dm_laws.proofs.Steps.{bind-is, when-is, alive-is, nexts, Nexts}
-use Rattle.dm_laws.proofs.Steps.{completing}
 
 -- what is made behind a step was made before
 abbrev pub MadeBefore : OneKernel → OneKernel → Type 0
@@ -48,43 +25,43 @@ row_set s t u p was now there is same q some =
     ]
 
 replies_made : (s t : OneKernel) (p : Pid) (k : ℕ) (c : Reply) (next : kernel.Next) → Nexts s p next → kernel.replies s p k c next ≡ Some t → MadeBefore s t
-replies_made s t p k c (kernel.Calls number (calls.Replies reply y)) w is = row_set s t (kernel.goes_on s p y) p (Alive w.x) (Alive y) w.is.alive (when-is _ (kernel.goes_on s p y) t is).1 refl
-replies_made s t p k c (kernel.Calls number (calls.Sends m y)) w is = cc
-replies_made s t p k c (kernel.Calls number (calls.Waits y)) w is = cc
-replies_made s t p k c (kernel.Calls number (calls.Outputs word y)) w is = cc
-replies_made s t p k c (kernel.Calls number (calls.Ends because)) w is = cc
+replies_made s t p k c (kernel.Calls number (Called.Replies reply y)) w is = row_set s t (kernel.goes_on s p y) p (Alive w.x) (Alive y) w.is.alive (when-is _ (kernel.goes_on s p y) t is).1 refl
+replies_made s t p k c (kernel.Calls number (Called.Sends m y)) w is = cc
+replies_made s t p k c (kernel.Calls number (Called.Waits y)) w is = cc
+replies_made s t p k c (kernel.Calls number (Called.Outputs word y)) w is = cc
+replies_made s t p k c (kernel.Calls number (Called.Ends because)) w is = cc
 replies_made s t p k c (kernel.Faults fault) w is = cc
 
 sends_made : (s t : OneKernel) (p : Pid) (id : MsgId) (next : kernel.Next) → Nexts s p next → kernel.sends s p id next ≡ Some t → MadeBefore s t
-sends_made s t p id (kernel.Calls number (calls.Replies reply y)) w is = cc
-sends_made s t p id (kernel.Calls number (calls.Sends m y)) w is = row_set s t (with_sent (kernel.goes_on s p y) (Some m)) p (Alive w.x) (Alive y) w.is.alive (when-is _ (with_sent (kernel.goes_on s p y) (Some m)) t is).1 refl
-sends_made s t p id (kernel.Calls number (calls.Waits y)) w is = cc
-sends_made s t p id (kernel.Calls number (calls.Outputs word y)) w is = cc
-sends_made s t p id (kernel.Calls number (calls.Ends because)) w is = cc
+sends_made s t p id (kernel.Calls number (Called.Replies reply y)) w is = cc
+sends_made s t p id (kernel.Calls number (Called.Sends m y)) w is = row_set s t (with_sent (kernel.goes_on s p y) (Some m)) p (Alive w.x) (Alive y) w.is.alive (when-is _ (with_sent (kernel.goes_on s p y) (Some m)) t is).1 refl
+sends_made s t p id (kernel.Calls number (Called.Waits y)) w is = cc
+sends_made s t p id (kernel.Calls number (Called.Outputs word y)) w is = cc
+sends_made s t p id (kernel.Calls number (Called.Ends because)) w is = cc
 sends_made s t p id (kernel.Faults fault) w is = cc
 
 waits_made : (s t : OneKernel) (p : Pid) (next : kernel.Next) → Nexts s p next → kernel.waits s p next ≡ Some t → MadeBefore s t
-waits_made s t p (kernel.Calls number (calls.Replies reply y)) w is = cc
-waits_made s t p (kernel.Calls number (calls.Sends m y)) w is = cc
-waits_made s t p (kernel.Calls number (calls.Waits y)) w is = row_set s t (kernel.goes_on s p y) p (Alive w.x) (Alive y) w.is.alive (let f : kernel.goes_on s p y ≡ t = cc in f) refl
-waits_made s t p (kernel.Calls number (calls.Outputs word y)) w is = cc
-waits_made s t p (kernel.Calls number (calls.Ends because)) w is = cc
+waits_made s t p (kernel.Calls number (Called.Replies reply y)) w is = cc
+waits_made s t p (kernel.Calls number (Called.Sends m y)) w is = cc
+waits_made s t p (kernel.Calls number (Called.Waits y)) w is = row_set s t (kernel.goes_on s p y) p (Alive w.x) (Alive y) w.is.alive (let f : kernel.goes_on s p y ≡ t = cc in f) refl
+waits_made s t p (kernel.Calls number (Called.Outputs word y)) w is = cc
+waits_made s t p (kernel.Calls number (Called.Ends because)) w is = cc
 waits_made s t p (kernel.Faults fault) w is = cc
 
 outputs_made : (s t : OneKernel) (p : Pid) (k : ℕ) (next : kernel.Next) → Nexts s p next → kernel.outputs s p k next ≡ Some t → MadeBefore s t
-outputs_made s t p k (kernel.Calls number (calls.Replies reply y)) w is = cc
-outputs_made s t p k (kernel.Calls number (calls.Sends m y)) w is = cc
-outputs_made s t p k (kernel.Calls number (calls.Waits y)) w is = cc
-outputs_made s t p k (kernel.Calls number (calls.Outputs word y)) w is = row_set s t (kernel.goes_on s p y) p (Alive w.x) (Alive y) w.is.alive (when-is _ (kernel.goes_on s p y) t is).1 refl
-outputs_made s t p k (kernel.Calls number (calls.Ends because)) w is = cc
+outputs_made s t p k (kernel.Calls number (Called.Replies reply y)) w is = cc
+outputs_made s t p k (kernel.Calls number (Called.Sends m y)) w is = cc
+outputs_made s t p k (kernel.Calls number (Called.Waits y)) w is = cc
+outputs_made s t p k (kernel.Calls number (Called.Outputs word y)) w is = row_set s t (kernel.goes_on s p y) p (Alive w.x) (Alive y) w.is.alive (when-is _ (kernel.goes_on s p y) t is).1 refl
+outputs_made s t p k (kernel.Calls number (Called.Ends because)) w is = cc
 outputs_made s t p k (kernel.Faults fault) w is = cc
 
 ends_made : (s t : OneKernel) (p : Pid) (cause : Why) (next : kernel.Next) → Nexts s p next → kernel.ends s p cause next ≡ Some t → MadeBefore s t
-ends_made s t p cause (kernel.Calls number (calls.Replies reply y)) w is = cc
-ends_made s t p cause (kernel.Calls number (calls.Sends m y)) w is = cc
-ends_made s t p cause (kernel.Calls number (calls.Waits y)) w is = cc
-ends_made s t p cause (kernel.Calls number (calls.Outputs word y)) w is = cc
-ends_made s t p cause (kernel.Calls number (calls.Ends because)) w is = row_set s t (with_process s p (Ended cause)) p (Alive w.x) (Ended cause) w.is.alive (when-is _ (with_process s p (Ended cause)) t is).1 refl
+ends_made s t p cause (kernel.Calls number (Called.Replies reply y)) w is = cc
+ends_made s t p cause (kernel.Calls number (Called.Sends m y)) w is = cc
+ends_made s t p cause (kernel.Calls number (Called.Waits y)) w is = cc
+ends_made s t p cause (kernel.Calls number (Called.Outputs word y)) w is = cc
+ends_made s t p cause (kernel.Calls number (Called.Ends because)) w is = row_set s t (with_process s p (Ended cause)) p (Alive w.x) (Ended cause) w.is.alive (when-is _ (with_process s p (Ended cause)) t is).1 refl
 ends_made s t p cause (kernel.Faults fault) w is = row_set s t (with_process s p (Ended cause)) p (Alive w.x) (Ended cause) w.is.alive (when-is _ (with_process s p (Ended cause)) t is).1 refl
 
 receives_made : (s t : OneKernel) (p : Pid) (id : MsgId) (l : Life) (done : receiving.Completed) → s.processes p ≡ Some l → kernel.receives s p id done ≡ Some t → MadeBefore s t
@@ -109,24 +86,19 @@ answered_made : (s t : OneKernel) (id : MsgId) (m : PlainMessage) (x : PlainProc
 answered_made s t id m x c alive e = row_set s t (service.answered s id m c) m.to (Alive x) (Alive c.process) alive e refl
 
 serves_made : (s t : OneKernel) (id : MsgId) (m : PlainMessage) (x : PlainProcess) (w : PlainWhat) → s.processes m.to ≡ Some (Alive x) → service.serves s id m x w ≡ Some t → MadeBefore s t
-serves_made s t id m x (what.User z1 z2 z3 z4) alive e = cc
-serves_made s t id m x what.Stop alive e = row_set s t (service.changed s id m (record x { stopped = true })) m.to (Alive x) (Alive (record x { stopped = true })) alive (let f : service.changed s id m (record x { stopped = true }) ≡ t = cc in f) refl
-serves_made s t id m x what.Resume alive e = row_set s t (service.changed s id m (record x { stopped = false })) m.to (Alive x) (Alive (record x { stopped = false })) alive (let f : service.changed s id m (record x { stopped = false }) ≡ t = cc in f) refl
-serves_made s t id m x what.Kill alive e = row_set s t (with_process (without_message s id) m.to (Ended why.Killed)) m.to (Alive x) (Ended why.Killed) alive (let f : with_process (without_message s id) m.to (Ended why.Killed) ≡ t = cc in f) refl
-serves_made s t id m x (what.Read z1 z2) alive e =
+serves_made s t id m x PlainWhat.Stop alive e = row_set s t (service.changed s id m (record x { stopped = true })) m.to (Alive x) (Alive (record x { stopped = true })) alive (let f : service.changed s id m (record x { stopped = true }) ≡ t = cc in f) refl
+serves_made s t id m x PlainWhat.Resume alive e = row_set s t (service.changed s id m (record x { stopped = false })) m.to (Alive x) (Alive (record x { stopped = false })) alive (let f : service.changed s id m (record x { stopped = false }) ≡ t = cc in f) refl
+serves_made s t id m x PlainWhat.Kill alive e = row_set s t (with_process (without_message s id) m.to (Ended Why.Killed)) m.to (Alive x) (Ended Why.Killed) alive (let f : with_process (without_message s id) m.to (Ended Why.Killed) ≡ t = cc in f) refl
+serves_made s t id m x (PlainWhat.Read z1 z2) alive e =
     let (c, served, last) = bind-is (pieces.reads x m z1 z2) (λ (v : pieces.Served). Some (service.answered s id m v)) t e in
     answered_made s t id m x c alive (let f : service.answered s id m c ≡ t = cc in f)
-serves_made s t id m x (what.Write z1 z2) alive e =
+serves_made s t id m x (PlainWhat.Write z1 z2) alive e =
     let (c, served, last) = bind-is (pieces.writes x m z1 z2) (λ (v : pieces.Served). Some (service.answered s id m v)) t e in
     answered_made s t id m x c alive (let f : service.answered s id m c ≡ t = cc in f)
-serves_made s t id m x (what.Block z1) alive e = lands_made s t id m x alive e
-serves_made s t id m x what.Written alive e = lands_made s t id m x alive e
-serves_made s t id m x what.Gone alive e = lands_made s t id m x alive e
-serves_made s t id m x (what.Create z1 z2) alive e = cc
-serves_made s t id m x (what.Created z1) alive e = cc
-serves_made s t id m x what.NoRoom alive e = cc
-serves_made s t id m x (what.Move z1) alive e = cc
-serves_made s t id m x (what.Moved z1) alive e = cc
+serves_made s t id m x (PlainWhat.Block z1) alive e = lands_made s t id m x alive e
+serves_made s t id m x PlainWhat.Written alive e = lands_made s t id m x alive e
+serves_made s t id m x PlainWhat.Gone alive e = lands_made s t id m x alive e
+serves_made s t id m x _ alive e = cc
 
 -- servers
 board_made : (s t : OneKernel) (id : MsgId) (b : Switchboard) (o : Option PlainMessage) → with_sent (record (without_message s id) { switchboard = b }) o ≡ t → MadeBefore s t
@@ -150,20 +122,8 @@ takes_made s t id m false true e =
 takes_made s t id m false false e = cc
 
 no_room_made : (s t : OneKernel) (id : MsgId) (m : PlainMessage) (w : PlainWhat) → service.has_no_room s id m w ≡ Some t → MadeBefore s t
-no_room_made s t id m (what.User z1 z2 z3 z4) e = cc
-no_room_made s t id m what.Stop e = cc
-no_room_made s t id m what.Resume e = cc
-no_room_made s t id m what.Kill e = cc
-no_room_made s t id m (what.Read z1 z2) e = cc
-no_room_made s t id m (what.Write z1 z2) e = cc
-no_room_made s t id m (what.Block z1) e = cc
-no_room_made s t id m what.Written e = cc
-no_room_made s t id m what.Gone e = cc
-no_room_made s t id m (what.Create image links) e = row_same s t (with_sent (without_message s id) (Some (answer_to m what.NoRoom))) (when-is (service.is_kernel s m.to) (with_sent (without_message s id) (Some (answer_to m what.NoRoom))) t e).1 refl
-no_room_made s t id m (what.Created z1) e = cc
-no_room_made s t id m what.NoRoom e = cc
-no_room_made s t id m (what.Move z1) e = cc
-no_room_made s t id m (what.Moved z1) e = cc
+no_room_made s t id m (PlainWhat.Create image links) e = row_same s t (with_sent (without_message s id) (Some (answer_to m PlainWhat.NoRoom))) (when-is (service.is_kernel s m.to) (with_sent (without_message s id) (Some (answer_to m PlainWhat.NoRoom))) t e).1 refl
+no_room_made s t id m _ e = cc
 
 -- a process that a kernel makes, at its home
 pub record Born (s : OneKernel) (id : MsgId) (child q : Pid) : Type 0 where
@@ -172,76 +132,60 @@ pub record Born (s : OneKernel) (id : MsgId) (child q : Pid) : Type 0 where
   pub home : child.home ≡ m.to.home
   pub is : child ≡ q
 
-both : (b c : Bool) → (b && c) ≡ true → (b ≡ true) × (c ≡ true)
-both true c e = (refl, e)
-both false c e = absurd (false≢true e)
-
 creates_made : (s t : OneKernel) (id : MsgId) (m : PlainMessage) (child : Pid) (w : PlainWhat) → s.bag id ≡ Some m → service.creates s id m child w ≡ Some t → (q : Pid) → is_some (t.processes q) ≡ true → (is_some (s.processes q) ≡ true) ⊎ Born s id child q
-creates_made s t id m child (what.Create image links) there e q some =
+creates_made s t id m child (PlainWhat.Create image links) there e q some =
     let (i, is, rest) = bind-is (slice_get s.images image) (service.creates_of s id m child links) t e in
     let u = service.with_child (without_message s id) child i links in
     let name = pid_of m.to.home (3 + s.made m.to.home) in
-    let k = when-is (service.is_kernel s m.to && pid_eq child name) (with_sent u (Some (answer_to m (what.Created child)))) t rest in
-    let f : child ≡ name = pid_eq-is child name (both (service.is_kernel s m.to) (pid_eq child name) k.0).1 in
+    let k = when-is (service.is_kernel s m.to && pid_eq child name) (with_sent u (Some (answer_to m (PlainWhat.Created child)))) t rest in
+    let f : child ≡ name = pid_eq-is child name (and-both (service.is_kernel s m.to) (pid_eq child name) k.0).1 in
     let life = Alive (begun s.format i links) in
     let there_ : is_some ((with_process s child life).processes q) ≡ true = ap (λ (x : OneKernel). is_some (x.processes q)) k.1 ∙ some in
     elim (cases_Bool (pid_eq child q)) [
       | inl at ↦ inr (record { m = m; there = there; home = ap (λ (x : Pid). x.home) f; is = pid_eq-is child q at })
       | inr off ↦ inl (sym (ap (λ (c : Bool). is_some (if c then Some life else s.processes q)) off) ∙ there_)
     ]
-creates_made s t id m child (what.User z1 z2 z3 z4) there e q some = cc
-creates_made s t id m child what.Stop there e q some = cc
-creates_made s t id m child what.Resume there e q some = cc
-creates_made s t id m child what.Kill there e q some = cc
-creates_made s t id m child (what.Read z1 z2) there e q some = cc
-creates_made s t id m child (what.Write z1 z2) there e q some = cc
-creates_made s t id m child (what.Block z1) there e q some = cc
-creates_made s t id m child what.Written there e q some = cc
-creates_made s t id m child what.Gone there e q some = cc
-creates_made s t id m child (what.Created z1) there e q some = cc
-creates_made s t id m child what.NoRoom there e q some = cc
-creates_made s t id m child (what.Move z1) there e q some = cc
-creates_made s t id m child (what.Moved z1) there e q some = cc
+creates_made s t id m child _ there e q some = cc
 
-pub created_made : (s t : OneKernel) (id : MsgId) (child : Pid) → kernel.step s (label.Created id child) ≡ Some t → (q : Pid) → is_some (t.processes q) ≡ true → (is_some (s.processes q) ≡ true) ⊎ Born s id child q
+pub created_made : (s t : OneKernel) (id : MsgId) (child : Pid) → kernel.step s (Label.Created id child) ≡ Some t → (q : Pid) → is_some (t.processes q) ≡ true → (is_some (s.processes q) ≡ true) ⊎ Born s id child q
 created_made s t id child is = let (m, there, rest) = bind-is (s.bag id) (λ m. service.creates s id m child m.what) t is in creates_made s t id m child m.what there rest
 
 abbrev pub is_birth : Label → Bool
-is_birth (label.Created id child) = true
+is_birth (Label.Created id child) = true
 is_birth l = false
 
 -- no other label makes one
 pub step_made : (s t : OneKernel) (l : Label) → is_birth l ≡ false → kernel.step s l ≡ Some t → MadeBefore s t
-step_made s t (label.Ran p k) other is =
+step_made s t (Label.Ran p k) other is =
     let (x, running, rest) = bind-is (kernel.running s p) (λ v. bind (kernel.plain_steps k (kernel.machine_of v)) (λ m. Some (kernel.goes_on s p (kernel.with_machine v m)))) t is in
     let (m, plain, last) = bind-is (kernel.plain_steps k (kernel.machine_of x)) (λ m. Some (kernel.goes_on s p (kernel.with_machine x m))) t rest in
     let (y, alive, ready) = bind-is (kernel.alive (s.processes p)) (λ v. kernel.if_ready v v.status) x running in
     row_set s t (kernel.goes_on s p (kernel.with_machine x m)) p (Alive y) (Alive (kernel.with_machine x m)) (alive-is (s.processes p) y alive) (let f : kernel.goes_on s p (kernel.with_machine x m) ≡ t = cc in f) refl
-step_made s t (label.Call p k c) other is = let (x, next, rest) = bind-is (kernel.next s p) (kernel.replies s p k c) t is in replies_made s t p k c x (nexts s p x next) rest
-step_made s t (label.Send p id) other is = let (x, next, rest) = bind-is (kernel.next s p) (kernel.sends s p id) t is in sends_made s t p id x (nexts s p x next) rest
-step_made s t (label.Wait p) other is = let (x, next, rest) = bind-is (kernel.next s p) (kernel.waits s p) t is in waits_made s t p x (nexts s p x next) rest
-step_made s t (label.Out p k) other is = let (x, next, rest) = bind-is (kernel.next s p) (kernel.outputs s p k) t is in outputs_made s t p k x (nexts s p x next) rest
-step_made s t (label.End p y) other is = let (x, next, rest) = bind-is (kernel.next s p) (kernel.ends s p y) t is in ends_made s t p y x (nexts s p x next) rest
-step_made s t (label.Receive p id) other is =
+step_made s t (Label.Call p k c) other is = let (x, next, rest) = bind-is (kernel.next s p) (kernel.replies s p k c) t is in replies_made s t p k c x (nexts s p x next) rest
+step_made s t (Label.Send p id) other is = let (x, next, rest) = bind-is (kernel.next s p) (kernel.sends s p id) t is in sends_made s t p id x (nexts s p x next) rest
+step_made s t (Label.Wait p) other is = let (x, next, rest) = bind-is (kernel.next s p) (kernel.waits s p) t is in waits_made s t p x (nexts s p x next) rest
+step_made s t (Label.Out p k) other is = let (x, next, rest) = bind-is (kernel.next s p) (kernel.outputs s p k) t is in outputs_made s t p k x (nexts s p x next) rest
+step_made s t (Label.End p y) other is = let (x, next, rest) = bind-is (kernel.next s p) (kernel.ends s p y) t is in ends_made s t p y x (nexts s p x next) rest
+step_made s t (Label.Receive p id) other is =
     let (c, done, rest) = bind-is (kernel.completing s p id) (kernel.receives s p id) t is in
     let k = completing s p id c done in
     receives_made s t p id (Alive k.x) c k.alive rest
-step_made s t (label.Refuse p id d) other is =
+step_made s t (Label.Refuse p id d) other is =
     let (c, done, rest) = bind-is (kernel.completing s p id) (kernel.refuses s p d) t is in
     let k = completing s p id c done in
     refuses_made s t p d (Alive k.x) c k.alive rest
-step_made s t (label.Dropped id) other is =
+step_made s t (Label.Dropped id) other is =
     let (m, there, rest) = bind-is (s.bag id) (λ (v : PlainMessage). bind (kernel.ended (s.processes v.to)) (kernel.drops s id v)) t is in
     let (y, ended, last) = bind-is (kernel.ended (s.processes m.to)) (kernel.drops s id m) t rest in
     row_same s t (without_message s id) (when-is (is_dropped m.what) (without_message s id) t last).1 refl
-step_made s t (label.Served id) other is =
+step_made s t (Label.Served id) other is =
     let (m, there, rest) = bind-is (s.bag id) (λ (v : PlainMessage). bind (kernel.alive (s.processes v.to)) (λ (p : PlainProcess). service.serves s id v p v.what)) t is in
     let (x, alive, last) = bind-is (kernel.alive (s.processes m.to)) (λ (p : PlainProcess). service.serves s id m p m.what) t rest in
     serves_made s t id m x m.what (alive-is (s.processes m.to) x alive) last
-step_made s t (label.Gone id) other is =
+step_made s t (Label.Gone id) other is =
     let (m, there, rest) = bind-is (s.bag id) (λ (v : PlainMessage). bind (kernel.ended (s.processes v.to)) (kernel.says_gone s id v)) t is in
     let (y, ended, last) = bind-is (kernel.ended (s.processes m.to)) (kernel.says_gone s id m) t rest in
-    row_same s t (with_sent (without_message s id) (Some (answer_to m what.Gone))) (when-is (is_of_memory m.what) (with_sent (without_message s id) (Some (answer_to m what.Gone))) t last).1 refl
-step_made s t (label.Took id) other is = let (m, there, rest) = bind-is (s.bag id) (service.takes s id) t is in takes_made s t id m (pid_eq m.to switchboard) (pid_eq m.to manager) rest
-step_made s t (label.Created id child) other is = absurd (false≢true (sym other))
-step_made s t (label.NoSpace id a b) other is = let (m, there, rest) = bind-is (s.bag id) (λ m. service.has_no_room s id m m.what) t is in no_room_made s t id m m.what rest
+    row_same s t (with_sent (without_message s id) (Some (answer_to m PlainWhat.Gone))) (when-is (is_of_memory m.what) (with_sent (without_message s id) (Some (answer_to m PlainWhat.Gone))) t last).1 refl
+step_made s t (Label.Took id) other is = let (m, there, rest) = bind-is (s.bag id) (service.takes s id) t is in takes_made s t id m (pid_eq m.to switchboard) (pid_eq m.to manager) rest
+step_made s t (Label.Created id child) other is = absurd (false≢true (sym other))
+step_made s t (Label.NoSpace id a b) other is = let (m, there, rest) = bind-is (s.bag id) (λ m. service.has_no_room s id m m.what) t is in no_room_made s t id m m.what rest

@@ -1,49 +1,22 @@
 -- The parts of a group keep where messages stand, where each has what it needs.
-use Rattle.std.proofs.Common.{◌≡◌, ℕ, ◌+◌, ◌<◌, ◌==◌, Bool, true, false, List, [], ◌∷◌, length, refl, ap, ◌∙◌, sym, subst, inl, arith}
-use Rattle.std.specs.Prelude.{⊤, if◌then◌else◌}
-use Rattle.std.specs.declared.option.Option.{Option}
-use Rattle.std.specs.declared.option.Option.TheVariants.{None, Some}
-use Rattle.std.proofs.lemmas.Bool.{false≢true}
-use Rattle.dm_link.specs.declared.Pid.{Pid}
-use Rattle.dm_link.specs.Names.{pid_of}
-use Rattle.dm_message.specs.declared.MsgId.{MsgId}
-use Rattle.dm_message.specs.declared.kind.MessageKind.{MessageKind}
-use Rattle.dm_message.specs.declared.kind.MessageKind.TheVariants as kind
-use Rattle.dm_message.specs.Kinds.{plain_kind}
-use Rattle.dm_message.specs.Plain as what
-use Rattle.dm_message.specs.Plain.{PlainMessage, PlainWhat}
-use Rattle.dm_onekernel.specs.Boot.{manager}
-use Rattle.dm_onekernel.specs.Options.{bind}
-use Rattle.dm_laws.proofs.Equal.{id_eq-same}
-use Rattle.dm_laws.proofs.Steps.{bind-is}
-use Rattle.dm_line.specs.declared.line.Line.{Line}
-use Rattle.dm_line.specs.declared.line.Line.TheVariants as line
-use Rattle.dm_line.specs.declared.line.Load.{Load}
-use Rattle.dm_line.specs.declared.line.Load.TheVariants as load
-use Rattle.dm_line.specs.Sets.{at_machine}
-use Rattle.dm_rule.specs.View.{View, Told, is_kernels, own_id}
-use Rattle.dm_rule.specs.Addresses.{Holder, Receiver, Sender, Gets, given, unmoved, goes_between, own_gives, first_gives}
-use Rattle.dm_rule.specs.Point.{Point, label_of, kernel_after, moved, after_line, after}
-use Rattle.dm_rule.specs.Parts.{Part, Says, Routes, Again, Owns, Transmits, Spelled, lines_of, puts, goes_out, packet_line, behind, spelled}
-use Rattle.dm_rule.proofs.Letters.{not_kernels}
-use Rattle.dm_rule.proofs.Moves.States.{not_first}
-use Rattle.dm_rule.proofs.Telling.{Sane, AllSayable, part_sane}
-use Rattle.dm_rule.proofs.Trails.Puts.{is_own}
+use Rattle.dm_rulelaws.proofs.Names.{◌≡◌, ℕ, ◌+◌, ◌<◌, ◌==◌, Bool, true, false, List, [], ◌∷◌, length, refl, ap, ◌∙◌, sym, subst, inl, arith, ⊤, if◌then◌else◌, Option, None, Some, false≢true, Pid, pid_of, MsgId, MessageKind, plain_kind}
+use Rattle.dm_rulelaws.proofs.Names.{PlainMessage, PlainWhat, manager, bind, id_eq-same, bind-is, Line, Load, at_machine, View, Told, is_kernels, own_id, Holder, Receiver, Sender, Gets, given, unmoved, goes_between, own_gives, first_gives}
+use Rattle.dm_rulelaws.proofs.Names.{Point, label_of, kernel_after, moved, after_line, after, Part, Says, Routes, Again, Owns, Transmits, Spelled, lines_of, puts, goes_out, packet_line, behind, spelled, not_kernels, not_first, Sane}
+use Rattle.dm_rulelaws.proofs.Names.{AllSayable, part_sane, is_own}
 use Rattle.dm_rulelaws.proofs.Found.Core.{Knows, IsReal, Core}
-use Rattle.dm_rulelaws.proofs.Found.Puts as put
 use Rattle.dm_rulelaws.proofs.Found.Puts.{NeedsPut, put_core}
 use Rattle.dm_rulelaws.proofs.Found.Lines.{NeedsLine, line_core, packet_core}
 
 -- the next message of the acting machine's kernel
 pub record NeedsOwn (n : ℕ) (pt : Point) (k : MessageKind) (q : Pid) (b : ℕ) : Type 0 where
   pub knows : Knows pt.view q (given pt.addresses (own_gives pt.kernel pt.view pt.addresses (own_id pt.view) q k) (Receiver (own_id pt.view)))
-  pub from : k ≡ kind.Migrate → Knows pt.view manager (given pt.addresses (own_gives pt.kernel pt.view pt.addresses (own_id pt.view) q k) (Sender (own_id pt.view)))
+  pub from : k ≡ MessageKind.Migrate → Knows pt.view manager (given pt.addresses (own_gives pt.kernel pt.view pt.addresses (own_id pt.view) q k) (Sender (own_id pt.view)))
   pub at : (given pt.addresses (own_gives pt.kernel pt.view pt.addresses (own_id pt.view) q k) (Receiver (own_id pt.view))).at ≡ b
   pub real : IsReal n pt.view q
   pub own : is_own k ≡ true
 
 -- from kernel to kernel
-pub between_own : (n : ℕ) (pt : Point) (k : MessageKind) (m : ℕ) → own_gives pt.kernel pt.view pt.addresses (own_id pt.view) (pid_of m 0) k ≡ goes_between pt.view (own_id pt.view) (pid_of m 0) → (k ≡ kind.Migrate → ⊥) → is_own k ≡ true → m < n → NeedsOwn n pt k (pid_of m 0) m
+pub between_own : (n : ℕ) (pt : Point) (k : MessageKind) (m : ℕ) → own_gives pt.kernel pt.view pt.addresses (own_id pt.view) (pid_of m 0) k ≡ goes_between pt.view (own_id pt.view) (pid_of m 0) → (k ≡ MessageKind.Migrate → ⊥) → is_own k ≡ true → m < n → NeedsOwn n pt k (pid_of m 0) m
 between_own n pt k m gives none own le =
     let id = own_id pt.view in
     let to : (given pt.addresses (own_gives pt.kernel pt.view pt.addresses id (pid_of m 0) k) (Receiver id)).at ≡ m =
@@ -53,21 +26,20 @@ between_own n pt k m gives none own le =
 -- what a part needs
 abbrev pub NeedsPart : ℕ → Point → Part → Type 0
 NeedsPart n pt (Says l) = NeedsLine n pt l
-NeedsPart n pt (Routes i) = ⊤
 NeedsPart n pt (Again i b) = (pt.addresses (Receiver i)).at ≡ b
 NeedsPart n pt (Owns k q b) = NeedsOwn n pt k q b
-NeedsPart n pt (Transmits a b l) = ⊤
+NeedsPart n pt _ = ⊤
 
 -- a put with its packet
-puts_by : (n : ℕ) (pt next : Point) (b : ℕ) (i : MsgId) (k : MessageKind) (q : Pid) (c d : Bool) → Core n (moved pt (line.Put pt.view.acting b i k q) pt.kernel) → ((p : Point) (x y z : ℕ) (l : Load) → Core n p → Core n (moved p (line.Packet x y z l) p.kernel))
-    → after pt (line.Put pt.view.acting b i k q ∷ (if c then [] else if d then packet_line pt.view pt.view.acting b (load.Data (length (pt.view.pair pt.view.acting b).ids)) ∷ [] else [])) ≡ Some next → Core n next
-puts_by n pt next b i k q true d h keep is = let f : moved pt (line.Put pt.view.acting b i k q) pt.kernel ≡ next = cc in subst (Core n) f h
-puts_by n pt next b i k q false false h keep is = let f : moved pt (line.Put pt.view.acting b i k q) pt.kernel ≡ next = cc in subst (Core n) f h
+puts_by : (n : ℕ) (pt next : Point) (b : ℕ) (i : MsgId) (k : MessageKind) (q : Pid) (c d : Bool) → Core n (moved pt (Line.Put pt.view.acting b i k q) pt.kernel) → ((p : Point) (x y z : ℕ) (l : Load) → Core n p → Core n (moved p (Line.Packet x y z l) p.kernel))
+    → after pt (Line.Put pt.view.acting b i k q ∷ (if c then [] else if d then packet_line pt.view pt.view.acting b (Load.Data (length (pt.view.pair pt.view.acting b).ids)) ∷ [] else [])) ≡ Some next → Core n next
+puts_by n pt next b i k q true d h keep is = let f : moved pt (Line.Put pt.view.acting b i k q) pt.kernel ≡ next = cc in subst (Core n) f h
+puts_by n pt next b i k q false false h keep is = let f : moved pt (Line.Put pt.view.acting b i k q) pt.kernel ≡ next = cc in subst (Core n) f h
 puts_by n pt next b i k q false true h keep is =
     let m = length (pt.view.pair pt.view.acting b).wire in
-    let l = load.Data (length (pt.view.pair pt.view.acting b).ids) in
-    let mid = moved pt (line.Put pt.view.acting b i k q) pt.kernel in
-    let f : moved mid (line.Packet pt.view.acting b m l) mid.kernel ≡ next = cc in
+    let l = Load.Data (length (pt.view.pair pt.view.acting b).ids) in
+    let mid = moved pt (Line.Put pt.view.acting b i k q) pt.kernel in
+    let f : moved mid (Line.Packet pt.view.acting b m l) mid.kernel ≡ next = cc in
     subst (Core n) f (keep mid pt.view.acting b m l h)
 
 puts_core : (n : ℕ) (pt next : Point) (b : ℕ) (i : MsgId) (k : MessageKind) (q : Pid) (ls : List Line) → NeedsPut n pt b i k q → Core n pt → Some (puts pt.view b i k q) ≡ Some ls → after pt ls ≡ Some next → Core n next
@@ -85,25 +57,13 @@ one_line n pt next l ls need sane is leads h =
     subst (Core n) (g ∙ e) (line_core n pt s l need sane step_ h)
 
 -- a message of the bag is none of a kernel's
-plain_own : (w : PlainWhat) → is_own (plain_kind w) ≡ false
-plain_own (what.User a b c d) = refl
-plain_own what.Stop = refl
-plain_own what.Resume = refl
-plain_own what.Kill = refl
-plain_own (what.Read a b) = refl
-plain_own (what.Write a b) = refl
-plain_own (what.Block a) = refl
-plain_own what.Written = refl
-plain_own what.Gone = refl
-plain_own (what.Create a b) = refl
-plain_own (what.Created a) = refl
-plain_own what.NoRoom = refl
-plain_own (what.Move a) = refl
-plain_own (what.Moved a) = refl
+pub plain_own : (w : PlainWhat) → is_own (plain_kind w) ≡ false
+plain_own (PlainWhat.User a b c d) = refl
+plain_own _ = refl
 
 routed_needs : (n : ℕ) (pt : Point) (i : MsgId) (m : PlainMessage) (o : Option Told) → pt.view.told i ≡ o → pt.kernel.bag i ≡ Some m → Sane pt → NeedsPut n pt (pt.addresses (Receiver i)).at i (plain_kind m.what) m.to
-routed_needs n pt i m None told there sane = put.Routed (not_kernels sane.r sane.e pt.kernel i m there sane.sound) (plain_own m.what) told refl
-routed_needs n pt i m (Some u) told there sane = put.Again u told refl
+routed_needs n pt i m None told there sane = NeedsPut.Routed (not_kernels sane.r sane.e pt.kernel i m there sane.sound) (plain_own m.what) told refl
+routed_needs n pt i m (Some u) told there sane = NeedsPut.Again u told refl
 
 bag_none : (pt : Point) (i : MsgId) (o : Option PlainMessage) → pt.kernel.bag i ≡ o → is_kernels i ≡ true → Sane pt → o ≡ None
 bag_none pt i None is own sane = refl
@@ -122,9 +82,9 @@ part_core n pt next (Routes i) ls need sane is leads h =
     puts_core n pt next (pt.addresses (Receiver i)).at i (plain_kind m.what) m.to ls (routed_needs n pt i m (pt.view.told i) refl there sane) h last leads
 part_core n pt next (Again i b) ls need sane is leads h =
     let (t, there, last) = bind-is (pt.view.told i) (λ t. Some (puts pt.view b i t.kind t.receiver)) ls is in
-    puts_core n pt next b i t.kind t.receiver ls (put.Again t there need) h last leads
+    puts_core n pt next b i t.kind t.receiver ls (NeedsPut.Again t there need) h last leads
 part_core n pt next (Owns k q b) ls need sane is leads h =
-    puts_core n pt next b (own_id pt.view) k q ls (put.Own (own_outside pt sane) (own_fresh pt sane) need.knows need.from need.at need.real need.own) h is leads
+    puts_core n pt next b (own_id pt.view) k q ls (NeedsPut.Own (own_outside pt sane) (own_fresh pt sane) need.knows need.from need.at need.real need.own) h is leads
 part_core n pt next (Transmits a b l) ls need sane is leads h = one_line n pt next (packet_line pt.view a b l) ls tt sane is leads h
 
 -- each part has what it needs where the parts before it lead
@@ -165,7 +125,7 @@ pub record Same (v w : Point) : Type 0 where
   pub acting : w.view.acting ≡ v.view.acting
   pub known : (m : ℕ) (p : Pid) → w.view.known m p ≡ v.view.known m p
 
-again_put : (pt : Point) (b : ℕ) (i : MsgId) (k : MessageKind) (q : Pid) (t : Told) → pt.view.told i ≡ Some t → Same pt (moved pt (line.Put pt.view.acting b i k q) pt.kernel)
+again_put : (pt : Point) (b : ℕ) (i : MsgId) (k : MessageKind) (q : Pid) (t : Told) → pt.view.told i ≡ Some t → Same pt (moved pt (Line.Put pt.view.acting b i k q) pt.kernel)
 again_put pt b i k q t told = record {
   kernel = refl;
   addresses = λ h. ap (λ (o : Option Told). given pt.addresses (first_gives o (own_gives pt.kernel pt.view pt.addresses i q k)) h) told;
@@ -177,15 +137,15 @@ again_put pt b i k q t told = record {
     own_by : View → (ℕ → ℕ) → MsgId
     own_by v count = own_id (record v { count = count })
 
-again_by : (pt next : Point) (b : ℕ) (i : MsgId) (k : MessageKind) (q : Pid) (c d : Bool) → Same pt (moved pt (line.Put pt.view.acting b i k q) pt.kernel)
-    → after pt (line.Put pt.view.acting b i k q ∷ (if c then [] else if d then packet_line pt.view pt.view.acting b (load.Data (length (pt.view.pair pt.view.acting b).ids)) ∷ [] else [])) ≡ Some next → Same pt next
-again_by pt next b i k q true d h is = let f : moved pt (line.Put pt.view.acting b i k q) pt.kernel ≡ next = cc in subst (Same pt) f h
-again_by pt next b i k q false false h is = let f : moved pt (line.Put pt.view.acting b i k q) pt.kernel ≡ next = cc in subst (Same pt) f h
+again_by : (pt next : Point) (b : ℕ) (i : MsgId) (k : MessageKind) (q : Pid) (c d : Bool) → Same pt (moved pt (Line.Put pt.view.acting b i k q) pt.kernel)
+    → after pt (Line.Put pt.view.acting b i k q ∷ (if c then [] else if d then packet_line pt.view pt.view.acting b (Load.Data (length (pt.view.pair pt.view.acting b).ids)) ∷ [] else [])) ≡ Some next → Same pt next
+again_by pt next b i k q true d h is = let f : moved pt (Line.Put pt.view.acting b i k q) pt.kernel ≡ next = cc in subst (Same pt) f h
+again_by pt next b i k q false false h is = let f : moved pt (Line.Put pt.view.acting b i k q) pt.kernel ≡ next = cc in subst (Same pt) f h
 again_by pt next b i k q false true h is =
     let m = length (pt.view.pair pt.view.acting b).wire in
-    let l = load.Data (length (pt.view.pair pt.view.acting b).ids) in
-    let mid = moved pt (line.Put pt.view.acting b i k q) pt.kernel in
-    let f : moved mid (line.Packet pt.view.acting b m l) mid.kernel ≡ next = cc in
+    let l = Load.Data (length (pt.view.pair pt.view.acting b).ids) in
+    let mid = moved pt (Line.Put pt.view.acting b i k q) pt.kernel in
+    let f : moved mid (Line.Packet pt.view.acting b m l) mid.kernel ≡ next = cc in
     subst (Same pt) f (record { kernel = h.kernel; addresses = h.addresses; own = h.own; acting = h.acting; known = h.known })
 
 pub again_same : (pt next : Point) (i : MsgId) (b : ℕ) (ls : List Line) → lines_of pt (Again i b) ≡ Some ls → after pt ls ≡ Some next → Same pt next

@@ -1,31 +1,11 @@
 -- Lines that give addresses beside the kernel keep each where its process is known: a message that is forwarded, messages that
 -- are sent on, an update, and puts.
-use Rattle.std.proofs.Common.{◌≡◌, ◌⊎◌, ℕ, ◌≤◌, ◌&&◌, Bool, true, false, List, [], ◌∷◌, refl, ap, ◌∙◌, sym, subst, inl, inr, arith, nat_lt}
-use Rattle.std.specs.Prelude.{⊤, if◌then◌else◌}
-use Rattle.std.specs.declared.option.Option.{Option}
-use Rattle.std.specs.declared.option.Option.TheVariants.{None, Some}
-use Rattle.std.proofs.lemmas.Bool.{cases_Bool, false≢true}
-use Rattle.dm_link.specs.declared.Pid.{Pid}
-use Rattle.dm_link.specs.Names.{Place}
-use Rattle.dm_message.specs.declared.MsgId.{MsgId}
-use Rattle.dm_message.specs.Ids.{id_eq}
-use Rattle.dm_message.specs.declared.kind.MessageKind.{MessageKind}
-use Rattle.dm_message.specs.declared.kind.MessageKind.TheVariants as kind
-use Rattle.dm_onekernel.specs.Boot.{manager}
-use Rattle.dm_onekernel.specs.Kernel.{OneKernel}
-use Rattle.dm_laws.proofs.Equal.{pid_eq-is, id_eq-is, id_eq-same}
+use Rattle.dm_rulelaws.proofs.Names.{◌≡◌, ◌⊎◌, ℕ, ◌≤◌, Bool, true, false, List, [], ◌∷◌, refl, ap, ◌∙◌, sym, subst, inl, inr, arith, ⊤, if◌then◌else◌, Option, None, Some, cases_Bool, false≢true, Pid, Place, MsgId, id_eq, MessageKind}
+use Rattle.dm_rulelaws.proofs.Names.{manager, OneKernel, id_eq-is, id_eq-same, View, Told, About, NothingElse, Target, Of, is_kernels, own_id, after_put, Addresses, Holder, Receiver, Sender, Gets, gets, given, holder_eq, place_known}
+use Rattle.dm_rulelaws.proofs.Names.{all_follow, is_told_back, tells_back, forwards, place_told, is_behind, updated_to, updated, own_gives, first_gives, times, one_of, put_told_off, put_at, Goes, Comes, Named, Links, holder_is}
+use Rattle.dm_rulelaws.proofs.Names.{unnamed_receiver, unnamed_sender, put_named, told_again, is_own, leads_where, behind_where, plain_gives, not_own}
 use Rattle.dm_rule.specs.View as view
-use Rattle.dm_rule.specs.View.{View, Told, About, NothingElse, Target, Of, Known, is_kernels, own_id, after_put}
-use Rattle.dm_rule.specs.Addresses.{Addresses, Holder, Slot, Owner, Receiver, Sender, Enclosed, Child, Name, Answer, Gets, gets, given, holder_eq, place_known, all_follow, is_told_back, tells_back, forwards, place_told, belongs_to, leads_to, is_pid, is_behind, updated_to, updated, own_gives, first_gives}
-use Rattle.dm_rule.specs.Homes.{names}
-use Rattle.dm_rule.specs.Spots.{times}
-use Rattle.dm_rule.proofs.Once.{one_of}
-use Rattle.dm_rule.proofs.Lines.{parts}
-use Rattle.dm_rule.proofs.States.{put_told_off}
-use Rattle.dm_rule.proofs.Phases.Lines.{put_at}
-use Rattle.dm_rule.proofs.Trails.Places.{Goes, Comes, Named, Links, Owns, holder_is}
-use Rattle.dm_rule.proofs.Trails.Lines.{unnamed_receiver, unnamed_sender}
-use Rattle.dm_rule.proofs.Trails.Puts.{put_named, told_again, is_own}
+use Rattle.dm_rule.proofs.Trails.Places.{Owns}
 
 -- each address is one of these
 abbrev pub AllAre : (Pid → Place → Type 0) → OneKernel → View → Addresses → Type 0
@@ -80,32 +60,6 @@ pub sent_on_all : (P : Pid → Place → Type 0) (s : OneKernel) (v : View) (a :
     → ((i : MsgId) (q : Pid) → 1 ≤ times i ids → Named s v (Receiver i) q → P q (place_known (v.known v.acting p) (v.moves p) (a (Receiver i)))) → AllAre P s v a → AllAre P s v (given a (all_follow v a p ids))
 sent_on_all P s v a p ids to h = given_are P s v a (all_follow v a p ids) h (follow_gets P s v a p ids to)
 
--- an update
-pid_there : (p : Pid) (o : Option Pid) → is_pid p o ≡ true → o ≡ Some p
-pid_there p None e = absurd (false≢true e)
-pid_there p (Some q) e = ap Some (sym (pid_eq-is p q e))
-
-leads_names : (s : OneKernel) (h : Holder) (p : Pid) → leads_to s h ≡ Some p → names s h ≡ Some p
-leads_names s (Slot q k) p e = e
-leads_names s (Owner q) p e = e
-leads_names s (Receiver i) p e = cc
-leads_names s (Sender i) p e = cc
-leads_names s (Enclosed i k) p e = cc
-leads_names s (Child n) p e = e
-leads_names s (Name n) p e = e
-leads_names s (Answer n) p e = e
-
-leads_where : (s : OneKernel) (v : View) (h : Holder) (p q : Pid) → leads_to s h ≡ Some p → Named s v h q → p ≡ q
-leads_where s v h p q e (Links f) = let g : Some p ≡ Some q = sym (leads_names s h p e) ∙ f in cc
-leads_where s v h p q e (Owns (Goes i u is k told r)) = absurd (let f : None ≡ Some p = sym (ap (leads_to s) is) ∙ e in cc)
-leads_where s v h p q e (Owns (Comes i u is mine told k r)) = absurd (let f : None ≡ Some p = sym (ap (leads_to s) is) ∙ e in cc)
-
-behind_where : (s : OneKernel) (a : Addresses) (q p : Pid) (n : ℕ) (h : Holder) → is_behind s a q p n h ≡ true → leads_to s h ≡ Some p
-behind_where s a q p n h e =
-    let x = parts (belongs_to q h) (is_pid p (leads_to s h) && nat_lt (a h).moves n) e in
-    let y = parts (is_pid p (leads_to s h)) (nat_lt (a h).moves n) x.1 in
-    pid_there p (leads_to s h) y.0
-
 update_by : (P : Pid → Place → Type 0) (s : OneKernel) (v : View) (a : Addresses) (r p : Pid) (place : Place) → P p place → AllAre P s v a → AllAre P s v (updated_to s a (Some r) (Some (p, place)))
 update_by P s v a r p place on h g q e = elim (cases_Bool (is_behind s a r p place.moves g)) [
   | inl yes_ ↦
@@ -127,9 +81,7 @@ updated_all P s v a (Some u) on h = update_about P s v a u.receiver u.about (λ 
 -- an update gives no message another address
 update_leaves : (s : OneKernel) (a : Addresses) (r : Pid) (x : About) (i : MsgId) → updated_to s a (Some r) (place_told x) (Receiver i) ≡ a (Receiver i)
 update_leaves s a r NothingElse i = refl
-update_leaves s a r (Target m) i = refl
-update_leaves s a r (Of p) i = refl
-update_leaves s a r (view.Place p m c) i = refl
+update_leaves s a r _ i = refl
 
 pub updated_leaves : (s : OneKernel) (v : View) (a : Addresses) (o : Option Told) (i : MsgId) → updated s v a o (Receiver i) ≡ a (Receiver i)
 updated_leaves s v a None i = refl
@@ -140,35 +92,21 @@ two_get : (P : Pid → Place → Type 0) (s : OneKernel) (v : View) (id : MsgId)
 two_get P s v id to from bag told = ((λ q e. absurd (unnamed_receiver s v id q bag told e)), ((λ q e. absurd (unnamed_sender s v id q bag told e)), tt))
 
 own_gets : (P : Pid → Place → Type 0) (s : OneKernel) (v : View) (a : Addresses) (id : MsgId) (q : Pid) (k : MessageKind) → s.bag id ≡ None → v.told id ≡ None → AllGet P s v (own_gives s v a id q k)
-own_gets P s v a id q kind.User bag told = tt
-own_gets P s v a id q kind.Stop bag told = tt
-own_gets P s v a id q kind.Resume bag told = tt
-own_gets P s v a id q kind.Kill bag told = tt
-own_gets P s v a id q kind.Read bag told = tt
-own_gets P s v a id q kind.Write bag told = tt
-own_gets P s v a id q kind.Block bag told = tt
-own_gets P s v a id q kind.Written bag told = tt
-own_gets P s v a id q kind.Gone bag told = tt
-own_gets P s v a id q kind.Create bag told = tt
-own_gets P s v a id q kind.Created bag told = tt
-own_gets P s v a id q kind.NoRoom bag told = tt
-own_gets P s v a id q kind.Migrate bag told = two_get P s v id _ _ bag told
-own_gets P s v a id q kind.Update bag told = tt
-own_gets P s v a id q kind.Ask bag told = two_get P s v id _ _ bag told
-own_gets P s v a id q kind.Refuse bag told = two_get P s v id _ _ bag told
-own_gets P s v a id q kind.PullState bag told = two_get P s v id _ _ bag told
-own_gets P s v a id q kind.State bag told = two_get P s v id _ _ bag told
-own_gets P s v a id q kind.PullBlock bag told = two_get P s v id _ _ bag told
-own_gets P s v a id q kind.Memory bag told = two_get P s v id _ _ bag told
-own_gets P s v a id q kind.AllTaken bag told = two_get P s v id _ _ bag told
-own_gets P s v a id q kind.Restart bag told = two_get P s v id _ _ bag told
-own_gets P s v a id q kind.Move bag told = tt
-own_gets P s v a id q kind.Moved bag told = tt
-own_gets P s v a id q kind.CallOff bag told = two_get P s v id _ _ bag told
-own_gets P s v a id q kind.Bury bag told = two_get P s v id _ _ bag told
+own_gets P s v a id q MessageKind.Migrate bag told = two_get P s v id _ _ bag told
+own_gets P s v a id q MessageKind.Ask bag told = two_get P s v id _ _ bag told
+own_gets P s v a id q MessageKind.Refuse bag told = two_get P s v id _ _ bag told
+own_gets P s v a id q MessageKind.PullState bag told = two_get P s v id _ _ bag told
+own_gets P s v a id q MessageKind.State bag told = two_get P s v id _ _ bag told
+own_gets P s v a id q MessageKind.PullBlock bag told = two_get P s v id _ _ bag told
+own_gets P s v a id q MessageKind.Memory bag told = two_get P s v id _ _ bag told
+own_gets P s v a id q MessageKind.AllTaken bag told = two_get P s v id _ _ bag told
+own_gets P s v a id q MessageKind.Restart bag told = two_get P s v id _ _ bag told
+own_gets P s v a id q MessageKind.CallOff bag told = two_get P s v id _ _ bag told
+own_gets P s v a id q MessageKind.Bury bag told = two_get P s v id _ _ bag told
+own_gets P s v a id q _ bag told = tt
 
 pub put_all : (P : Pid → Place → Type 0) (s : OneKernel) (v : View) (a : Addresses) (x y : ℕ) (id : MsgId) (k : MessageKind) (q : Pid) → s.bag id ≡ None → v.told id ≡ None → P q (given a (own_gives s v a id q k) (Receiver id))
-    → (k ≡ kind.Migrate → P manager (given a (own_gives s v a id q k) (Sender id))) → AllAre P s v a → AllAre P s (after_put v x y id k q) (given a (first_gives (v.told id) (own_gives s v a id q k)))
+    → (k ≡ MessageKind.Migrate → P manager (given a (own_gives s v a id q k) (Sender id))) → AllAre P s v a → AllAre P s (after_put v x y id k q) (given a (first_gives (v.told id) (own_gives s v a id q k)))
 put_all P s v a x y id k q bag none to from h g r e =
     subst (λ (o : Option Told). P r (given a (first_gives o (own_gives s v a id q k)) g)) (sym none)
     (elim (put_named s v x y id k q g r none e) [
@@ -179,41 +117,9 @@ put_all P s v a x y id k q bag none to from h g r e =
       ]
     ])
 
--- a message of the bag
-plain_gives : (s : OneKernel) (v : View) (a : Addresses) (id : MsgId) (q : Pid) (k : MessageKind) → is_own k ≡ false → own_gives s v a id q k ≡ []
-plain_gives s v a id q kind.User e = refl
-plain_gives s v a id q kind.Stop e = refl
-plain_gives s v a id q kind.Resume e = refl
-plain_gives s v a id q kind.Kill e = refl
-plain_gives s v a id q kind.Read e = refl
-plain_gives s v a id q kind.Write e = refl
-plain_gives s v a id q kind.Block e = refl
-plain_gives s v a id q kind.Written e = refl
-plain_gives s v a id q kind.Gone e = refl
-plain_gives s v a id q kind.Create e = refl
-plain_gives s v a id q kind.Created e = refl
-plain_gives s v a id q kind.NoRoom e = refl
-plain_gives s v a id q kind.Migrate e = absurd (false≢true (sym e))
-plain_gives s v a id q kind.Update e = absurd (false≢true (sym e))
-plain_gives s v a id q kind.Ask e = absurd (false≢true (sym e))
-plain_gives s v a id q kind.Refuse e = absurd (false≢true (sym e))
-plain_gives s v a id q kind.PullState e = absurd (false≢true (sym e))
-plain_gives s v a id q kind.State e = absurd (false≢true (sym e))
-plain_gives s v a id q kind.PullBlock e = absurd (false≢true (sym e))
-plain_gives s v a id q kind.Memory e = absurd (false≢true (sym e))
-plain_gives s v a id q kind.AllTaken e = absurd (false≢true (sym e))
-plain_gives s v a id q kind.Restart e = absurd (false≢true (sym e))
-plain_gives s v a id q kind.Move e = refl
-plain_gives s v a id q kind.Moved e = refl
-plain_gives s v a id q kind.CallOff e = absurd (false≢true (sym e))
-plain_gives s v a id q kind.Bury e = absurd (false≢true (sym e))
-
 pub routed_gives : (s : OneKernel) (v : View) (a : Addresses) (id : MsgId) (k : MessageKind) (q : Pid) → is_own k ≡ false → (o : Option Told) (h : Holder) → given a (first_gives o (own_gives s v a id q k)) h ≡ a h
 routed_gives s v a id k q plain None h = ap (λ (gs : List Gets). given a gs h) (plain_gives s v a id q k plain)
 routed_gives s v a id k q plain (Some u) h = refl
-
-not_own : (k : MessageKind) → is_own k ≡ false → k ≡ kind.Migrate → ⊥
-not_own k plain e = false≢true (sym plain ∙ ap is_own e)
 
 routed_named : (s : OneKernel) (v : View) (x y : ℕ) (id : MsgId) (k : MessageKind) (q : Pid) (h : Holder) (r : Pid) → is_kernels id ≡ false → is_own k ≡ false → v.told id ≡ None → Named s (after_put v x y id k q) h r → Named s v h r
 routed_named s v x y id k q h r other plain none (Links e) = Links e

@@ -1,26 +1,6 @@
 -- Puts keep where addresses lead, what machines know, and where messages stand.
-use Rattle.std.proofs.Common.{◌≡◌, ℕ, Bool, true, false, is_some, refl, ap, ◌∙◌, sym, subst, inl, inr}
-use Rattle.std.specs.Prelude.{if◌then◌else◌}
-use Rattle.std.specs.declared.option.Option.{Option}
-use Rattle.std.specs.declared.option.Option.TheVariants.{None, Some}
-use Rattle.std.proofs.lemmas.Bool.{cases_Bool, false≢true}
-use Rattle.dm_link.specs.declared.Pid.{Pid}
-use Rattle.dm_link.specs.Names.{Place}
-use Rattle.dm_message.specs.declared.MsgId.{MsgId}
-use Rattle.dm_message.specs.Ids.{id_eq}
-use Rattle.dm_message.specs.declared.kind.MessageKind.{MessageKind}
-use Rattle.dm_message.specs.declared.kind.MessageKind.TheVariants as kind
-use Rattle.dm_onekernel.specs.Boot.{manager}
-use Rattle.dm_onekernel.specs.Kernel.{OneKernel}
-use Rattle.dm_laws.proofs.Equal.{id_eq-is}
-use Rattle.dm_line.specs.declared.line.Line.TheVariants as line
-use Rattle.dm_rule.specs.View.{View, Told, is_kernels, after_put}
-use Rattle.dm_rule.specs.Addresses.{Addresses, Receiver, Sender, given, unmoved, child_number, place_of_child, own_gives, first_gives}
-use Rattle.dm_rule.specs.Point.{Point, moved}
-use Rattle.dm_rule.proofs.Lines.{not_true}
-use Rattle.dm_rule.proofs.Phases.Lines.{put_at}
-use Rattle.dm_rule.proofs.States.{put_told_off}
-use Rattle.dm_rule.proofs.Trails.Puts.{is_own}
+use Rattle.dm_rulelaws.proofs.Names.{◌≡◌, ℕ, Bool, true, false, is_some, refl, ap, ◌∙◌, sym, subst, inl, inr, if◌then◌else◌, Option, None, Some, cases_Bool, false≢true, Pid, Place, MsgId, id_eq, MessageKind, Line, manager, OneKernel}
+use Rattle.dm_rulelaws.proofs.Names.{id_eq-is, View, Told, is_kernels, after_put, Addresses, Receiver, Sender, given, unmoved, child_number, place_of_child, own_gives, first_gives, Point, moved, not_true, put_at, put_told_off, is_own}
 use Rattle.dm_rulelaws.proofs.Found.Lists.{places_put}
 use Rattle.dm_rulelaws.proofs.Found.Held.{held_put}
 use Rattle.dm_rulelaws.proofs.Found.Places.{AllAre, put_all, put_routed, put_again, put_tells, routed_gives}
@@ -34,37 +14,23 @@ told_apart v i j none some = not_true (id_eq i j) (λ e. let f : is_some (v.told
 pub data NeedsPut (n : ℕ) (pt : Point) (b : ℕ) (id : MsgId) (k : MessageKind) (q : Pid) : Type 0 where
   Again : (u : Told) → pt.view.told id ≡ Some u → (pt.addresses (Receiver id)).at ≡ b → NeedsPut n pt b id k q
   Own : pt.kernel.bag id ≡ None → pt.view.told id ≡ None → Knows pt.view q (given pt.addresses (own_gives pt.kernel pt.view pt.addresses id q k) (Receiver id))
-      → (k ≡ kind.Migrate → Knows pt.view manager (given pt.addresses (own_gives pt.kernel pt.view pt.addresses id q k) (Sender id)))
+      → (k ≡ MessageKind.Migrate → Knows pt.view manager (given pt.addresses (own_gives pt.kernel pt.view pt.addresses id q k) (Sender id)))
       → (given pt.addresses (own_gives pt.kernel pt.view pt.addresses id q k) (Receiver id)).at ≡ b → IsReal n pt.view q → is_own k ≡ true → NeedsPut n pt b id k q
   Routed : is_kernels id ≡ false → is_own k ≡ false → pt.view.told id ≡ None → (pt.addresses (Receiver id)).at ≡ b → NeedsPut n pt b id k q
 
 own_off : (s : OneKernel) (v : View) (a : Addresses) (id i : MsgId) (q : Pid) (k : MessageKind) → id_eq id i ≡ false → given a (own_gives s v a id q k) (Receiver i) ≡ a (Receiver i)
-own_off s v a id i q kind.User e = refl
-own_off s v a id i q kind.Stop e = refl
-own_off s v a id i q kind.Resume e = refl
-own_off s v a id i q kind.Kill e = refl
-own_off s v a id i q kind.Read e = refl
-own_off s v a id i q kind.Write e = refl
-own_off s v a id i q kind.Block e = refl
-own_off s v a id i q kind.Written e = refl
-own_off s v a id i q kind.Gone e = refl
-own_off s v a id i q kind.Create e = refl
-own_off s v a id i q kind.Created e = refl
-own_off s v a id i q kind.NoRoom e = refl
-own_off s v a id i q kind.Migrate e = ap (λ (c : Bool). if c then place_of_child a (child_number s q) else a (Receiver i)) e
-own_off s v a id i q kind.Update e = refl
-own_off s v a id i q kind.Ask e = ap (λ (c : Bool). if c then unmoved q.home else a (Receiver i)) e
-own_off s v a id i q kind.Refuse e = ap (λ (c : Bool). if c then unmoved q.home else a (Receiver i)) e
-own_off s v a id i q kind.PullState e = ap (λ (c : Bool). if c then unmoved q.home else a (Receiver i)) e
-own_off s v a id i q kind.State e = ap (λ (c : Bool). if c then unmoved q.home else a (Receiver i)) e
-own_off s v a id i q kind.PullBlock e = ap (λ (c : Bool). if c then unmoved q.home else a (Receiver i)) e
-own_off s v a id i q kind.Memory e = ap (λ (c : Bool). if c then unmoved q.home else a (Receiver i)) e
-own_off s v a id i q kind.AllTaken e = ap (λ (c : Bool). if c then unmoved q.home else a (Receiver i)) e
-own_off s v a id i q kind.Restart e = ap (λ (c : Bool). if c then unmoved q.home else a (Receiver i)) e
-own_off s v a id i q kind.Move e = refl
-own_off s v a id i q kind.Moved e = refl
-own_off s v a id i q kind.CallOff e = ap (λ (c : Bool). if c then unmoved q.home else a (Receiver i)) e
-own_off s v a id i q kind.Bury e = ap (λ (c : Bool). if c then unmoved q.home else a (Receiver i)) e
+own_off s v a id i q MessageKind.Migrate e = ap (λ (c : Bool). if c then place_of_child a (child_number s q) else a (Receiver i)) e
+own_off s v a id i q MessageKind.Ask e = ap (λ (c : Bool). if c then unmoved q.home else a (Receiver i)) e
+own_off s v a id i q MessageKind.Refuse e = ap (λ (c : Bool). if c then unmoved q.home else a (Receiver i)) e
+own_off s v a id i q MessageKind.PullState e = ap (λ (c : Bool). if c then unmoved q.home else a (Receiver i)) e
+own_off s v a id i q MessageKind.State e = ap (λ (c : Bool). if c then unmoved q.home else a (Receiver i)) e
+own_off s v a id i q MessageKind.PullBlock e = ap (λ (c : Bool). if c then unmoved q.home else a (Receiver i)) e
+own_off s v a id i q MessageKind.Memory e = ap (λ (c : Bool). if c then unmoved q.home else a (Receiver i)) e
+own_off s v a id i q MessageKind.AllTaken e = ap (λ (c : Bool). if c then unmoved q.home else a (Receiver i)) e
+own_off s v a id i q MessageKind.Restart e = ap (λ (c : Bool). if c then unmoved q.home else a (Receiver i)) e
+own_off s v a id i q MessageKind.CallOff e = ap (λ (c : Bool). if c then unmoved q.home else a (Receiver i)) e
+own_off s v a id i q MessageKind.Bury e = ap (λ (c : Bool). if c then unmoved q.home else a (Receiver i)) e
+own_off s v a id i q _ e = refl
 
 put_address : (n : ℕ) (pt : Point) (b : ℕ) (id i : MsgId) (k : MessageKind) (q : Pid) → NeedsPut n pt b id k q → is_some (pt.view.told i) ≡ true
     → given pt.addresses (first_gives (pt.view.told id) (own_gives pt.kernel pt.view pt.addresses id q k)) (Receiver i) ≡ pt.addresses (Receiver i)
@@ -99,7 +65,7 @@ put_keeps v x y id i k q some = elim (cases_Bool (id_eq id i)) [
   | inr apart ↦ ap is_some (put_told_off v x y id i k q apart) ∙ some
 ]
 
-pub put_core : (n : ℕ) (pt : Point) (x b : ℕ) (id : MsgId) (k : MessageKind) (q : Pid) → NeedsPut n pt b id k q → Core n pt → Core n (moved pt (line.Put x b id k q) pt.kernel)
+pub put_core : (n : ℕ) (pt : Point) (x b : ℕ) (id : MsgId) (k : MessageKind) (q : Pid) → NeedsPut n pt b id k q → Core n pt → Core n (moved pt (Line.Put x b id k q) pt.kernel)
 put_core n pt x b id k q need h =
     let v = pt.view in
     let w = after_put v x b id k q in

@@ -1,29 +1,10 @@
 -- Whom addresses are of is a kernel or a server of a machine that there is, or a process that its home knows.
-use Rattle.std.proofs.Common.{◌≡◌, ◌⊎◌, ℕ, zero, suc, ◌+◌, ◌<◌, ◌≤◌, ◌==◌, ◌&&◌, ◌||◌, Bool, true, false, is_some, nat_le, nat_lt, List, [], ◌∷◌, refl, ap, ◌∙◌, sym, subst, inl, inr, arith}
-use Rattle.std.specs.Prelude.{if◌then◌else◌, slice_get}
-use Rattle.std.specs.declared.option.Option.{Option}
-use Rattle.std.specs.declared.option.Option.TheVariants.{None, Some}
-use Rattle.std.proofs.lemmas.Bool.Decides.{nat_tests}
-use Rattle.dm_link.specs.declared.Pid.{Pid}
-use Rattle.dm_link.specs.Names.{pid_eq}
-use Rattle.dm_link.specs.Plain.{PlainLink}
-use Rattle.dm_linktable.specs.Slots.{link_at}
-use Rattle.dm_message.specs.declared.MsgId.{MsgId}
-use Rattle.dm_message.specs.Plain as what
-use Rattle.dm_message.specs.Plain.{PlainMessage, PlainWhat}
-use Rattle.dm_onekernel.specs.Boot.{switchboard, manager}
-use Rattle.dm_onekernel.specs.PlainProcess.{PlainProcess, PlainStatus, Ready, Waiting, Moving}
-use Rattle.dm_onekernel.specs.Kernel.{Life, NamedLink, Pending, OneKernel}
+use Rattle.dm_rulelaws.proofs.Names.{◌≡◌, ◌⊎◌, ℕ, zero, suc, ◌+◌, ◌<◌, ◌≤◌, ◌==◌, ◌&&◌, ◌||◌, Bool, true, false, is_some, nat_le, nat_lt, List, [], ◌∷◌, refl, ap, ◌∙◌, sym, subst, inl, inr, arith, if◌then◌else◌, slice_get, Option, None}
+use Rattle.dm_rulelaws.proofs.Names.{Some, nat_tests, Pid, pid_eq, PlainLink, link_at, MsgId, PlainMessage, PlainWhat, switchboard, manager, PlainProcess, PlainStatus, Ready, Waiting, Moving, Life, NamedLink, Pending, OneKernel, Made}
+use Rattle.dm_rulelaws.proofs.Names.{alive-is, View, Holder, Slot, Owner, Receiver, Sender, Enclosed, Child, Name, Answer, link_to, slot_of, owner_in, owner_of, name_link, answer_link, links_in, to_of, sender_of, enclosed_of, names, Point}
+use Rattle.dm_rulelaws.proofs.Names.{Each, has_bytes, is_server, gives_no_right, LinkFits, move_fits, WhatFits, awaits, is_fixed, or_first}
 use Rattle.dm_onekernel.specs.Manager as manage
 use Rattle.dm_onekernel.specs.Step as kernel
-use Rattle.dm_laws.proofs.Entered.{Made}
-use Rattle.dm_laws.proofs.Steps.{alive-is}
-use Rattle.dm_rule.specs.View.{View}
-use Rattle.dm_rule.specs.Addresses.{Holder, Slot, Owner, Receiver, Sender, Enclosed, Child, Name, Answer, link_to, slot_of, owner_in, owner_of, name_link, answer_link}
-use Rattle.dm_rule.specs.Homes.{links_in, to_of, sender_of, enclosed_of, names}
-use Rattle.dm_rule.specs.Point.{Point}
-use Rattle.dm_rulelaws.specs.Fits.{Each, has_bytes, is_server, gives_no_right, LinkFits, move_fits, WhatFits, awaits}
-use Rattle.dm_rulelaws.specs.Found.{is_fixed}
 use Rattle.dm_rulelaws.proofs.Fits.Rises.{both}
 use Rattle.dm_rulelaws.proofs.Fits.Calls.{slot_link}
 use Rattle.dm_rulelaws.proofs.Found.Steps.{Sends}
@@ -40,13 +21,8 @@ made_free pt q h some = made_number q (h.least q some)
 made_real : (pt : Point) (n : ℕ) (q : Pid) → Core n pt → is_some (pt.kernel.processes q) ≡ true → IsReal n pt.view q
 made_real pt n q h some = inr (h.home q some)
 
--- the servers
-or_true : (c d : Bool) → d ≡ true → (c || d) ≡ true
-or_true true d e = refl
-or_true false d e = e
-
 pub server_fixed : (q : Pid) → is_server q ≡ true → (is_fixed q ≡ true) × (q.home ≡ 0)
-server_fixed q e = (or_true (q.num == 0) (is_server q) e, (let f : (pid_eq q switchboard || pid_eq q manager) ≡ true = e in grind (arith, nat_tests)))
+server_fixed q e = (or_first (q.num == 0) (is_server q) e, (let f : (pid_eq q switchboard || pid_eq q manager) ≡ true = e in grind (arith, nat_tests)))
 
 server_real : (n : ℕ) (v : View) (q : Pid) → 0 < n → is_server q ≡ true → IsReal n v q
 server_real n v q some e = let f = server_fixed q e in inl (f.0, subst (λ (k : ℕ). k < n) (sym f.1) some)
@@ -60,7 +36,7 @@ waits_some : (o : Option Life) (n : ℕ) (x : PlainWhat) → awaits o n x ≡ tr
 waits_some (Some l) n x e = refl
 waits_some None n x e = cc
 
-or_cases : (c d : Bool) → (c || d) ≡ true → (c ≡ true) ⊎ (d ≡ true)
+pub or_cases : (c d : Bool) → (c || d) ≡ true → (c ≡ true) ⊎ (d ≡ true)
 or_cases true d e = inl refl
 or_cases false d e = inr e
 
@@ -77,23 +53,23 @@ kernel_real : (n k : ℕ) (v : View) (q : Pid) → k ≡ n → q.num ≡ 0 → n
 kernel_real n k v q same num le = inl ((let f : (q.num == 0) ≡ true = grind (arith, nat_tests) in ap (λ (c : Bool). c || is_server q) f), subst (λ (j : ℕ). q.home < j) same (let f : q.home < k = grind (arith, nat_tests) in f))
 
 what_real : (pt : Point) (n : ℕ) (i : MsgId) (m : PlainMessage) (x : PlainWhat) → Core n pt → 0 < n → WhatFits pt.kernel i m x → IsReal n pt.view m.to
-what_real pt n i m (what.User z1 z2 z3 z4) h some e = elim (or_cases (is_server m.to) (has_bytes 0 (pt.kernel.processes m.to)) e.0) [
+what_real pt n i m (PlainWhat.User z1 z2 z3 z4) h some e = elim (or_cases (is_server m.to) (has_bytes 0 (pt.kernel.processes m.to)) e.0) [
   | inl server ↦ server_real n pt.view m.to some server
   | inr has ↦ has_real pt n 0 m.to h has
 ]
-what_real pt n i m what.Stop h some e = has_real pt n 0 m.to h e
-what_real pt n i m what.Resume h some e = has_real pt n 0 m.to h e
-what_real pt n i m what.Kill h some e = has_real pt n 0 m.to h e
-what_real pt n i m (what.Read z1 z2) h some e = has_real pt n (z1 + z2) m.to h e.0
-what_real pt n i m (what.Write z1 z2) h some e = made_real pt n m.to h (has_some _ (pt.kernel.processes m.to) e.0)
-what_real pt n i m (what.Block z1) h some e = subst (IsReal n pt.view) (sym e.0) (made_real pt n i.from h (waits_some (pt.kernel.processes i.from) i.n (what.Block z1) e.1))
-what_real pt n i m what.Written h some e = subst (IsReal n pt.view) (sym e.0) (made_real pt n i.from h (waits_some (pt.kernel.processes i.from) i.n what.Written e.1))
-what_real pt n i m what.Gone h some e = subst (IsReal n pt.view) (sym e.0) (made_real pt n i.from h (waits_some (pt.kernel.processes i.from) i.n what.Gone e.1))
-what_real pt n i m (what.Create z1 z2) h some e = kernel_real n pt.kernel.machines pt.view m.to h.machines e.0 e.1
-what_real pt n i m (what.Created z1) h some e = subst (IsReal n pt.view) (sym e.0) (server_real n pt.view manager some refl)
-what_real pt n i m what.NoRoom h some e = subst (IsReal n pt.view) (sym e.0) (server_real n pt.view manager some refl)
-what_real pt n i m (what.Move z1) h some e = absurd e
-what_real pt n i m (what.Moved z1) h some e = absurd e
+what_real pt n i m PlainWhat.Stop h some e = has_real pt n 0 m.to h e
+what_real pt n i m PlainWhat.Resume h some e = has_real pt n 0 m.to h e
+what_real pt n i m PlainWhat.Kill h some e = has_real pt n 0 m.to h e
+what_real pt n i m (PlainWhat.Read z1 z2) h some e = has_real pt n (z1 + z2) m.to h e.0
+what_real pt n i m (PlainWhat.Write z1 z2) h some e = made_real pt n m.to h (has_some _ (pt.kernel.processes m.to) e.0)
+what_real pt n i m (PlainWhat.Block z1) h some e = subst (IsReal n pt.view) (sym e.0) (made_real pt n i.from h (waits_some (pt.kernel.processes i.from) i.n (PlainWhat.Block z1) e.1))
+what_real pt n i m PlainWhat.Written h some e = subst (IsReal n pt.view) (sym e.0) (made_real pt n i.from h (waits_some (pt.kernel.processes i.from) i.n PlainWhat.Written e.1))
+what_real pt n i m PlainWhat.Gone h some e = subst (IsReal n pt.view) (sym e.0) (made_real pt n i.from h (waits_some (pt.kernel.processes i.from) i.n PlainWhat.Gone e.1))
+what_real pt n i m (PlainWhat.Create z1 z2) h some e = kernel_real n pt.kernel.machines pt.view m.to h.machines e.0 e.1
+what_real pt n i m (PlainWhat.Created z1) h some e = subst (IsReal n pt.view) (sym e.0) (server_real n pt.view manager some refl)
+what_real pt n i m PlainWhat.NoRoom h some e = subst (IsReal n pt.view) (sym e.0) (server_real n pt.view manager some refl)
+what_real pt n i m (PlainWhat.Move z1) h some e = absurd e
+what_real pt n i m (PlainWhat.Moved z1) h some e = absurd e
 
 -- one of a list
 each_get : {X : Type 0} (P : X → Type 0) (xs : List X) (k : ℕ) (x : X) → Each P xs → slice_get xs k ≡ Some x → P x
@@ -149,20 +125,9 @@ sender_real pt n i q None h is e = cc
 sender_real pt n i q (Some m) h is e = let f : m.sender ≡ q = cc in subst (IsReal n pt.view) f (sends_real pt n m.sender h (h.senders i m is))
 
 links_fit : (s : OneKernel) (i : MsgId) (m : PlainMessage) (x : PlainWhat) → WhatFits s i m x → Each (LinkFits s.processes) (links_in x)
-links_fit s i m (what.User z1 z2 z3 z4) e = e.1
-links_fit s i m what.Stop e = tt
-links_fit s i m what.Resume e = tt
-links_fit s i m what.Kill e = tt
-links_fit s i m (what.Read z1 z2) e = tt
-links_fit s i m (what.Write z1 z2) e = tt
-links_fit s i m (what.Block z1) e = tt
-links_fit s i m what.Written e = tt
-links_fit s i m what.Gone e = tt
-links_fit s i m (what.Create z1 z2) e = e.6
-links_fit s i m (what.Created z1) e = tt
-links_fit s i m what.NoRoom e = tt
-links_fit s i m (what.Move z1) e = tt
-links_fit s i m (what.Moved z1) e = tt
+links_fit s i m (PlainWhat.User z1 z2 z3 z4) e = e.1
+links_fit s i m (PlainWhat.Create z1 z2) e = e.6
+links_fit s i m _ e = tt
 
 enclosed_real : (pt : Point) (n : ℕ) (i : MsgId) (k : ℕ) (q : Pid) (o : Option PlainMessage) → Core n pt → 0 < n → pt.kernel.bag i ≡ o → link_to (enclosed_of o k) ≡ Some q → IsReal n pt.view q
 enclosed_real pt n i k q None h some is e = cc

@@ -1,39 +1,13 @@
 -- What a step of the kernel without machines leaves: how many machines there are, and who sends.
-use Rattle.std.proofs.Common.{◌≡◌, ◌⊎◌, ℕ, ◌<◌, ◌==◌, ◌&&◌, Bool, true, false, List, [], ◌∷◌, length, refl, ap, ◌∙◌, sym, subst, inl, inr, arith, nat_lt, is_some}
-use Rattle.std.specs.Prelude.{⊤, if◌then◌else◌, slice_get, take, drop, ◌+◌, ◌*◌, ◌++◌}
-use Rattle.std.specs.declared.option.Option.{Option}
-use Rattle.std.specs.declared.option.Option.TheVariants.{None, Some}
-use Rattle.std.proofs.lemmas.Bool.{false≢true}
-use Rattle.std.proofs.lemmas.Bool.Decides.{nat_tests}
-use Rattle.dm_link.specs.declared.Pid.{Pid}
-use Rattle.dm_link.specs.Names.{pid_of, pid_eq}
-use Rattle.dm_link.specs.Plain.{PlainLink}
-use Rattle.dm_message.specs.declared.MsgId.{MsgId}
-use Rattle.dm_message.specs.Plain as what
-use Rattle.dm_message.specs.Plain.{PlainMessage, PlainWhat}
-use Rattle.dm_onekernel.specs.declared.label.Label.{Label}
-use Rattle.dm_onekernel.specs.declared.label.Label.TheVariants as label
-use Rattle.dm_onekernel.specs.declared.label.Reply.{Reply}
-use Rattle.dm_onekernel.specs.declared.label.Why.{Why}
-use Rattle.dm_onekernel.specs.declared.label.Why.TheVariants as why
-use Rattle.dm_onekernel.specs.Boot.{switchboard, manager}
-use Rattle.dm_onekernel.specs.Options.{bind}
-use Rattle.dm_onekernel.specs.PlainProcess.{PlainProcess}
-use Rattle.dm_onekernel.specs.Kernel.{Life, Alive, Ended, Switchboard, Manager, Pending, OneKernel, with_process, with_sent}
-use Rattle.dm_onekernel.specs.Calls as calls
+use Rattle.dm_rulelaws.proofs.Names.{◌≡◌, ◌⊎◌, ℕ, ◌<◌, ◌==◌, ◌&&◌, Bool, true, false, List, [], ◌∷◌, length, refl, ap, ◌∙◌, sym, subst, inl, inr, arith, nat_lt, is_some, ⊤, if◌then◌else◌, slice_get, take, drop, ◌+◌, ◌*◌, ◌++◌, Option, None}
+use Rattle.dm_rulelaws.proofs.Names.{Some, false≢true, nat_tests, Pid, pid_of, pid_eq, PlainLink, MsgId, Called, PlainMessage, PlainWhat, Label, Reply, Why, switchboard, manager, bind, PlainProcess, Life, Alive, Ended, Switchboard, Manager}
+use Rattle.dm_rulelaws.proofs.Names.{Pending, OneKernel, with_process, with_sent, answer_to, without_message, is_dropped, is_of_memory, came, stayed, lands-is, ended-is, bind-is, when-is, alive-is, nexts, Nexts, is_fixed, if_some-is}
 use Rattle.dm_onekernel.specs.Pieces as pieces
-use Rattle.dm_onekernel.specs.Pieces.{answer_to}
 use Rattle.dm_onekernel.specs.Receiving as receiving
 use Rattle.dm_onekernel.specs.Switchboard as board
 use Rattle.dm_onekernel.specs.Manager as manage
 use Rattle.dm_onekernel.specs.Service as service
-use Rattle.dm_onekernel.specs.Service.{without_message, is_dropped, is_of_memory}
 use Rattle.dm_onekernel.specs.Step as kernel
-use Rattle.dm_laws.proofs.Movers.{came, stayed}
-use Rattle.dm_laws.proofs.Services.{lands-is}
-use Rattle.dm_laws.proofs.Servers.{ended-is}
-use Rattle.dm_laws.proofs.Steps.{bind-is, when-is, alive-is, nexts, Nexts}
-use Rattle.dm_rulelaws.specs.Found.{is_fixed}
 
 -- who sends messages: a server, a kernel of so many machines, or a process that was made
 abbrev pub Sends : ℕ → OneKernel → Pid → Type 0
@@ -65,52 +39,52 @@ alive_sends : (n : ℕ) (s : OneKernel) (p : Pid) (l : Life) → s.processes p �
 alive_sends n s p l e = inr (ap is_some e)
 
 -- what processes say
-ran_leaves : (n : ℕ) (s t : OneKernel) (p : Pid) (k : ℕ) → kernel.step s (label.Ran p k) ≡ Some t → Leaves n s t
+ran_leaves : (n : ℕ) (s t : OneKernel) (p : Pid) (k : ℕ) → kernel.step s (Label.Ran p k) ≡ Some t → Leaves n s t
 ran_leaves n s t p k is =
     let (x, running, rest) = bind-is (kernel.running s p) (λ v. bind (kernel.plain_steps k (kernel.machine_of v)) (λ m. Some (kernel.goes_on s p (kernel.with_machine v m)))) t is in
     let (m, plain, last) = bind-is (kernel.plain_steps k (kernel.machine_of x)) (λ m. Some (kernel.goes_on s p (kernel.with_machine x m))) t rest in
     leaves_quiet n s t (kernel.goes_on s p (kernel.with_machine x m)) (let f : kernel.goes_on s p (kernel.with_machine x m) ≡ t = cc in f) refl (λ j y e. e)
 
 replies_leave : (n : ℕ) (s t : OneKernel) (p : Pid) (k : ℕ) (c : Reply) (next : kernel.Next) → Nexts s p next → kernel.replies s p k c next ≡ Some t → Leaves n s t
-replies_leave n s t p k c (kernel.Calls number (calls.Replies reply y)) w is = leaves_quiet n s t (kernel.goes_on s p y) (when-is _ (kernel.goes_on s p y) t is).1 refl (λ j z e. e)
-replies_leave n s t p k c (kernel.Calls number (calls.Sends m y)) w is = cc
-replies_leave n s t p k c (kernel.Calls number (calls.Waits y)) w is = cc
-replies_leave n s t p k c (kernel.Calls number (calls.Outputs word y)) w is = cc
-replies_leave n s t p k c (kernel.Calls number (calls.Ends because)) w is = cc
+replies_leave n s t p k c (kernel.Calls number (Called.Replies reply y)) w is = leaves_quiet n s t (kernel.goes_on s p y) (when-is _ (kernel.goes_on s p y) t is).1 refl (λ j z e. e)
+replies_leave n s t p k c (kernel.Calls number (Called.Sends m y)) w is = cc
+replies_leave n s t p k c (kernel.Calls number (Called.Waits y)) w is = cc
+replies_leave n s t p k c (kernel.Calls number (Called.Outputs word y)) w is = cc
+replies_leave n s t p k c (kernel.Calls number (Called.Ends because)) w is = cc
 replies_leave n s t p k c (kernel.Faults fault) w is = cc
 
 sends_leave : (n : ℕ) (s t : OneKernel) (p : Pid) (id : MsgId) (next : kernel.Next) → Nexts s p next → kernel.sends s p id next ≡ Some t → Leaves n s t
-sends_leave n s t p id (kernel.Calls number (calls.Replies reply y)) w is = cc
-sends_leave n s t p id (kernel.Calls number (calls.Sends m y)) w is =
+sends_leave n s t p id (kernel.Calls number (Called.Replies reply y)) w is = cc
+sends_leave n s t p id (kernel.Calls number (Called.Sends m y)) w is =
     let (z, sent, pending, counted) = w.counts in
     leaves_sent n s t (kernel.goes_on s p y) m (when-is _ (with_sent (kernel.goes_on s p y) (Some m)) t is).1 refl (λ j z e. e) (subst (Sends n s) (sym counted.sender) (alive_sends n s p (Alive w.x) w.is.alive))
-sends_leave n s t p id (kernel.Calls number (calls.Waits y)) w is = cc
-sends_leave n s t p id (kernel.Calls number (calls.Outputs word y)) w is = cc
-sends_leave n s t p id (kernel.Calls number (calls.Ends because)) w is = cc
+sends_leave n s t p id (kernel.Calls number (Called.Waits y)) w is = cc
+sends_leave n s t p id (kernel.Calls number (Called.Outputs word y)) w is = cc
+sends_leave n s t p id (kernel.Calls number (Called.Ends because)) w is = cc
 sends_leave n s t p id (kernel.Faults fault) w is = cc
 
 waits_leave : (n : ℕ) (s t : OneKernel) (p : Pid) (next : kernel.Next) → Nexts s p next → kernel.waits s p next ≡ Some t → Leaves n s t
-waits_leave n s t p (kernel.Calls number (calls.Replies reply y)) w is = cc
-waits_leave n s t p (kernel.Calls number (calls.Sends m y)) w is = cc
-waits_leave n s t p (kernel.Calls number (calls.Waits y)) w is = leaves_quiet n s t (kernel.goes_on s p y) (let f : kernel.goes_on s p y ≡ t = cc in f) refl (λ j z e. e)
-waits_leave n s t p (kernel.Calls number (calls.Outputs word y)) w is = cc
-waits_leave n s t p (kernel.Calls number (calls.Ends because)) w is = cc
+waits_leave n s t p (kernel.Calls number (Called.Replies reply y)) w is = cc
+waits_leave n s t p (kernel.Calls number (Called.Sends m y)) w is = cc
+waits_leave n s t p (kernel.Calls number (Called.Waits y)) w is = leaves_quiet n s t (kernel.goes_on s p y) (let f : kernel.goes_on s p y ≡ t = cc in f) refl (λ j z e. e)
+waits_leave n s t p (kernel.Calls number (Called.Outputs word y)) w is = cc
+waits_leave n s t p (kernel.Calls number (Called.Ends because)) w is = cc
 waits_leave n s t p (kernel.Faults fault) w is = cc
 
 outputs_leave : (n : ℕ) (s t : OneKernel) (p : Pid) (k : ℕ) (next : kernel.Next) → Nexts s p next → kernel.outputs s p k next ≡ Some t → Leaves n s t
-outputs_leave n s t p k (kernel.Calls number (calls.Replies reply y)) w is = cc
-outputs_leave n s t p k (kernel.Calls number (calls.Sends m y)) w is = cc
-outputs_leave n s t p k (kernel.Calls number (calls.Waits y)) w is = cc
-outputs_leave n s t p k (kernel.Calls number (calls.Outputs word y)) w is = leaves_quiet n s t (kernel.goes_on s p y) (when-is _ (kernel.goes_on s p y) t is).1 refl (λ j z e. e)
-outputs_leave n s t p k (kernel.Calls number (calls.Ends because)) w is = cc
+outputs_leave n s t p k (kernel.Calls number (Called.Replies reply y)) w is = cc
+outputs_leave n s t p k (kernel.Calls number (Called.Sends m y)) w is = cc
+outputs_leave n s t p k (kernel.Calls number (Called.Waits y)) w is = cc
+outputs_leave n s t p k (kernel.Calls number (Called.Outputs word y)) w is = leaves_quiet n s t (kernel.goes_on s p y) (when-is _ (kernel.goes_on s p y) t is).1 refl (λ j z e. e)
+outputs_leave n s t p k (kernel.Calls number (Called.Ends because)) w is = cc
 outputs_leave n s t p k (kernel.Faults fault) w is = cc
 
 ends_leave : (n : ℕ) (s t : OneKernel) (p : Pid) (cause : Why) (next : kernel.Next) → Nexts s p next → kernel.ends s p cause next ≡ Some t → Leaves n s t
-ends_leave n s t p cause (kernel.Calls number (calls.Replies reply y)) w is = cc
-ends_leave n s t p cause (kernel.Calls number (calls.Sends m y)) w is = cc
-ends_leave n s t p cause (kernel.Calls number (calls.Waits y)) w is = cc
-ends_leave n s t p cause (kernel.Calls number (calls.Outputs word y)) w is = cc
-ends_leave n s t p cause (kernel.Calls number (calls.Ends because)) w is = leaves_quiet n s t (with_process s p (Ended cause)) (when-is _ (with_process s p (Ended cause)) t is).1 refl (λ j z e. e)
+ends_leave n s t p cause (kernel.Calls number (Called.Replies reply y)) w is = cc
+ends_leave n s t p cause (kernel.Calls number (Called.Sends m y)) w is = cc
+ends_leave n s t p cause (kernel.Calls number (Called.Waits y)) w is = cc
+ends_leave n s t p cause (kernel.Calls number (Called.Outputs word y)) w is = cc
+ends_leave n s t p cause (kernel.Calls number (Called.Ends because)) w is = leaves_quiet n s t (with_process s p (Ended cause)) (when-is _ (with_process s p (Ended cause)) t is).1 refl (λ j z e. e)
 ends_leave n s t p cause (kernel.Faults fault) w is = leaves_quiet n s t (with_process s p (Ended cause)) (when-is _ (with_process s p (Ended cause)) t is).1 refl (λ j z e. e)
 
 receives_leave : (n : ℕ) (s t : OneKernel) (p : Pid) (id : MsgId) (done : receiving.Completed) → kernel.receives s p id done ≡ Some t → Leaves n s t
@@ -136,37 +110,28 @@ lands_leave n s t id m x alive e =
 answered_leaves : (n : ℕ) (s t : OneKernel) (id : MsgId) (m : PlainMessage) (l : Life) (y : PlainProcess) (w : PlainWhat) → s.processes m.to ≡ Some l → with_sent (service.changed s id m y) (Some (answer_to m w)) ≡ t → Leaves n s t
 answered_leaves n s t id m l y w alive e = leaves_sent n s t (service.changed s id m y) (answer_to m w) e refl (λ j z f. stayed s id j z f) (alive_sends n s m.to l alive)
 
-if_some : {A : Type 0} (b : Bool) (x y : A) → (if b then Some x else None) ≡ Some y → x ≡ y
-if_some true x y e = cc
-if_some false x y e = cc
-
 serves_leave : (n : ℕ) (s t : OneKernel) (id : MsgId) (m : PlainMessage) (x : PlainProcess) (w : PlainWhat) → s.processes m.to ≡ Some (Alive x) → service.serves s id m x w ≡ Some t → Leaves n s t
-serves_leave n s t id m x what.Stop alive e =
+serves_leave n s t id m x PlainWhat.Stop alive e =
     leaves_quiet n s t (service.changed s id m (record x { stopped = true })) (let f : service.changed s id m (record x { stopped = true }) ≡ t = cc in f) refl (λ j z k. stayed s id j z k)
-serves_leave n s t id m x what.Resume alive e =
+serves_leave n s t id m x PlainWhat.Resume alive e =
     leaves_quiet n s t (service.changed s id m (record x { stopped = false })) (let f : service.changed s id m (record x { stopped = false }) ≡ t = cc in f) refl (λ j z k. stayed s id j z k)
-serves_leave n s t id m x what.Kill alive e =
-    leaves_quiet n s t (with_process (without_message s id) m.to (Ended why.Killed)) (let f : with_process (without_message s id) m.to (Ended why.Killed) ≡ t = cc in f) refl (λ j z k. stayed s id j z k)
-serves_leave n s t id m x (what.Read base len) alive e =
+serves_leave n s t id m x PlainWhat.Kill alive e =
+    leaves_quiet n s t (with_process (without_message s id) m.to (Ended Why.Killed)) (let f : with_process (without_message s id) m.to (Ended Why.Killed) ≡ t = cc in f) refl (λ j z k. stayed s id j z k)
+serves_leave n s t id m x (PlainWhat.Read base len) alive e =
     let (c, served, last) = bind-is (pieces.reads x m base len) (λ (v : pieces.Served). Some (service.answered s id m v)) t e in
-    let k = if_some _ (record { process = x; answer = answer_to m (what.Block (take len (drop base x.memory))) }) c served in
+    let k = if_some-is _ (record { process = x; answer = answer_to m (PlainWhat.Block (take len (drop base x.memory))) }) c served in
     let f : service.answered s id m c ≡ t = cc in
-    answered_leaves n s t id m (Alive x) x (what.Block (take len (drop base x.memory))) alive (ap (service.answered s id m) k ∙ f)
-serves_leave n s t id m x (what.Write base bytes) alive e =
+    answered_leaves n s t id m (Alive x) x (PlainWhat.Block (take len (drop base x.memory))) alive (ap (service.answered s id m) k ∙ f)
+serves_leave n s t id m x (PlainWhat.Write base bytes) alive e =
     let (c, served, last) = bind-is (pieces.writes x m base bytes) (λ (v : pieces.Served). Some (service.answered s id m v)) t e in
     let y = record x { memory = pieces.written_at x.memory base bytes } in
-    let k = if_some _ (record { process = y; answer = answer_to m what.Written }) c served in
+    let k = if_some-is _ (record { process = y; answer = answer_to m PlainWhat.Written }) c served in
     let f : service.answered s id m c ≡ t = cc in
-    answered_leaves n s t id m (Alive x) y what.Written alive (ap (service.answered s id m) k ∙ f)
-serves_leave n s t id m x (what.Block bytes) alive e = lands_leave n s t id m x alive e
-serves_leave n s t id m x what.Written alive e = lands_leave n s t id m x alive e
-serves_leave n s t id m x what.Gone alive e = lands_leave n s t id m x alive e
-serves_leave n s t id m x (what.User z1 z2 z3 z4) alive e = cc
-serves_leave n s t id m x (what.Create z1 z2) alive e = cc
-serves_leave n s t id m x (what.Created z1) alive e = cc
-serves_leave n s t id m x what.NoRoom alive e = cc
-serves_leave n s t id m x (what.Move z1) alive e = cc
-serves_leave n s t id m x (what.Moved z1) alive e = cc
+    answered_leaves n s t id m (Alive x) y PlainWhat.Written alive (ap (service.answered s id m) k ∙ f)
+serves_leave n s t id m x (PlainWhat.Block bytes) alive e = lands_leave n s t id m x alive e
+serves_leave n s t id m x PlainWhat.Written alive e = lands_leave n s t id m x alive e
+serves_leave n s t id m x PlainWhat.Gone alive e = lands_leave n s t id m x alive e
+serves_leave n s t id m x _ alive e = cc
 
 -- the servers
 abbrev SentBy : Pid → Option PlainMessage → Type 0
@@ -178,20 +143,8 @@ board_sender b body [] = tt
 board_sender b body (l ∷ ls) = refl
 
 board_sends : (b : Switchboard) (m : PlainMessage) (w : PlainWhat) (k : board.Took) → board.takes b m w ≡ Some k → SentBy switchboard k.answer
-board_sends b m (what.User code channel body links) k e = let f : board.takes_request b body links ≡ k = cc in subst (λ (v : board.Took). SentBy switchboard v.answer) f (board_sender b body links)
-board_sends b m what.Stop k e = cc
-board_sends b m what.Resume k e = cc
-board_sends b m what.Kill k e = cc
-board_sends b m (what.Read z1 z2) k e = cc
-board_sends b m (what.Write z1 z2) k e = cc
-board_sends b m (what.Block z1) k e = cc
-board_sends b m what.Written k e = cc
-board_sends b m what.Gone k e = cc
-board_sends b m (what.Create z1 z2) k e = cc
-board_sends b m (what.Created z1) k e = cc
-board_sends b m what.NoRoom k e = cc
-board_sends b m (what.Move z1) k e = cc
-board_sends b m (what.Moved z1) k e = cc
+board_sends b m (PlainWhat.User code channel body links) k e = let f : board.takes_request b body links ≡ k = cc in subst (λ (v : board.Took). SentBy switchboard v.answer) f (board_sender b body links)
+board_sends b m _ k e = cc
 
 manager_bad : (g : Manager) (links : List PlainLink) → SentBy manager (manage.bad_request g links).message
 manager_bad g [] = tt
@@ -241,24 +194,14 @@ manager_no_room g n (Some r) k e =
     subst (λ (v : manage.Took). SentBy manager v.message) f refl
 
 manager_sends : (g : Manager) (machines images : ℕ) (m : PlainMessage) (w : PlainWhat) (k : manage.Took) → manage.takes g machines images m w ≡ Some k → SentBy manager k.message
-manager_sends g machines images m (what.User code channel body links) k e =
+manager_sends g machines images m (PlainWhat.User code channel body links) k e =
     let f : manage.takes_user g machines images code body links ≡ k = cc in
     subst (λ (v : manage.Took). SentBy manager v.message) f
     (manager_if (code == 0) (manage.requests g machines images body links) (manage.controls g (manage.child_numbered g.children code) body links) (manager_requests g machines images body links)
     (manager_controls g (manage.child_numbered g.children code) body links))
-manager_sends g machines images m (what.Created child) k e = manager_created g m.id.n child (manage.pending_numbered m.id.n g.pending) k e
-manager_sends g machines images m what.NoRoom k e = manager_no_room g m.id.n (manage.pending_numbered m.id.n g.pending) k e
-manager_sends g machines images m what.Stop k e = cc
-manager_sends g machines images m what.Resume k e = cc
-manager_sends g machines images m what.Kill k e = cc
-manager_sends g machines images m (what.Read z1 z2) k e = cc
-manager_sends g machines images m (what.Write z1 z2) k e = cc
-manager_sends g machines images m (what.Block z1) k e = cc
-manager_sends g machines images m what.Written k e = cc
-manager_sends g machines images m what.Gone k e = cc
-manager_sends g machines images m (what.Create z1 z2) k e = cc
-manager_sends g machines images m (what.Move z1) k e = cc
-manager_sends g machines images m (what.Moved z1) k e = cc
+manager_sends g machines images m (PlainWhat.Created child) k e = manager_created g m.id.n child (manage.pending_numbered m.id.n g.pending) k e
+manager_sends g machines images m PlainWhat.NoRoom k e = manager_no_room g m.id.n (manage.pending_numbered m.id.n g.pending) k e
+manager_sends g machines images m _ k e = cc
 
 board_leaves : (n : ℕ) (s t : OneKernel) (id : MsgId) (b : Switchboard) (o : Option PlainMessage) → 0 < n → SentBy switchboard o → with_sent (record (without_message s id) { switchboard = b }) o ≡ t → Leaves n s t
 board_leaves n s t id b None some by e = leaves_quiet n s t (record (without_message s id) { switchboard = b }) e refl (λ j z f. stayed s id j z f)
@@ -288,75 +231,51 @@ kernel_sends : (n : ℕ) (s : OneKernel) (p : Pid) → s.machines ≡ n → serv
 kernel_sends n s p same e = inl (kernel_fixed s p e, subst (λ (k : ℕ). p.home < k) same (let f : p.home < s.machines = grind (arith, nat_tests) in f))
 
 creates_leave : (n : ℕ) (s t : OneKernel) (id : MsgId) (m : PlainMessage) (child : Pid) (w : PlainWhat) → s.machines ≡ n → service.creates s id m child w ≡ Some t → Leaves n s t × (is_fixed m.to ≡ true)
-creates_leave n s t id m child (what.Create image links) same e =
+creates_leave n s t id m child (PlainWhat.Create image links) same e =
     let (i, is, rest) = bind-is (slice_get s.images image) (service.creates_of s id m child links) t e in
     let u = service.with_child (without_message s id) child i links in
-    let k = when-is (service.is_kernel s m.to && pid_eq child (pid_of m.to.home (3 + s.made m.to.home))) (with_sent u (Some (answer_to m (what.Created child)))) t rest in
+    let k = when-is (service.is_kernel s m.to && pid_eq child (pid_of m.to.home (3 + s.made m.to.home))) (with_sent u (Some (answer_to m (PlainWhat.Created child)))) t rest in
     let f : service.is_kernel s m.to ≡ true = (both (service.is_kernel s m.to) (pid_eq child (pid_of m.to.home (3 + s.made m.to.home))) k.0).0 in
-    (leaves_sent n s t u (answer_to m (what.Created child)) k.1 refl (λ j z f. stayed s id j z f) (kernel_sends n s m.to same f), kernel_fixed s m.to f)
+    (leaves_sent n s t u (answer_to m (PlainWhat.Created child)) k.1 refl (λ j z f. stayed s id j z f) (kernel_sends n s m.to same f), kernel_fixed s m.to f)
   where
     both : (b c : Bool) → (b && c) ≡ true → (b ≡ true) × (c ≡ true)
     both true c e = (refl, e)
     both false c e = absurd (false≢true e)
-creates_leave n s t id m child (what.User z1 z2 z3 z4) same e = cc
-creates_leave n s t id m child what.Stop same e = cc
-creates_leave n s t id m child what.Resume same e = cc
-creates_leave n s t id m child what.Kill same e = cc
-creates_leave n s t id m child (what.Read z1 z2) same e = cc
-creates_leave n s t id m child (what.Write z1 z2) same e = cc
-creates_leave n s t id m child (what.Block z1) same e = cc
-creates_leave n s t id m child what.Written same e = cc
-creates_leave n s t id m child what.Gone same e = cc
-creates_leave n s t id m child (what.Created z1) same e = cc
-creates_leave n s t id m child what.NoRoom same e = cc
-creates_leave n s t id m child (what.Move z1) same e = cc
-creates_leave n s t id m child (what.Moved z1) same e = cc
+creates_leave n s t id m child _ same e = cc
 
 no_room_leaves : (n : ℕ) (s t : OneKernel) (id : MsgId) (m : PlainMessage) (w : PlainWhat) → s.machines ≡ n → service.has_no_room s id m w ≡ Some t → Leaves n s t × (is_fixed m.to ≡ true)
-no_room_leaves n s t id m (what.Create image links) same e =
-    let k = when-is (service.is_kernel s m.to) (with_sent (without_message s id) (Some (answer_to m what.NoRoom))) t e in
-    (leaves_sent n s t (without_message s id) (answer_to m what.NoRoom) k.1 refl (λ j z f. stayed s id j z f) (kernel_sends n s m.to same k.0), kernel_fixed s m.to k.0)
-no_room_leaves n s t id m (what.User z1 z2 z3 z4) same e = cc
-no_room_leaves n s t id m what.Stop same e = cc
-no_room_leaves n s t id m what.Resume same e = cc
-no_room_leaves n s t id m what.Kill same e = cc
-no_room_leaves n s t id m (what.Read z1 z2) same e = cc
-no_room_leaves n s t id m (what.Write z1 z2) same e = cc
-no_room_leaves n s t id m (what.Block z1) same e = cc
-no_room_leaves n s t id m what.Written same e = cc
-no_room_leaves n s t id m what.Gone same e = cc
-no_room_leaves n s t id m (what.Created z1) same e = cc
-no_room_leaves n s t id m what.NoRoom same e = cc
-no_room_leaves n s t id m (what.Move z1) same e = cc
-no_room_leaves n s t id m (what.Moved z1) same e = cc
+no_room_leaves n s t id m (PlainWhat.Create image links) same e =
+    let k = when-is (service.is_kernel s m.to) (with_sent (without_message s id) (Some (answer_to m PlainWhat.NoRoom))) t e in
+    (leaves_sent n s t (without_message s id) (answer_to m PlainWhat.NoRoom) k.1 refl (λ j z f. stayed s id j z f) (kernel_sends n s m.to same k.0), kernel_fixed s m.to k.0)
+no_room_leaves n s t id m _ same e = cc
 
 -- each step leaves them
 pub step_leaves : (n : ℕ) (s t : OneKernel) (l : Label) → s.machines ≡ n → 0 < n → kernel.step s l ≡ Some t → Leaves n s t
-step_leaves n s t (label.Ran p k) same some is = ran_leaves n s t p k is
-step_leaves n s t (label.Call p k c) same some is = let (x, next, rest) = bind-is (kernel.next s p) (kernel.replies s p k c) t is in replies_leave n s t p k c x (nexts s p x next) rest
-step_leaves n s t (label.Send p id) same some is = let (x, next, rest) = bind-is (kernel.next s p) (kernel.sends s p id) t is in sends_leave n s t p id x (nexts s p x next) rest
-step_leaves n s t (label.Wait p) same some is = let (x, next, rest) = bind-is (kernel.next s p) (kernel.waits s p) t is in waits_leave n s t p x (nexts s p x next) rest
-step_leaves n s t (label.Out p k) same some is = let (x, next, rest) = bind-is (kernel.next s p) (kernel.outputs s p k) t is in outputs_leave n s t p k x (nexts s p x next) rest
-step_leaves n s t (label.End p y) same some is = let (x, next, rest) = bind-is (kernel.next s p) (kernel.ends s p y) t is in ends_leave n s t p y x (nexts s p x next) rest
-step_leaves n s t (label.Receive p id) same some is = let (x, c, rest) = bind-is (kernel.completing s p id) (kernel.receives s p id) t is in receives_leave n s t p id x rest
-step_leaves n s t (label.Refuse p id d) same some is = let (x, c, rest) = bind-is (kernel.completing s p id) (kernel.refuses s p d) t is in refuses_leave n s t p d x rest
-step_leaves n s t (label.Dropped id) same some is =
+step_leaves n s t (Label.Ran p k) same some is = ran_leaves n s t p k is
+step_leaves n s t (Label.Call p k c) same some is = let (x, next, rest) = bind-is (kernel.next s p) (kernel.replies s p k c) t is in replies_leave n s t p k c x (nexts s p x next) rest
+step_leaves n s t (Label.Send p id) same some is = let (x, next, rest) = bind-is (kernel.next s p) (kernel.sends s p id) t is in sends_leave n s t p id x (nexts s p x next) rest
+step_leaves n s t (Label.Wait p) same some is = let (x, next, rest) = bind-is (kernel.next s p) (kernel.waits s p) t is in waits_leave n s t p x (nexts s p x next) rest
+step_leaves n s t (Label.Out p k) same some is = let (x, next, rest) = bind-is (kernel.next s p) (kernel.outputs s p k) t is in outputs_leave n s t p k x (nexts s p x next) rest
+step_leaves n s t (Label.End p y) same some is = let (x, next, rest) = bind-is (kernel.next s p) (kernel.ends s p y) t is in ends_leave n s t p y x (nexts s p x next) rest
+step_leaves n s t (Label.Receive p id) same some is = let (x, c, rest) = bind-is (kernel.completing s p id) (kernel.receives s p id) t is in receives_leave n s t p id x rest
+step_leaves n s t (Label.Refuse p id d) same some is = let (x, c, rest) = bind-is (kernel.completing s p id) (kernel.refuses s p d) t is in refuses_leave n s t p d x rest
+step_leaves n s t (Label.Dropped id) same some is =
     let (m, there, rest) = bind-is (s.bag id) (λ (v : PlainMessage). bind (kernel.ended (s.processes v.to)) (kernel.drops s id v)) t is in
     let (y, ended, last) = bind-is (kernel.ended (s.processes m.to)) (kernel.drops s id m) t rest in
     leaves_quiet n s t (without_message s id) (when-is (is_dropped m.what) (without_message s id) t last).1 refl (λ j z f. stayed s id j z f)
-step_leaves n s t (label.Served id) same some is =
+step_leaves n s t (Label.Served id) same some is =
     let (m, there, rest) = bind-is (s.bag id) (λ (v : PlainMessage). bind (kernel.alive (s.processes v.to)) (λ (p : PlainProcess). service.serves s id v p v.what)) t is in
     let (x, alive, last) = bind-is (kernel.alive (s.processes m.to)) (λ (p : PlainProcess). service.serves s id m p m.what) t rest in
     serves_leave n s t id m x m.what (alive-is (s.processes m.to) x alive) last
-step_leaves n s t (label.Gone id) same some is =
+step_leaves n s t (Label.Gone id) same some is =
     let (m, there, rest) = bind-is (s.bag id) (λ (v : PlainMessage). bind (kernel.ended (s.processes v.to)) (kernel.says_gone s id v)) t is in
     let (y, ended, last) = bind-is (kernel.ended (s.processes m.to)) (kernel.says_gone s id m) t rest in
-    let k = when-is (is_of_memory m.what) (with_sent (without_message s id) (Some (answer_to m what.Gone))) t last in
-    leaves_sent n s t (without_message s id) (answer_to m what.Gone) k.1 refl (λ j z f. stayed s id j z f) (alive_sends n s m.to (Ended y) (ended-is (s.processes m.to) y ended))
-step_leaves n s t (label.Took id) same some is =
+    let k = when-is (is_of_memory m.what) (with_sent (without_message s id) (Some (answer_to m PlainWhat.Gone))) t last in
+    leaves_sent n s t (without_message s id) (answer_to m PlainWhat.Gone) k.1 refl (λ j z f. stayed s id j z f) (alive_sends n s m.to (Ended y) (ended-is (s.processes m.to) y ended))
+step_leaves n s t (Label.Took id) same some is =
     let (m, there, rest) = bind-is (s.bag id) (service.takes s id) t is in takes_leave n s t id m (pid_eq m.to switchboard) (pid_eq m.to manager) some rest
-step_leaves n s t (label.Created id child) same some is = let (m, there, rest) = bind-is (s.bag id) (λ m. service.creates s id m child m.what) t is in (creates_leave n s t id m child m.what same rest).0
-step_leaves n s t (label.NoSpace id a b) same some is = let (m, there, rest) = bind-is (s.bag id) (λ m. service.has_no_room s id m m.what) t is in (no_room_leaves n s t id m m.what same rest).0
+step_leaves n s t (Label.Created id child) same some is = let (m, there, rest) = bind-is (s.bag id) (λ m. service.creates s id m child m.what) t is in (creates_leave n s t id m child m.what same rest).0
+step_leaves n s t (Label.NoSpace id a b) same some is = let (m, there, rest) = bind-is (s.bag id) (λ m. service.has_no_room s id m m.what) t is in (no_room_leaves n s t id m m.what same rest).0
 
 -- what servers take and kernels make is for them
 abbrev IsFor : OneKernel → MsgId → Type 0
@@ -370,15 +289,15 @@ takes_for p true c t x y e f is = grind (arith, nat_tests)
 takes_for p false true t x y e f is = grind (arith, nat_tests)
 takes_for p false false t x y e f is = cc
 
-pub took_for : (s t : OneKernel) (id : MsgId) → kernel.step s (label.Took id) ≡ Some t → IsFor s id
+pub took_for : (s t : OneKernel) (id : MsgId) → kernel.step s (Label.Took id) ≡ Some t → IsFor s id
 took_for s t id is =
     let (m, there, rest) = bind-is (s.bag id) (service.takes s id) t is in
     for_it s id m there
     (takes_for m.to (pid_eq m.to switchboard) (pid_eq m.to manager) t (bind (board.takes s.switchboard m m.what) (λ k. Some (service.switchboard_took s id k))) (bind (manage.takes s.manager s.machines (length s.images) m m.what) (λ k. Some (service.manager_took s id k)))
     refl refl rest)
 
-pub created_for : (s t : OneKernel) (id : MsgId) (child : Pid) → kernel.step s (label.Created id child) ≡ Some t → IsFor s id
+pub created_for : (s t : OneKernel) (id : MsgId) (child : Pid) → kernel.step s (Label.Created id child) ≡ Some t → IsFor s id
 created_for s t id child is = let (m, there, rest) = bind-is (s.bag id) (λ m. service.creates s id m child m.what) t is in for_it s id m there (creates_leave s.machines s t id m child m.what refl rest).1
 
-pub no_space_for : (s t : OneKernel) (id : MsgId) (a b : ℕ) → kernel.step s (label.NoSpace id a b) ≡ Some t → IsFor s id
+pub no_space_for : (s t : OneKernel) (id : MsgId) (a b : ℕ) → kernel.step s (Label.NoSpace id a b) ≡ Some t → IsFor s id
 no_space_for s t id a b is = let (m, there, rest) = bind-is (s.bag id) (λ m. service.has_no_room s id m m.what) t is in for_it s id m there (no_room_leaves s.machines s t id m m.what refl rest).1

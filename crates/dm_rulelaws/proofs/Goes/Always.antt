@@ -1,65 +1,30 @@
 -- Wherever all of it holds, each directive has its group.
-use Rattle.std.proofs.Common.{◌≡◌, ◌≢◌, ℕ, ◌+◌, ◌≤◌, ◌==◌, ◌&&◌, ◌||◌, Bool, true, false, not, List, [], ◌∷◌, refl, ap, ◌∙◌, sym, is_some, inl, inr, arith}
-use Rattle.std.specs.Prelude.{⊤, if◌then◌else◌, slice_get}
-use Rattle.std.specs.declared.option.Option.{Option}
-use Rattle.std.specs.declared.option.Option.TheVariants.{None, Some}
-use Rattle.std.proofs.lemmas.Bool.{false≢true}
-use Rattle.dm_link.specs.declared.Pid.{Pid}
-use Rattle.dm_link.specs.Names.{pid_eq}
-use Rattle.dm_message.specs.declared.MsgId.{MsgId}
-use Rattle.dm_message.specs.Plain.{PlainMessage}
-use Rattle.dm_onekernel.specs.declared.boot.Boot.{Boot}
-use Rattle.dm_onekernel.specs.Boot.{IsValid, switchboard, manager}
-use Rattle.dm_laws.proofs.Equal.{id_eq-same}
-use Rattle.dm_schedule.specs.declared.Step.{Step}
-use Rattle.dm_schedule.specs.declared.Step.TheVariants as directive
-use Rattle.dm_line.specs.declared.line.Line.TheVariants as line
-use Rattle.dm_rule.specs.Addresses.{Addresses, child_from, child_number}
-use Rattle.dm_rule.specs.Migrating.{migrates_child, migrates}
-use Rattle.dm_rule.specs.Point.{Point, moved}
-use Rattle.dm_rule.specs.Parts.{Part, Says, Spelled}
+use Rattle.dm_rulelaws.proofs.Names.{◌≡◌, ◌≢◌, ℕ, ◌+◌, ◌≤◌, ◌==◌, ◌&&◌, ◌||◌, Bool, true, false, not, List, [], ◌∷◌, refl, ap, ◌∙◌, sym, is_some, inl, inr, arith, ⊤, if◌then◌else◌, slice_get, Option, None, Some, false≢true, Pid, pid_eq}
+use Rattle.dm_rulelaws.proofs.Names.{MsgId, PlainMessage, Boot, IsValid, switchboard, manager, Step, Line, MessageKind, Addresses, child_from, child_number, migrates_child, migrates, Point, moved, Part, Says, Spelled, group_of, Spot, Queue}
+use Rattle.dm_rulelaws.proofs.Names.{Inbox, standing, StandsOutside, View, Told, Target, is_kernels, IsStep, arrives_net, resends_net, stands_right, StandsAsBag-elsewhere, Each, has_bytes, is_server, is_fixed, Life, OneKernel, pid_eq-is}
+use Rattle.dm_rulelaws.proofs.Names.{cases_Bool, nat_tests}
 use Rattle.dm_rule.specs.Rule as rule
-use Rattle.dm_rule.specs.Rule.{group_of}
-use Rattle.dm_rule.specs.Spots.{Spot, Queue, Held, Inbox, Untaken, times, standing, StandsOutside}
-use Rattle.dm_rule.specs.View.{View, Told, Target, is_kernels}
 use Rattle.dm_rule.specs.View as view
-use Rattle.dm_rule.specs.Laws.{IsStep}
-use Rattle.dm_rule.proofs.Groups.{arrives_net, resends_net, stands_right}
-use Rattle.dm_rule.proofs.Standing.{StandsAsBag-elsewhere}
 use Rattle.dm_rulelaws.proofs.Runs.{Run}
 use Rattle.dm_rulelaws.proofs.Own.Told.{OwnTold, own_sort}
 use Rattle.dm_rulelaws.proofs.Own.Fits.{OwnsFit, NoOwns, FirstOwns}
-use Rattle.dm_rulelaws.specs.Fits.{Each, has_bytes, is_server}
-use Rattle.dm_rulelaws.specs.Found.{is_fixed}
-use Rattle.dm_onekernel.specs.Kernel.{Life, OneKernel}
-use Rattle.dm_message.specs.declared.kind.MessageKind.TheVariants as kind
-use Rattle.dm_laws.proofs.Equal.{pid_eq-is}
-use Rattle.std.proofs.lemmas.Bool.{cases_Bool}
-use Rattle.std.proofs.lemmas.Bool.Decides.{nat_tests}
 use Rattle.dm_rulelaws.proofs.Goes.Parts.{ArePlain, Can, Shape, Goes, goes, can_plain, can_net}
 use Rattle.dm_rulelaws.proofs.Goes.Serves.{can_turn}
 use Rattle.dm_rulelaws.proofs.Goes.Turns.{queue_drops}
 use Rattle.dm_rulelaws.proofs.Goes.Front.{begun, begun_sane, Calm, CanTurn, Front}
 use Rattle.dm_rulelaws.proofs.Goes.Servers.{can_handle}
 use Rattle.dm_rulelaws.proofs.Goes.Own.{FrontOwn, can_hear}
+pub use Rattle.dm_rule.proofs.Moves.States.{front_one as stands_first}
 
 -- the message at the front of an inbox
 abbrev is_box : Spot → Bool
 is_box (Inbox m) = true
-is_box (Queue m p) = false
-is_box (Held m p) = false
-is_box (Untaken a b) = false
+is_box _ = false
 
-queue_apart : (m n : ℕ) (p : Pid) → Queue n p ≢ Inbox m
+pub queue_apart : (m n : ℕ) (p : Pid) → Queue n p ≢ Inbox m
 queue_apart m n p e = false≢true (ap is_box e)
 
-pub stands_first : (v : View) (m : ℕ) (i : MsgId) (is : List MsgId) → v.inbox m ≡ i ∷ is → 1 ≤ standing v i (Inbox m)
-stands_first v m i is box =
-    let a : times i (v.inbox m) ≡ times i (i ∷ is) = ap (times i) box in
-    let c : times i (i ∷ is) ≡ 1 + times i is = ap (λ (c : Bool). (if c then 1 else 0) + times i is) (id_eq-same i) in
-    omega (arith, a, c)
-
-told_of : (o : Option Told) → is_some o ≡ true → (t : Told) × (o ≡ Some t)
+pub told_of : (o : Option Told) → is_some o ≡ true → (t : Told) × (o ≡ Some t)
 told_of None e = cc
 told_of (Some t) e = (t, refl)
 
@@ -82,7 +47,7 @@ front b m o i is x box there h =
     }
 
 -- or it is a kernel's own
-own_by : (c : Bool) (f : Spot → ℕ) (z : Spot) → 1 ≤ f z → StandsOutside c f → c ≡ true
+pub own_by : (c : Bool) (f : Spot → ℕ) (z : Spot) → 1 ≤ f z → StandsOutside c f → c ≡ true
 own_by true f z least h = refl
 own_by false f z least h = absurd (let e : f z ≡ 0 = h z in omega (arith, least, e))
 
@@ -105,7 +70,7 @@ child_plain : (v : View) (a : Addresses) (p : Pid) (n : Option ℕ) → ArePlain
 child_plain v a p None = (refl, tt)
 child_plain v a p (Some n) = (tt, tt)
 
-migrates_if : (v : View) (p : Pid) (c d : Bool) (ps : List Part) → ArePlain v ps → ArePlain v (if c then Says (line.Pinned p) ∷ [] else if d then Says (line.Pinned p) ∷ [] else ps)
+migrates_if : (v : View) (p : Pid) (c d : Bool) (ps : List Part) → ArePlain v ps → ArePlain v (if c then Says (Line.Pinned p) ∷ [] else if d then Says (Line.Pinned p) ∷ [] else ps)
 migrates_if v p true d ps h = (refl, tt)
 migrates_if v p false true ps h = (refl, tt)
 migrates_if v p false false ps h = h
@@ -131,48 +96,47 @@ child_num b pt p n is h =
     let k = h.based.phased.sane.sound.made.least p there in
     grind (arith, nat_tests)
 
-target_sort : (p : Pid) (m : ℕ) → is_fixed p ≡ false → own_sort kind.Migrate p (Target m) ≡ true
+target_sort : (p : Pid) (m : ℕ) → is_fixed p ≡ false → own_sort MessageKind.Migrate p (Target m) ≡ true
 target_sort p m e = ap (λ (c : Bool). not c && true) e
 
-child_own : (b : Boot) (pt : Point) (p : Pid) (m : ℕ) (n : Option ℕ) → child_number pt.kernel p ≡ n → is_server p ≡ false → Run b pt → OwnsFit (moved pt (line.Head (directive.Migrate p m)) pt.kernel).view (migrates_child pt.addresses p n)
+child_own : (b : Boot) (pt : Point) (p : Pid) (m : ℕ) (n : Option ℕ) → child_number pt.kernel p ≡ n → is_server p ≡ false → Run b pt → OwnsFit (moved pt (Line.Head (Step.Migrate p m)) pt.kernel).view (migrates_child pt.addresses p n)
 child_own b pt p m None is server h = NoOwns (tt, tt)
 child_own b pt p m (Some n) is server h = FirstOwns (target_sort p m (ap (λ (c : Bool). c || is_server p) (child_num b pt p n is h) ∙ server), tt)
 
 migrates_by : (b : Boot) (pt : Point) (p : Pid) (m : ℕ) (c d : Bool) → pid_eq p switchboard ≡ c → pid_eq p manager ≡ d → Run b pt
-    → OwnsFit (moved pt (line.Head (directive.Migrate p m)) pt.kernel).view (if c then Says (line.Pinned p) ∷ [] else if d then Says (line.Pinned p) ∷ [] else migrates_child pt.addresses p (child_number pt.kernel p))
+    → OwnsFit (moved pt (Line.Head (Step.Migrate p m)) pt.kernel).view (if c then Says (Line.Pinned p) ∷ [] else if d then Says (Line.Pinned p) ∷ [] else migrates_child pt.addresses p (child_number pt.kernel p))
 migrates_by b pt p m true d one two h = NoOwns (tt, tt)
 migrates_by b pt p m false true one two h = NoOwns (tt, tt)
 migrates_by b pt p m false false one two h = child_own b pt p m (child_number pt.kernel p) refl (ap (λ (c : Bool). c || pid_eq p manager) one ∙ two) h
 
 -- what a group asks for to keep the order of messages
 abbrev pub CalmFor : Point → Step → Type 0
-CalmFor pt (directive.Turn m) = Calm m pt
-CalmFor pt (directive.Tick m) = ⊤
-CalmFor pt (directive.Deliver a c k) = ⊤
-CalmFor pt (directive.Migrate p m) = ⊥
+CalmFor pt (Step.Turn m) = Calm m pt
+CalmFor pt (Step.Migrate p m) = ⊥
+CalmFor pt _ = ⊤
 
 -- a group, whether it receives, and its kernels' own messages
 pub record Group (b : Boot) (pt : Point) (d : Step) : Type 0 where
   pub goes : Goes (CalmFor pt d) b pt d
-  pub shape : Shape (view.actor d) (moved pt (line.Head d) pt.kernel) goes.parts
-  pub owns : OwnsFit (moved pt (line.Head d) pt.kernel).view goes.parts
+  pub shape : Shape (view.actor d) (moved pt (Line.Head d) pt.kernel) goes.parts
+  pub owns : OwnsFit (moved pt (Line.Head d) pt.kernel).view goes.parts
 
-group_by : (b : Boot) (pt : Point) (d : Step) → Can (CalmFor pt d) (view.actor d) (moved pt (line.Head d) pt.kernel) (rule.outcome b pt d) → Group b pt d
+group_by : (b : Boot) (pt : Point) (d : Step) → Can (CalmFor pt d) (view.actor d) (moved pt (Line.Head d) pt.kernel) (rule.outcome b pt d) → Group b pt d
 group_by b pt d c = record { goes = goes (CalmFor pt d) b pt d c.ps c.is c.does; shape = c.shape; owns = c.owns }
 
 pub group_on : (b : Boot) (pt : Point) (d : Step) → Run b pt → OwnTold pt → Group b pt d
-group_on b pt (directive.Turn m) h own = group_by b pt (directive.Turn m) (can_turn_by b m pt (pt.view.inbox m) refl h own)
-group_on b pt (directive.Tick m) h own =
-    let q = moved pt (line.Head (directive.Tick m)) pt.kernel in
-    let ps = Says (line.Resent m (rule.outstanding pt.view m pt.kernel.machines)) ∷ rule.resends pt.view m pt.kernel.machines in
-    group_by b pt (directive.Tick m) (can_net ⊤ m q ps (tt, resends_net pt.view m pt.kernel.machines))
-group_on b pt (directive.Deliver a c k) h own =
-    let q = moved pt (line.Head (directive.Deliver a c k)) pt.kernel in
+group_on b pt (Step.Turn m) h own = group_by b pt (Step.Turn m) (can_turn_by b m pt (pt.view.inbox m) refl h own)
+group_on b pt (Step.Tick m) h own =
+    let q = moved pt (Line.Head (Step.Tick m)) pt.kernel in
+    let ps = Says (Line.Resent m (rule.outstanding pt.view m pt.kernel.machines)) ∷ rule.resends pt.view m pt.kernel.machines in
+    group_by b pt (Step.Tick m) (can_net ⊤ m q ps (tt, resends_net pt.view m pt.kernel.machines))
+group_on b pt (Step.Deliver a c k) h own =
+    let q = moved pt (Line.Head (Step.Deliver a c k)) pt.kernel in
     let there = slice_get (pt.view.pair a c).wire k in
-    group_by b pt (directive.Deliver a c k) (can_net ⊤ c q (rule.arrives a c (pt.view.pair a c) (pt.view.pair c a) there) (arrives_net a c (pt.view.pair a c) (pt.view.pair c a) there))
-group_on b pt (directive.Migrate p m) h own =
-    let q = moved pt (line.Head (directive.Migrate p m)) pt.kernel in
-    group_by b pt (directive.Migrate p m) (can_plain ⊥ 0 q (migrates pt p) (λ c. c) (migrates_plain q.view pt p) (migrates_by b pt p m (pid_eq p switchboard) (pid_eq p manager) refl refl h))
+    group_by b pt (Step.Deliver a c k) (can_net ⊤ c q (rule.arrives a c (pt.view.pair a c) (pt.view.pair c a) there) (arrives_net a c (pt.view.pair a c) (pt.view.pair c a) there))
+group_on b pt (Step.Migrate p m) h own =
+    let q = moved pt (Line.Head (Step.Migrate p m)) pt.kernel in
+    group_by b pt (Step.Migrate p m) (can_plain ⊥ 0 q (migrates pt p) (λ c. c) (migrates_plain q.view pt p) (migrates_by b pt p m (pid_eq p switchboard) (pid_eq p manager) refl refl h))
 
 -- each directive has its group
 pub goes_on : (b : Boot) (pt : Point) (e : Step) → IsValid b → Run b pt → OwnTold pt → IsStep pt.kernel.machines e → (w : Spelled) × (group_of b pt e ≡ Some w)

@@ -1,43 +1,17 @@
 -- The message at the front of the inbox: what it is for whom.
-use Rattle.std.proofs.Common.{◌≡◌, ℕ, ◌+◌, ◌≤◌, ◌==◌, ◌||◌, Bool, true, false, List, ◌∷◌, length, refl, ap, ◌∙◌, sym, subst, is_some, arith}
-use Rattle.std.specs.declared.option.Option.{Option}
-use Rattle.std.specs.declared.option.Option.TheVariants.{None, Some}
-use Rattle.std.proofs.lemmas.Bool.Decides.{nat_tests}
-use Rattle.dm_link.specs.declared.Pid.{Pid}
-use Rattle.dm_link.specs.Names.{pid_eq}
-use Rattle.dm_message.specs.declared.MsgId.{MsgId}
-use Rattle.dm_message.specs.Ids.{id_eq}
-use Rattle.dm_message.specs.Kinds.{plain_kind}
-use Rattle.dm_message.specs.Plain as what
-use Rattle.dm_message.specs.Plain.{PlainMessage, PlainWhat}
-use Rattle.dm_onekernel.specs.declared.boot.Boot.{Boot}
-use Rattle.dm_onekernel.specs.Boot.{switchboard, manager}
-use Rattle.dm_onekernel.specs.Kernel.{Life, OneKernel, with_sent}
-use Rattle.dm_onekernel.specs.Pieces.{answer_id, answer_to}
-use Rattle.dm_laws.proofs.Entered.{Made}
-use Rattle.dm_laws.proofs.Equal.{id_eq-same, pid_eq-same}
-use Rattle.dm_laws.proofs.Movers.{sent_at}
-use Rattle.dm_schedule.specs.declared.Step.TheVariants as directive
-use Rattle.dm_line.specs.declared.line.Line.TheVariants as line
-use Rattle.dm_rule.specs.Point.{Point, moved}
+use Rattle.dm_rulelaws.proofs.Names.{◌≡◌, ℕ, ◌+◌, ◌≤◌, ◌==◌, ◌||◌, Bool, true, false, List, ◌∷◌, length, refl, ap, ◌∙◌, sym, subst, is_some, arith, Option, None, Some, nat_tests, Pid, pid_eq, MsgId, id_eq, plain_kind, Step, Line}
+use Rattle.dm_rulelaws.proofs.Names.{PlainMessage, PlainWhat, Boot, switchboard, manager, Life, OneKernel, with_sent, answer_id, answer_to, Made, id_eq-same, pid_eq-same, sent_at, Point, moved, Inbox, times, standing, View, Told, Sane}
+use Rattle.dm_rulelaws.proofs.Names.{has_bytes, is_server, awaits, WhatFits, is_fixed, are_home, Part, is_still}
 use Rattle.dm_rule.specs.Rule as rule
-use Rattle.dm_rule.specs.Spots.{Inbox, times, standing}
-use Rattle.dm_rule.specs.View.{View, Told}
 use Rattle.dm_rule.specs.View as view
-use Rattle.dm_rule.proofs.Telling.{Sane}
-use Rattle.dm_rulelaws.specs.Fits.{has_bytes, is_server, awaits, WhatFits}
-use Rattle.dm_rulelaws.specs.Found.{is_fixed}
 use Rattle.dm_rulelaws.proofs.Runs.{Run}
 use Rattle.dm_rulelaws.proofs.Goes.Parts.{Does, does_nothing, does_route, sane_by, Can}
-use Rattle.dm_rule.specs.Homes.{are_home}
-use Rattle.dm_rule.specs.Parts.{Part}
-use Rattle.dm_rule.proofs.Homes.Labels.{is_still}
 use Rattle.dm_rulelaws.proofs.Order.Moves.{Last}
 use Rattle.dm_rulelaws.proofs.Goes.Turns.{Droppable}
 
 -- behind the head of a turn
 abbrev pub begun : Point → ℕ → Point
-begun o m = moved o (line.Head (directive.Turn m)) o.kernel
+begun o m = moved o (Line.Head (Step.Turn m)) o.kernel
 
 -- nothing has moved: on this machine nothing moves now, what it has is at home here, and no message is a kernel's own
 pub record Calm (m : ℕ) (o : Point) : Type 0 where
@@ -51,7 +25,7 @@ abbrev pub CanTurn : ℕ → Point → Option (List Part) → Type 0
 CanTurn m o ps = Can (Calm m o) m (begun o m) ps
 
 pub begun_sane : (o : Point) (m : ℕ) → Sane o → Sane (begun o m)
-begun_sane o m s = sane_by o (line.Head (directive.Turn m)) o.kernel refl refl s
+begun_sane o m s = sane_by o (Line.Head (Step.Turn m)) o.kernel refl refl s
 
 pub record Front (b : Boot) (m : ℕ) (o : Point) (i : MsgId) (x : PlainMessage) : Type 0 where
   pub rest : List MsgId
@@ -72,9 +46,6 @@ made_of b m o i x f = f.run.based.phased.sane.sound.made
 
 pub name_of : (b : Boot) (m : ℕ) (o : Point) (i : MsgId) (x : PlainMessage) → Front b m o i x → x.id ≡ i
 name_of b m o i x f = f.run.based.phased.sane.sound.entered.named i x f.there
-
-pub fits_of : (b : Boot) (m : ℕ) (o : Point) (i : MsgId) (x : PlainMessage) (w : PlainWhat) → x.what ≡ w → Front b m o i x → WhatFits o.kernel i x w
-fits_of b m o i x w is f = subst (WhatFits o.kernel i x) is (f.run.based.fits.messages i x f.there)
 
 -- what was told of it
 pub told_kind : (b : Boot) (m : ℕ) (o : Point) (i : MsgId) (x : PlainMessage) (f : Front b m o i x) → f.told.kind ≡ plain_kind x.what
@@ -115,10 +86,10 @@ made_is s p there h =
 
 -- what a message of this kind is for, if it isn't for a process that was made
 abbrev pub ForOthers : PlainMessage → PlainWhat → Type 0
-ForOthers x (what.User code channel body links) = is_server x.to ≡ true
-ForOthers x (what.Create image links) = x.to.num ≡ 0
-ForOthers x (what.Created child) = x.to ≡ manager
-ForOthers x what.NoRoom = x.to ≡ manager
+ForOthers x (PlainWhat.User code channel body links) = is_server x.to ≡ true
+ForOthers x (PlainWhat.Create image links) = x.to.num ≡ 0
+ForOthers x (PlainWhat.Created child) = x.to ≡ manager
+ForOthers x PlainWhat.NoRoom = x.to ≡ manager
 ForOthers x w = ⊥
 
 pub data ForWhom (s : OneKernel) (x : PlainMessage) (w : PlainWhat) : Type 0 where
@@ -130,20 +101,18 @@ user_for s x w true e h f = ForOther (f e)
 user_for s x w false e h f = ForProcess (some_of 0 (s.processes x.to) h)
 
 pub for_whom : (s : OneKernel) (i : MsgId) (x : PlainMessage) (w : PlainWhat) → WhatFits s i x w → ForWhom s x w
-for_whom s i x (what.User code channel body links) h = user_for s x (what.User code channel body links) (is_server x.to) refl h.0 (λ e. e)
-for_whom s i x what.Stop h = ForProcess (some_of 0 (s.processes x.to) h)
-for_whom s i x what.Resume h = ForProcess (some_of 0 (s.processes x.to) h)
-for_whom s i x what.Kill h = ForProcess (some_of 0 (s.processes x.to) h)
-for_whom s i x (what.Read base len) h = ForProcess (some_of (base + len) (s.processes x.to) h.0)
-for_whom s i x (what.Write base bytes) h = ForProcess (some_of (base + length bytes) (s.processes x.to) h.0)
-for_whom s i x (what.Block bytes) h = ForProcess (ap (λ p. is_some (s.processes p)) h.0 ∙ awaits_some (s.processes i.from) i.n (what.Block bytes) h.1)
-for_whom s i x what.Written h = ForProcess (ap (λ p. is_some (s.processes p)) h.0 ∙ awaits_some (s.processes i.from) i.n what.Written h.1)
-for_whom s i x what.Gone h = ForProcess (ap (λ p. is_some (s.processes p)) h.0 ∙ awaits_some (s.processes i.from) i.n what.Gone h.1)
-for_whom s i x (what.Create image links) h = let (num, rest, numbered, sender, request, is, fits) = h in ForOther num
-for_whom s i x (what.Created child) h = let (to, answer, is, made) = h in ForOther to
-for_whom s i x what.NoRoom h = let (to, answer, is) = h in ForOther to
-for_whom s i x (what.Move a) h = absurd h
-for_whom s i x (what.Moved a) h = absurd h
+for_whom s i x (PlainWhat.User code channel body links) h = user_for s x (PlainWhat.User code channel body links) (is_server x.to) refl h.0 (λ e. e)
+for_whom s i x (PlainWhat.Read base len) h = ForProcess (some_of (base + len) (s.processes x.to) h.0)
+for_whom s i x (PlainWhat.Write base bytes) h = ForProcess (some_of (base + length bytes) (s.processes x.to) h.0)
+for_whom s i x (PlainWhat.Block bytes) h = ForProcess (ap (λ p. is_some (s.processes p)) h.0 ∙ awaits_some (s.processes i.from) i.n (PlainWhat.Block bytes) h.1)
+for_whom s i x PlainWhat.Written h = ForProcess (ap (λ p. is_some (s.processes p)) h.0 ∙ awaits_some (s.processes i.from) i.n PlainWhat.Written h.1)
+for_whom s i x PlainWhat.Gone h = ForProcess (ap (λ p. is_some (s.processes p)) h.0 ∙ awaits_some (s.processes i.from) i.n PlainWhat.Gone h.1)
+for_whom s i x (PlainWhat.Create image links) h = let (num, rest, numbered, sender, request, is, fits) = h in ForOther num
+for_whom s i x (PlainWhat.Created child) h = let (to, answer, is, made) = h in ForOther to
+for_whom s i x PlainWhat.NoRoom h = let (to, answer, is) = h in ForOther to
+for_whom s i x (PlainWhat.Move a) h = absurd h
+for_whom s i x (PlainWhat.Moved a) h = absurd h
+for_whom s i x _ h = ForProcess (some_of 0 (s.processes x.to) h)
 
 -- a message for a kernel, for the switchboard, for the manager
 pub process_not_kernel : (s : OneKernel) (p : Pid) → is_some (s.processes p) ≡ true → (p.num == 0) ≡ true → Made s → false ≡ true

@@ -1,38 +1,13 @@
 -- A kernel's own message at the front of the inbox can be handled.
-use Rattle.std.proofs.Common.{◌≡◌, ◌≢◌, ◌⊎◌, ℕ, ◌+◌, ◌/◌, ◌≤◌, ◌==◌, ◌&&◌, ◌||◌, Bool, true, false, not, List, [], ◌∷◌, ◌++◌, length, refl, ap, ◌∙◌, sym, subst, is_some, inl, inr, arith}
-use Rattle.std.specs.Prelude.{if◌then◌else◌}
-use Rattle.std.specs.declared.option.Option.{Option}
-use Rattle.std.specs.declared.option.Option.TheVariants.{None, Some}
-use Rattle.std.proofs.lemmas.Bool.{false≢true}
-use Rattle.std.proofs.lemmas.Bool.Decides.{nat_tests}
-use Rattle.dm_link.specs.declared.Pid.{Pid}
-use Rattle.dm_link.specs.Names.{pid_eq}
-use Rattle.dm_message.specs.declared.MsgId.{MsgId}
-use Rattle.dm_message.specs.declared.kind.MessageKind.{MessageKind}
-use Rattle.dm_message.specs.declared.kind.MessageKind.TheVariants as kind
-use Rattle.dm_onekernel.specs.declared.boot.Boot.{Boot}
-use Rattle.dm_onekernel.specs.Boot.{switchboard, manager}
-use Rattle.dm_onekernel.specs.Options.{bind}
-use Rattle.dm_onekernel.specs.PlainProcess.{PlainProcess}
-use Rattle.dm_onekernel.specs.Kernel.{Life, Alive, Ended}
+use Rattle.dm_rulelaws.proofs.Names.{◌≡◌, ◌≢◌, ℕ, ◌+◌, ◌/◌, ◌≤◌, ◌==◌, ◌&&◌, ◌||◌, Bool, true, false, not, List, [], ◌∷◌, ◌++◌, length, refl, ap, ◌∙◌, sym, subst, is_some, arith, if◌then◌else◌, Option, None, Some, false≢true, nat_tests}
+use Rattle.dm_rulelaws.proofs.Names.{Pid, pid_eq, MsgId, MessageKind, Line, Stage, Boot, switchboard, manager, bind, PlainProcess, Life, Alive, Ended, View, Told, Of, Known, Unknown, Here, Frozen, Incoming, Forward, is_kernels, target_of}
+use Rattle.dm_rulelaws.proofs.Names.{to_kernel, forwards_on, moves_to, accepts, takes_chunk, takes_block, gives_piece, kernel_told, chunks_of, pieces_of, updates, here_told, ended_told, process_told, server_told, sends_on, fits, free_room}
+use Rattle.dm_rulelaws.proofs.Names.{kernel_hears, hears, is_between, is_restart, comes, knows, is_away, Moves, sender_in, receiver_in, told_between, IsIn, Point, Part, Says, Spot, Queue, Held, Inbox, times, standing, token_is, token_at}
+use Rattle.dm_rulelaws.proofs.Names.{is_server, is_fixed, agrees, first_of, eq_self, inbox_is, about_same}
 use Rattle.dm_onekernel.specs.Step as kernel
-use Rattle.dm_laws.proofs.Equal.{id_eq-same}
-use Rattle.dm_line.specs.declared.line.Line.TheVariants as line
-use Rattle.dm_line.specs.declared.line.Stage.TheVariants as stage
-use Rattle.dm_rule.specs.View.{View, Told, About, NothingElse, Target, Of, Known, Unknown, Here, Frozen, Incoming, Forward, is_kernels, target_of}
-use Rattle.dm_rule.specs.View as view
-use Rattle.dm_rule.specs.Migrating.{to_kernel, forwards_on, moves_to, accepts, takes_chunk, takes_block, gives_piece, kernel_told, chunks_of, pieces_of, updates, here_told, ended_told, process_told, server_told, sends_on}
 use Rattle.dm_rule.specs.Migrating as migrating
 use Rattle.dm_rule.specs.Rule as rule
-use Rattle.dm_rule.specs.Rule.{fits, free_room, kernel_hears, hears}
-use Rattle.dm_rule.specs.Phases.{is_between, is_restart, leaves, comes, knows, is_away, Moves, sender_in, receiver_in, told_between, IsIn}
-use Rattle.dm_rule.specs.Point.{Point}
-use Rattle.dm_rule.specs.Parts.{Part, Says}
-use Rattle.dm_rule.specs.Spots.{Spot, Queue, Held, Inbox, Untaken, times, standing}
-use Rattle.dm_rule.proofs.Phases.Stand.{token_is, token_at}
-use Rattle.dm_rulelaws.specs.Fits.{is_server}
-use Rattle.dm_rulelaws.specs.Found.{is_fixed}
-use Rattle.dm_rulelaws.specs.KnownStands.{agrees}
+use Rattle.dm_rule.specs.Phases.{leaves}
 use Rattle.dm_rulelaws.proofs.Runs.{Run}
 use Rattle.dm_rulelaws.proofs.Own.Told.{OwnTold, own_sort, own_between, own_server, is_process}
 use Rattle.dm_rulelaws.proofs.Own.Fits.{NoOwns, ThenOwns, forwarded_place, forwards_own, accepts_own, piece_own, chunk_own, block_own, moves_own, sends_own}
@@ -61,44 +36,29 @@ frozen_alive k d (Frozen to) (Some (Alive y)) e r a = (y, refl)
 frozen_alive k d (Frozen to) (Some (Ended y)) e r a = absurd (false≢true a)
 frozen_alive k d (Frozen to) None e r a = absurd (false≢true a)
 frozen_alive k d (Forward m moves) o e r a = absurd (false≢true (sym (ap (λ (c : Bool). c && (d == m)) r) ∙ e))
-frozen_alive k d Unknown o e r a = absurd (false≢true e)
-frozen_alive k d Here o e r a = absurd (false≢true e)
-frozen_alive k d (Incoming from) o e r a = absurd (false≢true e)
-frozen_alive k d view.Ended o e r a = absurd (false≢true e)
+frozen_alive k d _ o e r a = absurd (false≢true e)
 
-coming_alive : (s : ℕ) (n : Known) (o : Option Life) → comes kind.Restart s n ≡ true → agrees n o ≡ true → IsAlive o
+coming_alive : (s : ℕ) (n : Known) (o : Option Life) → comes MessageKind.Restart s n ≡ true → agrees n o ≡ true → IsAlive o
 coming_alive s (Incoming from) (Some (Alive y)) e a = (y, refl)
 coming_alive s (Incoming from) (Some (Ended y)) e a = absurd (false≢true a)
 coming_alive s (Incoming from) None e a = absurd (false≢true a)
-coming_alive s Unknown o e a = absurd (false≢true e)
-coming_alive s (Forward m moves) o e a = absurd (false≢true e)
-coming_alive s Here o e a = absurd (false≢true e)
-coming_alive s (Frozen to) o e a = absurd (false≢true e)
-coming_alive s view.Ended o e a = absurd (false≢true e)
+coming_alive s _ o e a = absurd (false≢true e)
 
--- what source and destination know
-same_eq : (n : ℕ) → (n == n) ≡ true
-same_eq n = grind (arith, nat_tests)
+pub source_knows : (k : MessageKind) (s d : ℕ) (id : Option MsgId) (n : Known) → knows (Moves k s d id) s n ≡ true → leaves k d n ≡ true
+source_knows k s d id n e = sym (ap (λ (c : Bool). if c then leaves k d n else if d == s then comes k s n else is_away n) (eq_self s)) ∙ e
 
-source_knows : (k : MessageKind) (s d : ℕ) (id : Option MsgId) (n : Known) → knows (Moves k s d id) s n ≡ true → leaves k d n ≡ true
-source_knows k s d id n e = sym (ap (λ (c : Bool). if c then leaves k d n else if d == s then comes k s n else is_away n) (same_eq s)) ∙ e
-
-apart_is : (b : Bool) (s d : ℕ) → (b && not (s == d)) ≡ true → (s == d) ≡ false
+pub apart_is : (b : Bool) (s d : ℕ) → (b && not (s == d)) ≡ true → (s == d) ≡ false
 apart_is true s d e = grind (arith, nat_tests)
 apart_is false s d e = absurd (false≢true e)
 
-destination_knows : (k : MessageKind) (s d : ℕ) (id : Option MsgId) (n : Known) → (s == d) ≡ false → knows (Moves k s d id) d n ≡ true → comes k s n ≡ true
+pub destination_knows : (k : MessageKind) (s d : ℕ) (id : Option MsgId) (n : Known) → (s == d) ≡ false → knows (Moves k s d id) d n ≡ true → comes k s n ≡ true
 destination_knows k s d id n off e =
-    sym (ap (λ (c : Bool). if c then leaves k d n else if d == d then comes k s n else is_away n) off ∙ ap (λ (c : Bool). if c then comes k s n else is_away n) (same_eq d)) ∙ e
+    sym (ap (λ (c : Bool). if c then leaves k d n else if d == d then comes k s n else is_away n) off ∙ ap (λ (c : Bool). if c then comes k s n else is_away n) (eq_self d)) ∙ e
 
 -- a server never moves
-server_leaves : (k : MessageKind) (d : ℕ) (c : Bool) → leaves k d (if c then Here else Unknown) ≡ false
+pub server_leaves : (k : MessageKind) (d : ℕ) (c : Bool) → leaves k d (if c then Here else Unknown) ≡ false
 server_leaves k d true = refl
 server_leaves k d false = refl
-
-server_comes : (s : ℕ) (c : Bool) → comes kind.Restart s (if c then Here else Unknown) ≡ false
-server_comes s true = refl
-server_comes s false = refl
 
 -- the message of a process's migration, where it comes
 pub record Coming (b : Boot) (m : ℕ) (o : Point) (p : Pid) (k : MessageKind) : Type 0 where
@@ -108,53 +68,20 @@ pub record Coming (b : Boot) (m : ℕ) (o : Point) (p : Pid) (k : MessageKind) :
   pub phase : IsIn o.view p (Moves k s d id)
   pub here : m ≡ receiver_in k s d
 
-moving_server : (c : Bool) (s d : ℕ) (k : MessageKind) (b : Boot) (m : ℕ) (o : Point) (p : Pid) (r : Bool) → is_server p ≡ c → is_restart k ≡ r → Run b o → (s == d) ≡ false → leaves k d (o.view.known s p) ≡ true → (is_restart k ≡ true → comes kind.Restart s (o.view.known d p) ≡ true) → IsAlive (o.kernel.processes p)
+moving_server : (c : Bool) (s d : ℕ) (k : MessageKind) (b : Boot) (m : ℕ) (o : Point) (p : Pid) (r : Bool) → is_server p ≡ c → is_restart k ≡ r → Run b o → (s == d) ≡ false → leaves k d (o.view.known s p) ≡ true → (is_restart k ≡ true → comes MessageKind.Restart s (o.view.known d p) ≡ true) → IsAlive (o.kernel.processes p)
 moving_server true s d k b m o p r server restart run off leave come = absurd (false≢true (sym (server_leaves k d (s == 0)) ∙ sym (ap (leaves k d) (run.based.known.server s p server)) ∙ leave))
 moving_server false s d k b m o p true server restart run off leave come = coming_alive s (o.view.known d p) (o.kernel.processes p) (come restart) (run.based.known.agree d p server)
 moving_server false s d k b m o p false server restart run off leave come = frozen_alive k d (o.view.known s p) (o.kernel.processes p) leave restart (run.based.known.agree s p server)
 
-is_it : (k : MessageKind) → is_restart k ≡ true → k ≡ kind.Restart
-is_it kind.Ask e = absurd (false≢true e)
-is_it kind.Refuse e = absurd (false≢true e)
-is_it kind.PullState e = absurd (false≢true e)
-is_it kind.State e = absurd (false≢true e)
-is_it kind.PullBlock e = absurd (false≢true e)
-is_it kind.Memory e = absurd (false≢true e)
-is_it kind.AllTaken e = absurd (false≢true e)
-is_it kind.Restart e = refl
-is_it kind.User e = absurd (false≢true e)
-is_it kind.Stop e = absurd (false≢true e)
-is_it kind.Resume e = absurd (false≢true e)
-is_it kind.Kill e = absurd (false≢true e)
-is_it kind.Read e = absurd (false≢true e)
-is_it kind.Write e = absurd (false≢true e)
-is_it kind.Block e = absurd (false≢true e)
-is_it kind.Written e = absurd (false≢true e)
-is_it kind.Gone e = absurd (false≢true e)
-is_it kind.Create e = absurd (false≢true e)
-is_it kind.Created e = absurd (false≢true e)
-is_it kind.NoRoom e = absurd (false≢true e)
-is_it kind.Move e = absurd (false≢true e)
-is_it kind.Moved e = absurd (false≢true e)
-is_it kind.CallOff e = absurd (false≢true e)
-is_it kind.Bury e = absurd (false≢true e)
-is_it kind.Migrate e = absurd (false≢true e)
-is_it kind.Update e = absurd (false≢true e)
+pub is_it : (k : MessageKind) → is_restart k ≡ true → k ≡ MessageKind.Restart
+is_it MessageKind.Restart e = refl
+is_it _ e = absurd (false≢true e)
 
 moving_alive : (b : Boot) (m : ℕ) (o : Point) (p : Pid) (k : MessageKind) → Run b o → Coming b m o p k → IsAlive (o.kernel.processes p)
 moving_alive b m o p k run c =
     let off = apart_is (is_between k) c.s c.d c.phase.apart in
     moving_server (is_server p) c.s c.d k b m o p (is_restart k) refl refl run off (source_knows k c.s c.d c.id (o.view.known c.s p) (c.phase.known c.s))
     (λ r. ap (λ (j : MessageKind). comes j c.s (o.view.known c.d p)) (sym (is_it k r)) ∙ destination_knows k c.s c.d c.id (o.view.known c.d p) off (c.phase.known c.d))
-
-inbox_is : (m from to : ℕ) → (Inbox m ≡ Inbox to) ⊎ (Inbox m ≡ Untaken from to) → m ≡ to
-inbox_is m from to e = elim e [
-  | inl x ↦ cc
-  | inr x ↦ cc
-]
-
-about_same : (p q : Pid) → Of p ≡ Of q → p ≡ q
-about_same p q e = cc
 
 coming : (b : Boot) (m : ℕ) (o : Point) (i : MsgId) (p : Pid) (f : FrontOwn b m o i) → is_between f.told.kind ≡ true → f.told.about ≡ Of p → Coming b m o p f.told.kind
 coming b m o i p f between about =
@@ -173,7 +100,7 @@ coming b m o i p f between about =
     }
   where
     kind_in : Option Told → MessageKind
-    kind_in None = kind.Bury
+    kind_in None = MessageKind.Bury
     kind_in (Some t) = t.kind
 
 -- parts of the protocol say nothing of the kernel
@@ -189,62 +116,37 @@ block_plain : (v : View) (i : MsgId) (p : Pid) (last : Bool) → ArePlain v (tak
 block_plain v i p true = (refl, (tt, tt))
 block_plain v i p false = (refl, (tt, tt))
 
-moves_plain : (v : View) (m : ℕ) (i : MsgId) (p : Pid) (to : ℕ) (c : Bool) → ArePlain v (if c then Says (line.Here i) ∷ [] else Says (line.Migration stage.Frozen p) ∷ Says (line.Migration stage.Asked p) ∷ to_kernel kind.Ask to ∷ [])
+moves_plain : (v : View) (m : ℕ) (i : MsgId) (p : Pid) (to : ℕ) (c : Bool) → ArePlain v (if c then Says (Line.Here i) ∷ [] else Says (Line.Migration Stage.Frozen p) ∷ Says (Line.Migration Stage.Asked p) ∷ to_kernel MessageKind.Ask to ∷ [])
 moves_plain v m i p to true = (refl, tt)
 moves_plain v m i p to false = (refl, (refl, (tt, tt)))
-
--- the lists of a process go on
-head_times : (i : MsgId) (is : List MsgId) → 1 ≤ times i (i ∷ is)
-head_times i is = let e : times i (i ∷ is) ≡ 1 + times i is = ap (λ (c : Bool). (if c then 1 else 0) + times i is) (id_eq-same i) in omega (arith, e)
 
 tail_times : (i j : MsgId) (is : List MsgId) → 1 ≤ times i is → 1 ≤ times i (j ∷ is)
 tail_times i j is least = omega (arith, least)
 
 sends_plain : (v : View) (to : ℕ) (xs ys : List MsgId) (ps : List Part) → ((i : MsgId) → 1 ≤ times i xs → is_some (v.told i) ≡ true) → ((i : MsgId) → 1 ≤ times i ys → is_some (v.told i) ≡ true) → ArePlain v ps → ArePlain v (sends_on to (xs ++ ys) ++ ps)
 sends_plain v to [] [] ps first more h = h
-sends_plain v to [] (y ∷ ys) ps first more h = (more y (head_times y ys), sends_plain v to [] ys ps first (λ i least. more i (tail_times i y ys least)) h)
-sends_plain v to (x ∷ xs) ys ps first more h = (first x (head_times x xs), sends_plain v to xs ys ps (λ i least. first i (tail_times i x xs least)) more h)
+sends_plain v to [] (y ∷ ys) ps first more h = (more y (first_of y ys), sends_plain v to [] ys ps first (λ i least. more i (tail_times i y ys least)) h)
+sends_plain v to (x ∷ xs) ys ps first more h = (first x (first_of x xs), sends_plain v to xs ys ps (λ i least. first i (tail_times i x xs least)) more h)
 
-can_leave : (C : Type 0) (never : C → ⊥) (m : ℕ) (o : Point) (i : MsgId) (p : Pid) (n : Known) (d : ℕ) → leaves kind.AllTaken d n ≡ true → ((j : MsgId) (z : Spot) → 1 ≤ standing o.view j z → is_some (o.view.told j) ≡ true)
+can_leave : (C : Type 0) (never : C → ⊥) (m : ℕ) (o : Point) (i : MsgId) (p : Pid) (n : Known) (d : ℕ) → leaves MessageKind.AllTaken d n ≡ true → ((j : MsgId) (z : Spot) → 1 ≤ standing o.view j z → is_some (o.view.told j) ≡ true)
     → Can C m (begun o m) (migrating.leaves i p (o.view.queue m p ++ o.view.held m p) n)
 can_leave C never m o i p (Frozen to) d e told =
-    can_plain C m (begun o m) _ never (refl, sends_plain (begun o m).view to (o.view.queue m p) (o.view.held m p) (Says (line.Migration stage.Left p) ∷ to_kernel kind.Restart i.from.home ∷ []) (λ j least. told j (Queue m p) least) (λ j least. told j (Held m p) least) (refl, (tt, tt)))
-    (ThenOwns (line.SentOn p (length (o.view.queue m p ++ o.view.held m p))) _ refl refl (sends_own (Of p) to (o.view.queue m p ++ o.view.held m p) (Says (line.Migration stage.Left p) ∷ to_kernel kind.Restart i.from.home ∷ []) (refl, tt)))
-can_leave C never m o i p (Forward at_ moves) d e told = absurd (false≢true e)
-can_leave C never m o i p Unknown d e told = absurd (false≢true e)
-can_leave C never m o i p Here d e told = absurd (false≢true e)
-can_leave C never m o i p (Incoming from) d e told = absurd (false≢true e)
-can_leave C never m o i p view.Ended d e told = absurd (false≢true e)
+    can_plain C m (begun o m) _ never (refl, sends_plain (begun o m).view to (o.view.queue m p) (o.view.held m p) (Says (Line.Migration Stage.Left p) ∷ to_kernel MessageKind.Restart i.from.home ∷ []) (λ j least. told j (Queue m p) least) (λ j least. told j (Held m p) least) (refl, (tt, tt)))
+    (ThenOwns (Line.SentOn p (length (o.view.queue m p ++ o.view.held m p))) _ refl refl (sends_own (Of p) to (o.view.queue m p ++ o.view.held m p) (Says (Line.Migration Stage.Left p) ∷ to_kernel MessageKind.Restart i.from.home ∷ []) (refl, tt)))
+can_leave C never m o i p _ d e told = absurd (false≢true e)
 
 can_told : (C : Type 0) (never : C → ⊥) (b : Boot) (m : ℕ) (o : Point) (i : MsgId) (p : Pid) (room : Bool × ℕ × ℕ) (x : PlainProcess) (k : MessageKind) (t : Told) → o.view.told i ≡ Some t → t.about ≡ Of p → is_between k ≡ true → Coming b m o p k → Run b o → Can C m (begun o m) (kernel_told o m i p room x k)
-can_told C never b m o i p room x kind.Ask t told about e c run = can_plain C m (begun o m) (accepts i.from.home p room.0 room.1 room.2) never (accepts_plain (begun o m).view i.from.home p room.0 room.1 room.2) (accepts_own (begun o m).view i.from.home p room.0 room.1 room.2)
-can_told C never b m o i p room x kind.Refuse t told about e c run = can_plain C m (begun o m) (Says (line.Stays p) ∷ []) never (refl, tt) (NoOwns (tt, tt))
-can_told C never b m o i p room x kind.PullState t told about e c run = can_plain C m (begun o m) (gives_piece i kind.State) never (refl, (tt, tt)) (piece_own (begun o m).view i kind.State t p told about (λ a e. e))
-can_told C never b m o i p room x kind.State t told about e c run = can_plain C m (begun o m) (takes_chunk i p (o.view.asked p == chunks_of x)) never (chunk_plain (begun o m).view i p (o.view.asked p == chunks_of x)) (chunk_own (begun o m).view i p (o.view.asked p == chunks_of x) t p told about)
-can_told C never b m o i p room x kind.PullBlock t told about e c run = can_plain C m (begun o m) (gives_piece i kind.Memory) never (refl, (tt, tt)) (piece_own (begun o m).view i kind.Memory t p told about (λ a e. e))
-can_told C never b m o i p room x kind.Memory t told about e c run = can_plain C m (begun o m) (takes_block i p (o.view.asked p == pieces_of x)) never (block_plain (begun o m).view i p (o.view.asked p == pieces_of x)) (block_own (begun o m).view i p (o.view.asked p == pieces_of x) t p told about)
-can_told C never b m o i p room x kind.AllTaken t told about e c run =
+can_told C never b m o i p room x MessageKind.Ask t told about e c run = can_plain C m (begun o m) (accepts i.from.home p room.0 room.1 room.2) never (accepts_plain (begun o m).view i.from.home p room.0 room.1 room.2) (accepts_own (begun o m).view i.from.home p room.0 room.1 room.2)
+can_told C never b m o i p room x MessageKind.Refuse t told about e c run = can_plain C m (begun o m) (Says (Line.Stays p) ∷ []) never (refl, tt) (NoOwns (tt, tt))
+can_told C never b m o i p room x MessageKind.PullState t told about e c run = can_plain C m (begun o m) (gives_piece i MessageKind.State) never (refl, (tt, tt)) (piece_own (begun o m).view i MessageKind.State t p told about (λ a e. e))
+can_told C never b m o i p room x MessageKind.State t told about e c run = can_plain C m (begun o m) (takes_chunk i p (o.view.asked p == chunks_of x)) never (chunk_plain (begun o m).view i p (o.view.asked p == chunks_of x)) (chunk_own (begun o m).view i p (o.view.asked p == chunks_of x) t p told about)
+can_told C never b m o i p room x MessageKind.PullBlock t told about e c run = can_plain C m (begun o m) (gives_piece i MessageKind.Memory) never (refl, (tt, tt)) (piece_own (begun o m).view i MessageKind.Memory t p told about (λ a e. e))
+can_told C never b m o i p room x MessageKind.Memory t told about e c run = can_plain C m (begun o m) (takes_block i p (o.view.asked p == pieces_of x)) never (block_plain (begun o m).view i p (o.view.asked p == pieces_of x)) (block_own (begun o m).view i p (o.view.asked p == pieces_of x) t p told about)
+can_told C never b m o i p room x MessageKind.AllTaken t told about e c run =
     can_leave C never m o i p (o.view.known m p) c.d
-    (subst (λ (n : ℕ). leaves kind.AllTaken c.d (o.view.known n p) ≡ true) (sym c.here) (source_knows kind.AllTaken c.s c.d c.id (o.view.known c.s p) (c.phase.known c.s))) run.found.told
-can_told C never b m o i p room x kind.Restart t told about e c run = can_plain C m (begun o m) (Says (line.Migration stage.Restarted p) ∷ []) never (refl, tt) (NoOwns (tt, tt))
-can_told C never b m o i p room x kind.Migrate t told about e c run = absurd (false≢true e)
-can_told C never b m o i p room x kind.Update t told about e c run = absurd (false≢true e)
-can_told C never b m o i p room x kind.User t told about e c run = absurd (false≢true e)
-can_told C never b m o i p room x kind.Stop t told about e c run = absurd (false≢true e)
-can_told C never b m o i p room x kind.Resume t told about e c run = absurd (false≢true e)
-can_told C never b m o i p room x kind.Kill t told about e c run = absurd (false≢true e)
-can_told C never b m o i p room x kind.Read t told about e c run = absurd (false≢true e)
-can_told C never b m o i p room x kind.Write t told about e c run = absurd (false≢true e)
-can_told C never b m o i p room x kind.Block t told about e c run = absurd (false≢true e)
-can_told C never b m o i p room x kind.Written t told about e c run = absurd (false≢true e)
-can_told C never b m o i p room x kind.Gone t told about e c run = absurd (false≢true e)
-can_told C never b m o i p room x kind.Create t told about e c run = absurd (false≢true e)
-can_told C never b m o i p room x kind.Created t told about e c run = absurd (false≢true e)
-can_told C never b m o i p room x kind.NoRoom t told about e c run = absurd (false≢true e)
-can_told C never b m o i p room x kind.Move t told about e c run = absurd (false≢true e)
-can_told C never b m o i p room x kind.Moved t told about e c run = absurd (false≢true e)
-can_told C never b m o i p room x kind.CallOff t told about e c run = absurd (false≢true e)
-can_told C never b m o i p room x kind.Bury t told about e c run = absurd (false≢true e)
+    (subst (λ (n : ℕ). leaves MessageKind.AllTaken c.d (o.view.known n p) ≡ true) (sym c.here) (source_knows MessageKind.AllTaken c.s c.d c.id (o.view.known c.s p) (c.phase.known c.s))) run.found.told
+can_told C never b m o i p room x MessageKind.Restart t told about e c run = can_plain C m (begun o m) (Says (Line.Migration Stage.Restarted p) ∷ []) never (refl, tt) (NoOwns (tt, tt))
+can_told C never b m o i p room x _ t told about e c run = absurd (false≢true e)
 
 can_hear_of : (C : Type 0) (never : C → ⊥) (b : Boot) (m : ℕ) (o : Point) (i : MsgId) (t : Told) (p : Pid) → o.view.told i ≡ Some t → t.about ≡ Of p → is_between t.kind ≡ true → Coming b m o p t.kind → Run b o → Can C m (begun o m) (kernel_hears b o m i t.kind t.about)
 can_hear_of C never b m o i t p told about between c run =
@@ -259,74 +161,43 @@ can_kernel C never b m o i f num =
     can_hear_of C never b m o i f.told p f.told_is about between (coming b m o i p f between about) f.run
 
 -- a server
-can_server : (C : Type 0) (never : C → ⊥) (m : ℕ) (o : Point) (i : MsgId) (t : Told) (k : MessageKind) → k ≡ kind.Update → Can C m (begun o m) (server_told o i t k)
+can_server : (C : Type 0) (never : C → ⊥) (m : ℕ) (o : Point) (i : MsgId) (t : Told) (k : MessageKind) → k ≡ MessageKind.Update → Can C m (begun o m) (server_told o i t k)
 can_server C never m o i t k e = can_as C m (begun o m) (server_told o i t k) (Some (updates o i t)) (ap (server_told o i t) e) (can_plain C m (begun o m) (updates o i t) never (refl, tt) (NoOwns (tt, tt)))
 
 -- a process
 can_here : (C : Type 0) (never : C → ⊥) (m : ℕ) (o : Point) (i : MsgId) (t : Told) (k : MessageKind) → own_sort k t.receiver t.about ≡ true → (t.receiver.num == 0) ≡ false → Can C m (begun o m) (here_told o m i t k)
-can_here C never m o i t kind.Migrate e num = can_plain C m (begun o m) (moves_to m i t.receiver (target_of (Some t))) never (moves_plain (begun o m).view m i t.receiver (target_of (Some t)) (m == target_of (Some t))) (moves_own (begun o m).view i t.receiver (target_of (Some t)) (m == target_of (Some t)))
-can_here C never m o i t kind.Update e num = can_plain C m (begun o m) (updates o i t) never (refl, tt) (NoOwns (tt, tt))
-can_here C never m o i t kind.Ask e num = absurd (false≢true (sym (ap (λ (c : Bool). c && is_process t.about) num) ∙ e))
-can_here C never m o i t kind.Refuse e num = absurd (false≢true (sym (ap (λ (c : Bool). c && is_process t.about) num) ∙ e))
-can_here C never m o i t kind.PullState e num = absurd (false≢true (sym (ap (λ (c : Bool). c && is_process t.about) num) ∙ e))
-can_here C never m o i t kind.State e num = absurd (false≢true (sym (ap (λ (c : Bool). c && is_process t.about) num) ∙ e))
-can_here C never m o i t kind.PullBlock e num = absurd (false≢true (sym (ap (λ (c : Bool). c && is_process t.about) num) ∙ e))
-can_here C never m o i t kind.Memory e num = absurd (false≢true (sym (ap (λ (c : Bool). c && is_process t.about) num) ∙ e))
-can_here C never m o i t kind.AllTaken e num = absurd (false≢true (sym (ap (λ (c : Bool). c && is_process t.about) num) ∙ e))
-can_here C never m o i t kind.Restart e num = absurd (false≢true (sym (ap (λ (c : Bool). c && is_process t.about) num) ∙ e))
-can_here C never m o i t kind.User e num = absurd (false≢true e)
-can_here C never m o i t kind.Stop e num = absurd (false≢true e)
-can_here C never m o i t kind.Resume e num = absurd (false≢true e)
-can_here C never m o i t kind.Kill e num = absurd (false≢true e)
-can_here C never m o i t kind.Read e num = absurd (false≢true e)
-can_here C never m o i t kind.Write e num = absurd (false≢true e)
-can_here C never m o i t kind.Block e num = absurd (false≢true e)
-can_here C never m o i t kind.Written e num = absurd (false≢true e)
-can_here C never m o i t kind.Gone e num = absurd (false≢true e)
-can_here C never m o i t kind.Create e num = absurd (false≢true e)
-can_here C never m o i t kind.Created e num = absurd (false≢true e)
-can_here C never m o i t kind.NoRoom e num = absurd (false≢true e)
-can_here C never m o i t kind.Move e num = absurd (false≢true e)
-can_here C never m o i t kind.Moved e num = absurd (false≢true e)
-can_here C never m o i t kind.CallOff e num = absurd (false≢true e)
-can_here C never m o i t kind.Bury e num = absurd (false≢true e)
+can_here C never m o i t MessageKind.Migrate e num = can_plain C m (begun o m) (moves_to m i t.receiver (target_of (Some t))) never (moves_plain (begun o m).view m i t.receiver (target_of (Some t)) (m == target_of (Some t))) (moves_own (begun o m).view i t.receiver (target_of (Some t)) (m == target_of (Some t)))
+can_here C never m o i t MessageKind.Update e num = can_plain C m (begun o m) (updates o i t) never (refl, tt) (NoOwns (tt, tt))
+can_here C never m o i t MessageKind.Ask e num = absurd (false≢true (sym (ap (λ (c : Bool). c && is_process t.about) num) ∙ e))
+can_here C never m o i t MessageKind.Refuse e num = absurd (false≢true (sym (ap (λ (c : Bool). c && is_process t.about) num) ∙ e))
+can_here C never m o i t MessageKind.PullState e num = absurd (false≢true (sym (ap (λ (c : Bool). c && is_process t.about) num) ∙ e))
+can_here C never m o i t MessageKind.State e num = absurd (false≢true (sym (ap (λ (c : Bool). c && is_process t.about) num) ∙ e))
+can_here C never m o i t MessageKind.PullBlock e num = absurd (false≢true (sym (ap (λ (c : Bool). c && is_process t.about) num) ∙ e))
+can_here C never m o i t MessageKind.Memory e num = absurd (false≢true (sym (ap (λ (c : Bool). c && is_process t.about) num) ∙ e))
+can_here C never m o i t MessageKind.AllTaken e num = absurd (false≢true (sym (ap (λ (c : Bool). c && is_process t.about) num) ∙ e))
+can_here C never m o i t MessageKind.Restart e num = absurd (false≢true (sym (ap (λ (c : Bool). c && is_process t.about) num) ∙ e))
+can_here C never m o i t _ e num = absurd (false≢true e)
 
 can_over : (C : Type 0) (never : C → ⊥) (m : ℕ) (o : Point) (i : MsgId) (t : Told) (k : MessageKind) → own_sort k t.receiver t.about ≡ true → (t.receiver.num == 0) ≡ false → Can C m (begun o m) (ended_told i k)
-can_over C never m o i t kind.Migrate e num = can_plain C m (begun o m) (Says (line.NoMove i) ∷ []) never (refl, tt) (NoOwns (tt, tt))
-can_over C never m o i t kind.Update e num = can_plain C m (begun o m) (Says (line.Updated i 0) ∷ []) never (refl, tt) (NoOwns (tt, tt))
-can_over C never m o i t kind.Ask e num = absurd (false≢true (sym (ap (λ (c : Bool). c && is_process t.about) num) ∙ e))
-can_over C never m o i t kind.Refuse e num = absurd (false≢true (sym (ap (λ (c : Bool). c && is_process t.about) num) ∙ e))
-can_over C never m o i t kind.PullState e num = absurd (false≢true (sym (ap (λ (c : Bool). c && is_process t.about) num) ∙ e))
-can_over C never m o i t kind.State e num = absurd (false≢true (sym (ap (λ (c : Bool). c && is_process t.about) num) ∙ e))
-can_over C never m o i t kind.PullBlock e num = absurd (false≢true (sym (ap (λ (c : Bool). c && is_process t.about) num) ∙ e))
-can_over C never m o i t kind.Memory e num = absurd (false≢true (sym (ap (λ (c : Bool). c && is_process t.about) num) ∙ e))
-can_over C never m o i t kind.AllTaken e num = absurd (false≢true (sym (ap (λ (c : Bool). c && is_process t.about) num) ∙ e))
-can_over C never m o i t kind.Restart e num = absurd (false≢true (sym (ap (λ (c : Bool). c && is_process t.about) num) ∙ e))
-can_over C never m o i t kind.User e num = absurd (false≢true e)
-can_over C never m o i t kind.Stop e num = absurd (false≢true e)
-can_over C never m o i t kind.Resume e num = absurd (false≢true e)
-can_over C never m o i t kind.Kill e num = absurd (false≢true e)
-can_over C never m o i t kind.Read e num = absurd (false≢true e)
-can_over C never m o i t kind.Write e num = absurd (false≢true e)
-can_over C never m o i t kind.Block e num = absurd (false≢true e)
-can_over C never m o i t kind.Written e num = absurd (false≢true e)
-can_over C never m o i t kind.Gone e num = absurd (false≢true e)
-can_over C never m o i t kind.Create e num = absurd (false≢true e)
-can_over C never m o i t kind.Created e num = absurd (false≢true e)
-can_over C never m o i t kind.NoRoom e num = absurd (false≢true e)
-can_over C never m o i t kind.Move e num = absurd (false≢true e)
-can_over C never m o i t kind.Moved e num = absurd (false≢true e)
-can_over C never m o i t kind.CallOff e num = absurd (false≢true e)
-can_over C never m o i t kind.Bury e num = absurd (false≢true e)
+can_over C never m o i t MessageKind.Migrate e num = can_plain C m (begun o m) (Says (Line.NoMove i) ∷ []) never (refl, tt) (NoOwns (tt, tt))
+can_over C never m o i t MessageKind.Update e num = can_plain C m (begun o m) (Says (Line.Updated i 0) ∷ []) never (refl, tt) (NoOwns (tt, tt))
+can_over C never m o i t MessageKind.Ask e num = absurd (false≢true (sym (ap (λ (c : Bool). c && is_process t.about) num) ∙ e))
+can_over C never m o i t MessageKind.Refuse e num = absurd (false≢true (sym (ap (λ (c : Bool). c && is_process t.about) num) ∙ e))
+can_over C never m o i t MessageKind.PullState e num = absurd (false≢true (sym (ap (λ (c : Bool). c && is_process t.about) num) ∙ e))
+can_over C never m o i t MessageKind.State e num = absurd (false≢true (sym (ap (λ (c : Bool). c && is_process t.about) num) ∙ e))
+can_over C never m o i t MessageKind.PullBlock e num = absurd (false≢true (sym (ap (λ (c : Bool). c && is_process t.about) num) ∙ e))
+can_over C never m o i t MessageKind.Memory e num = absurd (false≢true (sym (ap (λ (c : Bool). c && is_process t.about) num) ∙ e))
+can_over C never m o i t MessageKind.AllTaken e num = absurd (false≢true (sym (ap (λ (c : Bool). c && is_process t.about) num) ∙ e))
+can_over C never m o i t MessageKind.Restart e num = absurd (false≢true (sym (ap (λ (c : Bool). c && is_process t.about) num) ∙ e))
+can_over C never m o i t _ e num = absurd (false≢true e)
 
 can_known : (C : Type 0) (never : C → ⊥) (b : Boot) (m : ℕ) (o : Point) (i : MsgId) (f : FrontOwn b m o i) (n : Known) → o.view.known m f.told.receiver ≡ n → n ≢ Unknown → (f.told.receiver.num == 0) ≡ false → Can C m (begun o m) (process_told o m i f.told n)
 can_known C never b m o i f Unknown is there num = absurd (there refl)
 can_known C never b m o i f Here is there num = can_here C never m o i f.told f.told.kind (sort_of b m o i f) num
-can_known C never b m o i f (Frozen to) is there num = can_plain C m (begun o m) (Says (line.Held i) ∷ []) never (refl, tt) (NoOwns (tt, tt))
-can_known C never b m o i f (Incoming from) is there num = can_plain C m (begun o m) (Says (line.Held i) ∷ []) never (refl, tt) (NoOwns (tt, tt))
 can_known C never b m o i f (Forward at_ moves) is there num = can_plain C m (begun o m) (forwards_on o.addresses i f.told.kind manager at_) never (forwards_plain (begun o m).view o.addresses i f.told.kind manager at_ (ap is_some f.told_is))
     (forwards_own (begun o m).view o.addresses i f.told.kind manager at_ (forwarded_place (begun o m).view i at_ f.told at_ moves f.told_is is) (λ e. refl))
-can_known C never b m o i f view.Ended is there num = can_over C never m o i f.told f.told.kind (sort_of b m o i f) num
+can_known C never b m o i f Known.Ended is there num = can_over C never m o i f.told f.told.kind (sort_of b m o i f) num
+can_known C never b m o i f _ is there num = can_plain C m (begun o m) (Says (Line.Held i) ∷ []) never (refl, tt) (NoOwns (tt, tt))
 
 can_by : (C : Type 0) (never : C → ⊥) (b : Boot) (m : ℕ) (o : Point) (i : MsgId) (f : FrontOwn b m o i) (c d e : Bool) → (f.told.receiver.num == 0) ≡ c → pid_eq f.told.receiver switchboard ≡ d → pid_eq f.told.receiver manager ≡ e
     → Can C m (begun o m) (if c then kernel_hears b o m i f.told.kind f.told.about else if d then server_told o i f.told f.told.kind else if e then server_told o i f.told f.told.kind else process_told o m i f.told (o.view.known m f.told.receiver))

@@ -1,38 +1,10 @@
 -- Parts that can be said: labels are steps of the kernel, and other lines change nothing of it.
-use Rattle.std.proofs.Common.{◌≡◌, ℕ, ◌==◌, not, filter, arith, Bool, true, false, List, [], ◌∷◌, ◌++◌, length, refl, ap, ◌∙◌, sym, subst, is_some}
-use Rattle.std.specs.Prelude.{⊤, if◌then◌else◌}
-use Rattle.std.specs.declared.option.Option.{Option}
-use Rattle.std.specs.declared.option.Option.TheVariants.{None, Some}
-use Rattle.dm_link.specs.declared.Pid.{Pid}
-use Rattle.dm_message.specs.declared.MsgId.{MsgId}
-use Rattle.dm_message.specs.declared.kind.MessageKind.{MessageKind}
-use Rattle.dm_message.specs.Ids.{id_eq}
-use Rattle.dm_message.specs.Kinds.{plain_kind}
-use Rattle.dm_message.specs.Plain.{PlainMessage}
-use Rattle.dm_onekernel.specs.declared.boot.Boot.{Boot}
-use Rattle.dm_onekernel.specs.declared.label.Label.{Label}
-use Rattle.dm_onekernel.specs.declared.label.Label.TheVariants as label
-use Rattle.dm_onekernel.specs.Kernel.{OneKernel}
-use Rattle.dm_onekernel.specs.Options.{bind}
+use Rattle.dm_rulelaws.proofs.Names.{after_line, headed, ◌≡◌, ℕ, ◌==◌, not, filter, arith, Bool, true, false, List, [], ◌∷◌, ◌++◌, length, refl, ap, ◌∙◌, sym, subst, is_some, ⊤, if◌then◌else◌, Option, None, Some, Pid, MsgId, MessageKind}
+use Rattle.dm_rulelaws.proofs.Names.{id_eq, plain_kind, PlainMessage, Boot, Label, OneKernel, bind, Step, Line, Load, View, Told, view_after, own_id, Receiver, Point, labels, with_label, label_of, kernel_after, after, moved, Part, Says}
+use Rattle.dm_rulelaws.proofs.Names.{Routes, Again, Owns, Transmits, Spelled, lines_of, puts, goes_out, packet_line, behind, spelled, group_of, outcome, Pair, in_bag, counts, IsNetLine, IsNet, is_put, hushed, Sane, sane_line, part_sane}
 use Rattle.dm_onekernel.specs.Step as kernel
-use Rattle.dm_schedule.specs.declared.Step.{Step}
-use Rattle.dm_line.specs.declared.line.Line.{Line}
-use Rattle.dm_line.specs.declared.line.Line.TheVariants as line
-use Rattle.dm_line.specs.declared.line.Load.{Load}
-use Rattle.dm_line.specs.declared.line.Load.TheVariants as load
-use Rattle.dm_rule.specs.View.{View, Told, view_after, own_id}
 use Rattle.dm_rule.specs.View as view
-use Rattle.dm_rule.specs.Addresses.{Receiver}
-use Rattle.dm_rule.specs.Point.{Point, labels, with_label, label_of, kernel_after, after_line, after, moved}
-use Rattle.dm_rule.specs.Parts.{Part, Says, Routes, Again, Owns, Transmits, Spelled, lines_of, puts, goes_out, packet_line, behind, spelled}
 use Rattle.dm_rule.specs.Rule as rule
-use Rattle.dm_rule.specs.Rule.{group_of, outcome, headed}
-use Rattle.dm_rule.specs.View.{Pair}
-use Rattle.dm_laws.specs.Laws.{in_bag}
-use Rattle.dm_laws.proofs.Entered.{counts}
-use Rattle.dm_rule.proofs.Groups.{IsNetLine, IsNet}
-use Rattle.dm_rule.proofs.Hushed.{is_put, hushed}
-use Rattle.dm_rule.proofs.Telling.{Sane, sane_line, part_sane}
 use Rattle.dm_rulelaws.proofs.Queued.{is_user}
 use Rattle.dm_rulelaws.proofs.Order.Lines.{Which, Ord, ord_view, ord_label}
 use Rattle.dm_rulelaws.proofs.Order.Moves.{Last}
@@ -43,10 +15,7 @@ use Rattle.dm_rulelaws.proofs.Own.Fits.{HaveNoOwn, OwnsFit, NoOwns}
 -- the labels that parts say
 abbrev pub part_says : Part → List Label → List Label
 part_says (Says l) ls = with_label (label_of l) ls
-part_says (Routes i) ls = ls
-part_says (Again i b) ls = ls
-part_says (Owns k q b) ls = ls
-part_says (Transmits a c l) ls = ls
+part_says _ ls = ls
 
 abbrev pub said : List Part → List Label
 said [] = []
@@ -82,9 +51,9 @@ after_one pt l s e = ap (λ (o : Option OneKernel). bind (bind o (λ (s : OneKer
 pub sane_by : (pt : Point) (l : Line) (t : OneKernel) → is_put l ≡ false → kernel_after pt.kernel (label_of l) ≡ Some t → Sane pt → Sane (moved pt l t)
 sane_by pt l t quiet is s = sane_line pt (moved pt l t) l quiet (ap (λ (o : Option OneKernel). bind o (λ (u : OneKernel). Some (moved pt l u))) is) s
 
-pub does_label : (C : Type 0) (pt : Point) (l : Label) (t : OneKernel) (ps : List Part) → kernel.step pt.kernel l ≡ Some t → Does C (moved pt (line.Label l) t) ps → Does C pt (rule.says l ∷ ps)
+pub does_label : (C : Type 0) (pt : Point) (l : Label) (t : OneKernel) (ps : List Part) → kernel.step pt.kernel l ≡ Some t → Does C (moved pt (Line.Label l) t) ps → Does C pt (rule.says l ∷ ps)
 does_label C pt l t ps is d =
-    does_lines C pt (moved pt (line.Label l) t) (rule.says l) (line.Label l ∷ []) ps refl (after_one pt (line.Label l) t is) (λ zs. refl) (λ c s. (sane_by pt (line.Label l) t refl is s, λ k o. ord_label k pt l t s is o)) d
+    does_lines C pt (moved pt (Line.Label l) t) (rule.says l) (Line.Label l ∷ []) ps refl (after_one pt (Line.Label l) t is) (λ zs. refl) (λ c s. (sane_by pt (Line.Label l) t refl is s, λ k o. ord_label k pt l t s is o)) d
 
 pub does_line : (C : Type 0) (pt : Point) (l : Line) (ps : List Part) → label_of l ≡ None → is_put l ≡ false → (C → (k : Which) → Ord k pt.kernel pt.view → Ord k pt.kernel (view_after pt.view l)) → Does C (moved pt l pt.kernel) ps → Does C pt (Says l ∷ ps)
 does_line C pt l ps none quiet keeps d =
@@ -119,52 +88,30 @@ put_if true o n new old = new
 put_if false o n new old = old
 
 pub told_on : (v : View) (l : Line) (i : MsgId) → is_some (v.told i) ≡ true → is_some ((view_after v l).told i) ≡ true
-told_on v (line.Put a b j k q) i h = put_if (id_eq j i) (v.told i) (Some (view.first_told (v.told j) (record { kind = k; receiver = q; about = v.topic }))) refl h
-told_on v (line.Head s) i h = ap (λ (f : MsgId → Option Told). is_some (f i)) (hushed v (line.Head s) refl).told ∙ h
-told_on v (line.Idle m) i h = ap (λ (f : MsgId → Option Told). is_some (f i)) (hushed v (line.Idle m) refl).told ∙ h
-told_on v (line.Label x) i h = ap (λ (f : MsgId → Option Told). is_some (f i)) (hushed v (line.Label x) refl).told ∙ h
-told_on v (line.Packet a b k l) i h = ap (λ (f : MsgId → Option Told). is_some (f i)) (hushed v (line.Packet a b k l) refl).told ∙ h
-told_on v (line.Taken a b n) i h = ap (λ (f : MsgId → Option Told). is_some (f i)) (hushed v (line.Taken a b n) refl).told ∙ h
-told_on v (line.Old a b n) i h = ap (λ (f : MsgId → Option Told). is_some (f i)) (hushed v (line.Old a b n) refl).told ∙ h
-told_on v (line.Early a b n) i h = ap (λ (f : MsgId → Option Told). is_some (f i)) (hushed v (line.Early a b n) refl).told ∙ h
-told_on v (line.Acked a b n) i h = ap (λ (f : MsgId → Option Told). is_some (f i)) (hushed v (line.Acked a b n) refl).told ∙ h
-told_on v (line.Resent m n) i h = ap (λ (f : MsgId → Option Told). is_some (f i)) (hushed v (line.Resent m n) refl).told ∙ h
-told_on v (line.Queued j) i h = ap (λ (f : MsgId → Option Told). is_some (f i)) (hushed v (line.Queued j) refl).told ∙ h
-told_on v (line.Held j) i h = ap (λ (f : MsgId → Option Told). is_some (f i)) (hushed v (line.Held j) refl).told ∙ h
-told_on v (line.Forwarded j m) i h = ap (λ (f : MsgId → Option Told). is_some (f i)) (hushed v (line.Forwarded j m) refl).told ∙ h
-told_on v (line.Updated j n) i h = ap (λ (f : MsgId → Option Told). is_some (f i)) (hushed v (line.Updated j n) refl).told ∙ h
-told_on v (line.Migration s p) i h = ap (λ (f : MsgId → Option Told). is_some (f i)) (hushed v (line.Migration s p) refl).told ∙ h
-told_on v (line.SentOn p n) i h = ap (λ (f : MsgId → Option Told). is_some (f i)) (hushed v (line.SentOn p n) refl).told ∙ h
-told_on v (line.Lacks p a b) i h = ap (λ (f : MsgId → Option Told). is_some (f i)) (hushed v (line.Lacks p a b) refl).told ∙ h
-told_on v (line.Stays p) i h = ap (λ (f : MsgId → Option Told). is_some (f i)) (hushed v (line.Stays p) refl).told ∙ h
-told_on v (line.Here j) i h = ap (λ (f : MsgId → Option Told). is_some (f i)) (hushed v (line.Here j) refl).told ∙ h
-told_on v (line.NoMove j) i h = ap (λ (f : MsgId → Option Told). is_some (f i)) (hushed v (line.NoMove j) refl).told ∙ h
-told_on v (line.Proto j) i h = ap (λ (f : MsgId → Option Told). is_some (f i)) (hushed v (line.Proto j) refl).told ∙ h
-told_on v (line.NoChild p) i h = ap (λ (f : MsgId → Option Told). is_some (f i)) (hushed v (line.NoChild p) refl).told ∙ h
-told_on v (line.Pinned p) i h = ap (λ (f : MsgId → Option Told). is_some (f i)) (hushed v (line.Pinned p) refl).told ∙ h
-told_on v line.Nothing i h = ap (λ (f : MsgId → Option Told). is_some (f i)) (hushed v line.Nothing refl).told ∙ h
+told_on v (Line.Put a b j k q) i h = put_if (id_eq j i) (v.told i) (Some (view.first_told (v.told j) (record { kind = k; receiver = q; about = v.topic }))) refl h
+told_on v any_ i h = ap (λ (f : MsgId → Option Told). is_some (f i)) (hushed v any_ refl).told ∙ h
 
 first_line : (l m : Line) (ls ms : List Line) → (l ∷ ls) ≡ (m ∷ ms) → l ≡ m
 first_line l m ls ms e = cc
 
-puts_if : (pt : Point) (l : Line) (c d : Bool) (a b k : ℕ) (x : Load) → label_of l ≡ None → (view_after pt.view l).topic ≡ pt.view.topic → Puts pt (l ∷ (if c then [] else if d then line.Packet a b k x ∷ [] else []))
+puts_if : (pt : Point) (l : Line) (c d : Bool) (a b k : ℕ) (x : Load) → label_of l ≡ None → (view_after pt.view l).topic ≡ pt.view.topic → Puts pt (l ∷ (if c then [] else if d then Line.Packet a b k x ∷ [] else []))
 puts_if pt l true d a b k x none topic = record { q = moved pt l pt.kernel; is = after_one pt l pt.kernel (ap (kernel_after pt.kernel) none); topic = topic; told = told_on pt.view l; says = λ zs. ap (λ (o : Option Label). with_label o (labels zs)) none; keeps = λ m ms e q o. (let f = first_line l m [] ms e in subst (λ (n : Line). Ord q pt.kernel (view_after pt.view n)) (sym f) o) }
 puts_if pt l false false a b k x none topic = record { q = moved pt l pt.kernel; is = after_one pt l pt.kernel (ap (kernel_after pt.kernel) none); topic = topic; told = told_on pt.view l; says = λ zs. ap (λ (o : Option Label). with_label o (labels zs)) none; keeps = λ m ms e q o. (let f = first_line l m [] ms e in subst (λ (n : Line). Ord q pt.kernel (view_after pt.view n)) (sym f) o) }
 puts_if pt l false true a b k x none topic =
     let mid = moved pt l pt.kernel in
     record {
-      q = moved mid (line.Packet a b k x) mid.kernel;
-      is = ap (λ (o : Option OneKernel). bind (bind o (λ (s : OneKernel). Some (moved pt l s))) (λ (n : Point). after n (line.Packet a b k x ∷ []))) (ap (kernel_after pt.kernel) none);
+      q = moved mid (Line.Packet a b k x) mid.kernel;
+      is = ap (λ (o : Option OneKernel). bind (bind o (λ (s : OneKernel). Some (moved pt l s))) (λ (n : Point). after n (Line.Packet a b k x ∷ []))) (ap (kernel_after pt.kernel) none);
       topic = topic;
-      told = λ i h. told_on mid.view (line.Packet a b k x) i (told_on pt.view l i h);
+      told = λ i h. told_on mid.view (Line.Packet a b k x) i (told_on pt.view l i h);
       says = λ zs. ap (λ (o : Option Label). with_label o (labels zs)) none;
-      keeps = λ m ms e q o. (let f = first_line l m (line.Packet a b k x ∷ []) ms e in ord_packet q pt.kernel mid.view a b k x (subst (λ (n : Line). Ord q pt.kernel (view_after pt.view n)) (sym f) o));
+      keeps = λ m ms e q o. (let f = first_line l m (Line.Packet a b k x ∷ []) ms e in ord_packet q pt.kernel mid.view a b k x (subst (λ (n : Line). Ord q pt.kernel (view_after pt.view n)) (sym f) o));
     }
 
 pub put_lines : (pt : Point) (b : ℕ) (i : MsgId) (k : MessageKind) (q : Pid) → Puts pt (puts pt.view b i k q)
 put_lines pt b i k q =
     let v = pt.view in
-    puts_if pt (line.Put v.acting b i k q) (v.acting == b) (goes_out (v.pair v.acting b)) v.acting b (length (v.pair v.acting b).wire) (load.Data (length (v.pair v.acting b).ids)) refl refl
+    puts_if pt (Line.Put v.acting b i k q) (v.acting == b) (goes_out (v.pair v.acting b)) v.acting b (length (v.pair v.acting b).wire) (Load.Data (length (v.pair v.acting b).ids)) refl refl
 
 -- a message of the bag is routed
 pub does_route : (C : Type 0) (pt : Point) (i : MsgId) (x : PlainMessage) → pt.kernel.bag i ≡ Some x → (C → Sane pt → is_user x.what ≡ true → Last pt.kernel pt.view i) → Does C pt (Routes i ∷ [])
@@ -174,7 +121,7 @@ does_route C pt i x there last =
     let p = put_lines pt c i (plain_kind x.what) x.to in
     let lines : lines_of pt (Routes i) ≡ Some ls = ap (λ (o : Option PlainMessage). bind o (λ (m : PlainMessage). Some (puts pt.view (pt.addresses (Receiver i)).at i (plain_kind m.what) m.to))) there in
     does_lines C pt p.q (Routes i) ls [] lines p.is p.says
-    (λ d s. (part_sane pt p.q (Routes i) ls tt lines p.is s, λ k o. p.keeps (line.Put pt.view.acting c i (plain_kind x.what) x.to) _ refl k (ord_put k pt.kernel pt.view c i x there (counted_in pt s) (last d s) o)))
+    (λ d s. (part_sane pt p.q (Routes i) ls tt lines p.is s, λ k o. p.keeps (Line.Put pt.view.acting c i (plain_kind x.what) x.to) _ refl k (ord_put k pt.kernel pt.view c i x there (counted_in pt s) (last d s) o)))
     (does_nothing C p.q)
 
 -- parts with no label and no message of the bag: what goes on was told of
@@ -182,8 +129,7 @@ abbrev pub IsPlain : View → Part → Type 0
 IsPlain v (Says l) = label_of l ≡ None
 IsPlain v (Routes i) = ⊥
 IsPlain v (Again i b) = is_some (v.told i) ≡ true
-IsPlain v (Owns k q b) = ⊤
-IsPlain v (Transmits a b l) = ⊤
+IsPlain v _ = ⊤
 
 abbrev pub ArePlain : View → List Part → Type 0
 ArePlain v [] = ⊤
@@ -197,11 +143,7 @@ plain_on v w (Again i b ∷ ps) more h = (more i h.0, plain_on v w ps more h.1)
 plain_on v w (Owns k q b ∷ ps) more h = (tt, plain_on v w ps more h.1)
 plain_on v w (Transmits a b l ∷ ps) more h = (tt, plain_on v w ps more h.1)
 
-pub plain_append : (v : View) (ps qs : List Part) → ArePlain v ps → ArePlain v qs → ArePlain v (ps ++ qs)
-plain_append v [] qs h k = k
-plain_append v (p ∷ ps) qs h k = (h.0, plain_append v ps qs h.1 k)
-
-some_is : (o : Option Told) → is_some o ≡ true → (t : Told) × (o ≡ Some t)
+pub some_is : (o : Option Told) → is_some o ≡ true → (t : Told) × (o ≡ Some t)
 some_is None e = cc
 some_is (Some t) e = (t, refl)
 
@@ -228,38 +170,38 @@ record NetKeeps (pt : Point) (l : Line) : Type 0 where
   keeps : (k : Which) → Ord k pt.kernel pt.view → Ord k pt.kernel (view_after pt.view l)
 
 net_keeps : (pt : Point) (l : Line) → IsNetLine l → NetKeeps pt l
-net_keeps pt (line.Taken a c n) is = record { none = refl; quiet = refl; keeps = λ z o. ord_taken z pt.kernel pt.view a c n o }
-net_keeps pt (line.Old a c n) is = record { none = refl; quiet = refl; keeps = λ z o. o }
-net_keeps pt (line.Early a c n) is = record {
+net_keeps pt (Line.Taken a c n) is = record { none = refl; quiet = refl; keeps = λ z o. ord_taken z pt.kernel pt.view a c n o }
+net_keeps pt (Line.Old a c n) is = record { none = refl; quiet = refl; keeps = λ z o. o }
+net_keeps pt (Line.Early a c n) is = record {
   none = refl;
   quiet = refl;
   keeps = λ z o. (let p : Pair = record (pt.view.pair a c) { kept = n ∷ filter (λ j. not (j == n)) (pt.view.pair a c).kept } in ord_view z pt.kernel pt.view (view.with_pair pt.view a c p) (thin_pair z pt.view a c p refl) o);
 }
-net_keeps pt (line.Acked a c n) is = record {
+net_keeps pt (Line.Acked a c n) is = record {
   none = refl;
   quiet = refl;
   keeps = λ z o. (let p : Pair = record (pt.view.pair c a) { acked = view.at_least (pt.view.pair c a).acked n } in ord_view z pt.kernel pt.view (view.with_pair pt.view c a p) (thin_pair z pt.view c a p refl) o);
 }
-net_keeps pt line.Nothing is = record { none = refl; quiet = refl; keeps = λ z o. o }
-net_keeps pt (line.Resent n c) is = record { none = refl; quiet = refl; keeps = λ z o. o }
-net_keeps pt (line.Head d) is = absurd is
-net_keeps pt (line.Idle n) is = absurd is
-net_keeps pt (line.Label x) is = absurd is
-net_keeps pt (line.Put a c i k q) is = absurd is
-net_keeps pt (line.Packet a c k l) is = absurd is
-net_keeps pt (line.Queued i) is = absurd is
-net_keeps pt (line.Held i) is = absurd is
-net_keeps pt (line.Forwarded i n) is = absurd is
-net_keeps pt (line.Updated i n) is = absurd is
-net_keeps pt (line.Migration s p) is = absurd is
-net_keeps pt (line.SentOn p n) is = absurd is
-net_keeps pt (line.Lacks p f c) is = absurd is
-net_keeps pt (line.Stays p) is = absurd is
-net_keeps pt (line.Here i) is = absurd is
-net_keeps pt (line.NoMove i) is = absurd is
-net_keeps pt (line.Proto i) is = absurd is
-net_keeps pt (line.NoChild p) is = absurd is
-net_keeps pt (line.Pinned p) is = absurd is
+net_keeps pt Line.Nothing is = record { none = refl; quiet = refl; keeps = λ z o. o }
+net_keeps pt (Line.Resent n c) is = record { none = refl; quiet = refl; keeps = λ z o. o }
+net_keeps pt (Line.Head d) is = absurd is
+net_keeps pt (Line.Idle n) is = absurd is
+net_keeps pt (Line.Label x) is = absurd is
+net_keeps pt (Line.Put a c i k q) is = absurd is
+net_keeps pt (Line.Packet a c k l) is = absurd is
+net_keeps pt (Line.Queued i) is = absurd is
+net_keeps pt (Line.Held i) is = absurd is
+net_keeps pt (Line.Forwarded i n) is = absurd is
+net_keeps pt (Line.Updated i n) is = absurd is
+net_keeps pt (Line.Migration s p) is = absurd is
+net_keeps pt (Line.SentOn p n) is = absurd is
+net_keeps pt (Line.Lacks p f c) is = absurd is
+net_keeps pt (Line.Stays p) is = absurd is
+net_keeps pt (Line.Here i) is = absurd is
+net_keeps pt (Line.NoMove i) is = absurd is
+net_keeps pt (Line.Proto i) is = absurd is
+net_keeps pt (Line.NoChild p) is = absurd is
+net_keeps pt (Line.Pinned p) is = absurd is
 
 pub does_net : (C : Type 0) (ps : List Part) (pt : Point) → IsNet ps → Does C pt ps
 does_net C [] pt is = does_nothing C pt
@@ -300,7 +242,7 @@ plain_says v (Transmits a b l ∷ ps) h = plain_says v ps h.1
 
 -- no label of these is a reception
 abbrev pub not_receive : Label → Bool
-not_receive (label.Receive p i) = false
+not_receive (Label.Receive p i) = false
 not_receive l = true
 
 abbrev pub no_receive : List Label → Bool
@@ -311,11 +253,11 @@ no_receive (l ∷ ls) = if not_receive l then no_receive ls else false
 pub record Reception (m : ℕ) (pt : Point) (ps : List Part) : Type 0 where
   pub p : Pid
   pub i : MsgId
-  pub is : ps ≡ rule.says (label.Receive p i) ∷ []
+  pub is : ps ≡ rule.says (Label.Receive p i) ∷ []
   pub mask : ℕ
   pub first : rule.first_awaited pt.kernel mask (pt.view.queue m p) ≡ Some i
   pub t : OneKernel
-  pub step : kernel.step pt.kernel (label.Receive p i) ≡ Some t
+  pub step : kernel.step pt.kernel (Label.Receive p i) ≡ Some t
 
 pub data Shape (m : ℕ) (pt : Point) (ps : List Part) : Type 0 where
   Quiet : (quiet : no_receive (said ps) ≡ true) → Shape m pt ps
@@ -333,7 +275,7 @@ pub can_as : (C : Type 0) (m : ℕ) (pt : Point) (o q : Option (List Part)) → 
 can_as C m pt o q e c = record { ps = c.ps; is = e ∙ c.is; does = c.does; shape = c.shape; owns = c.owns }
 
 -- a label and then parts
-pub can_say : (C : Type 0) (m : ℕ) (pt : Point) (l : Label) (t : OneKernel) (ps : List Part) → kernel.step pt.kernel l ≡ Some t → no_receive (said (rule.says l ∷ ps)) ≡ true → HaveNoOwn ps → Does C (moved pt (line.Label l) t) ps → Can C m pt (Some (rule.says l ∷ ps))
+pub can_say : (C : Type 0) (m : ℕ) (pt : Point) (l : Label) (t : OneKernel) (ps : List Part) → kernel.step pt.kernel l ≡ Some t → no_receive (said (rule.says l ∷ ps)) ≡ true → HaveNoOwn ps → Does C (moved pt (Line.Label l) t) ps → Can C m pt (Some (rule.says l ∷ ps))
 can_say C m pt l t ps is quiet none d = record { ps = rule.says l ∷ ps; is = refl; does = does_label C pt l t ps is d; shape = Quiet quiet; owns = NoOwns (tt, none) }
 
 -- a line
@@ -360,21 +302,21 @@ pub record Goes (C : Type 0) (b : Boot) (pt : Point) (d : Step) : Type 0 where
   pub parts : List Part
   pub outcome_is : outcome b pt d ≡ Some parts
   pub behind_head : Spelled
-  pub spells : spelled (moved pt (line.Head d) pt.kernel) parts ≡ Some behind_head
+  pub spells : spelled (moved pt (Line.Head d) pt.kernel) parts ≡ Some behind_head
   pub point : w.point ≡ behind_head.point
   pub says : labels w.lines ≡ said parts
-  pub order : C → Sane pt → KeepsOrder (moved pt (line.Head d) pt.kernel) w.point
+  pub order : C → Sane pt → KeepsOrder (moved pt (Line.Head d) pt.kernel) w.point
 
-abbrev pub goes : (C : Type 0) (b : Boot) (pt : Point) (d : Step) (ps : List Part) → outcome b pt d ≡ Some ps → Does C (moved pt (line.Head d) pt.kernel) ps → Goes C b pt d
+abbrev pub goes : (C : Type 0) (b : Boot) (pt : Point) (d : Step) (ps : List Part) → outcome b pt d ≡ Some ps → Does C (moved pt (Line.Head d) pt.kernel) ps → Goes C b pt d
 goes C b pt d ps is does = record {
-  w = headed (line.Head d) does.w;
-  is = ap (λ (o : Option (List Part)). bind o (λ (xs : List Part). bind (after_line pt (line.Head d)) (λ (begun : Point). bind (spelled begun xs) (λ (w : Spelled). Some (headed (line.Head d) w))))) is
-      ∙ ap (λ (o : Option Spelled). bind o (λ (w : Spelled). Some (headed (line.Head d) w))) does.is;
+  w = headed (Line.Head d) does.w;
+  is = ap (λ (o : Option (List Part)). bind o (λ (xs : List Part). bind (after_line pt (Line.Head d)) (λ (begun : Point). bind (spelled begun xs) (λ (w : Spelled). Some (headed (Line.Head d) w))))) is
+      ∙ ap (λ (o : Option Spelled). bind o (λ (w : Spelled). Some (headed (Line.Head d) w))) does.is;
   parts = ps;
   outcome_is = is;
   behind_head = does.w;
   spells = does.is;
   point = refl;
   says = does.says;
-  order = λ c s. does.order c (sane_by pt (line.Head d) pt.kernel refl refl s);
+  order = λ c s. does.order c (sane_by pt (Line.Head d) pt.kernel refl refl s);
 }

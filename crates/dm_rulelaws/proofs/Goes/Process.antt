@@ -1,56 +1,17 @@
 -- A message for a process at the front of the inbox can be handled.
-use Rattle.std.proofs.Common.{◌≡◌, ◌≢◌, ℕ, ◌+◌, ◌≤◌, ◌==◌, ◌&&◌, ◌||◌, Bool, true, false, [], ◌∷◌, length, refl, ap, ◌∙◌, sym, subst, is_some, nat_le, arith}
-use Rattle.std.specs.Prelude.{if◌then◌else◌, take, drop}
-use Rattle.std.specs.declared.option.Option.{Option}
-use Rattle.std.specs.declared.option.Option.TheVariants.{None, Some}
-use Rattle.std.proofs.lemmas.Bool.{false≢true}
-use Rattle.std.proofs.lemmas.Bool.Decides.{nat_tests}
-use Rattle.dm_link.specs.declared.Pid.{Pid}
-use Rattle.dm_link.specs.Names.{pid_eq}
-use Rattle.dm_message.specs.declared.MsgId.{MsgId}
-use Rattle.dm_message.specs.declared.kind.MessageKind.{MessageKind}
-use Rattle.dm_message.specs.declared.kind.MessageKind.TheVariants as kind
-use Rattle.dm_message.specs.Ids.{id_eq}
-use Rattle.dm_message.specs.Kinds.{plain_kind}
-use Rattle.dm_message.specs.Plain as what
-use Rattle.dm_message.specs.Plain.{PlainMessage, PlainWhat}
-use Rattle.dm_process.specs.declared.process.Direction.{Direction}
-use Rattle.dm_process.specs.declared.process.Direction.TheVariants as direction
-use Rattle.dm_onekernel.specs.declared.boot.Boot.{Boot}
-use Rattle.dm_onekernel.specs.declared.label.Label.TheVariants as label
-use Rattle.dm_onekernel.specs.declared.label.Reply.TheVariants as reply
-use Rattle.dm_onekernel.specs.declared.label.Why.{Why}
-use Rattle.dm_onekernel.specs.declared.label.Why.TheVariants as why
-use Rattle.dm_onekernel.specs.Boot.{switchboard, manager}
-use Rattle.dm_onekernel.specs.Options.{bind, when}
-use Rattle.dm_onekernel.specs.PlainProcess.{PlainProcess, PlainStatus, Ready, Waiting, Moving}
-use Rattle.dm_onekernel.specs.Kernel.{Life, Alive, Ended, OneKernel, with_process, with_sent}
+use Rattle.dm_rulelaws.proofs.Names.{◌≡◌, ◌≢◌, ℕ, ◌+◌, ◌≤◌, ◌==◌, ◌&&◌, ◌||◌, Bool, true, false, [], ◌∷◌, length, refl, ap, ◌∙◌, sym, subst, is_some, nat_le, arith, if◌then◌else◌, take, drop, Option, None, Some, false≢true, nat_tests, Pid}
+use Rattle.dm_rulelaws.proofs.Names.{pid_eq, MsgId, MessageKind, Label, Reply, Line, id_eq, plain_kind, PlainMessage, PlainWhat, Direction, Boot, Why, switchboard, manager, bind, when, PlainProcess, PlainStatus, Ready, Waiting, Moving}
+use Rattle.dm_rulelaws.proofs.Names.{Life, Alive, Ended, OneKernel, with_process, with_sent, answer_id, answer_to, without_message, is_dropped, is_of_memory, id_eq-is, out_off, LandsSo, lands-is, Addresses, Sender, is_told_back}
+use Rattle.dm_rulelaws.proofs.Names.{forwards_on, Point, moved, Says, Routes, Owns, Inbox, times, View, Known, has_bytes, is_server, awaits, status_awaits, move_fits, piece_fits, WhatFits, is_fixed, agrees, is_still, handled}
 use Rattle.dm_onekernel.specs.Pieces as pieces
-use Rattle.dm_onekernel.specs.Pieces.{answer_id, answer_to}
 use Rattle.dm_onekernel.specs.Service as service
-use Rattle.dm_onekernel.specs.Service.{without_message, is_dropped, is_of_memory}
 use Rattle.dm_onekernel.specs.Step as kernel
-use Rattle.dm_laws.proofs.Equal.{id_eq-is}
-use Rattle.dm_laws.proofs.Movers.{out_off}
-use Rattle.dm_laws.proofs.Services.{LandsSo, lands-is}
-use Rattle.dm_line.specs.declared.line.Line.TheVariants as line
-use Rattle.dm_rule.specs.Addresses.{Addresses, Sender, is_told_back}
-use Rattle.dm_rule.specs.Migrating.{forwards_on}
-use Rattle.dm_rule.specs.Point.{Point, moved}
-use Rattle.dm_rule.specs.Parts.{Says, Routes, Owns}
 use Rattle.dm_rule.specs.Rule as rule
-use Rattle.dm_rule.specs.Spots.{Inbox, times}
-use Rattle.dm_rule.specs.View.{View, Known}
 use Rattle.dm_rule.specs.View as view
-use Rattle.dm_rulelaws.specs.Fits.{has_bytes, is_server, awaits, status_awaits, move_fits, piece_fits, WhatFits}
-use Rattle.dm_rulelaws.specs.Found.{is_fixed}
-use Rattle.dm_rulelaws.specs.KnownStands.{agrees}
 use Rattle.dm_rulelaws.proofs.Fits.Rises.{both, set_at}
 use Rattle.dm_rulelaws.proofs.Own.Told.{OwnTold}
 use Rattle.dm_rulelaws.proofs.Own.Fits.{NoOwns, forwarded_place, forwards_own}
 use Rattle.dm_rulelaws.proofs.Goes.Parts.{does_nothing, does_route, can_as, can_say, can_line, can_plain, ArePlain}
-use Rattle.dm_rule.proofs.Homes.Labels.{is_still}
-use Rattle.dm_rule.specs.View.{handled}
 use Rattle.dm_rulelaws.proofs.Queued.{is_user}
 use Rattle.dm_rulelaws.proofs.Order.Lines.{Which, Ord}
 use Rattle.dm_rulelaws.proofs.Order.Takes.{ord_queued}
@@ -58,36 +19,36 @@ use Rattle.dm_rulelaws.proofs.Goes.Turns.{drops_quiet, drops_own, droppable_on, 
 use Rattle.dm_rulelaws.proofs.Goes.Front.{begun, Calm, CanTurn, Front, name_of, told_receiver, is_manager, answer_there, sent_there}
 
 -- a served message's step
-served_step_is : (s : OneKernel) (i : MsgId) (x : PlainMessage) (y : PlainProcess) (w : PlainWhat) (t : OneKernel) → s.bag i ≡ Some x → s.processes x.to ≡ Some (Alive y) → x.what ≡ w → service.serves s i x y w ≡ Some t → kernel.step s (label.Served i) ≡ Some t
+served_step_is : (s : OneKernel) (i : MsgId) (x : PlainMessage) (y : PlainProcess) (w : PlainWhat) (t : OneKernel) → s.bag i ≡ Some x → s.processes x.to ≡ Some (Alive y) → x.what ≡ w → service.serves s i x y w ≡ Some t → kernel.step s (Label.Served i) ≡ Some t
 served_step_is s i x y w t there alive is e =
     ap (λ (o : Option PlainMessage). bind o (λ (v : PlainMessage). bind (kernel.alive (s.processes v.to)) (λ (p : PlainProcess). service.serves s i v p v.what))) there
     ∙ ap (λ (o : Option Life). bind (kernel.alive o) (λ (p : PlainProcess). service.serves s i x p x.what)) alive ∙ ap (service.serves s i x y) is ∙ e
 
 -- stop, resume
 can_set : (b : Boot) (m : ℕ) (o : Point) (i : MsgId) (x : PlainMessage) (y z : PlainProcess) (w : PlainWhat) → x.what ≡ w → o.kernel.processes x.to ≡ Some (Alive y) → Front b m o i x → service.serves o.kernel i x y w ≡ Some (service.changed o.kernel i x z)
-    → CanTurn m o (Some (rule.says (label.Served i) ∷ []))
+    → CanTurn m o (Some (rule.says (Label.Served i) ∷ []))
 can_set b m o i x y z w is alive f serves =
     let t = service.changed o.kernel i x z in
     let step = served_step_is o.kernel i x y w t f.there alive is serves in
-    can_say (Calm m o) m (begun o m) (label.Served i) t [] step refl tt (does_nothing (Calm m o) (moved (begun o m) (line.Label (label.Served i)) t))
+    can_say (Calm m o) m (begun o m) (Label.Served i) t [] step refl tt (does_nothing (Calm m o) (moved (begun o m) (Line.Label (Label.Served i)) t))
 
 -- a message is served, and another one goes
 can_answer : (b : Boot) (m : ℕ) (o : Point) (i : MsgId) (x : PlainMessage) (y z : PlainProcess) (w : PlainWhat) (k : PlainMessage) (j : MsgId) → x.what ≡ w → o.kernel.processes x.to ≡ Some (Alive y) → Front b m o i x
     → service.serves o.kernel i x y w ≡ Some (with_sent (service.changed o.kernel i x z) (Some k)) → (with_sent (service.changed o.kernel i x z) (Some k)).bag j ≡ Some k → is_user k.what ≡ false
-    → CanTurn m o (Some (rule.says (label.Served i) ∷ Routes j ∷ []))
+    → CanTurn m o (Some (rule.says (Label.Served i) ∷ Routes j ∷ []))
 can_answer b m o i x y z w k j is alive f serves there other =
     let t = with_sent (service.changed o.kernel i x z) (Some k) in
     let step = served_step_is o.kernel i x y w t f.there alive is serves in
-    can_say (Calm m o) m (begun o m) (label.Served i) t (Routes j ∷ []) step refl (tt, tt) (does_route (Calm m o) (moved (begun o m) (line.Label (label.Served i)) t) j k there (λ c s user. absurd (false≢true (sym other ∙ user))))
+    can_say (Calm m o) m (begun o m) (Label.Served i) t (Routes j ∷ []) step refl (tt, tt) (does_route (Calm m o) (moved (begun o m) (Line.Label (Label.Served i)) t) j k there (λ c s user. absurd (false≢true (sym other ∙ user))))
 
 -- a kill takes the queue with it
-can_kill : (b : Boot) (m : ℕ) (o : Point) (i : MsgId) (x : PlainMessage) (y : PlainProcess) → x.what ≡ what.Kill → o.kernel.processes x.to ≡ Some (Alive y) → Front b m o i x → CanTurn m o (Some (rule.says (label.Served i) ∷ rule.drops (o.view.queue m x.to)))
+can_kill : (b : Boot) (m : ℕ) (o : Point) (i : MsgId) (x : PlainMessage) (y : PlainProcess) → x.what ≡ PlainWhat.Kill → o.kernel.processes x.to ≡ Some (Alive y) → Front b m o i x → CanTurn m o (Some (rule.says (Label.Served i) ∷ rule.drops (o.view.queue m x.to)))
 can_kill b m o i x y is alive f =
     let s = o.kernel in
-    let t = with_process (without_message s i) x.to (Ended why.Killed) in
-    let step = served_step_is s i x y what.Kill t f.there alive is refl in
-    can_say (Calm m o) m (begun o m) (label.Served i) t (rule.drops (o.view.queue m x.to)) step (drops_quiet (o.view.queue m x.to)) (drops_own (o.view.queue m x.to))
-    (does_drops (Calm m o) x.to why.Killed (o.view.queue m x.to) (moved (begun o m) (line.Label (label.Served i)) t) (set_at (without_message s i) x.to (Ended why.Killed))
+    let t = with_process (without_message s i) x.to (Ended Why.Killed) in
+    let step = served_step_is s i x y PlainWhat.Kill t f.there alive is refl in
+    can_say (Calm m o) m (begun o m) (Label.Served i) t (rule.drops (o.view.queue m x.to)) step (drops_quiet (o.view.queue m x.to)) (drops_own (o.view.queue m x.to))
+    (does_drops (Calm m o) x.to Why.Killed (o.view.queue m x.to) (moved (begun o m) (Line.Label (Label.Served i)) t) (set_at (without_message s i) x.to (Ended Why.Killed))
     (droppable_on s t x.to (o.view.queue m x.to) (λ j least. out_off s i j (apart j least (id_eq i j) refl)) (f.drops x.to)))
   where
     apart : (j : MsgId) → 1 ≤ times j (o.view.queue m x.to) → (c : Bool) → id_eq i j ≡ c → id_eq i j ≡ false
@@ -99,44 +60,41 @@ record LandsTo (p : Pid) (y : PlainProcess) (x : PlainMessage) (st : PlainStatus
   c : pieces.Landed
   is : pieces.lands p y x st ≡ Some c
 
-if_lands : (p : Pid) (y : PlainProcess) (x : PlainMessage) (n : ℕ) (k : pieces.Landed) (c : Bool) (o : Option pieces.Landed) → c ≡ true → o ≡ Some k → (if c then o else None) ≡ Some k
-if_lands p y x n k c o e f = ap (λ (d : Bool). if d then o else None) e ∙ f
-
 lands_what_to : (p : Pid) (y : PlainProcess) (dir : Direction) (owner : Pid) (base own left : ℕ) (w : PlainWhat) → piece_fits dir left w ≡ true → nat_le (own + left) (length y.memory) ≡ true → is_of_memory w ≡ false
     → (c : pieces.Landed) × (pieces.lands_what p y dir owner base own left w ≡ Some c)
-lands_what_to p y direction.FromArea owner base own left (what.Block bytes) fits within off =
+lands_what_to p y Direction.FromArea owner base own left (PlainWhat.Block bytes) fits within off =
     let z = record y { memory = pieces.written_at y.memory own bytes } in
-    let c = pieces.goes_on p z direction.FromArea owner base own left (pieces.piece_of left) in
+    let c = pieces.goes_on p z Direction.FromArea owner base own left (pieces.piece_of left) in
     (c, ap (λ (d : Bool). if d && nat_le (own + left) (length y.memory) then Some c else None) fits ∙ ap (λ (d : Bool). if d then Some c else None) within)
-lands_what_to p y direction.IntoArea owner base own left what.Written fits within off =
-    let c = pieces.goes_on p y direction.IntoArea owner base own left (pieces.piece_of left) in
+lands_what_to p y Direction.IntoArea owner base own left PlainWhat.Written fits within off =
+    let c = pieces.goes_on p y Direction.IntoArea owner base own left (pieces.piece_of left) in
     (c, ap (λ (d : Bool). if d then Some c else None) within)
-lands_what_to p y direction.FromArea owner base own left what.Gone fits within off = (pieces.done reply.Gone y, refl)
-lands_what_to p y direction.IntoArea owner base own left what.Gone fits within off = (pieces.done reply.Gone y, refl)
-lands_what_to p y direction.FromArea owner base own left what.Written fits within off = cc
-lands_what_to p y direction.IntoArea owner base own left (what.Block bytes) fits within off = cc
-lands_what_to p y direction.FromArea owner base own left (what.User z1 z2 z3 z4) fits within off = cc
-lands_what_to p y direction.FromArea owner base own left what.Stop fits within off = cc
-lands_what_to p y direction.FromArea owner base own left what.Resume fits within off = cc
-lands_what_to p y direction.FromArea owner base own left what.Kill fits within off = cc
-lands_what_to p y direction.FromArea owner base own left (what.Read z1 z2) fits within off = cc
-lands_what_to p y direction.FromArea owner base own left (what.Write z1 z2) fits within off = cc
-lands_what_to p y direction.FromArea owner base own left (what.Create z1 z2) fits within off = cc
-lands_what_to p y direction.FromArea owner base own left (what.Created z1) fits within off = cc
-lands_what_to p y direction.FromArea owner base own left what.NoRoom fits within off = cc
-lands_what_to p y direction.FromArea owner base own left (what.Move z1) fits within off = cc
-lands_what_to p y direction.FromArea owner base own left (what.Moved z1) fits within off = cc
-lands_what_to p y direction.IntoArea owner base own left (what.User z1 z2 z3 z4) fits within off = cc
-lands_what_to p y direction.IntoArea owner base own left what.Stop fits within off = cc
-lands_what_to p y direction.IntoArea owner base own left what.Resume fits within off = cc
-lands_what_to p y direction.IntoArea owner base own left what.Kill fits within off = cc
-lands_what_to p y direction.IntoArea owner base own left (what.Read z1 z2) fits within off = cc
-lands_what_to p y direction.IntoArea owner base own left (what.Write z1 z2) fits within off = cc
-lands_what_to p y direction.IntoArea owner base own left (what.Create z1 z2) fits within off = cc
-lands_what_to p y direction.IntoArea owner base own left (what.Created z1) fits within off = cc
-lands_what_to p y direction.IntoArea owner base own left what.NoRoom fits within off = cc
-lands_what_to p y direction.IntoArea owner base own left (what.Move z1) fits within off = cc
-lands_what_to p y direction.IntoArea owner base own left (what.Moved z1) fits within off = cc
+lands_what_to p y Direction.FromArea owner base own left PlainWhat.Gone fits within off = (pieces.done Reply.Gone y, refl)
+lands_what_to p y Direction.IntoArea owner base own left PlainWhat.Gone fits within off = (pieces.done Reply.Gone y, refl)
+lands_what_to p y Direction.FromArea owner base own left PlainWhat.Written fits within off = cc
+lands_what_to p y Direction.IntoArea owner base own left (PlainWhat.Block bytes) fits within off = cc
+lands_what_to p y Direction.FromArea owner base own left (PlainWhat.User z1 z2 z3 z4) fits within off = cc
+lands_what_to p y Direction.FromArea owner base own left PlainWhat.Stop fits within off = cc
+lands_what_to p y Direction.FromArea owner base own left PlainWhat.Resume fits within off = cc
+lands_what_to p y Direction.FromArea owner base own left PlainWhat.Kill fits within off = cc
+lands_what_to p y Direction.FromArea owner base own left (PlainWhat.Read z1 z2) fits within off = cc
+lands_what_to p y Direction.FromArea owner base own left (PlainWhat.Write z1 z2) fits within off = cc
+lands_what_to p y Direction.FromArea owner base own left (PlainWhat.Create z1 z2) fits within off = cc
+lands_what_to p y Direction.FromArea owner base own left (PlainWhat.Created z1) fits within off = cc
+lands_what_to p y Direction.FromArea owner base own left PlainWhat.NoRoom fits within off = cc
+lands_what_to p y Direction.FromArea owner base own left (PlainWhat.Move z1) fits within off = cc
+lands_what_to p y Direction.FromArea owner base own left (PlainWhat.Moved z1) fits within off = cc
+lands_what_to p y Direction.IntoArea owner base own left (PlainWhat.User z1 z2 z3 z4) fits within off = cc
+lands_what_to p y Direction.IntoArea owner base own left PlainWhat.Stop fits within off = cc
+lands_what_to p y Direction.IntoArea owner base own left PlainWhat.Resume fits within off = cc
+lands_what_to p y Direction.IntoArea owner base own left PlainWhat.Kill fits within off = cc
+lands_what_to p y Direction.IntoArea owner base own left (PlainWhat.Read z1 z2) fits within off = cc
+lands_what_to p y Direction.IntoArea owner base own left (PlainWhat.Write z1 z2) fits within off = cc
+lands_what_to p y Direction.IntoArea owner base own left (PlainWhat.Create z1 z2) fits within off = cc
+lands_what_to p y Direction.IntoArea owner base own left (PlainWhat.Created z1) fits within off = cc
+lands_what_to p y Direction.IntoArea owner base own left PlainWhat.NoRoom fits within off = cc
+lands_what_to p y Direction.IntoArea owner base own left (PlainWhat.Move z1) fits within off = cc
+lands_what_to p y Direction.IntoArea owner base own left (PlainWhat.Moved z1) fits within off = cc
 
 lands_to : (b : Boot) (p : Pid) (y : PlainProcess) (x : PlainMessage) (ps : _) (n : ℕ) (w : PlainWhat) (st : PlainStatus) → x.what ≡ w → x.id.n ≡ n → status_awaits st n w ≡ true → move_fits ps y st ≡ true → is_of_memory w ≡ false → LandsTo p y x st
 lands_to b p y x ps n w Ready is number waits fits off = cc
@@ -151,20 +109,9 @@ lands_to b p y x ps n w (Moving dir owner base own left pending) is number waits
     }
 
 memory_no_user : (w : PlainWhat) → is_of_memory w ≡ true → is_user w ≡ false
-memory_no_user (what.Read base len) e = refl
-memory_no_user (what.Write base bytes) e = refl
-memory_no_user (what.User z1 z2 z3 z4) e = cc
-memory_no_user what.Stop e = cc
-memory_no_user what.Resume e = cc
-memory_no_user what.Kill e = cc
-memory_no_user (what.Block z1) e = cc
-memory_no_user what.Written e = cc
-memory_no_user what.Gone e = cc
-memory_no_user (what.Create z1 z2) e = cc
-memory_no_user (what.Created z1) e = cc
-memory_no_user what.NoRoom e = cc
-memory_no_user (what.Move z1) e = cc
-memory_no_user (what.Moved z1) e = cc
+memory_no_user (PlainWhat.Read base len) e = refl
+memory_no_user (PlainWhat.Write base bytes) e = refl
+memory_no_user _ e = cc
 
 can_land_at : (b : Boot) (m : ℕ) (o : Point) (i : MsgId) (x : PlainMessage) (y : PlainProcess) (w : PlainWhat) (c : pieces.Landed) → x.what ≡ w → o.kernel.processes x.to ≡ Some (Alive y) → Front b m o i x → service.serves o.kernel i x y w ≡ Some (service.landed o.kernel i x c)
     → LandsSo x.to y c → CanTurn m o (rule.lands i (Some c))
@@ -181,7 +128,7 @@ can_land b m o i x y w is alive f serves off waits =
     can_as (Calm m o) m (begun o m) (rule.lands i (pieces.lands x.to y x y.status)) (rule.lands i (Some k.c)) (ap (rule.lands i) k.is) (can_land_at b m o i x y w k.c is alive f (serves k.c k.is) (lands-is x.to y x y.status k.c k.is))
 
 -- a queued message keeps its place
-queued_order : (b : Boot) (m : ℕ) (o : Point) (i : MsgId) (x : PlainMessage) → Front b m o i x → x.to.home ≡ m → (k : Which) → Ord k o.kernel (begun o m).view → Ord k o.kernel (view.view_after (begun o m).view (line.Queued i))
+queued_order : (b : Boot) (m : ℕ) (o : Point) (i : MsgId) (x : PlainMessage) → Front b m o i x → x.to.home ≡ m → (k : Which) → Ord k o.kernel (begun o m).view → Ord k o.kernel (view.view_after (begun o m).view (Line.Queued i))
 queued_order b m o i x f home k q =
     let v = (begun o m).view in
     let receiver : view.receiver_of (o.view.told i) ≡ Some x.to = ap view.receiver_of f.told_is ∙ ap Some (told_receiver b m o i x f) in
@@ -190,83 +137,73 @@ queued_order b m o i x f home k q =
 -- a row a kind
 pub can_here : (b : Boot) (m : ℕ) (o : Point) (i : MsgId) (x : PlainMessage) (y : PlainProcess) (w : PlainWhat) → x.what ≡ w → (x.to.num == 0) ≡ false → pid_eq x.to manager ≡ false → o.kernel.processes x.to ≡ Some (Alive y) → Front b m o i x → WhatFits o.kernel i x w
     → CanTurn m o (rule.here_handles o m i x y w)
-can_here b m o i x y (what.User code channel body links) is num other alive f h = can_line (Calm m o) m (begun o m) (line.Queued i) refl refl (λ c k q. queued_order b m o i x f (c.front i f.rest x f.box f.there) k q)
-can_here b m o i x y what.Stop is num other alive f h = can_set b m o i x y (record y { stopped = true }) what.Stop is alive f refl
-can_here b m o i x y what.Resume is num other alive f h = can_set b m o i x y (record y { stopped = false }) what.Resume is alive f refl
-can_here b m o i x y what.Kill is num other alive f h = can_kill b m o i x y is alive f
-can_here b m o i x y (what.Read base len) is num other alive f h =
+can_here b m o i x y (PlainWhat.User code channel body links) is num other alive f h = can_line (Calm m o) m (begun o m) (Line.Queued i) refl refl (λ c k q. queued_order b m o i x f (c.front i f.rest x f.box f.there) k q)
+can_here b m o i x y PlainWhat.Stop is num other alive f h = can_set b m o i x y (record y { stopped = true }) PlainWhat.Stop is alive f refl
+can_here b m o i x y PlainWhat.Resume is num other alive f h = can_set b m o i x y (record y { stopped = false }) PlainWhat.Resume is alive f refl
+can_here b m o i x y PlainWhat.Kill is num other alive f h = can_kill b m o i x y is alive f
+can_here b m o i x y (PlainWhat.Read base len) is num other alive f h =
     let s = o.kernel in
     let within : nat_le (base + len) (length y.memory) ≡ true = sym (ap (has_bytes (base + len)) alive) ∙ h.0 in
-    let k = answer_to x (what.Block (take len (drop base y.memory))) in
+    let k = answer_to x (PlainWhat.Block (take len (drop base y.memory))) in
     let reads : pieces.reads y x base len ≡ Some (record { process = y; answer = k }) = ap (λ (c : Bool). if c then Some (record { process = y; answer = k }) else None) within in
-    can_answer b m o i x y y (what.Read base len) k (answer_id i) is alive f (ap (λ (c : Option pieces.Served). bind c (λ (r : pieces.Served). Some (service.answered s i x r))) reads)
-    (answer_there (service.changed s i x y) i x (what.Block (take len (drop base y.memory))) (name_of b m o i x f)) refl
-can_here b m o i x y (what.Write base bytes) is num other alive f h =
+    can_answer b m o i x y y (PlainWhat.Read base len) k (answer_id i) is alive f (ap (λ (c : Option pieces.Served). bind c (λ (r : pieces.Served). Some (service.answered s i x r))) reads)
+    (answer_there (service.changed s i x y) i x (PlainWhat.Block (take len (drop base y.memory))) (name_of b m o i x f)) refl
+can_here b m o i x y (PlainWhat.Write base bytes) is num other alive f h =
     let s = o.kernel in
     let within : nat_le (base + length bytes) (length y.memory) ≡ true = sym (ap (has_bytes (base + length bytes)) alive) ∙ h.0 in
     let z = record y { memory = pieces.written_at y.memory base bytes } in
-    let k = answer_to x what.Written in
+    let k = answer_to x PlainWhat.Written in
     let writes : pieces.writes y x base bytes ≡ Some (record { process = z; answer = k }) = ap (λ (c : Bool). if c then Some (record { process = z; answer = k }) else None) within in
-    can_answer b m o i x y z (what.Write base bytes) k (answer_id i) is alive f (ap (λ (c : Option pieces.Served). bind c (λ (r : pieces.Served). Some (service.answered s i x r))) writes)
-    (answer_there (service.changed s i x z) i x what.Written (name_of b m o i x f)) refl
-can_here b m o i x y (what.Block bytes) is num other alive f h =
-    can_land b m o i x y (what.Block bytes) is alive f (λ c e. ap (λ (o_ : Option pieces.Landed). bind o_ (λ (r : pieces.Landed). Some (service.landed o.kernel i x r))) e) refl (ap (λ p. awaits (o.kernel.processes p) i.n (what.Block bytes)) h.0 ∙ h.1)
-can_here b m o i x y what.Written is num other alive f h =
-    can_land b m o i x y what.Written is alive f (λ c e. ap (λ (o_ : Option pieces.Landed). bind o_ (λ (r : pieces.Landed). Some (service.landed o.kernel i x r))) e) refl (ap (λ p. awaits (o.kernel.processes p) i.n what.Written) h.0 ∙ h.1)
-can_here b m o i x y what.Gone is num other alive f h =
-    can_land b m o i x y what.Gone is alive f (λ c e. ap (λ (o_ : Option pieces.Landed). bind o_ (λ (r : pieces.Landed). Some (service.landed o.kernel i x r))) e) refl (ap (λ p. awaits (o.kernel.processes p) i.n what.Gone) h.0 ∙ h.1)
-can_here b m o i x y (what.Create image links) is num other alive f h =
+    can_answer b m o i x y z (PlainWhat.Write base bytes) k (answer_id i) is alive f (ap (λ (c : Option pieces.Served). bind c (λ (r : pieces.Served). Some (service.answered s i x r))) writes)
+    (answer_there (service.changed s i x z) i x PlainWhat.Written (name_of b m o i x f)) refl
+can_here b m o i x y (PlainWhat.Create image links) is num other alive f h =
     let (zero_, rest, numbered, sender, request, pending, fits) = h in
     absurd (false≢true (sym num ∙ (let k : (x.to.num == 0) ≡ true = grind (arith, nat_tests) in k)))
-can_here b m o i x y (what.Created child) is num other alive f h =
+can_here b m o i x y (PlainWhat.Created child) is num other alive f h =
     let (to, answer, pending, made) = h in
     absurd (false≢true (sym other ∙ is_manager x.to to))
-can_here b m o i x y what.NoRoom is num other alive f h =
+can_here b m o i x y PlainWhat.NoRoom is num other alive f h =
     let (to, answer, pending) = h in
     absurd (false≢true (sym other ∙ is_manager x.to to))
-can_here b m o i x y (what.Move a) is num other alive f h = absurd h
-can_here b m o i x y (what.Moved a) is num other alive f h = absurd h
+can_here b m o i x y (PlainWhat.Move a) is num other alive f h = absurd h
+can_here b m o i x y (PlainWhat.Moved a) is num other alive f h = absurd h
+can_here b m o i x y any_ is num other alive f h =
+    can_land b m o i x y any_ is alive f (λ c e. ap (λ (o_ : Option pieces.Landed). bind o_ (λ (r : pieces.Landed). Some (service.landed o.kernel i x r))) e) refl (ap (λ p. awaits (o.kernel.processes p) i.n any_) h.0 ∙ h.1)
 
 -- a receiver that has ended
-gone_is : (s : OneKernel) (i : MsgId) (x : PlainMessage) (y : Why) → s.bag i ≡ Some x → s.processes x.to ≡ Some (Ended y) → is_of_memory x.what ≡ true → kernel.step s (label.Gone i) ≡ Some (with_sent (without_message s i) (Some (answer_to x what.Gone)))
+pub gone_is : (s : OneKernel) (i : MsgId) (x : PlainMessage) (y : Why) → s.bag i ≡ Some x → s.processes x.to ≡ Some (Ended y) → is_of_memory x.what ≡ true → kernel.step s (Label.Gone i) ≡ Some (with_sent (without_message s i) (Some (answer_to x PlainWhat.Gone)))
 gone_is s i x y there ended memory =
     ap (λ (o : Option PlainMessage). bind o (λ (v : PlainMessage). bind (kernel.ended (s.processes v.to)) (kernel.says_gone s i v))) there ∙ ap (λ (o : Option Life). bind (kernel.ended o) (kernel.says_gone s i x)) ended
-    ∙ ap (λ (c : Bool). when c (with_sent (without_message s i) (Some (answer_to x what.Gone)))) memory
+    ∙ ap (λ (c : Bool). when c (with_sent (without_message s i) (Some (answer_to x PlainWhat.Gone)))) memory
 
-can_gone : (b : Boot) (m : ℕ) (o : Point) (i : MsgId) (x : PlainMessage) (y : Why) → is_of_memory x.what ≡ true → o.kernel.processes x.to ≡ Some (Ended y) → Front b m o i x → CanTurn m o (Some (rule.says (label.Gone i) ∷ Routes (answer_id i) ∷ []))
+can_gone : (b : Boot) (m : ℕ) (o : Point) (i : MsgId) (x : PlainMessage) (y : Why) → is_of_memory x.what ≡ true → o.kernel.processes x.to ≡ Some (Ended y) → Front b m o i x → CanTurn m o (Some (rule.says (Label.Gone i) ∷ Routes (answer_id i) ∷ []))
 can_gone b m o i x y memory ended f =
     let s = o.kernel in
-    let t = with_sent (without_message s i) (Some (answer_to x what.Gone)) in
-    can_say (Calm m o) m (begun o m) (label.Gone i) t (Routes (answer_id i) ∷ []) (gone_is s i x y f.there ended memory) refl (tt, tt)
-    (does_route (Calm m o) (moved (begun o m) (line.Label (label.Gone i)) t) (answer_id i) (answer_to x what.Gone) (answer_there (without_message s i) i x what.Gone (name_of b m o i x f)) (λ c s_ user. absurd (false≢true user)))
+    let t = with_sent (without_message s i) (Some (answer_to x PlainWhat.Gone)) in
+    can_say (Calm m o) m (begun o m) (Label.Gone i) t (Routes (answer_id i) ∷ []) (gone_is s i x y f.there ended memory) refl (tt, tt)
+    (does_route (Calm m o) (moved (begun o m) (Line.Label (Label.Gone i)) t) (answer_id i) (answer_to x PlainWhat.Gone) (answer_there (without_message s i) i x PlainWhat.Gone (name_of b m o i x f)) (λ c s_ user. absurd (false≢true user)))
 
-can_drop : (b : Boot) (m : ℕ) (o : Point) (i : MsgId) (x : PlainMessage) (y : Why) → is_dropped x.what ≡ true → o.kernel.processes x.to ≡ Some (Ended y) → Front b m o i x → CanTurn m o (Some (rule.says (label.Dropped i) ∷ []))
+can_drop : (b : Boot) (m : ℕ) (o : Point) (i : MsgId) (x : PlainMessage) (y : Why) → is_dropped x.what ≡ true → o.kernel.processes x.to ≡ Some (Ended y) → Front b m o i x → CanTurn m o (Some (rule.says (Label.Dropped i) ∷ []))
 can_drop b m o i x y drops ended f =
     let t = without_message o.kernel i in
-    can_say (Calm m o) m (begun o m) (label.Dropped i) t [] (dropped_is o.kernel i x y f.there ended drops) refl tt (does_nothing (Calm m o) (moved (begun o m) (line.Label (label.Dropped i)) t))
+    can_say (Calm m o) m (begun o m) (Label.Dropped i) t [] (dropped_is o.kernel i x y f.there ended drops) refl tt (does_nothing (Calm m o) (moved (begun o m) (Line.Label (Label.Dropped i)) t))
 
 pub can_ended : (b : Boot) (m : ℕ) (o : Point) (i : MsgId) (x : PlainMessage) (y : Why) (w : PlainWhat) → x.what ≡ w → (x.to.num == 0) ≡ false → pid_eq x.to manager ≡ false → o.kernel.processes x.to ≡ Some (Ended y) → Front b m o i x → WhatFits o.kernel i x w
     → CanTurn m o (rule.ended_handles i w)
-can_ended b m o i x y (what.Read base len) is num other ended f h = can_gone b m o i x y (ap is_of_memory is) ended f
-can_ended b m o i x y (what.Write base bytes) is num other ended f h = can_gone b m o i x y (ap is_of_memory is) ended f
-can_ended b m o i x y (what.Create image links) is num other ended f h =
+can_ended b m o i x y (PlainWhat.Read base len) is num other ended f h = can_gone b m o i x y (ap is_of_memory is) ended f
+can_ended b m o i x y (PlainWhat.Write base bytes) is num other ended f h = can_gone b m o i x y (ap is_of_memory is) ended f
+can_ended b m o i x y (PlainWhat.Create image links) is num other ended f h =
     let (zero_, rest, numbered, sender, request, pending, fits) = h in
     absurd (false≢true (sym num ∙ (let k : (x.to.num == 0) ≡ true = grind (arith, nat_tests) in k)))
-can_ended b m o i x y (what.Created child) is num other ended f h =
+can_ended b m o i x y (PlainWhat.Created child) is num other ended f h =
     let (to, answer, pending, made) = h in
     absurd (false≢true (sym other ∙ is_manager x.to to))
-can_ended b m o i x y what.NoRoom is num other ended f h =
+can_ended b m o i x y PlainWhat.NoRoom is num other ended f h =
     let (to, answer, pending) = h in
     absurd (false≢true (sym other ∙ is_manager x.to to))
-can_ended b m o i x y (what.Move a) is num other ended f h = absurd h
-can_ended b m o i x y (what.Moved a) is num other ended f h = absurd h
-can_ended b m o i x y (what.User z1 z2 z3 z4) is num other ended f h = can_drop b m o i x y (ap is_dropped is) ended f
-can_ended b m o i x y what.Stop is num other ended f h = can_drop b m o i x y (ap is_dropped is) ended f
-can_ended b m o i x y what.Resume is num other ended f h = can_drop b m o i x y (ap is_dropped is) ended f
-can_ended b m o i x y what.Kill is num other ended f h = can_drop b m o i x y (ap is_dropped is) ended f
-can_ended b m o i x y (what.Block z1) is num other ended f h = can_drop b m o i x y (ap is_dropped is) ended f
-can_ended b m o i x y what.Written is num other ended f h = can_drop b m o i x y (ap is_dropped is) ended f
-can_ended b m o i x y what.Gone is num other ended f h = can_drop b m o i x y (ap is_dropped is) ended f
+can_ended b m o i x y (PlainWhat.Move a) is num other ended f h = absurd h
+can_ended b m o i x y (PlainWhat.Moved a) is num other ended f h = absurd h
+can_ended b m o i x y _ is num other ended f h = can_drop b m o i x y (ap is_dropped is) ended f
 
 -- by what the machine knows of it
 pub alive_of : (l : Option Life) → agrees view.Here l ≡ true → (y : PlainProcess) × (l ≡ Some (Alive y))
@@ -279,7 +216,7 @@ ended_of None e = cc
 ended_of (Some (Alive y)) e = cc
 ended_of (Some (Ended y)) e = (y, refl)
 
-told_plain : (v : View) (c : Bool) (q : Pid) (to : ℕ) → ArePlain v (if c then Owns kind.Update q to ∷ [] else [])
+told_plain : (v : View) (c : Bool) (q : Pid) (to : ℕ) → ArePlain v (if c then Owns MessageKind.Update q to ∷ [] else [])
 told_plain v true q to = (tt, tt)
 told_plain v false q to = tt
 
@@ -293,8 +230,8 @@ can_known b m o i x view.Here is there agree num other f own =
     let (y, alive) = alive_of (o.kernel.processes x.to) agree in
     can_as (Calm m o) m (begun o m) (rule.process_handles o m i x view.Here) (rule.here_handles o m i x y x.what) (ap (λ (l : Option Life). bind (kernel.alive l) (λ (p : PlainProcess). rule.here_handles o m i x p x.what)) alive)
     (can_here b m o i x y x.what refl num other alive f (f.run.based.fits.messages i x f.there))
-can_known b m o i x (view.Frozen to) is there agree num other f own = can_plain (Calm m o) m (begun o m) (Says (line.Held i) ∷ []) (λ c. false≢true (sym (ap is_still is) ∙ c.known x.to)) (refl, tt) (NoOwns (tt, tt))
-can_known b m o i x (view.Incoming from) is there agree num other f own = can_plain (Calm m o) m (begun o m) (Says (line.Held i) ∷ []) (λ c. false≢true (sym (ap is_still is) ∙ c.known x.to)) (refl, tt) (NoOwns (tt, tt))
+can_known b m o i x (view.Frozen to) is there agree num other f own = can_plain (Calm m o) m (begun o m) (Says (Line.Held i) ∷ []) (λ c. false≢true (sym (ap is_still is) ∙ c.known x.to)) (refl, tt) (NoOwns (tt, tt))
+can_known b m o i x (view.Incoming from) is there agree num other f own = can_plain (Calm m o) m (begun o m) (Says (Line.Held i) ∷ []) (λ c. false≢true (sym (ap is_still is) ∙ c.known x.to)) (refl, tt) (NoOwns (tt, tt))
 can_known b m o i x (view.Forward at_ moves) is there agree num other f own =
     let v = (begun o m).view in
     can_plain (Calm m o) m (begun o m) (forwards_on o.addresses i (plain_kind x.what) x.sender at_) (λ c. false≢true (sym (ap is_still is) ∙ c.known x.to)) (forwards_plain v o.addresses i (plain_kind x.what) x.sender at_ (ap is_some f.told_is))

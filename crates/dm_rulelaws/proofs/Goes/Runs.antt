@@ -1,24 +1,6 @@
 -- Laws of runs, from what holds at their start and is kept by each group.
-use Rattle.std.proofs.Common.{◌≡◌, ℕ, ◌≤◌, true, List, [], ◌∷◌, ap, ◌∙◌, sym, subst, is_some, nat_le, arith}
-use Rattle.std.proofs.lemmas.Bool.Decides.{nat_tests}
-use Rattle.std.specs.declared.option.Option.{Option}
-use Rattle.std.specs.declared.option.Option.TheVariants.{None, Some}
-use Rattle.dm_message.specs.declared.MsgId.{MsgId}
-use Rattle.dm_message.specs.Plain.{PlainMessage}
-use Rattle.dm_onekernel.specs.declared.boot.Boot.{Boot}
-use Rattle.dm_onekernel.specs.Boot.{IsValid}
-use Rattle.dm_schedule.specs.declared.Step.{Step}
-use Rattle.dm_schedule.specs.declared.Step.TheVariants as directive
-use Rattle.dm_rule.specs.Homes.{is_for_home}
-use Rattle.dm_rule.specs.Parts.{Spelled}
-use Rattle.dm_rule.specs.Point.{Point, first_point}
-use Rattle.dm_rule.specs.Rule.{group_of}
-use Rattle.dm_rule.specs.Laws.{IsStep, IsStill, Leads}
-use Rattle.dm_rule.proofs.Homes.Lines.{Home, home_start}
-use Rattle.dm_rule.proofs.Homes.Lists.{stands, all_stand}
-use Rattle.dm_rule.proofs.Homes.Turns.{home_group, none_replaced}
-use Rattle.dm_rule.proofs.Letters.{kernels_fresh}
-use Rattle.dm_rulelaws.specs.Laws.{GoesOnAlways, KnownAlways}
+use Rattle.dm_rulelaws.proofs.Names.{◌≡◌, ℕ, ◌≤◌, true, List, [], ◌∷◌, ap, ◌∙◌, sym, subst, is_some, nat_le, arith, nat_tests, None, Some, MsgId, Boot, IsValid, Step, is_for_home, Spelled, Point, first_point, group_of, IsStep, IsStill}
+use Rattle.dm_rulelaws.proofs.Names.{Leads, Home, home_start, stands, all_stand, home_group, none_replaced, kernels_fresh, GoesOnAlways, KnownAlways, for_home}
 use Rattle.dm_rulelaws.proofs.Fits.Rises.{both}
 use Rattle.dm_rulelaws.proofs.Runs.{Run}
 use Rattle.dm_rulelaws.proofs.Own.Told.{OwnTold}
@@ -75,11 +57,6 @@ stays_group goes b pt d w valid still fit is h =
     let k = home_group none_replaced b h.r h.e pt d w still is h.both.run.based.phased.state h.home in
     record { both = both_group goes b pt d w valid fit is h.both; r = k.r; e = k.e; home = k.home }
 
--- the front of an inbox is for its home
-for_home : (m : ℕ) (o : Option PlainMessage) (x : PlainMessage) → is_for_home m o ≡ true → o ≡ Some x → x.to.home ≡ m
-for_home m None x h is = cc
-for_home m (Some y) x h is = let f : y ≡ x = cc in let g : y.to.home ≡ m = grind (arith, nat_tests) in ap (λ (v : PlainMessage). v.to.home) (sym f) ∙ g
-
 front_stands : (b : Boot) (pt : Point) (m : ℕ) (i : MsgId) (is : List MsgId) (h : Stays b pt) → pt.view.inbox m ≡ i ∷ is → stands pt.kernel h.e m i ≡ true
 front_stands b pt m i is h box =
     let all : all_stand pt.kernel h.e m (i ∷ is) ≡ true = sym (ap (all_stand pt.kernel h.e m) box) ∙ h.home.lists.inbox m in
@@ -103,7 +80,6 @@ calm_turn b pt m h = record {
 }
 
 pub calm_for : (b : Boot) (pt : Point) (d : Step) → IsStill d → Stays b pt → CalmFor pt d
-calm_for b pt (directive.Turn m) still h = calm_turn b pt m h
-calm_for b pt (directive.Tick m) still h = tt
-calm_for b pt (directive.Deliver a c k) still h = tt
-calm_for b pt (directive.Migrate p m) still h = absurd still
+calm_for b pt (Step.Turn m) still h = calm_turn b pt m h
+calm_for b pt (Step.Migrate p m) still h = absurd still
+calm_for b pt _ still h = tt

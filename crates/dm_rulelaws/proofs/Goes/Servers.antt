@@ -1,44 +1,17 @@
 -- A message for a kernel or a server at the front of the inbox can be handled.
-use Rattle.std.proofs.Common.{◌≡◌, ℕ, zero, suc, ◌+◌, ◌==◌, ◌&&◌, ◌||◌, ◌++◌, Bool, true, false, List, [], ◌∷◌, length, refl, ap, ◌∙◌, sym, subst, is_some, nat_lt, arith}
-use Rattle.std.specs.Prelude.{⊤, if◌then◌else◌, slice_get}
-use Rattle.std.specs.declared.option.Option.{Option}
-use Rattle.std.specs.declared.option.Option.TheVariants.{None, Some}
-use Rattle.std.proofs.lemmas.Bool.{false≢true}
-use Rattle.std.proofs.lemmas.Bool.Decides.{nat_tests}
-use Rattle.dm_link.specs.declared.Pid.{Pid}
-use Rattle.dm_link.specs.Names.{pid_of, pid_eq}
-use Rattle.dm_link.specs.Plain.{PlainLink}
-use Rattle.dm_message.specs.declared.MsgId.{MsgId}
-use Rattle.dm_message.specs.Plain as what
-use Rattle.dm_message.specs.Plain.{PlainMessage, PlainWhat}
-use Rattle.dm_onekernel.specs.declared.boot.BootImage.{BootImage}
-use Rattle.dm_onekernel.specs.declared.boot.Boot.{Boot}
-use Rattle.dm_onekernel.specs.declared.label.Label.TheVariants as label
-use Rattle.dm_onekernel.specs.Boot.{first_number, switchboard, manager}
-use Rattle.dm_onekernel.specs.Options.{bind, when}
-use Rattle.dm_onekernel.specs.Kernel.{Pending, OneKernel, with_sent}
-use Rattle.dm_onekernel.specs.Pieces.{answer_id, answer_to}
+use Rattle.dm_rulelaws.proofs.Names.{◌≡◌, ℕ, zero, suc, ◌+◌, ◌==◌, ◌&&◌, ◌||◌, ◌++◌, Bool, true, false, List, [], ◌∷◌, length, refl, ap, ◌∙◌, sym, subst, is_some, nat_lt, arith, ⊤, if◌then◌else◌, slice_get, Option, None, Some, false≢true}
+use Rattle.dm_rulelaws.proofs.Names.{nat_tests, Pid, pid_of, pid_eq, PlainLink, MsgId, Label, Line, PlainMessage, PlainWhat, BootImage, Boot, first_number, switchboard, manager, bind, when, Pending, OneKernel, with_sent, answer_id}
+use Rattle.dm_rulelaws.proofs.Names.{answer_to, without_message, Made, pid_eq-same, Point, moved, Part, Routes, is_server, IsPending, WhatFits, is_fixed, counts, ServerSends, handled, is_kernels, not_kernels, or_first}
 use Rattle.dm_onekernel.specs.Switchboard as board
 use Rattle.dm_onekernel.specs.Manager as manage
 use Rattle.dm_onekernel.specs.Service as service
-use Rattle.dm_onekernel.specs.Service.{without_message}
 use Rattle.dm_onekernel.specs.Step as kernel
-use Rattle.dm_laws.proofs.Entered.{Made}
-use Rattle.dm_laws.proofs.Equal.{pid_eq-same}
-use Rattle.dm_line.specs.declared.line.Line.TheVariants as line
-use Rattle.dm_rule.specs.Point.{Point, moved}
-use Rattle.dm_rule.specs.Parts.{Part, Routes}
 use Rattle.dm_rule.specs.Rule as rule
-use Rattle.dm_rulelaws.specs.Fits.{is_server, IsPending, WhatFits}
-use Rattle.dm_rulelaws.specs.Found.{is_fixed}
 use Rattle.dm_rulelaws.proofs.Queued.{is_user}
 use Rattle.dm_rulelaws.proofs.Own.Told.{OwnTold}
 use Rattle.dm_rulelaws.proofs.Own.Fits.{HaveNoOwn}
 use Rattle.dm_rulelaws.proofs.Goes.Parts.{said, no_receive, does_route, Can, can_as, can_say}
-use Rattle.dm_laws.proofs.Entered.{counts}
-use Rattle.dm_laws.proofs.Servers.{ServerSends, board_takes, manager_takes}
-use Rattle.dm_rule.specs.View.{handled, is_kernels}
-use Rattle.dm_rule.proofs.Letters.{not_kernels}
+use Rattle.dm_laws.proofs.Servers.{board_takes, manager_takes}
 use Rattle.dm_rulelaws.proofs.Order.Moves.{Last, next_id}
 use Rattle.dm_rulelaws.proofs.Goes.Serves.{never_counted}
 use Rattle.dm_rulelaws.proofs.Goes.Front.{begun, Calm, CanTurn, Front, made_of, name_of, home_of, ForOthers, ForWhom, ForProcess, ForOther, for_whom, process_not_kernel, process_not_board, process_not_manager, answer_there, does_routes, sent_there}
@@ -58,84 +31,63 @@ server_number p e = numbered (pid_eq p switchboard) refl e
 
 -- the kernel of a machine
 abbrev IsCreate : PlainWhat → Type 0
-IsCreate (what.Create image links) = ⊥
+IsCreate (PlainWhat.Create image links) = ⊥
 IsCreate w = ⊤
 
 others_kernel : (x : PlainMessage) (w : PlainWhat) → IsCreate w → (x.to.num == 0) ≡ true → ForOthers x w → false ≡ true
-others_kernel x (what.User code channel body links) c num h = sym (server_number x.to h) ∙ num
-others_kernel x (what.Created child) c num h = let e : x.to.num ≡ 2 = ap (λ (p : Pid). p.num) h in let f : (x.to.num == 0) ≡ false = grind (arith, nat_tests) in sym f ∙ num
-others_kernel x what.NoRoom c num h = let e : x.to.num ≡ 2 = ap (λ (p : Pid). p.num) h in let f : (x.to.num == 0) ≡ false = grind (arith, nat_tests) in sym f ∙ num
-others_kernel x (what.Create image links) c num h = absurd c
-others_kernel x what.Stop c num h = absurd h
-others_kernel x what.Resume c num h = absurd h
-others_kernel x what.Kill c num h = absurd h
-others_kernel x (what.Read z1 z2) c num h = absurd h
-others_kernel x (what.Write z1 z2) c num h = absurd h
-others_kernel x (what.Block z1) c num h = absurd h
-others_kernel x what.Written c num h = absurd h
-others_kernel x what.Gone c num h = absurd h
-others_kernel x (what.Move z1) c num h = absurd h
-others_kernel x (what.Moved z1) c num h = absurd h
+others_kernel x (PlainWhat.User code channel body links) c num h = sym (server_number x.to h) ∙ num
+others_kernel x (PlainWhat.Created child) c num h = let e : x.to.num ≡ 2 = ap (λ (p : Pid). p.num) h in let f : (x.to.num == 0) ≡ false = grind (arith, nat_tests) in sym f ∙ num
+others_kernel x PlainWhat.NoRoom c num h = let e : x.to.num ≡ 2 = ap (λ (p : Pid). p.num) h in let f : (x.to.num == 0) ≡ false = grind (arith, nat_tests) in sym f ∙ num
+others_kernel x (PlainWhat.Create image links) c num h = absurd c
+others_kernel x _ c num h = absurd h
 
 never_kernel : (s : OneKernel) (x : PlainMessage) (w : PlainWhat) → IsCreate w → (x.to.num == 0) ≡ true → Made s → ForWhom s x w → ⊥
 never_kernel s x w c num made (ForProcess there) = false≢true (process_not_kernel s x.to there num made)
 never_kernel s x w c num made (ForOther h) = false≢true (others_kernel x w c num h)
 
-can_created : (b : Boot) (m : ℕ) (o : Point) (i : MsgId) (x : PlainMessage) (image : ℕ) (links : List PlainLink) (g : BootImage) → x.what ≡ what.Create image links → x.to.home ≡ m → service.is_kernel o.kernel x.to ≡ true → slice_get o.kernel.images image ≡ Some g → Front b m o i x
-    → CanTurn m o (Some (rule.says (label.Created i (pid_of m (first_number + o.kernel.made m))) ∷ Routes (answer_id i) ∷ []))
+can_created : (b : Boot) (m : ℕ) (o : Point) (i : MsgId) (x : PlainMessage) (image : ℕ) (links : List PlainLink) (g : BootImage) → x.what ≡ PlainWhat.Create image links → x.to.home ≡ m → service.is_kernel o.kernel x.to ≡ true → slice_get o.kernel.images image ≡ Some g → Front b m o i x
+    → CanTurn m o (Some (rule.says (Label.Created i (pid_of m (first_number + o.kernel.made m))) ∷ Routes (answer_id i) ∷ []))
 can_created b m o i x image links g is home kern found f =
     let s = o.kernel in
     let child = pid_of m (first_number + s.made m) in
     let u = service.with_child (without_message s i) child g links in
-    let k = answer_to x (what.Created child) in
+    let k = answer_to x (PlainWhat.Created child) in
     let t = with_sent u (Some k) in
     let named : pid_eq child (pid_of x.to.home (first_number + s.made x.to.home)) ≡ true = ap (λ n. pid_eq child (pid_of n (first_number + s.made n))) home ∙ pid_eq-same child in
-    let step : kernel.step s (label.Created i child) ≡ Some t =
+    let step : kernel.step s (Label.Created i child) ≡ Some t =
     ap (λ (o_ : Option PlainMessage). bind o_ (λ (v : PlainMessage). service.creates s i v child v.what)) f.there ∙ ap (service.creates s i x child) is
     ∙ ap (λ (o_ : Option BootImage). bind o_ (service.creates_of s i x child links)) found
     ∙ ap (λ (c : Bool). when (c && pid_eq child (pid_of x.to.home (first_number + s.made x.to.home))) t) kern ∙ ap (λ (c : Bool). when c t) named in
-    can_say (Calm m o) m (begun o m) (label.Created i child) t (Routes (answer_id i) ∷ []) step refl (tt, tt)
-    (does_route (Calm m o) (moved (begun o m) (line.Label (label.Created i child)) t) (answer_id i) k (answer_there u i x (what.Created child) (name_of b m o i x f)) (λ c s_ user. absurd (false≢true user)))
+    can_say (Calm m o) m (begun o m) (Label.Created i child) t (Routes (answer_id i) ∷ []) step refl (tt, tt)
+    (does_route (Calm m o) (moved (begun o m) (Line.Label (Label.Created i child)) t) (answer_id i) k (answer_there u i x (PlainWhat.Created child) (name_of b m o i x f)) (λ c s_ user. absurd (false≢true user)))
 
-can_no_space : (b : Boot) (m : ℕ) (o : Point) (i : MsgId) (x : PlainMessage) (image : ℕ) (links : List PlainLink) (slots blocks : ℕ) → x.what ≡ what.Create image links → service.is_kernel o.kernel x.to ≡ true → Front b m o i x
-    → CanTurn m o (Some (rule.says (label.NoSpace i slots blocks) ∷ Routes (answer_id i) ∷ []))
+can_no_space : (b : Boot) (m : ℕ) (o : Point) (i : MsgId) (x : PlainMessage) (image : ℕ) (links : List PlainLink) (slots blocks : ℕ) → x.what ≡ PlainWhat.Create image links → service.is_kernel o.kernel x.to ≡ true → Front b m o i x
+    → CanTurn m o (Some (rule.says (Label.NoSpace i slots blocks) ∷ Routes (answer_id i) ∷ []))
 can_no_space b m o i x image links slots blocks is kern f =
     let s = o.kernel in
-    let k = answer_to x what.NoRoom in
+    let k = answer_to x PlainWhat.NoRoom in
     let t = with_sent (without_message s i) (Some k) in
-    let step : kernel.step s (label.NoSpace i slots blocks) ≡ Some t =
+    let step : kernel.step s (Label.NoSpace i slots blocks) ≡ Some t =
     ap (λ (o_ : Option PlainMessage). bind o_ (λ (v : PlainMessage). service.has_no_room s i v v.what)) f.there ∙ ap (service.has_no_room s i x) is ∙ ap (λ (c : Bool). when c t) kern in
-    can_say (Calm m o) m (begun o m) (label.NoSpace i slots blocks) t (Routes (answer_id i) ∷ []) step refl (tt, tt)
-    (does_route (Calm m o) (moved (begun o m) (line.Label (label.NoSpace i slots blocks)) t) (answer_id i) k (answer_there (without_message s i) i x what.NoRoom (name_of b m o i x f)) (λ c s_ user. absurd (false≢true user)))
+    can_say (Calm m o) m (begun o m) (Label.NoSpace i slots blocks) t (Routes (answer_id i) ∷ []) step refl (tt, tt)
+    (does_route (Calm m o) (moved (begun o m) (Line.Label (Label.NoSpace i slots blocks)) t) (answer_id i) k (answer_there (without_message s i) i x PlainWhat.NoRoom (name_of b m o i x f)) (λ c s_ user. absurd (false≢true user)))
 
 can_if : (C : Type 0) (m : ℕ) (pt : Point) (c : Bool) (p q : Part) (ps : List Part) → Can C m pt (Some (p ∷ ps)) → Can C m pt (Some (q ∷ ps)) → Can C m pt (Some ((if c then p else q) ∷ ps))
 can_if C m pt true p q ps h k = h
 can_if C m pt false p q ps h k = k
 
 can_kernel : (b : Boot) (m : ℕ) (o : Point) (i : MsgId) (x : PlainMessage) (w : PlainWhat) → x.what ≡ w → (x.to.num == 0) ≡ true → Front b m o i x → WhatFits o.kernel i x w → CanTurn m o (rule.kernel_handles b o m i w)
-can_kernel b m o i x (what.Create image links) is num f h =
+can_kernel b m o i x (PlainWhat.Create image links) is num f h =
     let (zero_, home, numbered, sender, request, pending, fits) = h in
     let s = o.kernel in
     let (g, found) = get_is s.images image numbered in
     let here : slice_get b.images image ≡ Some g = ap (λ xs. slice_get xs image) (sym f.run.based.images) ∙ found in
     let kern : service.is_kernel s x.to ≡ true = ap (λ (c : Bool). c && nat_lt x.to.home s.machines) num ∙ home in
     let r = rule.free_room b o m in
-    can_as (Calm m o) m (begun o m) (rule.kernel_handles b o m i (what.Create image links)) (rule.creates o m i r (Some g)) (ap (rule.creates o m i r) here)
-    (can_if (Calm m o) m (begun o m) (rule.has_room r g.blocks) (rule.says (label.Created i (pid_of m (first_number + s.made m)))) (rule.says (label.NoSpace i r.slots r.blocks)) (Routes (answer_id i) ∷ [])
+    can_as (Calm m o) m (begun o m) (rule.kernel_handles b o m i (PlainWhat.Create image links)) (rule.creates o m i r (Some g)) (ap (rule.creates o m i r) here)
+    (can_if (Calm m o) m (begun o m) (rule.has_room r g.blocks) (rule.says (Label.Created i (pid_of m (first_number + s.made m)))) (rule.says (Label.NoSpace i r.slots r.blocks)) (Routes (answer_id i) ∷ [])
     (can_created b m o i x image links g is (home_of b m o i x (ap (λ (c : Bool). c || is_server x.to) num) f) kern found f) (can_no_space b m o i x image links r.slots r.blocks is kern f))
-can_kernel b m o i x (what.User z1 z2 z3 z4) is num f h = absurd (never_kernel o.kernel x (what.User z1 z2 z3 z4) tt num (made_of b m o i x f) (for_whom o.kernel i x (what.User z1 z2 z3 z4) h))
-can_kernel b m o i x what.Stop is num f h = absurd (never_kernel o.kernel x what.Stop tt num (made_of b m o i x f) (for_whom o.kernel i x what.Stop h))
-can_kernel b m o i x what.Resume is num f h = absurd (never_kernel o.kernel x what.Resume tt num (made_of b m o i x f) (for_whom o.kernel i x what.Resume h))
-can_kernel b m o i x what.Kill is num f h = absurd (never_kernel o.kernel x what.Kill tt num (made_of b m o i x f) (for_whom o.kernel i x what.Kill h))
-can_kernel b m o i x (what.Read z1 z2) is num f h = absurd (never_kernel o.kernel x (what.Read z1 z2) tt num (made_of b m o i x f) (for_whom o.kernel i x (what.Read z1 z2) h))
-can_kernel b m o i x (what.Write z1 z2) is num f h = absurd (never_kernel o.kernel x (what.Write z1 z2) tt num (made_of b m o i x f) (for_whom o.kernel i x (what.Write z1 z2) h))
-can_kernel b m o i x (what.Block z1) is num f h = absurd (never_kernel o.kernel x (what.Block z1) tt num (made_of b m o i x f) (for_whom o.kernel i x (what.Block z1) h))
-can_kernel b m o i x what.Written is num f h = absurd (never_kernel o.kernel x what.Written tt num (made_of b m o i x f) (for_whom o.kernel i x what.Written h))
-can_kernel b m o i x what.Gone is num f h = absurd (never_kernel o.kernel x what.Gone tt num (made_of b m o i x f) (for_whom o.kernel i x what.Gone h))
-can_kernel b m o i x (what.Created z1) is num f h = absurd (never_kernel o.kernel x (what.Created z1) tt num (made_of b m o i x f) (for_whom o.kernel i x (what.Created z1) h))
-can_kernel b m o i x what.NoRoom is num f h = absurd (never_kernel o.kernel x what.NoRoom tt num (made_of b m o i x f) (for_whom o.kernel i x what.NoRoom h))
-can_kernel b m o i x (what.Move z1) is num f h = absurd (never_kernel o.kernel x (what.Move z1) tt num (made_of b m o i x f) (for_whom o.kernel i x (what.Move z1) h))
-can_kernel b m o i x (what.Moved z1) is num f h = absurd (never_kernel o.kernel x (what.Moved z1) tt num (made_of b m o i x f) (for_whom o.kernel i x (what.Moved z1) h))
+can_kernel b m o i x any_ is num f h = absurd (never_kernel o.kernel x any_ tt num (made_of b m o i x f) (for_whom o.kernel i x any_ h))
 
 routes_quiet : (k : Option PlainMessage) → no_receive (said (rule.routes k)) ≡ true
 routes_quiet None = refl
@@ -158,11 +110,11 @@ took_last b m o i x u k y sends e other f = record {
   untold = never_counted o y.id f.run.based.phased.sane (sends.fresh y e) other;
 }
 
-can_take : (b : Boot) (m : ℕ) (o : Point) (i : MsgId) (x : PlainMessage) (u : OneKernel) (k : Option PlainMessage) → kernel.step o.kernel (label.Took i) ≡ Some (with_sent u k) → Sends m o u k → Front b m o i x → CanTurn m o (Some (rule.says (label.Took i) ∷ rule.routes k))
+can_take : (b : Boot) (m : ℕ) (o : Point) (i : MsgId) (x : PlainMessage) (u : OneKernel) (k : Option PlainMessage) → kernel.step o.kernel (Label.Took i) ≡ Some (with_sent u k) → Sends m o u k → Front b m o i x → CanTurn m o (Some (rule.says (Label.Took i) ∷ rule.routes k))
 can_take b m o i x u k step sends f =
     let t = with_sent u k in
-    can_say (Calm m o) m (begun o m) (label.Took i) t (rule.routes k) step (routes_quiet k) (routes_own k)
-    (does_routes (Calm m o) (moved (begun o m) (line.Label (label.Took i)) t) k (λ y e. sent_there u k y e) (λ y e c s. took_last b m o i x u k y sends e (not_kernels s.r s.e t y.id y (sent_there u k y e) s.sound) f))
+    can_say (Calm m o) m (begun o m) (Label.Took i) t (rule.routes k) step (routes_quiet k) (routes_own k)
+    (does_routes (Calm m o) (moved (begun o m) (Line.Label (Label.Took i)) t) k (λ y e. sent_there u k y e) (λ y e c s. took_last b m o i x u k y sends e (not_kernels s.r s.e t y.id y (sent_there u k y e) s.sound) f))
 
 -- what the servers send
 board_sends : (m : ℕ) (o : Point) (i : MsgId) (x : PlainMessage) (k : board.Took) → ServerSends switchboard o.kernel.switchboard.sent k.answer k.switchboard.sent → m ≡ 0 → Sends m o (record (without_message o.kernel i) { switchboard = k.switchboard }) k.answer
@@ -191,29 +143,16 @@ at_server x m e home = let z : x.to.home ≡ 0 = grind (arith, nat_tests) in sym
 at_manager : (x : PlainMessage) (m : ℕ) → pid_eq x.to manager ≡ true → x.to.home ≡ m → m ≡ 0
 at_manager x m e home = let z : x.to.home ≡ 0 = grind (arith, nat_tests) in sym home ∙ z
 
-server_if : (c d : Bool) → d ≡ true → (c || d) ≡ true
-server_if true d e = refl
-server_if false d e = e
-
-server_fixed : (p : Pid) → is_server p ≡ true → is_fixed p ≡ true
-server_fixed p e = server_if (p.num == 0) (is_server p) e
+pub server_fixed : (p : Pid) → is_server p ≡ true → is_fixed p ≡ true
+server_fixed p e = or_first (p.num == 0) (is_server p) e
 
 -- the switchboard
 others_board : (x : PlainMessage) (w : PlainWhat) → (is_user w ≡ false) → (x.to.num == 0) ≡ false → pid_eq x.to switchboard ≡ true → ForOthers x w → false ≡ true
-others_board x (what.User code channel body links) c num one h = cc
-others_board x (what.Create image links) c num one h = sym num ∙ (let k : (x.to.num == 0) ≡ true = grind (arith, nat_tests) in k)
-others_board x (what.Created child) c num one h = (let e : x.to.num ≡ 2 = ap (λ (p : Pid). p.num) h in let f : pid_eq x.to switchboard ≡ false = grind (arith, nat_tests) in sym f ∙ one)
-others_board x what.NoRoom c num one h = (let e : x.to.num ≡ 2 = ap (λ (p : Pid). p.num) h in let f : pid_eq x.to switchboard ≡ false = grind (arith, nat_tests) in sym f ∙ one)
-others_board x what.Stop c num one h = absurd h
-others_board x what.Resume c num one h = absurd h
-others_board x what.Kill c num one h = absurd h
-others_board x (what.Read z1 z2) c num one h = absurd h
-others_board x (what.Write z1 z2) c num one h = absurd h
-others_board x (what.Block z1) c num one h = absurd h
-others_board x what.Written c num one h = absurd h
-others_board x what.Gone c num one h = absurd h
-others_board x (what.Move z1) c num one h = absurd h
-others_board x (what.Moved z1) c num one h = absurd h
+others_board x (PlainWhat.User code channel body links) c num one h = cc
+others_board x (PlainWhat.Create image links) c num one h = sym num ∙ (let k : (x.to.num == 0) ≡ true = grind (arith, nat_tests) in k)
+others_board x (PlainWhat.Created child) c num one h = (let e : x.to.num ≡ 2 = ap (λ (p : Pid). p.num) h in let f : pid_eq x.to switchboard ≡ false = grind (arith, nat_tests) in sym f ∙ one)
+others_board x PlainWhat.NoRoom c num one h = (let e : x.to.num ≡ 2 = ap (λ (p : Pid). p.num) h in let f : pid_eq x.to switchboard ≡ false = grind (arith, nat_tests) in sym f ∙ one)
+others_board x _ c num one h = absurd h
 
 never_board : (s : OneKernel) (x : PlainMessage) (w : PlainWhat) → is_user w ≡ false → (x.to.num == 0) ≡ false → pid_eq x.to switchboard ≡ true → Made s → ForWhom s x w → ⊥
 never_board s x w c num one made (ForProcess there) = false≢true (process_not_board s x.to there one made)
@@ -221,51 +160,30 @@ never_board s x w c num one made (ForOther h) = false≢true (others_board x w c
 
 can_board : (b : Boot) (m : ℕ) (o : Point) (i : MsgId) (x : PlainMessage) (w : PlainWhat) → x.what ≡ w → (x.to.num == 0) ≡ false → pid_eq x.to switchboard ≡ true → Front b m o i x → WhatFits o.kernel i x w
     → CanTurn m o (rule.board_took i (board.takes o.kernel.switchboard x w))
-can_board b m o i x (what.User code channel body links) is num one f h =
+can_board b m o i x (PlainWhat.User code channel body links) is num one f h =
     let s = o.kernel in
     let k = board.takes_request s.switchboard body links in
     let u = record (without_message s i) { switchboard = k.switchboard } in
-    let step : kernel.step s (label.Took i) ≡ Some (with_sent u k.answer) =
+    let step : kernel.step s (Label.Took i) ≡ Some (with_sent u k.answer) =
     ap (λ (o_ : Option PlainMessage). bind o_ (service.takes s i)) f.there
     ∙ ap (λ (c : Bool). if c then bind (board.takes s.switchboard x x.what) (λ (t : board.Took). Some (service.switchboard_took s i t)) else if pid_eq x.to manager then bind (manage.takes s.manager s.machines (length s.images) x x.what) (λ (t : manage.Took). Some (service.manager_took s i t)) else None) one
     ∙ ap (λ (v : PlainWhat). bind (board.takes s.switchboard x v) (λ (t : board.Took). Some (service.switchboard_took s i t))) is in
-    can_take b m o i x u k.answer step (board_sends m o i x k (board_takes s.switchboard x (what.User code channel body links) k refl).2 (at_server x m one (home_of b m o i x (server_fixed x.to (ap (λ (c : Bool). c || pid_eq x.to manager) one)) f))) f
-can_board b m o i x what.Stop is num one f h = absurd (never_board o.kernel x what.Stop refl num one (made_of b m o i x f) (for_whom o.kernel i x what.Stop h))
-can_board b m o i x what.Resume is num one f h = absurd (never_board o.kernel x what.Resume refl num one (made_of b m o i x f) (for_whom o.kernel i x what.Resume h))
-can_board b m o i x what.Kill is num one f h = absurd (never_board o.kernel x what.Kill refl num one (made_of b m o i x f) (for_whom o.kernel i x what.Kill h))
-can_board b m o i x (what.Read z1 z2) is num one f h = absurd (never_board o.kernel x (what.Read z1 z2) refl num one (made_of b m o i x f) (for_whom o.kernel i x (what.Read z1 z2) h))
-can_board b m o i x (what.Write z1 z2) is num one f h = absurd (never_board o.kernel x (what.Write z1 z2) refl num one (made_of b m o i x f) (for_whom o.kernel i x (what.Write z1 z2) h))
-can_board b m o i x (what.Block z1) is num one f h = absurd (never_board o.kernel x (what.Block z1) refl num one (made_of b m o i x f) (for_whom o.kernel i x (what.Block z1) h))
-can_board b m o i x what.Written is num one f h = absurd (never_board o.kernel x what.Written refl num one (made_of b m o i x f) (for_whom o.kernel i x what.Written h))
-can_board b m o i x what.Gone is num one f h = absurd (never_board o.kernel x what.Gone refl num one (made_of b m o i x f) (for_whom o.kernel i x what.Gone h))
-can_board b m o i x (what.Create z1 z2) is num one f h = absurd (never_board o.kernel x (what.Create z1 z2) refl num one (made_of b m o i x f) (for_whom o.kernel i x (what.Create z1 z2) h))
-can_board b m o i x (what.Created z1) is num one f h = absurd (never_board o.kernel x (what.Created z1) refl num one (made_of b m o i x f) (for_whom o.kernel i x (what.Created z1) h))
-can_board b m o i x what.NoRoom is num one f h = absurd (never_board o.kernel x what.NoRoom refl num one (made_of b m o i x f) (for_whom o.kernel i x what.NoRoom h))
-can_board b m o i x (what.Move z1) is num one f h = absurd (never_board o.kernel x (what.Move z1) refl num one (made_of b m o i x f) (for_whom o.kernel i x (what.Move z1) h))
-can_board b m o i x (what.Moved z1) is num one f h = absurd (never_board o.kernel x (what.Moved z1) refl num one (made_of b m o i x f) (for_whom o.kernel i x (what.Moved z1) h))
+    can_take b m o i x u k.answer step (board_sends m o i x k (board_takes s.switchboard x (PlainWhat.User code channel body links) k refl).2 (at_server x m one (home_of b m o i x (server_fixed x.to (ap (λ (c : Bool). c || pid_eq x.to manager) one)) f))) f
+can_board b m o i x any_ is num one f h = absurd (never_board o.kernel x any_ refl num one (made_of b m o i x f) (for_whom o.kernel i x any_ h))
 
 -- the manager
 abbrev for_manager : PlainWhat → Bool
-for_manager (what.User code channel body links) = true
-for_manager (what.Created child) = true
-for_manager what.NoRoom = true
+for_manager (PlainWhat.User code channel body links) = true
+for_manager (PlainWhat.Created child) = true
+for_manager PlainWhat.NoRoom = true
 for_manager w = false
 
 others_manager : (x : PlainMessage) (w : PlainWhat) → for_manager w ≡ false → (x.to.num == 0) ≡ false → ForOthers x w → false ≡ true
-others_manager x (what.User code channel body links) c num h = cc
-others_manager x (what.Created child) c num h = cc
-others_manager x what.NoRoom c num h = cc
-others_manager x (what.Create image links) c num h = sym num ∙ (let k : (x.to.num == 0) ≡ true = grind (arith, nat_tests) in k)
-others_manager x what.Stop c num h = absurd h
-others_manager x what.Resume c num h = absurd h
-others_manager x what.Kill c num h = absurd h
-others_manager x (what.Read z1 z2) c num h = absurd h
-others_manager x (what.Write z1 z2) c num h = absurd h
-others_manager x (what.Block z1) c num h = absurd h
-others_manager x what.Written c num h = absurd h
-others_manager x what.Gone c num h = absurd h
-others_manager x (what.Move z1) c num h = absurd h
-others_manager x (what.Moved z1) c num h = absurd h
+others_manager x (PlainWhat.User code channel body links) c num h = cc
+others_manager x (PlainWhat.Created child) c num h = cc
+others_manager x PlainWhat.NoRoom c num h = cc
+others_manager x (PlainWhat.Create image links) c num h = sym num ∙ (let k : (x.to.num == 0) ≡ true = grind (arith, nat_tests) in k)
+others_manager x _ c num h = absurd h
 
 never_manager : (s : OneKernel) (x : PlainMessage) (w : PlainWhat) → for_manager w ≡ false → (x.to.num == 0) ≡ false → pid_eq x.to manager ≡ true → Made s → ForWhom s x w → ⊥
 never_manager s x w c num two made (ForProcess there) = false≢true (process_not_manager s x.to there two made)
@@ -276,7 +194,7 @@ can_manage : (b : Boot) (m : ℕ) (o : Point) (i : MsgId) (x : PlainMessage) (w 
 can_manage b m o i x w k is one two takes f =
     let s = o.kernel in
     let u = record (without_message s i) { manager = k.manager } in
-    let step : kernel.step s (label.Took i) ≡ Some (with_sent u k.message) =
+    let step : kernel.step s (Label.Took i) ≡ Some (with_sent u k.message) =
     ap (λ (o_ : Option PlainMessage). bind o_ (service.takes s i)) f.there
     ∙ ap (λ (c : Bool). if c then bind (board.takes s.switchboard x x.what) (λ (t : board.Took). Some (service.switchboard_took s i t)) else if pid_eq x.to manager then bind (manage.takes s.manager s.machines (length s.images) x x.what) (λ (t : manage.Took). Some (service.manager_took s i t)) else None) one
     ∙ ap (λ (c : Bool). if c then bind (manage.takes s.manager s.machines (length s.images) x x.what) (λ (t : manage.Took). Some (service.manager_took s i t)) else None) two
@@ -285,7 +203,7 @@ can_manage b m o i x w k is one two takes f =
     can_as (Calm m o) m (begun o m) (rule.manager_took i (manage.takes s.manager s.machines (length s.images) x w)) (rule.manager_took i (Some k)) (ap (rule.manager_took i) takes)
     (can_take b m o i x u k.message step (manager_sends m o i x k (manager_takes s.manager s.machines (length s.images) x w k takes).2.sends (at_manager x m two (home_of b m o i x (server_fixed x.to (ap (λ (c : Bool). c || pid_eq x.to manager) one ∙ two)) f))) f)
 
-pending_is : (o : Option Pending) → is_some o ≡ true → (r : Pending) × (o ≡ Some r)
+pub pending_is : (o : Option Pending) → is_some o ≡ true → (r : Pending) × (o ≡ Some r)
 pending_is None e = cc
 pending_is (Some r) e = (r, refl)
 
@@ -295,30 +213,20 @@ asked b m o i x p f = pending_is (manage.pending_numbered x.id.n o.kernel.manage
 
 can_manager : (b : Boot) (m : ℕ) (o : Point) (i : MsgId) (x : PlainMessage) (w : PlainWhat) → x.what ≡ w → (x.to.num == 0) ≡ false → pid_eq x.to switchboard ≡ false → pid_eq x.to manager ≡ true → Front b m o i x → WhatFits o.kernel i x w
     → CanTurn m o (rule.manager_took i (manage.takes o.kernel.manager o.kernel.machines (length o.kernel.images) x w))
-can_manager b m o i x (what.User code channel body links) is num one two f h =
-    can_manage b m o i x (what.User code channel body links) (manage.takes_user o.kernel.manager o.kernel.machines (length o.kernel.images) code body links) is one two refl f
-can_manager b m o i x (what.Created child) is num one two f h =
+can_manager b m o i x (PlainWhat.User code channel body links) is num one two f h =
+    can_manage b m o i x (PlainWhat.User code channel body links) (manage.takes_user o.kernel.manager o.kernel.machines (length o.kernel.images) code body links) is one two refl f
+can_manager b m o i x (PlainWhat.Created child) is num one two f h =
     let (to, answer, pending, made) = h in
     let g = o.kernel.manager in
     let (r, found) = asked b m o i x pending f in
-    can_manage b m o i x (what.Created child) (manage.answers (record g { children = g.children ++ child ∷ []; pending = manage.without_pending x.id.n g.pending }) r.answer 0 (manage.control_link (length g.children + 1) ∷ [])) is one two
+    can_manage b m o i x (PlainWhat.Created child) (manage.answers (record g { children = g.children ++ child ∷ []; pending = manage.without_pending x.id.n g.pending }) r.answer 0 (manage.control_link (length g.children + 1) ∷ [])) is one two
     (ap (manage.takes_created g x.id.n child) found) f
-can_manager b m o i x what.NoRoom is num one two f h =
+can_manager b m o i x PlainWhat.NoRoom is num one two f h =
     let (to, answer, pending) = h in
     let g = o.kernel.manager in
     let (r, found) = asked b m o i x pending f in
-    can_manage b m o i x what.NoRoom (manage.answers (record g { pending = manage.without_pending x.id.n g.pending }) r.answer 1 []) is one two (ap (manage.takes_no_room g x.id.n) found) f
-can_manager b m o i x what.Stop is num one two f h = absurd (never_manager o.kernel x what.Stop refl num two (made_of b m o i x f) (for_whom o.kernel i x what.Stop h))
-can_manager b m o i x what.Resume is num one two f h = absurd (never_manager o.kernel x what.Resume refl num two (made_of b m o i x f) (for_whom o.kernel i x what.Resume h))
-can_manager b m o i x what.Kill is num one two f h = absurd (never_manager o.kernel x what.Kill refl num two (made_of b m o i x f) (for_whom o.kernel i x what.Kill h))
-can_manager b m o i x (what.Read z1 z2) is num one two f h = absurd (never_manager o.kernel x (what.Read z1 z2) refl num two (made_of b m o i x f) (for_whom o.kernel i x (what.Read z1 z2) h))
-can_manager b m o i x (what.Write z1 z2) is num one two f h = absurd (never_manager o.kernel x (what.Write z1 z2) refl num two (made_of b m o i x f) (for_whom o.kernel i x (what.Write z1 z2) h))
-can_manager b m o i x (what.Block z1) is num one two f h = absurd (never_manager o.kernel x (what.Block z1) refl num two (made_of b m o i x f) (for_whom o.kernel i x (what.Block z1) h))
-can_manager b m o i x what.Written is num one two f h = absurd (never_manager o.kernel x what.Written refl num two (made_of b m o i x f) (for_whom o.kernel i x what.Written h))
-can_manager b m o i x what.Gone is num one two f h = absurd (never_manager o.kernel x what.Gone refl num two (made_of b m o i x f) (for_whom o.kernel i x what.Gone h))
-can_manager b m o i x (what.Create z1 z2) is num one two f h = absurd (never_manager o.kernel x (what.Create z1 z2) refl num two (made_of b m o i x f) (for_whom o.kernel i x (what.Create z1 z2) h))
-can_manager b m o i x (what.Move z1) is num one two f h = absurd (never_manager o.kernel x (what.Move z1) refl num two (made_of b m o i x f) (for_whom o.kernel i x (what.Move z1) h))
-can_manager b m o i x (what.Moved z1) is num one two f h = absurd (never_manager o.kernel x (what.Moved z1) refl num two (made_of b m o i x f) (for_whom o.kernel i x (what.Moved z1) h))
+    can_manage b m o i x PlainWhat.NoRoom (manage.answers (record g { pending = manage.without_pending x.id.n g.pending }) r.answer 1 []) is one two (ap (manage.takes_no_room g x.id.n) found) f
+can_manager b m o i x any_ is num one two f h = absurd (never_manager o.kernel x any_ refl num two (made_of b m o i x f) (for_whom o.kernel i x any_ h))
 
 -- whoever the message is for
 can_by : (b : Boot) (m : ℕ) (o : Point) (i : MsgId) (x : PlainMessage) (c d e : Bool) → (x.to.num == 0) ≡ c → pid_eq x.to switchboard ≡ d → pid_eq x.to manager ≡ e → Front b m o i x → OwnTold o

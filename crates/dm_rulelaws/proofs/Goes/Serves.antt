@@ -1,48 +1,14 @@
 -- With an empty inbox a machine's turn can be said.
-use Rattle.std.proofs.Common.{◌≡◌, ℕ, zero, suc, ◌+◌, ◌≤◌, ◌==◌, ◌&&◌, Bool, true, false, not, List, [], ◌∷◌, refl, ap, ◌∙◌, sym, subst, is_some, nat_lt, inl, inr, arith}
-use Rattle.std.specs.Prelude.{if◌then◌else◌}
-use Rattle.std.specs.declared.option.Option.{Option}
-use Rattle.std.specs.declared.option.Option.TheVariants.{None, Some}
-use Rattle.std.proofs.lemmas.Bool.{cases_Bool, false≢true}
-use Rattle.std.proofs.lemmas.Bool.Decides.{nat_tests}
-use Rattle.dm_link.specs.declared.Pid.{Pid}
-use Rattle.dm_link.specs.Names.{pid_eq}
-use Rattle.dm_message.specs.declared.MsgId.{MsgId}
-use Rattle.dm_message.specs.Ids.{id_eq}
-use Rattle.dm_message.specs.Plain as what
-use Rattle.dm_message.specs.Plain.{PlainMessage, PlainWhat}
-use Rattle.dm_process.specs.Mail.{on_mask}
-use Rattle.dm_processor.specs.Instructions.{instruction}
-use Rattle.dm_onekernel.specs.declared.boot.Boot.{Boot}
-use Rattle.dm_onekernel.specs.declared.label.Label.TheVariants as label
-use Rattle.dm_onekernel.specs.declared.label.Reply.{Reply}
-use Rattle.dm_onekernel.specs.declared.label.Why.TheVariants as why
-use Rattle.dm_onekernel.specs.Codes.{reply_eq, reply_code, why_code}
-use Rattle.dm_onekernel.specs.Options.{bind, when}
-use Rattle.dm_onekernel.specs.PlainProcess.{PlainProcess, PlainStatus, Ready, Waiting, Moving}
-use Rattle.dm_onekernel.specs.Kernel.{Life, Alive, Ended, OneKernel, with_process, with_sent}
+use Rattle.dm_rulelaws.proofs.Names.{◌≡◌, ℕ, zero, suc, ◌+◌, ◌≤◌, ◌==◌, ◌&&◌, Bool, true, false, not, List, [], ◌∷◌, refl, ap, ◌∙◌, sym, subst, is_some, nat_lt, inl, inr, arith, if◌then◌else◌, Option, None, Some, cases_Bool, false≢true}
+use Rattle.dm_rulelaws.proofs.Names.{nat_tests, Pid, pid_eq, MsgId, id_eq, Label, Why, Line, PlainMessage, PlainWhat, on_mask, instruction, Boot, Reply, reply_eq, reply_code, why_code, bind, when, PlainProcess, PlainStatus, Ready, Waiting}
+use Rattle.dm_rulelaws.proofs.Names.{Moving, Life, Alive, Ended, OneKernel, with_process, with_sent, without_message, id_eq-is, id_eq-same, pid_eq-same, sent_at, bind-is, alive-is, counts, is_counted, Point, moved, Part, Routes, times}
+use Rattle.dm_rulelaws.proofs.Names.{is_kernels, not_kernels, switchboard, manager, not_server, nexts, are_home, Sane, eq_self, not_is, zero_if, runnable_home}
 use Rattle.dm_onekernel.specs.Calls as calls
 use Rattle.dm_onekernel.specs.Receiving as receiving
-use Rattle.dm_onekernel.specs.Service.{without_message}
 use Rattle.dm_onekernel.specs.Step as kernel
-use Rattle.dm_laws.proofs.Equal.{id_eq-is, id_eq-same, pid_eq-same}
-use Rattle.dm_laws.proofs.Movers.{sent_at}
-use Rattle.dm_laws.proofs.Steps.{bind-is, alive-is}
-use Rattle.dm_laws.proofs.Entered.{counts, is_counted}
-use Rattle.dm_line.specs.declared.line.Line.TheVariants as line
-use Rattle.dm_rule.specs.Point.{Point, moved}
-use Rattle.dm_rule.specs.Parts.{Part, Routes}
 use Rattle.dm_rule.specs.Rule as rule
-use Rattle.dm_rule.specs.Spots.{times}
-use Rattle.dm_rule.specs.View.{is_kernels}
-use Rattle.dm_rule.proofs.Letters.{not_kernels}
 use Rattle.dm_rulelaws.proofs.Fits.Rises.{set_at, both}
 use Rattle.dm_rulelaws.proofs.Goes.Parts.{said, no_receive, Shape, Quiet, Takes, Does, does_nothing, does_label, does_route, sane_by, Can, can_line}
-use Rattle.dm_onekernel.specs.Boot.{switchboard, manager}
-use Rattle.dm_laws.proofs.Sound.{not_server}
-use Rattle.dm_laws.proofs.Steps.{nexts}
-use Rattle.dm_rule.specs.Homes.{are_home}
-use Rattle.dm_rule.proofs.Telling.{Sane}
 use Rattle.dm_rulelaws.proofs.Order.Moves.{Last, next_id}
 use Rattle.dm_rulelaws.proofs.Own.Fits.{HaveNoOwn, NoOwns}
 use Rattle.dm_rulelaws.proofs.Goes.Turns.{times_self, times_more, Droppable, droppable_on, does_drops, drops_quiet, drops_own}
@@ -52,28 +18,25 @@ pub running_of : (s : OneKernel) (p : Pid) (x : PlainProcess) → s.processes p 
 running_of s p x is going ready =
     ap (λ (o : Option Life). bind (kernel.alive o) (λ (v : PlainProcess). kernel.if_ready v v.status)) is ∙ ap (kernel.if_ready x) ready ∙ ap (λ (c : Bool). if c then None else Some x) going
 
-steps_front : (c : ℕ) (m n z : kernel.Machine) → kernel.plain_step m ≡ Some n → kernel.plain_steps c n ≡ Some z → kernel.plain_steps (suc c) m ≡ Some z
+pub steps_front : (c : ℕ) (m n z : kernel.Machine) → kernel.plain_step m ≡ Some n → kernel.plain_steps c n ≡ Some z → kernel.plain_steps (suc c) m ≡ Some z
 steps_front zero m n z e f = e ∙ f
 steps_front (suc c) m n z e f =
     let (mid, before, last) = bind-is (kernel.plain_steps c n) kernel.plain_step z f in
     ap (λ (o : Option kernel.Machine). bind o kernel.plain_step) (steps_front c m n mid e before) ∙ last
 
-ran_goes : (k : ℕ) (m : kernel.Machine) (o : Option kernel.Machine) → kernel.plain_row (instruction m.regs m.bytes) ≡ o → ((n : kernel.Machine) → kernel.plain_steps (rule.ran k n).count n ≡ Some (rule.ran k n).machine)
+pub ran_goes : (k : ℕ) (m : kernel.Machine) (o : Option kernel.Machine) → kernel.plain_row (instruction m.regs m.bytes) ≡ o → ((n : kernel.Machine) → kernel.plain_steps (rule.ran k n).count n ≡ Some (rule.ran k n).machine)
     → kernel.plain_steps (rule.goes_on m o (rule.ran k)).count m ≡ Some (rule.goes_on m o (rule.ran k)).machine
 ran_goes k m None e f = refl
 ran_goes k m (Some n) e f =
     let next : (rule.ran k n).count + 1 ≡ suc (rule.ran k n).count = omega arith in
     ap (λ c. kernel.plain_steps c m) next ∙ steps_front (rule.ran k n).count m n (rule.ran k n).machine e (f n)
 
-ran_steps : (k : ℕ) (m : kernel.Machine) → kernel.plain_steps (rule.ran k m).count m ≡ Some (rule.ran k m).machine
+pub ran_steps : (k : ℕ) (m : kernel.Machine) → kernel.plain_steps (rule.ran k m).count m ≡ Some (rule.ran k m).machine
 ran_steps zero m = refl
 ran_steps (suc k) m = ran_goes k m (kernel.plain_row (instruction m.regs m.bytes)) refl (ran_steps k)
 
-eq_same : (n : ℕ) → (n == n) ≡ true
-eq_same n = grind (arith, nat_tests)
-
-reply_same : (n : ℕ) (c : Reply) → ((n == n) && reply_eq c c) ≡ true
-reply_same n c = ap (λ (d : Bool). d && reply_eq c c) (eq_same n) ∙ eq_same (reply_code c)
+pub reply_same : (n : ℕ) (c : Reply) → ((n == n) && reply_eq c c) ≡ true
+reply_same n c = ap (λ (d : Bool). d && reply_eq c c) (eq_self n) ∙ eq_self (reply_code c)
 
 -- what a process has sent is its last
 counts_alive : (t : OneKernel) (p : Pid) (y : PlainProcess) (i : MsgId) → t.processes p ≡ Some (Alive y) → i.from ≡ p → (pid_eq p switchboard ≡ false) × (pid_eq p manager ≡ false) → counts t i ≡ nat_lt i.n y.sent
@@ -82,12 +45,8 @@ counts_alive t p y i is from off =
     ∙ ap (λ (c : Bool). if c then nat_lt i.n t.switchboard.sent else if pid_eq p manager then nat_lt i.n t.manager.sent else is_counted i.n (t.processes p)) off.0
     ∙ ap (λ (c : Bool). if c then nat_lt i.n t.manager.sent else is_counted i.n (t.processes p)) off.1 ∙ ap (is_counted i.n) is
 
-zero_of : (n : ℕ) → (1 ≤ n → ⊥) → n ≡ 0
-zero_of zero f = refl
-zero_of (suc n) f = absurd (f (omega arith))
-
 pub never_counted : (pt : Point) (i : MsgId) → Sane pt → counts pt.kernel i ≡ false → is_kernels i ≡ false → pt.view.told i ≡ None
-never_counted pt i h off other = h.untold i (zero_of (h.e i) (λ least. false≢true (sym off ∙ h.sound.entered.counted i least))) other
+never_counted pt i h off other = h.untold i (zero_if (h.e i) (λ least. false≢true (sym off ∙ h.sound.entered.counted i least))) other
 
 sent_last : (pt : Point) (p : Pid) (n : ℕ) (k : PlainMessage) (y : PlainProcess) → kernel.next pt.kernel p ≡ Some (kernel.Calls n (calls.Sends k y)) → p.home ≡ pt.view.acting → is_kernels k.id ≡ false → Sane pt → Last (with_sent (kernel.goes_on pt.kernel p y) (Some k)) pt.view k.id
 sent_last pt p n k y next home other h =
@@ -110,40 +69,40 @@ sent_last pt p n k y next home other h =
 does_called : (C : Type 0) (pt : Point) (p : Pid) (n : ℕ) (queue : List MsgId) (c : calls.Called) → kernel.next pt.kernel p ≡ Some (kernel.Calls n c) → Droppable pt.kernel p queue → (C → p.home ≡ pt.view.acting) → Sane pt → Does C pt (rule.called p n queue c)
 does_called C pt p n queue (calls.Replies reply y) next drops home h =
     let s = pt.kernel in
-    let step : kernel.step s (label.Call p n reply) ≡ Some (kernel.goes_on s p y) = ap (λ (o : Option kernel.Next). bind o (kernel.replies s p n reply)) next ∙ ap (λ (d : Bool). when d (kernel.goes_on s p y)) (reply_same n reply) in
-    does_label C pt (label.Call p n reply) (kernel.goes_on s p y) [] step (does_nothing C (moved pt (line.Label (label.Call p n reply)) (kernel.goes_on s p y)))
+    let step : kernel.step s (Label.Call p n reply) ≡ Some (kernel.goes_on s p y) = ap (λ (o : Option kernel.Next). bind o (kernel.replies s p n reply)) next ∙ ap (λ (d : Bool). when d (kernel.goes_on s p y)) (reply_same n reply) in
+    does_label C pt (Label.Call p n reply) (kernel.goes_on s p y) [] step (does_nothing C (moved pt (Line.Label (Label.Call p n reply)) (kernel.goes_on s p y)))
 does_called C pt p n queue (calls.Sends k y) next drops home h =
     let s = pt.kernel in
     let t = with_sent (kernel.goes_on s p y) (Some k) in
-    let step : kernel.step s (label.Send p k.id) ≡ Some t = ap (λ (o : Option kernel.Next). bind o (kernel.sends s p k.id)) next ∙ ap (λ (d : Bool). when d t) (id_eq-same k.id) in
+    let step : kernel.step s (Label.Send p k.id) ≡ Some t = ap (λ (o : Option kernel.Next). bind o (kernel.sends s p k.id)) next ∙ ap (λ (d : Bool). when d t) (id_eq-same k.id) in
     let there : t.bag k.id ≡ Some k = sent_at (kernel.goes_on s p y) k k.id (id_eq-same k.id) in
-    does_label C pt (label.Send p k.id) t (Routes k.id ∷ []) step
-    (does_route C (moved pt (line.Label (label.Send p k.id)) t) k.id k there (λ c sane user. sent_last pt p n k y next (home c) (not_kernels sane.r sane.e t k.id k there sane.sound) h))
+    does_label C pt (Label.Send p k.id) t (Routes k.id ∷ []) step
+    (does_route C (moved pt (Line.Label (Label.Send p k.id)) t) k.id k there (λ c sane user. sent_last pt p n k y next (home c) (not_kernels sane.r sane.e t k.id k there sane.sound) h))
 does_called C pt p n queue (calls.Waits y) next drops home h =
     let s = pt.kernel in
-    let step : kernel.step s (label.Wait p) ≡ Some (kernel.goes_on s p y) = ap (λ (o : Option kernel.Next). bind o (kernel.waits s p)) next in
-    does_label C pt (label.Wait p) (kernel.goes_on s p y) [] step (does_nothing C (moved pt (line.Label (label.Wait p)) (kernel.goes_on s p y)))
+    let step : kernel.step s (Label.Wait p) ≡ Some (kernel.goes_on s p y) = ap (λ (o : Option kernel.Next). bind o (kernel.waits s p)) next in
+    does_label C pt (Label.Wait p) (kernel.goes_on s p y) [] step (does_nothing C (moved pt (Line.Label (Label.Wait p)) (kernel.goes_on s p y)))
 does_called C pt p n queue (calls.Outputs word y) next drops home h =
     let s = pt.kernel in
-    let step : kernel.step s (label.Out p word) ≡ Some (kernel.goes_on s p y) = ap (λ (o : Option kernel.Next). bind o (kernel.outputs s p word)) next ∙ ap (λ (d : Bool). when d (kernel.goes_on s p y)) (eq_same word) in
-    does_label C pt (label.Out p word) (kernel.goes_on s p y) [] step (does_nothing C (moved pt (line.Label (label.Out p word)) (kernel.goes_on s p y)))
+    let step : kernel.step s (Label.Out p word) ≡ Some (kernel.goes_on s p y) = ap (λ (o : Option kernel.Next). bind o (kernel.outputs s p word)) next ∙ ap (λ (d : Bool). when d (kernel.goes_on s p y)) (eq_self word) in
+    does_label C pt (Label.Out p word) (kernel.goes_on s p y) [] step (does_nothing C (moved pt (Line.Label (Label.Out p word)) (kernel.goes_on s p y)))
 does_called C pt p n queue (calls.Ends because) next drops home h =
     let s = pt.kernel in
     let t = with_process s p (Ended because) in
-    let step : kernel.step s (label.End p because) ≡ Some t = ap (λ (o : Option kernel.Next). bind o (kernel.ends s p because)) next ∙ ap (λ (d : Bool). when d t) (eq_same (why_code because)) in
-    does_label C pt (label.End p because) t (rule.drops queue) step
-    (does_drops C p because queue (moved pt (line.Label (label.End p because)) t) (set_at s p (Ended because)) (droppable_on s t p queue (λ i least. refl) drops))
+    let step : kernel.step s (Label.End p because) ≡ Some t = ap (λ (o : Option kernel.Next). bind o (kernel.ends s p because)) next ∙ ap (λ (d : Bool). when d t) (eq_self (why_code because)) in
+    does_label C pt (Label.End p because) t (rule.drops queue) step
+    (does_drops C p because queue (moved pt (Line.Label (Label.End p because)) t) (set_at s p (Ended because)) (droppable_on s t p queue (λ i least. refl) drops))
 
 does_stops : (C : Type 0) (pt : Point) (p : Pid) (queue : List MsgId) (o : Option kernel.Next) → kernel.next pt.kernel p ≡ o → Droppable pt.kernel p queue → (C → p.home ≡ pt.view.acting) → Sane pt → Does C pt (rule.stops p queue o)
 does_stops C pt p queue None next drops home h = does_nothing C pt
 does_stops C pt p queue (Some (kernel.Calls n c)) next drops home h = does_called C pt p n queue c next drops home h
 does_stops C pt p queue (Some (kernel.Faults fault)) next drops home h =
     let s = pt.kernel in
-    let because = why.Fault fault in
+    let because = Why.Fault fault in
     let t = with_process s p (Ended because) in
-    let step : kernel.step s (label.End p because) ≡ Some t = ap (λ (o : Option kernel.Next). bind o (kernel.ends s p because)) next ∙ ap (λ (d : Bool). when d t) (eq_same (why_code because)) in
-    does_label C pt (label.End p because) t (rule.drops queue) step
-    (does_drops C p because queue (moved pt (line.Label (label.End p because)) t) (set_at s p (Ended because)) (droppable_on s t p queue (λ i least. refl) drops))
+    let step : kernel.step s (Label.End p because) ≡ Some t = ap (λ (o : Option kernel.Next). bind o (kernel.ends s p because)) next ∙ ap (λ (d : Bool). when d t) (eq_self (why_code because)) in
+    does_label C pt (Label.End p because) t (rule.drops queue) step
+    (does_drops C p because queue (moved pt (Line.Label (Label.End p because)) t) (set_at s p (Ended because)) (droppable_on s t p queue (λ i least. refl) drops))
 
 does_rest : (C : Type 0) (pt : Point) (c : Bool) (ps : List Part) → Does C pt ps → Does C pt (if c then [] else ps)
 does_rest C pt true ps d = does_nothing C pt
@@ -156,14 +115,14 @@ does_executes C b pt p queue x is going ready drops home h =
     let r = rule.ran b.quantum (kernel.machine_of x) in
     let y = kernel.with_machine x r.machine in
     let t = kernel.goes_on s p y in
-    let step : kernel.step s (label.Ran p r.count) ≡ Some t =
+    let step : kernel.step s (Label.Ran p r.count) ≡ Some t =
     ap (λ (o : Option PlainProcess). bind o (λ (v : PlainProcess). bind (kernel.plain_steps r.count (kernel.machine_of v)) (λ (z : kernel.Machine). Some (kernel.goes_on s p (kernel.with_machine v z))))) (running_of s p x is going ready)
     ∙ ap (λ (o : Option kernel.Machine). bind o (λ (z : kernel.Machine). Some (kernel.goes_on s p (kernel.with_machine x z)))) (ran_steps b.quantum (kernel.machine_of x)) in
     let o = kernel.next_row p y (instruction r.machine.regs r.machine.bytes) in
     let next : kernel.next t p ≡ o = ap (λ (v : Option PlainProcess). bind v (λ (z : PlainProcess). kernel.next_row p z (instruction z.regs z.memory))) (running_of t p y (set_at s p (Alive y)) going ready) in
-    let q = moved pt (line.Label (label.Ran p r.count)) t in
-    does_label C pt (label.Ran p r.count) t (if r.count == b.quantum then [] else rule.stops p queue o) step
-    (does_rest C q (r.count == b.quantum) (rule.stops p queue o) (does_stops C q p queue o next (droppable_on s t p queue (λ i least. refl) drops) home (sane_by pt (line.Label (label.Ran p r.count)) t refl step h)))
+    let q = moved pt (Line.Label (Label.Ran p r.count)) t in
+    does_label C pt (Label.Ran p r.count) t (if r.count == b.quantum then [] else rule.stops p queue o) step
+    (does_rest C q (r.count == b.quantum) (rule.stops p queue o) (does_stops C q p queue o next (droppable_on s t p queue (λ i least. refl) drops) home (sane_by pt (Line.Label (Label.Ran p r.count)) t refl step h)))
 
 -- a waiting process takes a message
 pub record Awaited (s : OneKernel) (mask : ℕ) (ids : List MsgId) (i : MsgId) : Type 0 where
@@ -189,11 +148,8 @@ first_is s mask [] i e = cc
 first_is s mask (j ∷ js) i e = awaited_if s mask j js i (rule.is_awaited mask (s.bag j)) refl e (first_is s mask js i)
 
 called_quiet : (p : Pid) (n : ℕ) (queue : List MsgId) (c : calls.Called) → no_receive (said (rule.called p n queue c)) ≡ true
-called_quiet p n queue (calls.Replies reply y) = refl
-called_quiet p n queue (calls.Sends k y) = refl
-called_quiet p n queue (calls.Waits y) = refl
-called_quiet p n queue (calls.Outputs word y) = refl
 called_quiet p n queue (calls.Ends because) = drops_quiet queue
+called_quiet p n queue _ = refl
 
 stops_quiet : (p : Pid) (queue : List MsgId) (o : Option kernel.Next) → no_receive (said (rule.stops p queue o)) ≡ true
 stops_quiet p queue None = refl
@@ -201,11 +157,9 @@ stops_quiet p queue (Some (kernel.Calls n c)) = called_quiet p n queue c
 stops_quiet p queue (Some (kernel.Faults fault)) = drops_quiet queue
 
 called_own : (p : Pid) (n : ℕ) (queue : List MsgId) (c : calls.Called) → HaveNoOwn (rule.called p n queue c)
-called_own p n queue (calls.Replies reply y) = (tt, tt)
 called_own p n queue (calls.Sends k y) = (tt, (tt, tt))
-called_own p n queue (calls.Waits y) = (tt, tt)
-called_own p n queue (calls.Outputs word y) = (tt, tt)
 called_own p n queue (calls.Ends because) = (tt, drops_own queue)
+called_own p n queue _ = (tt, tt)
 
 stops_own : (p : Pid) (queue : List MsgId) (o : Option kernel.Next) → HaveNoOwn (rule.stops p queue o)
 stops_own p queue None = tt
@@ -225,34 +179,22 @@ rest_quiet true ps h = refl
 rest_quiet false ps h = h
 
 completes_what : (p : Pid) (x : PlainProcess) (k : PlainMessage) (mask base size : ℕ) (w : PlainWhat) → rule.what_is_awaited mask w ≡ true → k.to ≡ p → (c : receiving.Completed) × (receiving.completes_what p x k mask base size w ≡ Some c)
-completes_what p x k mask base size (what.User code channel body links) e to =
+completes_what p x k mask base size (PlainWhat.User code channel body links) e to =
     let c = receiving.completes x base size code channel body links in
     (c, ap (λ (d : Bool). if d && on_mask mask channel then Some c else None) (ap (λ v. pid_eq v p) to ∙ pid_eq-same p) ∙ ap (λ (d : Bool). if d then Some c else None) e)
-completes_what p x k mask base size what.Stop e to = cc
-completes_what p x k mask base size what.Resume e to = cc
-completes_what p x k mask base size what.Kill e to = cc
-completes_what p x k mask base size (what.Read z1 z2) e to = cc
-completes_what p x k mask base size (what.Write z1 z2) e to = cc
-completes_what p x k mask base size (what.Block z1) e to = cc
-completes_what p x k mask base size what.Written e to = cc
-completes_what p x k mask base size what.Gone e to = cc
-completes_what p x k mask base size (what.Create z1 z2) e to = cc
-completes_what p x k mask base size (what.Created z1) e to = cc
-completes_what p x k mask base size what.NoRoom e to = cc
-completes_what p x k mask base size (what.Move z1) e to = cc
-completes_what p x k mask base size (what.Moved z1) e to = cc
+completes_what p x k mask base size _ e to = cc
 
 does_completes : (C : Type 0) (pt : Point) (p : Pid) (i : MsgId) (c : receiving.Completed) → kernel.completing pt.kernel p i ≡ Some c → Does C pt (rule.completes p i c)
 does_completes C pt p i (receiving.Receives y) e =
     let s = pt.kernel in
     let t = kernel.goes_on (without_message s i) p y in
-    let step : kernel.step s (label.Receive p i) ≡ Some t = ap (λ (o : Option receiving.Completed). bind o (kernel.receives s p i)) e in
-    does_label C pt (label.Receive p i) t [] step (does_nothing C (moved pt (line.Label (label.Receive p i)) t))
+    let step : kernel.step s (Label.Receive p i) ≡ Some t = ap (λ (o : Option receiving.Completed). bind o (kernel.receives s p i)) e in
+    does_label C pt (Label.Receive p i) t [] step (does_nothing C (moved pt (Line.Label (Label.Receive p i)) t))
 does_completes C pt p i (receiving.Refuses reply y) e =
     let s = pt.kernel in
     let t = kernel.goes_on s p y in
-    let step : kernel.step s (label.Refuse p i reply) ≡ Some t = ap (λ (o : Option receiving.Completed). bind o (kernel.refuses s p reply)) e ∙ ap (λ (d : Bool). when d t) (eq_same (reply_code reply)) in
-    does_label C pt (label.Refuse p i reply) t [] step (does_nothing C (moved pt (line.Label (label.Refuse p i reply)) t))
+    let step : kernel.step s (Label.Refuse p i reply) ≡ Some t = ap (λ (o : Option receiving.Completed). bind o (kernel.refuses s p reply)) e ∙ ap (λ (d : Bool). when d t) (eq_self (reply_code reply)) in
+    does_label C pt (Label.Refuse p i reply) t [] step (does_nothing C (moved pt (Line.Label (Label.Refuse p i reply)) t))
 
 droppable_to : (s : OneKernel) (p : Pid) (ids : List MsgId) (i : MsgId) (x : PlainMessage) → s.bag i ≡ Some x → 1 ≤ times i ids → Droppable s p ids → x.to ≡ p
 droppable_to s p [] i x there least h = absurd (omega (arith, least))
@@ -315,10 +257,6 @@ pub record Runnable (s : OneKernel) (queue : Pid → List MsgId) (p : Pid) : Typ
   pub going : x.stopped ≡ false
   pub go : rule.status_can_go s (queue p) x.status ≡ true
 
-not_is : (c : Bool) → not c ≡ true → c ≡ false
-not_is true e = cc
-not_is false e = refl
-
 runnable_of : (s : OneKernel) (queue : Pid → List MsgId) (p : Pid) (o : Option PlainProcess) → kernel.alive (s.processes p) ≡ o → rule.can_go s (queue p) o ≡ true → Runnable s queue p
 runnable_of s queue p None e go = cc
 runnable_of s queue p (Some x) e go =
@@ -336,7 +274,7 @@ runnable_is s queue (p ∷ ps) q e = runnable_if s queue p ps q (rule.can_go s (
 
 can_go_round : (C : Type 0) (b : Boot) (m : ℕ) (o pt : Point) (p : Option Pid) → o.kernel ≡ pt.kernel → ((q : Pid) → o.view.queue m q ≡ pt.view.queue m q) → ((q : Pid) → p ≡ Some q → Runnable pt.kernel (o.view.queue m) q) → ((q : Pid) → Droppable pt.kernel q (o.view.queue m q))
     → (C → (q : Pid) → p ≡ Some q → q.home ≡ pt.view.acting) → Sane pt → Can C m pt (rule.goes_round b o m p)
-can_go_round C b m o pt None same boxes run drops home h = can_line C m pt (line.Idle m) refl refl (λ c k o_. o_)
+can_go_round C b m o pt None same boxes run drops home h = can_line C m pt (Line.Idle m) refl refl (λ c k o_. o_)
 can_go_round C b m o pt (Some p) same boxes run drops home h =
     let r = run p refl in
     let k = can_serve C b m pt p (o.view.queue m p) r.x r.x.status refl r.go r.is r.going (boxes p) (drops p) (λ c. home c p refl) h in
@@ -349,21 +287,9 @@ can_go_round C b m o pt (Some p) same boxes run drops home h =
       owns = k.owns;
     }
 
--- a process of a ring is at home there
-ring_home : (s : OneKernel) (queue : Pid → List MsgId) (m : ℕ) (ps : List Pid) (q : Pid) → are_home m ps ≡ true → rule.first_runnable s queue ps ≡ Some q → q.home ≡ m
-ring_home s queue m [] q home e = cc
-ring_home s queue m (p ∷ ps) q home e =
-    let k = both (p.home == m) (are_home m ps) home in
-    let first = k.0 in
-    ring_if (rule.can_go s (queue p) (kernel.alive (s.processes p))) e (let f : p.home ≡ m = grind (arith, nat_tests) in f) (ring_home s queue m ps q k.1)
-  where
-    ring_if : (c : Bool) → (if c then Some p else rule.first_runnable s queue ps) ≡ Some q → p.home ≡ m → (rule.first_runnable s queue ps ≡ Some q → q.home ≡ m) → q.home ≡ m
-    ring_if true f at_ rest = let g : p ≡ q = cc in ap (λ (r : Pid). r.home) (sym g) ∙ at_
-    ring_if false f at_ rest = rest f
-
 pub can_turn : (C : Type 0) (b : Boot) (m : ℕ) (o pt : Point) → o.kernel ≡ pt.kernel → ((q : Pid) → o.view.queue m q ≡ pt.view.queue m q) → ((q : Pid) → Droppable pt.kernel q (o.view.queue m q)) → (C → are_home m (o.view.ring m) ≡ true) → pt.view.acting ≡ m → Sane pt
     → Can C m pt (rule.goes_round b o m (rule.first_runnable o.kernel (o.view.queue m) (o.view.ring m)))
 can_turn C b m o pt same boxes drops home acting h =
     can_go_round C b m o pt (rule.first_runnable o.kernel (o.view.queue m) (o.view.ring m)) same boxes
     (λ q e. runnable_is pt.kernel (o.view.queue m) (o.view.ring m) q (ap (λ (s : OneKernel). rule.first_runnable s (o.view.queue m) (o.view.ring m)) (sym same) ∙ e)) drops
-    (λ c q e. ring_home o.kernel (o.view.queue m) m (o.view.ring m) q (home c) e ∙ sym acting) h
+    (λ c q e. runnable_home o.kernel (o.view.queue m) m (o.view.ring m) q (home c) e ∙ sym acting) h

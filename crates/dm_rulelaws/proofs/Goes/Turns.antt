@@ -1,35 +1,14 @@
 -- What is queued for a process can go with it.
-use Rattle.std.proofs.Common.{◌≡◌, ℕ, ◌+◌, ◌≤◌, Bool, true, false, List, [], ◌∷◌, refl, ap, ◌∙◌, sym, subst, arith}
-use Rattle.std.specs.Prelude.{⊤, if◌then◌else◌}
-use Rattle.std.specs.declared.option.Option.{Option}
-use Rattle.std.specs.declared.option.Option.TheVariants.{None, Some}
-use Rattle.dm_link.specs.declared.Pid.{Pid}
-use Rattle.dm_message.specs.declared.MsgId.{MsgId}
-use Rattle.dm_message.specs.Ids.{id_eq}
-use Rattle.dm_message.specs.Plain as what
-use Rattle.dm_message.specs.Plain.{PlainMessage, PlainWhat}
-use Rattle.dm_onekernel.specs.declared.boot.Boot.{Boot}
-use Rattle.dm_onekernel.specs.declared.label.Label.TheVariants as label
-use Rattle.dm_onekernel.specs.declared.label.Why.{Why}
-use Rattle.dm_onekernel.specs.Options.{bind, when}
-use Rattle.dm_onekernel.specs.Kernel.{Life, Ended, OneKernel}
-use Rattle.dm_onekernel.specs.Service.{without_message, is_dropped}
+use Rattle.dm_rulelaws.proofs.Names.{◌≡◌, ℕ, ◌+◌, ◌≤◌, Bool, true, false, List, [], ◌∷◌, refl, ap, ◌∙◌, sym, subst, arith, ⊤, if◌then◌else◌, Option, None, Some, Pid, MsgId, id_eq, Label, Line, PlainMessage, PlainWhat, Boot, Why, bind, when}
+use Rattle.dm_rulelaws.proofs.Names.{Life, Ended, OneKernel, without_message, is_dropped, id_eq-is, id_eq-same, out_off, Point, moved, Spot, Queue, times, standing, StandsNowhere, StandsOutside, StandsRight, is_kernels, stands_right}
+use Rattle.dm_rulelaws.proofs.Names.{kernels_fresh, not_true, StandsAsBag-one}
 use Rattle.dm_onekernel.specs.Step as kernel
-use Rattle.dm_laws.proofs.Equal.{id_eq-is, id_eq-same}
-use Rattle.dm_laws.proofs.Movers.{out_off}
-use Rattle.dm_line.specs.declared.line.Line.TheVariants as line
-use Rattle.dm_rule.specs.Point.{Point, moved}
 use Rattle.dm_rule.specs.Rule as rule
-use Rattle.dm_rule.specs.Spots.{Spot, Queue, times, standing, StandsNowhere, StandsOutside, StandsRight}
-use Rattle.dm_rule.specs.View.{is_kernels}
-use Rattle.dm_rule.proofs.Groups.{stands_right}
-use Rattle.dm_rule.proofs.Letters.{kernels_fresh}
-use Rattle.dm_rule.proofs.Lines.{not_true}
-use Rattle.dm_rule.proofs.Standing.{StandsAsBag-one}
 use Rattle.dm_rulelaws.proofs.Queued.{is_user, IsQueued}
 use Rattle.dm_rulelaws.proofs.Runs.{Based}
 use Rattle.dm_rulelaws.proofs.Goes.Parts.{said, no_receive, Does, does_nothing, does_label}
 use Rattle.dm_rulelaws.proofs.Own.Fits.{HaveNoOwn}
+pub use Rattle.dm_rule.proofs.Phases.Leaves.{first_of as times_self}
 
 -- a user message of the bag for a process
 pub record IsFor (s : OneKernel) (p : Pid) (i : MsgId) : Type 0 where
@@ -42,9 +21,6 @@ pub record IsFor (s : OneKernel) (p : Pid) (i : MsgId) : Type 0 where
 abbrev pub Droppable : OneKernel → Pid → List MsgId → Type 0
 Droppable s p [] = ⊤
 Droppable s p (i ∷ is) = IsFor s p i × (times i is ≡ 0) × Droppable s p is
-
-pub times_self : (i : MsgId) (is : List MsgId) → 1 ≤ times i (i ∷ is)
-times_self i is = let e : times i (i ∷ is) ≡ 1 + times i is = ap (λ (c : Bool). (if c then 1 else 0) + times i is) (id_eq-same i) in omega (arith, e)
 
 pub times_more : (i j : MsgId) (is : List MsgId) → times i is ≤ times i (j ∷ is)
 times_more i j is = omega arith
@@ -83,23 +59,11 @@ queue_drops b m pt p h = droppable_of pt.kernel p (pt.view.queue m p) (λ i leas
     let (x, there, one) = right_there i (pt.kernel.bag i) (standing pt.view i) (Queue m p) least off (stands_right pt i state (pt.kernel.bag i) refl) in
     (for_is pt.kernel p i (state.e i) x there q, (omega (arith, one))))
 
-user_dropped : (w : PlainWhat) → is_user w ≡ true → is_dropped w ≡ true
-user_dropped (what.User code channel body links) e = refl
-user_dropped what.Stop e = cc
-user_dropped what.Resume e = cc
-user_dropped what.Kill e = cc
-user_dropped (what.Read z1 z2) e = cc
-user_dropped (what.Write z1 z2) e = cc
-user_dropped (what.Block z1) e = cc
-user_dropped what.Written e = cc
-user_dropped what.Gone e = cc
-user_dropped (what.Create z1 z2) e = cc
-user_dropped (what.Created z1) e = cc
-user_dropped what.NoRoom e = cc
-user_dropped (what.Move z1) e = cc
-user_dropped (what.Moved z1) e = cc
+pub user_dropped : (w : PlainWhat) → is_user w ≡ true → is_dropped w ≡ true
+user_dropped (PlainWhat.User code channel body links) e = refl
+user_dropped _ e = cc
 
-pub dropped_is : (s : OneKernel) (i : MsgId) (x : PlainMessage) (y : Why) → s.bag i ≡ Some x → s.processes x.to ≡ Some (Ended y) → is_dropped x.what ≡ true → kernel.step s (label.Dropped i) ≡ Some (without_message s i)
+pub dropped_is : (s : OneKernel) (i : MsgId) (x : PlainMessage) (y : Why) → s.bag i ≡ Some x → s.processes x.to ≡ Some (Ended y) → is_dropped x.what ≡ true → kernel.step s (Label.Dropped i) ≡ Some (without_message s i)
 dropped_is s i x y there ended drops =
     ap (λ (o : Option PlainMessage). bind o (λ (m : PlainMessage). bind (kernel.ended (s.processes m.to)) (kernel.drops s i m))) there
     ∙ ap (λ (o : Option Life). bind (kernel.ended o) (kernel.drops s i x)) ended
@@ -111,8 +75,8 @@ does_drops C p y (i ∷ is) pt ended h =
     let s = pt.kernel in
     let x = h.0.x in
     let step = dropped_is s i x y h.0.there (ap s.processes h.0.to ∙ ended) (user_dropped x.what h.0.user) in
-    does_label C pt (label.Dropped i) (without_message s i) (rule.drops is) step
-    (does_drops C p y is (moved pt (line.Label (label.Dropped i)) (without_message s i)) ended
+    does_label C pt (Label.Dropped i) (without_message s i) (rule.drops is) step
+    (does_drops C p y is (moved pt (Line.Label (Label.Dropped i)) (without_message s i)) ended
     (droppable_on s (without_message s i) p is (λ j least. out_off s i j (apart j least (id_eq i j) refl)) h.2))
   where
     apart : (j : MsgId) → 1 ≤ times j is → (c : Bool) → id_eq i j ≡ c → id_eq i j ≡ false

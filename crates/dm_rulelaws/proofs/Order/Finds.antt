@@ -1,50 +1,13 @@
 -- Receptions in a run, and what is behind them.
-use Rattle.std.proofs.Common.{◌≡◌, ℕ, suc, ◌+◌, ◌≤◌, ◌==◌, ◌&&◌, Bool, true, false, List, [], ◌∷◌, ◌++◌, refl, ap, ◌∙◌, sym, subst, nat_lt, inl, inr, arith}
-use Rattle.std.specs.Prelude.{if◌then◌else◌}
-use Rattle.std.specs.declared.option.Option.{Option}
-use Rattle.std.specs.declared.option.Option.TheVariants.{None, Some}
-use Rattle.std.proofs.lemmas.Bool.{cases_Bool, false≢true}
-use Rattle.std.proofs.lemmas.Bool.Decides.{nat_tests}
-use Rattle.dm_link.specs.declared.Pid.{Pid}
-use Rattle.dm_link.specs.Names.{pid_eq}
-use Rattle.dm_message.specs.declared.MsgId.{MsgId}
-use Rattle.dm_message.specs.Ids.{id_eq, id_of}
-use Rattle.dm_message.specs.Plain as what
-use Rattle.dm_message.specs.Plain.{PlainMessage, PlainWhat}
-use Rattle.dm_process.specs.Mail.{on_mask}
-use Rattle.dm_onekernel.specs.declared.boot.Boot.{Boot}
-use Rattle.dm_onekernel.specs.declared.label.Label.{Label}
-use Rattle.dm_onekernel.specs.declared.label.Label.TheVariants as label
-use Rattle.dm_onekernel.specs.Boot.{switchboard, manager}
-use Rattle.dm_onekernel.specs.Kernel.{Life, Alive, Ended, OneKernel}
-use Rattle.dm_onekernel.specs.Options.{bind}
+use Rattle.dm_rulelaws.proofs.Names.{◌≡◌, ℕ, suc, ◌+◌, ◌≤◌, ◌==◌, ◌&&◌, Bool, true, false, List, [], ◌∷◌, ◌++◌, refl, ap, ◌∙◌, sym, subst, nat_lt, inl, inr, arith, if◌then◌else◌, Option, None, Some, cases_Bool, false≢true, nat_tests, Pid}
+use Rattle.dm_rulelaws.proofs.Names.{pid_eq, MsgId, id_eq, id_of, PlainMessage, PlainWhat, on_mask, Boot, Label, switchboard, manager, Life, Alive, Ended, OneKernel, bind, replay, in_bag, counts, is_counted, pid_eq-same, id_eq-is}
+use Rattle.dm_rulelaws.proofs.Names.{id_eq-same, after_step, Step, Line, Spelled, behind, spelled, Point, labels, after, moved, without_id, times, untaken, View, after_label, Each, LeadsBy, channel_in, is_for_home, are_for_home, AreStill}
+use Rattle.dm_rulelaws.proofs.Names.{About, NothingElse, begins, marked, homes_of, Sane}
 use Rattle.dm_onekernel.specs.Step as kernel
-use Rattle.dm_onekernel.specs.Step.{replay}
-use Rattle.dm_laws.specs.Laws.{in_bag}
-use Rattle.dm_laws.proofs.Entered.{counts, is_counted}
-use Rattle.dm_laws.proofs.Equal.{pid_eq-same, id_eq-is, id_eq-same}
-use Rattle.dm_laws.proofs.Runs.{after_step}
-use Rattle.dm_schedule.specs.declared.Step.{Step}
-use Rattle.dm_line.specs.declared.line.Line.{Line}
-use Rattle.dm_line.specs.declared.line.Line.TheVariants as line
-use Rattle.dm_rule.specs.Parts.{Spelled, behind, spelled}
-use Rattle.dm_rule.specs.Point.{Point, labels, after, moved}
 use Rattle.dm_rule.specs.Rule as rule
-use Rattle.dm_rule.specs.Rule.{group_of}
-use Rattle.dm_line.specs.Sets.{without_id}
-use Rattle.dm_rule.specs.Spots.{times, untaken}
-use Rattle.dm_rule.specs.View.{View, first_view, after_label}
 use Rattle.dm_rule.specs.View as view
-use Rattle.dm_rulelaws.specs.Fits.{Each}
-use Rattle.dm_rulelaws.specs.Order.{LeadsBy, channel_in}
 use Rattle.dm_rulelaws.proofs.Fits.Rises.{both, two}
 use Rattle.dm_rulelaws.proofs.RunLabels.{replay-append}
-use Rattle.dm_rule.specs.Homes.{is_for_home, are_for_home}
-use Rattle.dm_rule.specs.Laws.{AreStill}
-use Rattle.dm_rule.specs.View.{About, NothingElse, begins, marked}
-use Rattle.dm_rule.proofs.Homes.Lines.{homes_of}
-use Rattle.dm_rule.proofs.Telling.{Sane}
-use Rattle.dm_schedule.specs.declared.Step.TheVariants as directive
 use Rattle.dm_rulelaws.proofs.Runs.{Run}
 use Rattle.dm_rulelaws.proofs.Goes.Parts.{Reception, not_receive, no_receive, Goes, sane_by}
 use Rattle.dm_rulelaws.proofs.Goes.Serves.{first_is}
@@ -65,24 +28,20 @@ ord_begins : (q : Which) (s : OneKernel) (v : View) (n : ℕ) (a : About) → Or
 ord_begins q s v n a o = ord_view q s v (begins v n a) (thin_same q v (begins v n a) refl (box_same v q.to.home) (λ x. refl) (λ i. refl)) o
 
 pub ord_head : (q : Which) (s : OneKernel) (v : View) (d : Step) → Ord q s v → Ord q s (view.after_head v d)
-ord_head q s v (directive.Turn m) o = ord_begins q s v m NothingElse o
-ord_head q s v (directive.Tick m) o = ord_begins q s v m NothingElse o
-ord_head q s v (directive.Migrate p m) o = ord_begins q s v 0 (view.Target m) o
-ord_head q s v (directive.Deliver a c k) o =
+ord_head q s v (Step.Turn m) o = ord_begins q s v m NothingElse o
+ord_head q s v (Step.Tick m) o = ord_begins q s v m NothingElse o
+ord_head q s v (Step.Migrate p m) o = ord_begins q s v 0 (view.Target m) o
+ord_head q s v (Step.Deliver a c k) o =
     let w = begins v c NothingElse in
     ord_view q s w (view.with_pair w a c (marked (v.pair a c) k)) (thin_pair q w a c (marked (v.pair a c) k) refl) (ord_begins q s v c NothingElse o)
 
 head_acts : (v : View) (d : Step) → (view.after_head v d).acting ≡ view.actor d
-head_acts v (directive.Turn m) = refl
-head_acts v (directive.Tick m) = refl
-head_acts v (directive.Migrate p m) = refl
-head_acts v (directive.Deliver a c k) = refl
+head_acts v (Step.Turn m) = refl
+head_acts v _ = refl
 
 head_queues : (v : View) (d : Step) (n : ℕ) (p : Pid) → (view.after_head v d).queue n p ≡ v.queue n p
-head_queues v (directive.Turn m) n p = refl
-head_queues v (directive.Tick m) n p = refl
-head_queues v (directive.Migrate q m) n p = refl
-head_queues v (directive.Deliver a c k) n p = refl
+head_queues v (Step.Turn m) n p = refl
+head_queues v _ n p = refl
 
 -- what is queued is for its process
 queued_to : (b : Boot) (at : Point) (d : Step) (n : ℕ) (p : Pid) (i : MsgId) (x : PlainMessage) → Run b at → 1 ≤ times i ((view.after_head at.view d).queue n p) → at.kernel.bag i ≡ Some x → x.to ≡ p
@@ -96,8 +55,8 @@ pub record Taking (b : Boot) (at : Point) (p : Pid) (i : MsgId) (next : Point) :
   pub mask : ℕ
   pub first : rule.first_awaited at.kernel mask ((view.after_head at.view d).queue (view.actor d) p) ≡ Some i
   pub t : OneKernel
-  pub step : kernel.step at.kernel (label.Receive p i) ≡ Some t
-  pub point : next ≡ moved (moved at (line.Head d) at.kernel) (line.Label (label.Receive p i)) t
+  pub step : kernel.step at.kernel (Label.Receive p i) ≡ Some t
+  pub point : next ≡ moved (moved at (Line.Head d) at.kernel) (Line.Label (Label.Receive p i)) t
 
 -- lists of one kind
 mem : (P : MsgId → Type 0) (is : List MsgId) (i : MsgId) → 1 ≤ times i is → Each P is → P i
@@ -148,52 +107,16 @@ first_goes s g mask from (j ∷ js) rest i e awaited one h =
 
 -- channels
 mask_of : (mask c : ℕ) (w : PlainWhat) → rule.what_is_awaited mask w ≡ true → channel_in w ≡ Some c → on_mask mask c ≡ true
-mask_of mask c (what.User code channel body links) e f = let k : channel ≡ c = cc in ap (on_mask mask) (sym k) ∙ e
-mask_of mask c what.Stop e f = cc
-mask_of mask c what.Resume e f = cc
-mask_of mask c what.Kill e f = cc
-mask_of mask c (what.Read z1 z2) e f = cc
-mask_of mask c (what.Write z1 z2) e f = cc
-mask_of mask c (what.Block z1) e f = cc
-mask_of mask c what.Written e f = cc
-mask_of mask c what.Gone e f = cc
-mask_of mask c (what.Create z1 z2) e f = cc
-mask_of mask c (what.Created z1) e f = cc
-mask_of mask c what.NoRoom e f = cc
-mask_of mask c (what.Move z1) e f = cc
-mask_of mask c (what.Moved z1) e f = cc
+mask_of mask c (PlainWhat.User code channel body links) e f = let k : channel ≡ c = cc in ap (on_mask mask) (sym k) ∙ e
+mask_of mask c _ e f = cc
 
 awaited_on : (mask c : ℕ) (w : PlainWhat) → on_channel c w ≡ true → on_mask mask c ≡ true → rule.what_is_awaited mask w ≡ true
-awaited_on mask c (what.User code channel body links) e f = let k : channel ≡ c = grind (arith, nat_tests) in ap (on_mask mask) k ∙ f
-awaited_on mask c what.Stop e f = cc
-awaited_on mask c what.Resume e f = cc
-awaited_on mask c what.Kill e f = cc
-awaited_on mask c (what.Read z1 z2) e f = cc
-awaited_on mask c (what.Write z1 z2) e f = cc
-awaited_on mask c (what.Block z1) e f = cc
-awaited_on mask c what.Written e f = cc
-awaited_on mask c what.Gone e f = cc
-awaited_on mask c (what.Create z1 z2) e f = cc
-awaited_on mask c (what.Created z1) e f = cc
-awaited_on mask c what.NoRoom e f = cc
-awaited_on mask c (what.Move z1) e f = cc
-awaited_on mask c (what.Moved z1) e f = cc
+awaited_on mask c (PlainWhat.User code channel body links) e f = let k : channel ≡ c = grind (arith, nat_tests) in ap (on_mask mask) k ∙ f
+awaited_on mask c _ e f = cc
 
 on_is : (c : ℕ) (w : PlainWhat) → channel_in w ≡ Some c → on_channel c w ≡ true
-on_is c (what.User code channel body links) e = let k : channel ≡ c = cc in (let f : (channel == c) ≡ true = grind (arith, nat_tests) in f)
-on_is c what.Stop e = cc
-on_is c what.Resume e = cc
-on_is c what.Kill e = cc
-on_is c (what.Read z1 z2) e = cc
-on_is c (what.Write z1 z2) e = cc
-on_is c (what.Block z1) e = cc
-on_is c what.Written e = cc
-on_is c what.Gone e = cc
-on_is c (what.Create z1 z2) e = cc
-on_is c (what.Created z1) e = cc
-on_is c what.NoRoom e = cc
-on_is c (what.Move z1) e = cc
-on_is c (what.Moved z1) e = cc
+on_is c (PlainWhat.User code channel body links) e = let k : channel ≡ c = cc in (let f : (channel == c) ≡ true = grind (arith, nat_tests) in f)
+on_is c _ e = cc
 
 one_of : (s : OneKernel) (from to : Pid) (channel floor n : ℕ) (x : PlainMessage) → s.bag (id_of from n) ≡ Some x → x.to ≡ to → channel_in x.what ≡ Some channel → is_one s (which from to channel floor) (id_of from n) ≡ true
 one_of s from to channel floor n x there receiver on =
@@ -213,8 +136,8 @@ counts_lower : (s : OneKernel) (p : Pid) (n k : ℕ) → k ≤ n → counts s (i
 counts_lower s p n k le e = lower_of (pid_eq p switchboard) (pid_eq p manager) n k s.switchboard.sent s.manager.sent (s.processes p) le e
 
 -- behind a reception all that is of the kind is later
-taken_by : (m : ℕ) (pt : Point) (from to : Pid) (channel n mask : ℕ) (x : PlainMessage) (t : OneKernel) → Sane pt → pt.view.acting ≡ m → to.home ≡ m → rule.first_awaited pt.kernel mask (pt.view.queue m to) ≡ Some (id_of from n) → kernel.step pt.kernel (label.Receive to (id_of from n)) ≡ Some t
-    → pt.kernel.bag (id_of from n) ≡ Some x → (1 ≤ times (id_of from n) (pt.view.queue m to) → x.to ≡ to) → channel_in x.what ≡ Some channel → Ord (which from to channel 0) pt.kernel pt.view → Ord (which from to channel (suc n)) t (after_label pt.view (label.Receive to (id_of from n)))
+taken_by : (m : ℕ) (pt : Point) (from to : Pid) (channel n mask : ℕ) (x : PlainMessage) (t : OneKernel) → Sane pt → pt.view.acting ≡ m → to.home ≡ m → rule.first_awaited pt.kernel mask (pt.view.queue m to) ≡ Some (id_of from n) → kernel.step pt.kernel (Label.Receive to (id_of from n)) ≡ Some t
+    → pt.kernel.bag (id_of from n) ≡ Some x → (1 ≤ times (id_of from n) (pt.view.queue m to) → x.to ≡ to) → channel_in x.what ≡ Some channel → Ord (which from to channel 0) pt.kernel pt.view → Ord (which from to channel (suc n)) t (after_label pt.view (Label.Receive to (id_of from n)))
 taken_by m pt from to channel n mask x t sane acts home first step there queued on o =
     let i = id_of from n in
     let s = pt.kernel in
@@ -222,7 +145,7 @@ taken_by m pt from to channel n mask x t sane acts home first step there queued 
     let q = which from to channel 0 in
     let r = which from to channel (suc n) in
     let g = is_one s q in
-    let w = after_label v (label.Receive to i) in
+    let w = after_label v (Label.Receive to i) in
     let h = to.home in
     let acting : v.acting ≡ h = acts ∙ sym home in
     let firsts : rule.first_awaited s mask (v.queue h to) ≡ Some i = ap (λ k. rule.first_awaited s mask (v.queue k to)) home ∙ first in
@@ -240,8 +163,8 @@ taken_by m pt from to channel n mask x t sane acts home first step there queued 
     let in_ : in_bag (s.bag i) ≡ 1 = ap in_bag there in
     let counted : counts s i ≡ true = sane.sound.entered.counted i (omega (arith, few, in_)) in
     let told : is_told v i ≡ true = mem (λ (j : MsgId). is_told v j ≡ true) (v.queue h to) i a.stands o.queue_told in
-    let next = ord_view q s v w (thin_label q v (label.Receive to i)) o in
-    let af = after_step sane.r sane.e s t (label.Receive to i) step sane.sound in
+    let next = ord_view q s v w (thin_label q v (Label.Receive to i)) o in
+    let af = after_step sane.r sane.e s t (Label.Receive to i) step sane.sound in
     let now : Ord r s w = record {
       order = ap (λ xs. ordered g (suc n) (xs ++ rest)) queue ∙ ap (λ k. ordered g k (without_id i (v.queue h to) ++ rest)) (let e : suc n ≡ n + 1 = omega arith in e) ∙ later;
       floor = λ k less. counts_lower s from n k (omega (arith, less)) counted;
@@ -252,13 +175,13 @@ taken_by m pt from to channel n mask x t sane acts home first step there queued 
       sourced = next.sourced;
       loop = next.loop;
     } in
-    ord_step r s t w (was_told pt (label.Receive to i) t sane step) (counts_grown s t af.grown) now
+    ord_step r s t w (was_told pt (Label.Receive to i) t sane step) (counts_grown s t af.grown) now
 
 pub taken_order : (b : Boot) (at next : Point) (from to : Pid) (channel n : ℕ) (x : PlainMessage) → Taking b at to (id_of from n) next → at.kernel.bag (id_of from n) ≡ Some x → channel_in x.what ≡ Some channel → Ord (which from to channel 0) at.kernel at.view → Ord (which from to channel (suc n)) next.kernel next.view
 taken_order b at next from to channel n x take there on o =
-    let pt = moved at (line.Head take.d) at.kernel in
+    let pt = moved at (Line.Head take.d) at.kernel in
     subst (λ (z : Point). Ord (which from to channel (suc n)) z.kernel z.view) (sym take.point)
-    (taken_by (view.actor take.d) pt from to channel n take.mask x take.t (sane_by at (line.Head take.d) at.kernel refl refl take.run.based.phased.sane) (head_acts at.view take.d) take.home take.first take.step there
+    (taken_by (view.actor take.d) pt from to channel n take.mask x take.t (sane_by at (Line.Head take.d) at.kernel refl refl take.run.based.phased.sane) (head_acts at.view take.d) take.home take.first take.step there
     (λ least. queued_to b at take.d (view.actor take.d) to (id_of from n) x take.run least there) on (ord_head (which from to channel 0) at.kernel at.view take.d o))
 
 -- what a reception takes is from the floor on
@@ -295,14 +218,14 @@ both_if true d e = (refl, e)
 both_if false d e = cc
 
 -- labels before the first reception of a rest
-pub quiet_split : (xs ys before later : List Label) (p : Pid) (i : MsgId) → no_receive xs ≡ true → xs ++ ys ≡ before ++ label.Receive p i ∷ later → (more : List Label) × (before ≡ xs ++ more) × (ys ≡ more ++ label.Receive p i ∷ later)
+pub quiet_split : (xs ys before later : List Label) (p : Pid) (i : MsgId) → no_receive xs ≡ true → xs ++ ys ≡ before ++ Label.Receive p i ∷ later → (more : List Label) × (before ≡ xs ++ more) × (ys ≡ more ++ Label.Receive p i ∷ later)
 quiet_split [] ys before later p i h e = (before, refl, e)
 quiet_split (x ∷ xs) ys [] later p i h e =
-    let f : x ≡ label.Receive p i = cc in
+    let f : x ≡ Label.Receive p i = cc in
     absurd (let k = (both_if (not_receive x) (no_receive xs) h).0 in false≢true (sym (ap not_receive f) ∙ k))
 quiet_split (x ∷ xs) ys (z ∷ zs) later p i h e =
     let f : z ≡ x = cc in
-    let g : xs ++ ys ≡ zs ++ label.Receive p i ∷ later = cc in
+    let g : xs ++ ys ≡ zs ++ Label.Receive p i ∷ later = cc in
     let (more, is, rest) = quiet_split xs ys zs later p i (both_if (not_receive x) (no_receive xs) h).1 g in
     (more, ap (λ ws. z ∷ ws) is ∙ ap (λ y. y ∷ (xs ++ more)) f, rest)
 
@@ -324,11 +247,11 @@ found_later b end pt mid ls before more later p i replays order is f = record {
 }
 
 -- one label alone
-alone : (pt : Point) (l : Label) (t : OneKernel) (v : Spelled) → kernel.step pt.kernel l ≡ Some t → spelled pt (rule.says l ∷ []) ≡ Some v → v.point ≡ moved pt (line.Label l) t
+alone : (pt : Point) (l : Label) (t : OneKernel) (v : Spelled) → kernel.step pt.kernel l ≡ Some t → spelled pt (rule.says l ∷ []) ≡ Some v → v.point ≡ moved pt (Line.Label l) t
 alone pt l t v step e =
-    let z : Spelled = record { lines = line.Label l ∷ []; point = moved pt (line.Label l) t } in
+    let z : Spelled = record { lines = Line.Label l ∷ []; point = moved pt (Line.Label l) t } in
     let f : spelled pt (rule.says l ∷ []) ≡ Some z =
-    ap (λ (o : Option OneKernel). bind (bind (bind o (λ (s : OneKernel). Some (moved pt (line.Label l) s))) (λ (n : Point). after n [])) (λ (n : Point). bind (spelled n []) (λ (y : Spelled). Some (behind (line.Label l ∷ []) y)))) step in
+    ap (λ (o : Option OneKernel). bind (bind (bind o (λ (s : OneKernel). Some (moved pt (Line.Label l) s))) (λ (n : Point). after n [])) (λ (n : Point). bind (spelled n []) (λ (y : Spelled). Some (behind (Line.Label l ∷ []) y)))) step in
     let g : Some v ≡ Some z = sym e ∙ f in
     let k : v ≡ z = cc in
     ap (λ (y : Spelled). y.point) k
@@ -357,7 +280,7 @@ taking_home b pt d p mask i h first =
     ap (λ (q : Pid). q.home) (sym to) ∙ home_is m (pt.kernel.bag i) a.x a.there (queued_home pt.kernel m (pt.view.queue m p) i ((homes_of h.r h.e pt h.home).queue m p) least)
 
 -- a point's group, where it receives
-pub taking_of : (b : Boot) (pt : Point) (d : Step) (w : Spelled) (g : Goes (CalmFor pt d) b pt d) (h : Stays b pt) (r : Reception (view.actor d) (moved pt (line.Head d) pt.kernel) g.parts) → g.w ≡ w → Taking b pt r.p r.i w.point
+pub taking_of : (b : Boot) (pt : Point) (d : Step) (w : Spelled) (g : Goes (CalmFor pt d) b pt d) (h : Stays b pt) (r : Reception (view.actor d) (moved pt (Line.Head d) pt.kernel) g.parts) → g.w ≡ w → Taking b pt r.p r.i w.point
 taking_of b pt d w g h r is = record {
   d = d;
   run = h.both.run;
@@ -366,5 +289,5 @@ taking_of b pt d w g h r is = record {
   first = r.first;
   t = r.t;
   step = r.step;
-  point = sym (ap (λ (y : Spelled). y.point) is) ∙ g.point ∙ alone (moved pt (line.Head d) pt.kernel) (label.Receive r.p r.i) r.t g.behind_head r.step (sym (ap (spelled (moved pt (line.Head d) pt.kernel)) r.is) ∙ g.spells);
+  point = sym (ap (λ (y : Spelled). y.point) is) ∙ g.point ∙ alone (moved pt (Line.Head d) pt.kernel) (Label.Receive r.p r.i) r.t g.behind_head r.step (sym (ap (spelled (moved pt (Line.Head d) pt.kernel)) r.is) ∙ g.spells);
 }

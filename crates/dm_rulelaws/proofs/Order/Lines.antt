@@ -1,37 +1,10 @@
 -- Messages of one sender to one process on one channel stand in the order in which they were sent: each line keeps it.
-use Rattle.std.proofs.Common.{◌≡◌, ℕ, suc, ◌+◌, ◌≤◌, ◌<◌, ◌==◌, ◌&&◌, Bool, true, false, not, List, [], ◌∷◌, ◌++◌, refl, ap, ◌∙◌, sym, subst, is_some, is_none, nat_lt, arith}
-use Rattle.std.specs.Prelude.{if◌then◌else◌}
-use Rattle.std.specs.declared.option.Option.{Option}
-use Rattle.std.specs.declared.option.Option.TheVariants.{None, Some}
-use Rattle.std.proofs.lemmas.Bool.{false≢true}
-use Rattle.std.proofs.lemmas.Bool.Decides.{nat_tests}
-use Rattle.dm_link.specs.declared.Pid.{Pid}
-use Rattle.dm_link.specs.Names.{pid_eq}
-use Rattle.dm_message.specs.declared.MsgId.{MsgId}
-use Rattle.dm_message.specs.Ids.{id_of}
-use Rattle.dm_message.specs.Plain as what
-use Rattle.dm_message.specs.Plain.{PlainMessage, PlainWhat}
-use Rattle.dm_onekernel.specs.declared.label.Label.{Label}
-use Rattle.dm_onekernel.specs.declared.label.Label.TheVariants as label
-use Rattle.dm_onekernel.specs.Boot.{switchboard, manager}
-use Rattle.dm_onekernel.specs.Kernel.{Life, Alive, Ended, OneKernel}
+use Rattle.dm_rulelaws.proofs.Names.{◌≡◌, ℕ, suc, ◌+◌, ◌≤◌, ◌<◌, ◌==◌, ◌&&◌, Bool, true, false, not, List, [], ◌∷◌, ◌++◌, refl, ap, ◌∙◌, sym, subst, is_some, nat_lt, arith, if◌then◌else◌, Option, None, Some, false≢true, nat_tests, Pid}
+use Rattle.dm_rulelaws.proofs.Names.{pid_eq, MsgId, id_of, PlainMessage, PlainWhat, Label, switchboard, manager, Life, Alive, Ended, OneKernel, counts, is_counted, Grown, LifeGrows, after_step, at_machine, at_record, without_id}
+use Rattle.dm_rulelaws.proofs.Names.{without_front, untaken, Queue, Inbox, Untaken, View, Told, after_label, handled, Point, served_keeps, Each, not_kernels, Sane, pid_eq-is, entry, reception, came_from}
 use Rattle.dm_onekernel.specs.Step as kernel
-use Rattle.dm_laws.proofs.Entered.{counts, is_counted}
-use Rattle.dm_laws.proofs.Grown.{Grown, LifeGrows}
-use Rattle.dm_laws.proofs.Runs.{after_step}
-use Rattle.dm_line.specs.Sets.{at_machine, at_record, without_id, without_front}
-use Rattle.dm_rule.specs.Spots.{untaken, Queue, Inbox, Untaken}
-use Rattle.dm_rule.specs.View.{View, Pair, Told, after_label, after_put, after_taken, handled}
 use Rattle.dm_rule.specs.View as view
-use Rattle.dm_rule.specs.Point.{Point}
-use Rattle.dm_rule.proofs.Turns.{served_keeps}
-use Rattle.dm_rulelaws.specs.Fits.{Each}
 use Rattle.dm_rulelaws.proofs.Fits.Rises.{Each-on}
-use Rattle.dm_rule.specs.View.{is_kernels}
-use Rattle.dm_rule.proofs.Letters.{not_kernels}
-use Rattle.dm_rule.proofs.Telling.{Sane}
-use Rattle.dm_laws.proofs.Equal.{pid_eq-is}
-use Rattle.dm_laws.specs.Laws.{entry, reception}
 use Rattle.dm_rulelaws.proofs.Queued.{is_user}
 use Rattle.dm_rulelaws.proofs.Order.Lists.{ordered, context, fewer, Each-both, Thins, thins_same, thins_front, thins_without}
 
@@ -43,7 +16,7 @@ pub record Which : Type 0 where
   pub floor : ℕ
 
 abbrev pub on_channel : ℕ → PlainWhat → Bool
-on_channel c (what.User code channel body links) = channel == c
+on_channel c (PlainWhat.User code channel body links) = channel == c
 on_channel c w = false
 
 abbrev pub is_mine : Which → Option PlainMessage → Bool
@@ -211,31 +184,25 @@ served_thin q v i =
     thin_same q v w (k.0 (Queue q.to.home q.to)) (subst (λ xs. Thins xs (v.inbox q.to.home)) (sym box) (handled_thin v i q.to.home)) (λ a. k.0 (Untaken a q.to.home)) (λ j. k.1 j)
 
 pub thin_label : (q : Which) (v : View) (l : Label) → ThinFor q v (after_label v l)
-thin_label q v (label.Ran p k) = thin_same q v (after_label v (label.Ran p k)) refl (box_same v q.to.home) (λ a. refl) (λ j. refl)
-thin_label q v (label.Call p n c) = thin_same q v v refl (box_same v q.to.home) (λ a. refl) (λ j. refl)
-thin_label q v (label.Send p id) = thin_same q v v refl (box_same v q.to.home) (λ a. refl) (λ j. refl)
-thin_label q v (label.Wait p) = thin_same q v v refl (box_same v q.to.home) (λ a. refl) (λ j. refl)
-thin_label q v (label.Out p w) = thin_same q v v refl (box_same v q.to.home) (λ a. refl) (λ j. refl)
-thin_label q v (label.End p y) = thin_same q v (after_label v (label.End p y)) refl (box_same v q.to.home) (λ a. refl) (λ j. refl)
-thin_label q v (label.Receive p id) = record {
+thin_label q v (Label.Ran p k) = thin_same q v (after_label v (Label.Ran p k)) refl (box_same v q.to.home) (λ a. refl) (λ j. refl)
+thin_label q v (Label.Call p n c) = thin_same q v v refl (box_same v q.to.home) (λ a. refl) (λ j. refl)
+thin_label q v (Label.Send p id) = thin_same q v v refl (box_same v q.to.home) (λ a. refl) (λ j. refl)
+thin_label q v (Label.Wait p) = thin_same q v v refl (box_same v q.to.home) (λ a. refl) (λ j. refl)
+thin_label q v (Label.Out p w) = thin_same q v v refl (box_same v q.to.home) (λ a. refl) (λ j. refl)
+thin_label q v (Label.End p y) = thin_same q v (after_label v (Label.End p y)) refl (box_same v q.to.home) (λ a. refl) (λ j. refl)
+thin_label q v (Label.Receive p id) = record {
   queue = queue_thin v p (without_id id (v.queue v.acting p)) q.to.home q.to (thins_without id (v.queue v.acting p));
   inbox = box_same v q.to.home;
   away = λ a. refl;
   told = λ j e. e;
 }
-thin_label q v (label.Refuse p id c) = thin_same q v (after_label v (label.Refuse p id c)) refl (box_same v q.to.home) (λ a. refl) (λ j. refl)
-thin_label q v (label.Dropped id) = dropped_thin q v id (view.receiver_of (v.told id))
-thin_label q v (label.Served id) = served_thin q v id
-thin_label q v (label.Gone id) = thin_handled q v id
-thin_label q v (label.Took id) = thin_handled q v id
-thin_label q v (label.Created id p) = thin_same q v (after_label v (label.Created id p)) refl (handled_thin v id q.to.home) (λ a. refl) (λ j. refl)
-thin_label q v (label.NoSpace id f b) = thin_handled q v id
-
--- what was told of and is in the bag behind a step was there before
-came_from : (a b : Option PlainMessage) (e : ℕ) (x : PlainMessage) → e + (if is_none a && is_some b then 1 else 0) ≤ 1 → b ≡ Some x → ((y : PlainMessage) → a ≡ Some y → y ≡ x) → (e ≡ 0 → a ≡ Some x) → a ≡ Some x
-came_from (Some y) b e x once there same none = ap Some (same y refl)
-came_from None None e x once there same none = cc
-came_from None (Some z) e x once there same none = none (omega (arith, once))
+thin_label q v (Label.Refuse p id c) = thin_same q v (after_label v (Label.Refuse p id c)) refl (box_same v q.to.home) (λ a. refl) (λ j. refl)
+thin_label q v (Label.Dropped id) = dropped_thin q v id (view.receiver_of (v.told id))
+thin_label q v (Label.Served id) = served_thin q v id
+thin_label q v (Label.Gone id) = thin_handled q v id
+thin_label q v (Label.Took id) = thin_handled q v id
+thin_label q v (Label.Created id p) = thin_same q v (after_label v (Label.Created id p)) refl (handled_thin v id q.to.home) (λ a. refl) (λ j. refl)
+thin_label q v (Label.NoSpace id f b) = thin_handled q v id
 
 untold_not : (o : Option Told) → o ≡ None → is_some o ≡ true → false ≡ true
 untold_not o e h = sym (ap is_some e) ∙ h

@@ -1,12 +1,6 @@
 -- Lists whose messages of one kind ascend.
-use Rattle.std.proofs.Common.{◌≡◌, ℕ, zero, suc, ◌+◌, ◌≤◌, ◌<◌, ◌&&◌, Bool, true, false, List, [], ◌∷◌, ◌++◌, drop, refl, ap, ◌∙◌, sym, subst, nat_le, ◌⊎◌, inl, inr, arith}
-use Rattle.std.specs.Prelude.{if◌then◌else◌}
-use Rattle.std.proofs.lemmas.Bool.{cases_Bool}
-use Rattle.std.proofs.lemmas.Bool.Decides.{nat_tests}
-use Rattle.dm_message.specs.declared.MsgId.{MsgId}
-use Rattle.dm_message.specs.Ids.{id_eq}
-use Rattle.dm_line.specs.Sets.{without_id, without_front}
-use Rattle.dm_rulelaws.specs.Fits.{Each}
+use Rattle.dm_rulelaws.proofs.Names.{◌≡◌, ℕ, zero, suc, ◌+◌, ◌≤◌, ◌<◌, ◌&&◌, Bool, true, false, List, [], ◌∷◌, ◌++◌, drop, refl, ap, ◌∙◌, sym, subst, nat_le, ◌⊎◌, inl, inr, arith, if◌then◌else◌, cases_Bool, nat_tests, MsgId, id_eq}
+use Rattle.dm_rulelaws.proofs.Names.{without_id, without_front, Each}
 use Rattle.dm_rulelaws.proofs.Fits.Rises.{both, two}
 
 -- those of which g is true have ascending numbers, from so much on

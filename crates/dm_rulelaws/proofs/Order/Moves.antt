@@ -1,23 +1,6 @@
 -- Routes, deliveries and queues keep the order in which messages were sent.
-use Rattle.std.proofs.Common.{◌≡◌, ℕ, zero, suc, ◌+◌, ◌≤◌, ◌<◌, ◌==◌, ◌&&◌, Bool, true, false, not, List, [], ◌∷◌, ◌++◌, refl, ap, ◌∙◌, sym, is_some, nat_lt, inl, inr, arith}
-use Rattle.std.specs.Prelude.{if◌then◌else◌}
-use Rattle.std.specs.declared.option.Option.{Option}
-use Rattle.std.specs.declared.option.Option.TheVariants.{None, Some}
-use Rattle.std.proofs.lemmas.Bool.{cases_Bool, false≢true}
-use Rattle.std.proofs.lemmas.Bool.Decides.{nat_tests}
-use Rattle.dm_link.specs.declared.Pid.{Pid}
-use Rattle.dm_link.specs.Names.{pid_eq}
-use Rattle.dm_message.specs.declared.MsgId.{MsgId}
-use Rattle.dm_message.specs.Ids.{id_of}
-use Rattle.dm_message.specs.Plain as what
-use Rattle.dm_message.specs.Plain.{PlainMessage, PlainWhat}
-use Rattle.dm_onekernel.specs.Boot.{switchboard, manager}
-use Rattle.dm_onekernel.specs.Kernel.{Life, Alive, Ended, OneKernel}
-use Rattle.dm_laws.proofs.Entered.{counts, is_counted}
-use Rattle.dm_laws.proofs.Equal.{pid_eq-is}
-use Rattle.dm_line.specs.Sets.{at_machine, at_pair}
-use Rattle.dm_rule.specs.Spots.{untaken}
-use Rattle.dm_rule.specs.View.{View, Pair}
+use Rattle.dm_rulelaws.proofs.Names.{◌≡◌, ℕ, zero, suc, ◌+◌, ◌≤◌, ◌<◌, ◌==◌, ◌&&◌, Bool, true, false, not, List, [], ◌∷◌, ◌++◌, refl, ap, ◌∙◌, sym, is_some, nat_lt, inl, inr, arith, if◌then◌else◌, Option, None, Some, cases_Bool, false≢true}
+use Rattle.dm_rulelaws.proofs.Names.{nat_tests, Pid, pid_eq, MsgId, id_of, PlainMessage, PlainWhat, switchboard, manager, Life, Alive, Ended, OneKernel, counts, is_counted, pid_eq-is, at_machine, at_pair, untaken, View, Pair, not_false}
 use Rattle.dm_rulelaws.proofs.Fits.Rises.{both, two, Each-on}
 use Rattle.dm_rulelaws.proofs.Queued.{is_user}
 use Rattle.dm_rulelaws.proofs.Order.Lists.{ordered, context, put_not, add_last}
@@ -54,10 +37,6 @@ counts_below s i j e f same =
     ap (λ (p : Pid). if pid_eq p switchboard then nat_lt j.n s.switchboard.sent else if pid_eq p manager then nat_lt j.n s.manager.sent else is_counted j.n (s.processes p)) same ∙ f in
     below_of (pid_eq i.from switchboard) (pid_eq i.from manager) i.n j.n s.switchboard.sent s.manager.sent (s.processes i.from) e g
 
-not_answer : (c : Bool) → not c ≡ true → c ≡ false
-not_answer true e = cc
-not_answer false e = refl
-
 -- what it is to be one
 pub record One (s : OneKernel) (q : Which) (i : MsgId) : Type 0 where
   pub from : i.from ≡ q.from
@@ -69,20 +48,8 @@ pub record One (s : OneKernel) (q : Which) (i : MsgId) : Type 0 where
   pub on : on_channel q.channel x.what ≡ true
 
 user_on : (c : ℕ) (w : PlainWhat) → on_channel c w ≡ true → is_user w ≡ true
-user_on c (what.User code channel body links) e = refl
-user_on c what.Stop e = cc
-user_on c what.Resume e = cc
-user_on c what.Kill e = cc
-user_on c (what.Read z1 z2) e = cc
-user_on c (what.Write z1 z2) e = cc
-user_on c (what.Block z1) e = cc
-user_on c what.Written e = cc
-user_on c what.Gone e = cc
-user_on c (what.Create z1 z2) e = cc
-user_on c (what.Created z1) e = cc
-user_on c what.NoRoom e = cc
-user_on c (what.Move z1) e = cc
-user_on c (what.Moved z1) e = cc
+user_on c (PlainWhat.User code channel body links) e = refl
+user_on c _ e = cc
 
 one_by : (s : OneKernel) (q : Which) (i : MsgId) (o : Option PlainMessage) → s.bag i ≡ o → i.from ≡ q.from → i.answer ≡ false → is_mine q o ≡ true → One s q i
 one_by s q i None e from own h = cc
@@ -94,7 +61,7 @@ pub one_is : (s : OneKernel) (q : Which) (i : MsgId) → is_one s q i ≡ true �
 one_is s q i h =
     let k = both (pid_eq i.from q.from && not i.answer) (is_mine q (s.bag i)) h in
     let l = both (pid_eq i.from q.from) (not i.answer) k.0 in
-    one_by s q i (s.bag i) refl (pid_eq-is i.from q.from l.0) (not_answer i.answer l.1) k.1
+    one_by s q i (s.bag i) refl (pid_eq-is i.from q.from l.0) (not_false i.answer l.1) k.1
 
 -- one more of the kind at the end of all
 same_id : (i j : MsgId) → i.from ≡ j.from → i.n ≡ j.n → i.answer ≡ j.answer → i ≡ j

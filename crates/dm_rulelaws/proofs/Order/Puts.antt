@@ -1,27 +1,9 @@
 -- A route, a delivery and a queue keep the order in which messages were sent.
-use Rattle.std.proofs.Common.{◌≡◌, ℕ, zero, suc, ◌+◌, ◌==◌, Bool, true, false, List, [], ◌∷◌, ◌++◌, drop, refl, ap, ◌∙◌, sym, subst, is_some, inl, inr, arith}
-use Rattle.std.specs.Prelude.{if◌then◌else◌}
-use Rattle.std.specs.declared.option.Option.TheVariants.{Some}
-use Rattle.std.proofs.lemmas.Bool.{cases_Bool}
-use Rattle.std.proofs.lemmas.Bool.Decides.{nat_tests}
-use Rattle.dm_link.specs.declared.Pid.{Pid}
-use Rattle.dm_message.specs.declared.MsgId.{MsgId}
-use Rattle.dm_message.specs.declared.kind.MessageKind.{MessageKind}
-use Rattle.dm_message.specs.Ids.{id_eq, id_of}
-use Rattle.dm_message.specs.Plain.{PlainMessage}
-use Rattle.dm_onekernel.specs.Kernel.{OneKernel}
-use Rattle.dm_laws.proofs.Entered.{counts}
-use Rattle.dm_laws.proofs.Equal.{id_eq-same}
-use Rattle.dm_line.specs.Sets.{at_machine, at_pair, at_id}
-use Rattle.dm_rule.specs.Spots.{untaken}
-use Rattle.dm_rule.specs.View.{View, Pair, Told, after_label, after_put, after_taken, handled}
+use Rattle.dm_rulelaws.proofs.Names.{◌≡◌, ℕ, zero, suc, ◌+◌, ◌==◌, Bool, true, false, List, [], ◌∷◌, ◌++◌, drop, refl, ap, ◌∙◌, sym, subst, is_some, inl, inr, arith, if◌then◌else◌, Some, cases_Bool, nat_tests, Pid, MsgId, MessageKind}
+use Rattle.dm_rulelaws.proofs.Names.{id_eq, id_of, PlainMessage, OneKernel, counts, id_eq-same, at_machine, at_pair, at_id, untaken, View, Pair, Told, after_put, Each, ◌⊎◌, plain_kind, pair_keeps}
 use Rattle.dm_rule.specs.View as view
-use Rattle.dm_rulelaws.specs.Fits.{Each}
 use Rattle.dm_rulelaws.proofs.Queued.{is_user}
 use Rattle.dm_rulelaws.proofs.Order.Lists.{context, Each-both, thins_same, drop_end}
-use Rattle.std.proofs.Common.{◌⊎◌}
-use Rattle.dm_message.specs.Kinds.{plain_kind}
-use Rattle.dm_rule.proofs.Lines.{pair_keeps}
 use Rattle.dm_rulelaws.proofs.Order.Lines.{Which, is_one, is_told, awaiting, Sourced, AllTold, Ord, ThinFor, ord_view, thin_same, box_same, told_on}
 use Rattle.dm_rulelaws.proofs.Order.Moves.{append-assoc, append-none, Last, One, one_is, order_last, order_not, pair_at, pair_off, pair_on, pair_else, box_on, box_off, order_as}
 

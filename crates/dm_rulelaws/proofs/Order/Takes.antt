@@ -1,30 +1,11 @@
 -- A message that is taken or queued keeps its place in the order in which messages were sent.
-use Rattle.std.proofs.Common.{◌≡◌, ℕ, zero, suc, ◌+◌, ◌==◌, ◌&&◌, Bool, true, false, not, filter, List, [], ◌∷◌, ◌++◌, drop, refl, ap, ◌∙◌, sym, subst, inl, inr, arith}
-use Rattle.std.specs.Prelude.{if◌then◌else◌, slice_get}
-use Rattle.std.specs.declared.option.Option.{Option}
-use Rattle.std.specs.declared.option.Option.TheVariants.{None, Some}
-use Rattle.std.proofs.lemmas.Bool.{cases_Bool, false≢true}
-use Rattle.std.proofs.lemmas.Bool.Decides.{nat_tests}
-use Rattle.dm_link.specs.declared.Pid.{Pid}
-use Rattle.dm_link.specs.Names.{pid_eq}
-use Rattle.dm_message.specs.declared.MsgId.{MsgId}
-use Rattle.dm_onekernel.specs.Kernel.{OneKernel}
-use Rattle.dm_laws.proofs.Equal.{pid_eq-is, id_eq-same}
-use Rattle.dm_line.specs.Sets.{at_machine, at_record, without_front}
-use Rattle.dm_rule.specs.Spots.{untaken}
-use Rattle.dm_rule.specs.View.{View, Pair, Told, after_label, after_put, after_taken, handled}
+use Rattle.dm_rulelaws.proofs.Names.{◌≡◌, ℕ, zero, suc, ◌+◌, ◌==◌, ◌&&◌, Bool, true, false, not, filter, List, [], ◌∷◌, ◌++◌, drop, refl, ap, ◌∙◌, sym, subst, inl, inr, arith, if◌then◌else◌, slice_get, Option, None, Some, cases_Bool}
+use Rattle.dm_rulelaws.proofs.Names.{false≢true, nat_tests, Pid, pid_eq, MsgId, OneKernel, pid_eq-is, id_eq-same, at_machine, at_record, without_front, untaken, View, Pair, after_taken, handled, Each, at_place}
 use Rattle.dm_rule.specs.View as view
-use Rattle.dm_rulelaws.specs.Fits.{Each}
 use Rattle.dm_rulelaws.proofs.Order.Lists.{Each-both, thins_same}
 use Rattle.dm_rulelaws.proofs.Order.Lines.{Which, is_one, is_told, awaiting, Sourced, AllTold, Ord, ThinFor, ord_view, thin_same, box_same, handled_thin}
 use Rattle.dm_rulelaws.proofs.Order.Moves.{append-assoc, one_is, order_not, pair_at, pair_off, pair_on, pair_else, box_on, box_off, order_as}
 use Rattle.dm_rulelaws.proofs.Order.Puts.{thin_pair}
-
--- a place of a list
-place_some : (xs : List MsgId) (k : ℕ) (x : MsgId) → slice_get xs k ≡ Some x → drop k xs ≡ x ∷ drop (suc k) xs
-place_some [] k x e = cc
-place_some (y ∷ ys) zero x e = let f : y ≡ x = cc in ap (λ v. v ∷ ys) f
-place_some (y ∷ ys) (suc k) x e = place_some ys k x e
 
 place_none : (xs : List MsgId) (k : ℕ) → slice_get xs k ≡ None → drop (suc k) xs ≡ drop k xs
 place_none [] zero e = refl
@@ -60,7 +41,7 @@ none_here q s v a n (Some i) is h =
     let I = v.inbox m in
     let U = untaken (v.pair q.from.home m) in
     let rest = untaken r in
-    let first : untaken p ≡ i ∷ rest = place_some p.ids p.taken i is ∙ ap (λ xs. i ∷ xs) (sym (taken_is p n)) in
+    let first : untaken p ≡ i ∷ rest = at_place p.ids p.taken i is ∙ ap (λ xs. i ∷ xs) (sym (taken_is p n)) in
     let box : w.inbox m ≡ I ++ i ∷ [] = box_on v.inbox m (I ++ i ∷ []) in
     let told : AllTold v (i ∷ rest) = subst (AllTold v) first (h.away_told a) in
     let sourced : Each (Sourced s a) (i ∷ rest) = subst (Each (Sourced s a)) first (h.sourced a) in

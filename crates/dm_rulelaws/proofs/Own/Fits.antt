@@ -1,32 +1,14 @@
 -- Where the parts of a group have kernels' own messages, and what these are about.
-use Rattle.std.proofs.Common.{◌≡◌, ℕ, ◌==◌, ◌&&◌, Bool, true, false, not, List, [], ◌∷◌, ◌++◌, refl, ap, ◌∙◌}
-use Rattle.std.specs.Prelude.{⊤, if◌then◌else◌}
-use Rattle.std.specs.declared.option.Option.{Option}
-use Rattle.std.specs.declared.option.Option.TheVariants.{None, Some}
-use Rattle.dm_link.specs.declared.Pid.{Pid}
-use Rattle.dm_link.specs.Names.{pid_of}
-use Rattle.dm_message.specs.declared.MsgId.{MsgId}
-use Rattle.dm_message.specs.declared.kind.MessageKind.{MessageKind}
-use Rattle.dm_message.specs.declared.kind.MessageKind.TheVariants as kind
-use Rattle.dm_line.specs.declared.line.Line.{Line}
-use Rattle.dm_line.specs.declared.line.Line.TheVariants as line
-use Rattle.dm_line.specs.declared.line.Stage.{Stage}
-use Rattle.dm_line.specs.declared.line.Stage.TheVariants as stage
-use Rattle.dm_rule.specs.Addresses.{Addresses, Sender, is_told_back}
-use Rattle.dm_rule.specs.Migrating.{to_kernel, forwards_on, accepts, takes_chunk, takes_block, gives_piece, sends_on}
-use Rattle.dm_rule.specs.Point.{label_of}
-use Rattle.dm_rule.specs.Parts.{Part, Says, Routes, Again, Owns, Transmits}
-use Rattle.dm_rule.specs.View.{View, Told, About, Of, Known, Forward, view_after, handled, receiver_of}
+use Rattle.dm_rulelaws.proofs.Names.{◌≡◌, ℕ, ◌==◌, ◌&&◌, Bool, true, false, not, List, [], ◌∷◌, ◌++◌, refl, ap, ◌∙◌, ⊤, if◌then◌else◌, Option, None, Some, Pid, pid_of, MsgId, MessageKind, Line, Stage, Addresses, Sender, is_told_back}
+use Rattle.dm_rulelaws.proofs.Names.{to_kernel, forwards_on, accepts, takes_chunk, takes_block, gives_piece, sends_on, label_of, Part, Says, Routes, Again, Owns, Transmits, View, Told, About, Of, Known, Forward, view_after, handled}
+use Rattle.dm_rulelaws.proofs.Names.{receiver_of}
 use Rattle.dm_rule.specs.View as view
 use Rattle.dm_rulelaws.proofs.Own.Told.{own_sort, is_process, is_place}
 
 -- no kernel's own message
 abbrev pub HasNoOwn : Part → Type 0
-HasNoOwn (Says l) = ⊤
-HasNoOwn (Routes i) = ⊤
-HasNoOwn (Again i b) = ⊤
 HasNoOwn (Owns k q b) = ⊥
-HasNoOwn (Transmits a b l) = ⊤
+HasNoOwn _ = ⊤
 
 abbrev pub HaveNoOwn : List Part → Type 0
 HaveNoOwn [] = ⊤
@@ -34,18 +16,14 @@ HaveNoOwn (p ∷ ps) = HasNoOwn p × HaveNoOwn ps
 
 -- what a group is about after a line between its own messages; of other lines none comes there
 abbrev pub topic_stage : About → Pid → Stage → About
-topic_stage a p stage.Frozen = Of p
-topic_stage a p stage.Asked = a
-topic_stage a p stage.Accepted = Of p
-topic_stage a p stage.StateTaken = Of p
-topic_stage a p stage.MemoryTaken = Of p
-topic_stage a p stage.Left = Of p
-topic_stage a p stage.Restarted = a
+topic_stage a p Stage.Asked = a
+topic_stage a p Stage.Restarted = a
+topic_stage a p _ = Of p
 
 -- own messages are about what they must be, where the group is about a at first
 abbrev pub Later : About → List Part → Type 0
 Later a [] = ⊤
-Later a (Says (line.Migration s p) ∷ ps) = Later (topic_stage a p s) ps
+Later a (Says (Line.Migration s p) ∷ ps) = Later (topic_stage a p s) ps
 Later a (Says l ∷ ps) = ⊥
 Later a (Routes i ∷ ps) = ⊥
 Later a (Again i b ∷ ps) = Later a ps
@@ -58,47 +36,47 @@ pub data OwnsFit (v : View) (ps : List Part) : Type 0 where
   ThenOwns : (l : Line) → (qs : List Part) → (is : ps ≡ Says l ∷ qs) → (none : label_of l ≡ None) → (fit : Later (view_after v l).topic qs) → OwnsFit v ps
 
 -- a message goes on: the update is about the place of its receiver
-pub forwarded_place : (v : View) (i : MsgId) (n : ℕ) (t : Told) (at_ moves : ℕ) → v.told i ≡ Some t → v.known v.acting t.receiver ≡ Forward at_ moves → is_place (view_after v (line.Forwarded i n)).topic ≡ true
+pub forwarded_place : (v : View) (i : MsgId) (n : ℕ) (t : Told) (at_ moves : ℕ) → v.told i ≡ Some t → v.known v.acting t.receiver ≡ Forward at_ moves → is_place (view_after v (Line.Forwarded i n)).topic ≡ true
 forwarded_place v i n t at_ moves told known =
     ap (λ (o : Option Told). is_place (view.forwarded_for (handled v i) (receiver_of o)).topic) told ∙ ap (λ (k : Known). is_place (view.forward_about t.receiver k)) known
 
-told_back : (a : About) (c : Bool) (q : Pid) (to : ℕ) → (c ≡ true → own_sort kind.Update q a ≡ true) → Later a (if c then Owns kind.Update q to ∷ [] else [])
+told_back : (a : About) (c : Bool) (q : Pid) (to : ℕ) → (c ≡ true → own_sort MessageKind.Update q a ≡ true) → Later a (if c then Owns MessageKind.Update q to ∷ [] else [])
 told_back a true q to h = (h refl, tt)
 told_back a false q to h = tt
 
-update_sort : (q : Pid) (a : About) → (q.num == 0) ≡ false → is_place a ≡ true → own_sort kind.Update q a ≡ true
+update_sort : (q : Pid) (a : About) → (q.num == 0) ≡ false → is_place a ≡ true → own_sort MessageKind.Update q a ≡ true
 update_sort q a num place = ap (λ (c : Bool). not c && is_place a) num ∙ place
 
-pub forwards_own : (v : View) (a : Addresses) (i : MsgId) (k : MessageKind) (sender : Pid) (to : ℕ) → is_place (view_after v (line.Forwarded i to)).topic ≡ true → (is_told_back k ≡ true → (sender.num == 0) ≡ false) → OwnsFit v (forwards_on a i k sender to)
+pub forwards_own : (v : View) (a : Addresses) (i : MsgId) (k : MessageKind) (sender : Pid) (to : ℕ) → is_place (view_after v (Line.Forwarded i to)).topic ≡ true → (is_told_back k ≡ true → (sender.num == 0) ≡ false) → OwnsFit v (forwards_on a i k sender to)
 forwards_own v a i k sender to place num =
-    let topic = (view_after v (line.Forwarded i to)).topic in
-    ThenOwns (line.Forwarded i to) (Again i to ∷ (if is_told_back k then Owns kind.Update sender (a (Sender i)).at ∷ [] else [])) refl refl
+    let topic = (view_after v (Line.Forwarded i to)).topic in
+    ThenOwns (Line.Forwarded i to) (Again i to ∷ (if is_told_back k then Owns MessageKind.Update sender (a (Sender i)).at ∷ [] else [])) refl refl
     (told_back topic (is_told_back k) sender (a (Sender i)).at (λ e. update_sort sender topic (num e) place))
 
 -- what kernels tell each other is about the process
 pub accepts_own : (v : View) (from : ℕ) (p : Pid) (room : Bool) (slots blocks : ℕ) → OwnsFit v (accepts from p room slots blocks)
-accepts_own v from p true slots blocks = ThenOwns (line.Migration stage.Accepted p) (to_kernel kind.PullState from ∷ []) refl refl (refl, tt)
-accepts_own v from p false slots blocks = ThenOwns (line.Lacks p slots blocks) (to_kernel kind.Refuse from ∷ []) refl refl (refl, tt)
+accepts_own v from p true slots blocks = ThenOwns (Line.Migration Stage.Accepted p) (to_kernel MessageKind.PullState from ∷ []) refl refl (refl, tt)
+accepts_own v from p false slots blocks = ThenOwns (Line.Lacks p slots blocks) (to_kernel MessageKind.Refuse from ∷ []) refl refl (refl, tt)
 
-proto_topic : (v : View) (i : MsgId) (t : Told) (p : Pid) → v.told i ≡ Some t → t.about ≡ Of p → is_process (view_after v (line.Proto i)).topic ≡ true
+proto_topic : (v : View) (i : MsgId) (t : Told) (p : Pid) → v.told i ≡ Some t → t.about ≡ Of p → is_process (view_after v (Line.Proto i)).topic ≡ true
 proto_topic v i t p told about =
     ap (λ (o : Option Told). is_process (view.after_proto (handled v i) o).topic) told ∙ ap is_process about
 
 pub piece_own : (v : View) (i : MsgId) (k : MessageKind) (t : Told) (p : Pid) → v.told i ≡ Some t → t.about ≡ Of p → ((a : About) → is_process a ≡ true → own_sort k (pid_of i.from.home 0) a ≡ true) → OwnsFit v (gives_piece i k)
 piece_own v i k t p told about sort =
-    ThenOwns (line.Proto i) (to_kernel k i.from.home ∷ []) refl refl (sort (view_after v (line.Proto i)).topic (proto_topic v i t p told about), tt)
+    ThenOwns (Line.Proto i) (to_kernel k i.from.home ∷ []) refl refl (sort (view_after v (Line.Proto i)).topic (proto_topic v i t p told about), tt)
 
 pub chunk_own : (v : View) (i : MsgId) (q : Pid) (last : Bool) (t : Told) (p : Pid) → v.told i ≡ Some t → t.about ≡ Of p → OwnsFit v (takes_chunk i q last)
-chunk_own v i q true t p told about = ThenOwns (line.Migration stage.StateTaken q) (to_kernel kind.PullBlock i.from.home ∷ []) refl refl (refl, tt)
-chunk_own v i q false t p told about = piece_own v i kind.PullState t p told about (λ a e. e)
+chunk_own v i q true t p told about = ThenOwns (Line.Migration Stage.StateTaken q) (to_kernel MessageKind.PullBlock i.from.home ∷ []) refl refl (refl, tt)
+chunk_own v i q false t p told about = piece_own v i MessageKind.PullState t p told about (λ a e. e)
 
 pub block_own : (v : View) (i : MsgId) (q : Pid) (last : Bool) (t : Told) (p : Pid) → v.told i ≡ Some t → t.about ≡ Of p → OwnsFit v (takes_block i q last)
-block_own v i q true t p told about = ThenOwns (line.Migration stage.MemoryTaken q) (to_kernel kind.AllTaken i.from.home ∷ []) refl refl (refl, tt)
-block_own v i q false t p told about = piece_own v i kind.PullBlock t p told about (λ a e. e)
+block_own v i q true t p told about = ThenOwns (Line.Migration Stage.MemoryTaken q) (to_kernel MessageKind.AllTaken i.from.home ∷ []) refl refl (refl, tt)
+block_own v i q false t p told about = piece_own v i MessageKind.PullBlock t p told about (λ a e. e)
 
-pub moves_own : (v : View) (i : MsgId) (p : Pid) (to : ℕ) (c : Bool) → OwnsFit v (if c then Says (line.Here i) ∷ [] else Says (line.Migration stage.Frozen p) ∷ Says (line.Migration stage.Asked p) ∷ to_kernel kind.Ask to ∷ [])
+pub moves_own : (v : View) (i : MsgId) (p : Pid) (to : ℕ) (c : Bool) → OwnsFit v (if c then Says (Line.Here i) ∷ [] else Says (Line.Migration Stage.Frozen p) ∷ Says (Line.Migration Stage.Asked p) ∷ to_kernel MessageKind.Ask to ∷ [])
 moves_own v i p to true = NoOwns (tt, tt)
-moves_own v i p to false = ThenOwns (line.Migration stage.Frozen p) (Says (line.Migration stage.Asked p) ∷ to_kernel kind.Ask to ∷ []) refl refl (refl, tt)
+moves_own v i p to false = ThenOwns (Line.Migration Stage.Frozen p) (Says (Line.Migration Stage.Asked p) ∷ to_kernel MessageKind.Ask to ∷ []) refl refl (refl, tt)
 
 pub sends_own : (a : About) (to : ℕ) (ids : List MsgId) (ps : List Part) → Later a ps → Later a (sends_on to ids ++ ps)
 sends_own a to [] ps h = h

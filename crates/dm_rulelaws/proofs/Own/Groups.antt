@@ -1,36 +1,9 @@
 -- Each group keeps what was told of kernels' own messages.
-use Rattle.std.proofs.Common.{◌≡◌, ℕ, ◌==◌, Bool, true, false, List, [], ◌∷◌, refl, ap, ◌∙◌, sym, subst, inl, inr}
-use Rattle.std.specs.Prelude.{⊤, if◌then◌else◌, length}
-use Rattle.std.specs.declared.option.Option.{Option}
-use Rattle.std.specs.declared.option.Option.TheVariants.{None, Some}
-use Rattle.std.proofs.lemmas.Bool.{cases_Bool, false≢true}
-use Rattle.dm_link.specs.declared.Pid.{Pid}
-use Rattle.dm_message.specs.declared.MsgId.{MsgId}
-use Rattle.dm_message.specs.declared.kind.MessageKind.{MessageKind}
-use Rattle.dm_message.specs.Ids.{id_eq}
-use Rattle.dm_message.specs.Kinds.{plain_kind}
-use Rattle.dm_onekernel.specs.declared.boot.Boot.{Boot}
-use Rattle.dm_onekernel.specs.declared.label.Label.{Label}
-use Rattle.dm_onekernel.specs.Kernel.{OneKernel}
-use Rattle.dm_onekernel.specs.Options.{bind}
-use Rattle.dm_laws.proofs.Equal.{id_eq-is}
-use Rattle.dm_laws.proofs.Steps.{bind-is}
-use Rattle.dm_schedule.specs.declared.Step.{Step}
-use Rattle.dm_line.specs.declared.line.Line.{Line}
-use Rattle.dm_line.specs.declared.line.Line.TheVariants as line
-use Rattle.dm_line.specs.declared.line.Load.TheVariants as load
-use Rattle.dm_line.specs.declared.line.Stage.{Stage}
-use Rattle.dm_line.specs.declared.line.Stage.TheVariants as stage
-use Rattle.dm_rule.specs.Addresses.{Receiver}
-use Rattle.dm_rule.specs.Point.{Point, label_of, kernel_after, after_line, after, moved, first_point}
-use Rattle.dm_rule.specs.Parts.{Part, Says, Routes, Again, Owns, Transmits, Spelled, lines_of, puts, goes_out, packet_line, behind, spelled}
-use Rattle.dm_rule.specs.Rule.{group_of}
-use Rattle.dm_rule.specs.View.{View, About, Told, view_after, is_kernels, own_id}
+use Rattle.dm_rulelaws.proofs.Names.{◌≡◌, ℕ, ◌==◌, Bool, true, false, List, [], ◌∷◌, refl, ap, ◌∙◌, sym, subst, inl, inr, ⊤, if◌then◌else◌, length, Option, None, Some, cases_Bool, false≢true, Pid, MsgId, MessageKind, id_eq, plain_kind}
+use Rattle.dm_rulelaws.proofs.Names.{Boot, Label, OneKernel, bind, id_eq-is, bind-is, Step, Line, Load, Stage, Receiver, Point, label_of, kernel_after, after_line, after, moved, first_point, Part, Says, Routes, Again, Owns, Transmits}
+use Rattle.dm_rulelaws.proofs.Names.{Spelled, lines_of, puts, goes_out, packet_line, behind, spelled, group_of, View, About, Told, view_after, is_kernels, own_id, is_put, hushed, not_kernels, put_told_off, Sane, sane_line, part_sane}
+use Rattle.dm_rulelaws.proofs.Names.{Sayable, AllSayable, outcome_sayable}
 use Rattle.dm_rule.specs.View as view
-use Rattle.dm_rule.proofs.Hushed.{is_put, hushed}
-use Rattle.dm_rule.proofs.Letters.{not_kernels}
-use Rattle.dm_rule.proofs.States.{put_told_off}
-use Rattle.dm_rule.proofs.Telling.{Sane, sane_line, part_sane, Sayable, AllSayable, outcome_sayable}
 use Rattle.dm_rulelaws.proofs.Runs.{Run}
 use Rattle.dm_rulelaws.proofs.Own.Told.{OwnTold, own_sort}
 use Rattle.dm_rulelaws.proofs.Own.Fits.{HasNoOwn, HaveNoOwn, topic_stage, Later, OwnsFit, NoOwns, FirstOwns, ThenOwns}
@@ -63,7 +36,7 @@ first_sort : (pt : Point) (i : MsgId) (k : MessageKind) (q : Pid) (o : Option To
 first_sort pt i k q None t is e mine right h = let f : record { kind = k; receiver = q; about = pt.view.topic } ≡ t = cc in subst (λ (u : Told). own_sort u.kind u.receiver u.about ≡ true) f (right mine refl)
 first_sort pt i k q (Some u) t is e mine right h = let f : u ≡ t = cc in subst (λ (u : Told). own_sort u.kind u.receiver u.about ≡ true) f (h.own i u is mine)
 
-own_put : (pt : Point) (a b : ℕ) (i : MsgId) (k : MessageKind) (q : Pid) → (is_kernels i ≡ true → pt.view.told i ≡ None → own_sort k q pt.view.topic ≡ true) → OwnTold pt → OwnTold (moved pt (line.Put a b i k q) pt.kernel)
+own_put : (pt : Point) (a b : ℕ) (i : MsgId) (k : MessageKind) (q : Pid) → (is_kernels i ≡ true → pt.view.told i ≡ None → own_sort k q pt.view.topic ≡ true) → OwnTold pt → OwnTold (moved pt (Line.Put a b i k q) pt.kernel)
 own_put pt a b i k q right h = record {
   own = λ j t told mine. elim (cases_Bool (id_eq i j)) [
     | inl same ↦
@@ -77,10 +50,7 @@ own_put pt a b i k q right h = record {
 -- a part
 abbrev IsRight : Point → Part → Type 0
 IsRight pt (Owns k q b) = own_sort k q pt.view.topic ≡ true
-IsRight pt (Says l) = ⊤
-IsRight pt (Routes i) = ⊤
-IsRight pt (Again i b) = ⊤
-IsRight pt (Transmits a b l) = ⊤
+IsRight pt _ = ⊤
 
 one_line : (pt next : Point) (l : Line) (ls : List Line) → is_put l ≡ false → Some (l ∷ []) ≡ Some ls → after pt ls ≡ Some next → Sane pt → OwnTold pt → OwnTold next
 one_line pt next l ls quiet is leads sane h =
@@ -90,12 +60,12 @@ one_line pt next l ls quiet is leads sane h =
     subst OwnTold g (own_line pt mid l quiet first sane h)
 
 puts_own : (pt next : Point) (b : ℕ) (i : MsgId) (k : MessageKind) (q : Pid) (c d : Bool) (w : _) → (is_kernels i ≡ true → pt.view.told i ≡ None → own_sort k q pt.view.topic ≡ true)
-    → after pt (line.Put pt.view.acting b i k q ∷ (if c then [] else if d then packet_line pt.view pt.view.acting b w ∷ [] else [])) ≡ Some next → OwnTold pt → OwnTold next
-puts_own pt next b i k q true d w right is h = let f : moved pt (line.Put pt.view.acting b i k q) pt.kernel ≡ next = cc in subst OwnTold f (own_put pt pt.view.acting b i k q right h)
-puts_own pt next b i k q false false w right is h = let f : moved pt (line.Put pt.view.acting b i k q) pt.kernel ≡ next = cc in subst OwnTold f (own_put pt pt.view.acting b i k q right h)
+    → after pt (Line.Put pt.view.acting b i k q ∷ (if c then [] else if d then packet_line pt.view pt.view.acting b w ∷ [] else [])) ≡ Some next → OwnTold pt → OwnTold next
+puts_own pt next b i k q true d w right is h = let f : moved pt (Line.Put pt.view.acting b i k q) pt.kernel ≡ next = cc in subst OwnTold f (own_put pt pt.view.acting b i k q right h)
+puts_own pt next b i k q false false w right is h = let f : moved pt (Line.Put pt.view.acting b i k q) pt.kernel ≡ next = cc in subst OwnTold f (own_put pt pt.view.acting b i k q right h)
 puts_own pt next b i k q false true w right is h =
     let l = packet_line pt.view pt.view.acting b w in
-    let mid = moved pt (line.Put pt.view.acting b i k q) pt.kernel in
+    let mid = moved pt (Line.Put pt.view.acting b i k q) pt.kernel in
     let f : moved mid l mid.kernel ≡ next = cc in
     let o = own_put pt pt.view.acting b i k q right h in
     subst OwnTold f (record { own = o.own; sender = o.sender })
@@ -103,7 +73,7 @@ puts_own pt next b i k q false true w right is h =
 puts_lead : (pt next : Point) (b : ℕ) (i : MsgId) (k : MessageKind) (q : Pid) (ls : List Line) → (is_kernels i ≡ true → pt.view.told i ≡ None → own_sort k q pt.view.topic ≡ true) → Some (puts pt.view b i k q) ≡ Some ls → after pt ls ≡ Some next → OwnTold pt → OwnTold next
 puts_lead pt next b i k q ls right is leads h =
     let f : puts pt.view b i k q ≡ ls = cc in
-    puts_own pt next b i k q (pt.view.acting == b) (goes_out (pt.view.pair pt.view.acting b)) (load.Data (length (pt.view.pair pt.view.acting b).ids)) right (ap (after pt) f ∙ leads) h
+    puts_own pt next b i k q (pt.view.acting == b) (goes_out (pt.view.pair pt.view.acting b)) (Load.Data (length (pt.view.pair pt.view.acting b).ids)) right (ap (after pt) f ∙ leads) h
 
 own_part : (pt next : Point) (p : Part) (ls : List Line) → Sayable p → IsRight pt p → lines_of pt p ≡ Some ls → after pt ls ≡ Some next → Sane pt → OwnTold pt → OwnTold next
 own_part pt next (Says l) ls ok right is leads sane h = one_line pt next l ls ok is leads sane h
@@ -135,11 +105,8 @@ next_of pt p ps w is =
     record { ls = ls; lines = lines; next = next; leads = leads; rest = z; more = more; point = ap (λ (x : Spelled). x.point) f }
 
 none_right : (pt : Point) (p : Part) → HasNoOwn p → IsRight pt p
-none_right pt (Says l) h = tt
-none_right pt (Routes i) h = tt
-none_right pt (Again i b) h = tt
 none_right pt (Owns k q b) h = absurd h
-none_right pt (Transmits a b l) h = tt
+none_right pt _ h = tt
 
 none_own : (ps : List Part) (pt : Point) (w : Spelled) → AllSayable ps → HaveNoOwn ps → spelled pt ps ≡ Some w → Sane pt → OwnTold pt → OwnTold w.point
 none_own [] pt w ok none is sane h = let f : record { lines = []; point = pt } ≡ w = cc in subst (λ (x : Spelled). OwnTold x.point) f h
@@ -163,14 +130,9 @@ puts_topic pt next b i k q ls is leads =
     let g : p.q ≡ next = cc in
     ap (λ (q : Point). q.view.topic) (sym g) ∙ p.topic
 
-stage_topic : (v : View) (p : Pid) (s : Stage) → (view_after v (line.Migration s p)).topic ≡ topic_stage v.topic p s
-stage_topic v p stage.Frozen = refl
-stage_topic v p stage.Asked = refl
-stage_topic v p stage.Accepted = refl
-stage_topic v p stage.StateTaken = refl
-stage_topic v p stage.MemoryTaken = refl
-stage_topic v p stage.Left = refl
-stage_topic v p stage.Restarted = refl
+stage_topic : (v : View) (p : Pid) (s : Stage) → (view_after v (Line.Migration s p)).topic ≡ topic_stage v.topic p s
+stage_topic v p Stage.Frozen = refl
+stage_topic v p _ = refl
 
 later_own : (a : About) (ps : List Part) (pt : Point) (w : Spelled) → AllSayable ps → Later a ps → pt.view.topic ≡ a → spelled pt ps ≡ Some w → Sane pt → OwnTold pt → OwnTold w.point
 later_own a [] pt w ok fit topic is sane h = let f : record { lines = []; point = pt } ≡ w = cc in subst (λ (x : Spelled). OwnTold x.point) f h
@@ -184,34 +146,34 @@ later_own a (Owns k q b ∷ ps) pt w ok fit topic is sane h =
     (own_part pt n.next (Owns k q b) n.ls ok.0 (ap (own_sort k q) topic ∙ fit.0) n.lines n.leads sane h))
 later_own a (Routes i ∷ ps) pt w ok fit topic is sane h = absurd fit
 later_own a (Transmits c d l ∷ ps) pt w ok fit topic is sane h = absurd fit
-later_own a (Says (line.Migration s p) ∷ ps) pt w ok fit topic is sane h =
-    let l = line.Migration s p in
+later_own a (Says (Line.Migration s p) ∷ ps) pt w ok fit topic is sane h =
+    let l = Line.Migration s p in
     let n = next_of pt (Says l) ps w is in
     subst OwnTold n.point (later_own (topic_stage a p s) ps n.next n.rest ok.1 fit (ap (λ (v : View). v.topic) (line_topic pt n.next l n.ls refl n.lines n.leads) ∙ stage_topic pt.view p s ∙ ap (λ (b : About). topic_stage b p s) topic) n.more
     (part_sane pt n.next (Says l) n.ls ok.0 n.lines n.leads sane) (own_part pt n.next (Says l) n.ls ok.0 tt n.lines n.leads sane h))
-later_own a (Says (line.Head s) ∷ ps) pt w ok fit topic is sane h = absurd fit
-later_own a (Says (line.Idle m) ∷ ps) pt w ok fit topic is sane h = absurd fit
-later_own a (Says (line.Label x) ∷ ps) pt w ok fit topic is sane h = absurd fit
-later_own a (Says (line.Put c d i k q) ∷ ps) pt w ok fit topic is sane h = absurd fit
-later_own a (Says (line.Packet c d k l) ∷ ps) pt w ok fit topic is sane h = absurd fit
-later_own a (Says (line.Taken c d n) ∷ ps) pt w ok fit topic is sane h = absurd fit
-later_own a (Says (line.Old c d n) ∷ ps) pt w ok fit topic is sane h = absurd fit
-later_own a (Says (line.Early c d n) ∷ ps) pt w ok fit topic is sane h = absurd fit
-later_own a (Says (line.Acked c d n) ∷ ps) pt w ok fit topic is sane h = absurd fit
-later_own a (Says line.Nothing ∷ ps) pt w ok fit topic is sane h = absurd fit
-later_own a (Says (line.Resent m n) ∷ ps) pt w ok fit topic is sane h = absurd fit
-later_own a (Says (line.Queued i) ∷ ps) pt w ok fit topic is sane h = absurd fit
-later_own a (Says (line.Held i) ∷ ps) pt w ok fit topic is sane h = absurd fit
-later_own a (Says (line.Forwarded i m) ∷ ps) pt w ok fit topic is sane h = absurd fit
-later_own a (Says (line.Updated i n) ∷ ps) pt w ok fit topic is sane h = absurd fit
-later_own a (Says (line.SentOn p n) ∷ ps) pt w ok fit topic is sane h = absurd fit
-later_own a (Says (line.Lacks p c d) ∷ ps) pt w ok fit topic is sane h = absurd fit
-later_own a (Says (line.Stays p) ∷ ps) pt w ok fit topic is sane h = absurd fit
-later_own a (Says (line.Here i) ∷ ps) pt w ok fit topic is sane h = absurd fit
-later_own a (Says (line.NoMove i) ∷ ps) pt w ok fit topic is sane h = absurd fit
-later_own a (Says (line.Proto i) ∷ ps) pt w ok fit topic is sane h = absurd fit
-later_own a (Says (line.NoChild p) ∷ ps) pt w ok fit topic is sane h = absurd fit
-later_own a (Says (line.Pinned p) ∷ ps) pt w ok fit topic is sane h = absurd fit
+later_own a (Says (Line.Head s) ∷ ps) pt w ok fit topic is sane h = absurd fit
+later_own a (Says (Line.Idle m) ∷ ps) pt w ok fit topic is sane h = absurd fit
+later_own a (Says (Line.Label x) ∷ ps) pt w ok fit topic is sane h = absurd fit
+later_own a (Says (Line.Put c d i k q) ∷ ps) pt w ok fit topic is sane h = absurd fit
+later_own a (Says (Line.Packet c d k l) ∷ ps) pt w ok fit topic is sane h = absurd fit
+later_own a (Says (Line.Taken c d n) ∷ ps) pt w ok fit topic is sane h = absurd fit
+later_own a (Says (Line.Old c d n) ∷ ps) pt w ok fit topic is sane h = absurd fit
+later_own a (Says (Line.Early c d n) ∷ ps) pt w ok fit topic is sane h = absurd fit
+later_own a (Says (Line.Acked c d n) ∷ ps) pt w ok fit topic is sane h = absurd fit
+later_own a (Says Line.Nothing ∷ ps) pt w ok fit topic is sane h = absurd fit
+later_own a (Says (Line.Resent m n) ∷ ps) pt w ok fit topic is sane h = absurd fit
+later_own a (Says (Line.Queued i) ∷ ps) pt w ok fit topic is sane h = absurd fit
+later_own a (Says (Line.Held i) ∷ ps) pt w ok fit topic is sane h = absurd fit
+later_own a (Says (Line.Forwarded i m) ∷ ps) pt w ok fit topic is sane h = absurd fit
+later_own a (Says (Line.Updated i n) ∷ ps) pt w ok fit topic is sane h = absurd fit
+later_own a (Says (Line.SentOn p n) ∷ ps) pt w ok fit topic is sane h = absurd fit
+later_own a (Says (Line.Lacks p c d) ∷ ps) pt w ok fit topic is sane h = absurd fit
+later_own a (Says (Line.Stays p) ∷ ps) pt w ok fit topic is sane h = absurd fit
+later_own a (Says (Line.Here i) ∷ ps) pt w ok fit topic is sane h = absurd fit
+later_own a (Says (Line.NoMove i) ∷ ps) pt w ok fit topic is sane h = absurd fit
+later_own a (Says (Line.Proto i) ∷ ps) pt w ok fit topic is sane h = absurd fit
+later_own a (Says (Line.NoChild p) ∷ ps) pt w ok fit topic is sane h = absurd fit
+later_own a (Says (Line.Pinned p) ∷ ps) pt w ok fit topic is sane h = absurd fit
 
 -- behind a first line
 then_own : (l : Line) (qs : List Part) (pt : Point) (w : Spelled) → label_of l ≡ None → AllSayable (Says l ∷ qs) → Later (view_after pt.view l).topic qs → spelled pt (Says l ∷ qs) ≡ Some w → Sane pt → OwnTold pt → OwnTold w.point
@@ -232,8 +194,8 @@ pub own_told_group : (b : Boot) (pt : Point) (d : Step) (w : Spelled) → group_
 own_told_group b pt d w is run h =
     let k = group_on b pt d run h in
     let g = k.goes in
-    let begun = moved pt (line.Head d) pt.kernel in
-    let sane : Sane begun = sane_line pt begun (line.Head d) refl refl run.based.phased.sane in
+    let begun = moved pt (Line.Head d) pt.kernel in
+    let sane : Sane begun = sane_line pt begun (Line.Head d) refl refl run.based.phased.sane in
     let same : g.w ≡ w = (let f : Some g.w ≡ Some w = sym g.is ∙ is in cc) in
     subst OwnTold (sym g.point ∙ ap (λ (x : Spelled). x.point) same)
-    (fits_own g.parts begun g.behind_head (outcome_sayable b pt d g.parts g.outcome_is) k.owns g.spells sane (own_line pt begun (line.Head d) refl refl run.based.phased.sane h))
+    (fits_own g.parts begun g.behind_head (outcome_sayable b pt d g.parts g.outcome_is) k.owns g.spells sane (own_line pt begun (Line.Head d) refl refl run.based.phased.sane h))

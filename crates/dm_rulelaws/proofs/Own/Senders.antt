@@ -1,41 +1,13 @@
 -- No kernel sends what is told back when it is forwarded.
-use Rattle.std.proofs.Common.{◌≡◌, ◌⊎◌, ℕ, ◌+◌, ◌*◌, ◌==◌, ◌&&◌, Bool, true, false, List, [], ◌∷◌, ◌++◌, refl, ap, ◌∙◌, sym, subst, nat_lt, is_some, arith, length, inl, inr}
-use Rattle.std.specs.Prelude.{⊤, if◌then◌else◌, slice_get, take, drop}
-use Rattle.std.specs.declared.option.Option.{Option}
-use Rattle.std.specs.declared.option.Option.TheVariants.{None, Some}
-use Rattle.std.proofs.lemmas.Bool.{cases_Bool, false≢true}
-use Rattle.std.proofs.lemmas.Bool.Decides.{nat_tests}
-use Rattle.dm_link.specs.declared.Pid.{Pid}
-use Rattle.dm_link.specs.Names.{pid_eq}
-use Rattle.dm_link.specs.Plain.{PlainLink}
-use Rattle.dm_message.specs.declared.MsgId.{MsgId}
-use Rattle.dm_message.specs.Ids.{id_eq}
-use Rattle.dm_message.specs.Kinds.{plain_kind}
-use Rattle.dm_message.specs.Plain as what
-use Rattle.dm_message.specs.Plain.{PlainMessage, PlainWhat}
-use Rattle.dm_onekernel.specs.declared.label.Label.{Label}
-use Rattle.dm_onekernel.specs.declared.label.Label.TheVariants as label
-use Rattle.dm_onekernel.specs.declared.label.Why.TheVariants as why
-use Rattle.dm_onekernel.specs.Boot.{switchboard, manager}
-use Rattle.dm_onekernel.specs.Options.{bind}
-use Rattle.dm_onekernel.specs.PlainProcess.{PlainProcess}
-use Rattle.dm_onekernel.specs.Kernel.{Alive, Ended, Pending, Switchboard, Manager, OneKernel, with_process, with_sent}
-use Rattle.dm_onekernel.specs.Calls as calls
+use Rattle.dm_rulelaws.proofs.Names.{◌≡◌, ◌⊎◌, ℕ, ◌+◌, ◌*◌, ◌==◌, ◌&&◌, Bool, true, false, List, [], ◌∷◌, ◌++◌, refl, ap, ◌∙◌, sym, subst, nat_lt, is_some, arith, length, inl, inr, ⊤, if◌then◌else◌, slice_get, take, drop, Option, None}
+use Rattle.dm_rulelaws.proofs.Names.{Some, cases_Bool, false≢true, nat_tests, Pid, pid_eq, PlainLink, MsgId, id_eq, plain_kind, Why, Called, PlainMessage, PlainWhat, Label, switchboard, manager, bind, PlainProcess, Alive, Ended, Pending}
+use Rattle.dm_rulelaws.proofs.Names.{Switchboard, Manager, OneKernel, with_process, with_sent, answer_to, without_message, is_of_memory, Made, came, stayed, LandsSo, lands-is, Sound, bind-is, when-is, alive-is, nexts, Nexts, is_told_back}
+use Rattle.dm_rulelaws.proofs.Names.{hidden, BagStep, bag_ran, bag_call, bag_wait, bag_out, bag_end, bag_refuse, bag_receive, bag_dropped, if_some-is}
 use Rattle.dm_onekernel.specs.Pieces as pieces
-use Rattle.dm_onekernel.specs.Pieces.{answer_to}
 use Rattle.dm_onekernel.specs.Switchboard as board
 use Rattle.dm_onekernel.specs.Manager as manage
 use Rattle.dm_onekernel.specs.Service as service
-use Rattle.dm_onekernel.specs.Service.{without_message, is_of_memory}
 use Rattle.dm_onekernel.specs.Step as step
-use Rattle.dm_laws.proofs.Entered.{Made}
-use Rattle.dm_laws.proofs.Movers.{came, stayed}
-use Rattle.dm_laws.proofs.Services.{LandsSo, lands-is}
-use Rattle.dm_laws.proofs.Sound.{Sound}
-use Rattle.dm_laws.proofs.Steps.{bind-is, when-is, alive-is, nexts, Nexts}
-use Rattle.dm_rule.specs.Addresses.{is_told_back}
-use Rattle.dm_rule.proofs.Lines.{hidden}
-use Rattle.dm_rule.proofs.Bags.{BagStep, bag_ran, bag_call, bag_wait, bag_out, bag_end, bag_refuse, bag_receive, bag_dropped}
 
 abbrev IsSent : PlainMessage → Type 0
 IsSent x = is_told_back (plain_kind x.what) ≡ true → (x.sender.num == 0) ≡ false
@@ -74,51 +46,27 @@ process_num : (s : OneKernel) (p : Pid) (x : PlainProcess) → s.processes p ≡
 process_num s p x is h = let k = h.least p (ap is_some is) in grind (arith, nat_tests)
 
 sends_brings : (r e : MsgId → ℕ) (s t : OneKernel) (p : Pid) (id : MsgId) (next : step.Next) → Nexts s p next → step.sends s p id next ≡ Some t → Sound r e s → Brings s t
-sends_brings r e s t p id (step.Calls number (calls.Sends m y)) w is h =
+sends_brings r e s t p id (step.Calls number (Called.Sends m y)) w is h =
     let (z, sent, pending, counted) = w.counts in
     let k = when-is _ (with_sent (step.goes_on s p y) (Some m)) t is in
     in_brings s t (step.goes_on s p y) m k.1 (λ i x there. there) (λ e. ap (λ (q : Pid). q.num == 0) counted.sender ∙ process_num s p w.x w.is.alive h.made)
-sends_brings r e s t p id (step.Calls number (calls.Replies reply y)) w is h = cc
-sends_brings r e s t p id (step.Calls number (calls.Waits y)) w is h = cc
-sends_brings r e s t p id (step.Calls number (calls.Outputs word y)) w is h = cc
-sends_brings r e s t p id (step.Calls number (calls.Ends because)) w is h = cc
+sends_brings r e s t p id (step.Calls number (Called.Replies reply y)) w is h = cc
+sends_brings r e s t p id (step.Calls number (Called.Waits y)) w is h = cc
+sends_brings r e s t p id (step.Calls number (Called.Outputs word y)) w is h = cc
+sends_brings r e s t p id (step.Calls number (Called.Ends because)) w is h = cc
 sends_brings r e s t p id (step.Faults fault) w is h = cc
 
 -- answers
 no_room_brings : (s t : OneKernel) (id : MsgId) (m : PlainMessage) (w : PlainWhat) → service.has_no_room s id m w ≡ Some t → Brings s t
-no_room_brings s t id m (what.Create image links) is = answer_brings s t (without_message s id) id m what.NoRoom (when-is _ (with_sent (without_message s id) (Some (answer_to m what.NoRoom))) t is).1 (λ i. refl) refl
-no_room_brings s t id m (what.User a b c d) is = cc
-no_room_brings s t id m what.Stop is = cc
-no_room_brings s t id m what.Resume is = cc
-no_room_brings s t id m what.Kill is = cc
-no_room_brings s t id m (what.Read a b) is = cc
-no_room_brings s t id m (what.Write a b) is = cc
-no_room_brings s t id m (what.Block a) is = cc
-no_room_brings s t id m what.Written is = cc
-no_room_brings s t id m what.Gone is = cc
-no_room_brings s t id m (what.Created a) is = cc
-no_room_brings s t id m what.NoRoom is = cc
-no_room_brings s t id m (what.Move a) is = cc
-no_room_brings s t id m (what.Moved a) is = cc
+no_room_brings s t id m (PlainWhat.Create image links) is = answer_brings s t (without_message s id) id m PlainWhat.NoRoom (when-is _ (with_sent (without_message s id) (Some (answer_to m PlainWhat.NoRoom))) t is).1 (λ i. refl) refl
+no_room_brings s t id m _ is = cc
 
 creates_brings : (s t : OneKernel) (id : MsgId) (m : PlainMessage) (child : Pid) (w : PlainWhat) → service.creates s id m child w ≡ Some t → Brings s t
-creates_brings s t id m child (what.Create image links) is =
+creates_brings s t id m child (PlainWhat.Create image links) is =
     let (i, found, rest) = bind-is (slice_get s.images image) (service.creates_of s id m child links) t is in
     let u = service.with_child (without_message s id) child i links in
-    answer_brings s t u id m (what.Created child) (when-is _ (with_sent u (Some (answer_to m (what.Created child)))) t rest).1 (λ j. refl) refl
-creates_brings s t id m child (what.User a b c d) is = cc
-creates_brings s t id m child what.Stop is = cc
-creates_brings s t id m child what.Resume is = cc
-creates_brings s t id m child what.Kill is = cc
-creates_brings s t id m child (what.Read a b) is = cc
-creates_brings s t id m child (what.Write a b) is = cc
-creates_brings s t id m child (what.Block a) is = cc
-creates_brings s t id m child what.Written is = cc
-creates_brings s t id m child what.Gone is = cc
-creates_brings s t id m child (what.Created a) is = cc
-creates_brings s t id m child what.NoRoom is = cc
-creates_brings s t id m child (what.Move a) is = cc
-creates_brings s t id m child (what.Moved a) is = cc
+    answer_brings s t u id m (PlainWhat.Created child) (when-is _ (with_sent u (Some (answer_to m (PlainWhat.Created child)))) t rest).1 (λ j. refl) refl
+creates_brings s t id m child _ is = cc
 
 landed_brings : (r e : MsgId → ℕ) (s t : OneKernel) (id : MsgId) (m : PlainMessage) (x : PlainProcess) (c : pieces.Landed) → service.landed s id m c ≡ t → s.processes m.to ≡ Some (Alive x) → LandsSo m.to x c → Sound r e s → Brings s t
 landed_brings r e s t id m x (pieces.Next request y) is alive lands h =
@@ -129,34 +77,25 @@ lands_brings : (r e : MsgId → ℕ) (s t : OneKernel) (id : MsgId) (m : PlainMe
 lands_brings r e s t id m x None is last alive h = cc
 lands_brings r e s t id m x (Some c) is last alive h = landed_brings r e s t id m x c (let f : service.landed s id m c ≡ t = cc in f) alive (lands-is m.to x m x.status c is) h
 
-if_some-is : {A : Type 0} (b : Bool) (x y : A) → (if b then Some x else None) ≡ Some y → x ≡ y
-if_some-is true x y e = cc
-if_some-is false x y e = cc
-
 served_brings : (r e : MsgId → ℕ) (s t : OneKernel) (id : MsgId) (m : PlainMessage) (x : PlainProcess) (w : PlainWhat) → s.processes m.to ≡ Some (Alive x) → service.serves s id m x w ≡ Some t → Sound r e s → Brings s t
-served_brings r e s t id m x what.Stop alive is h = out_brings s t (service.changed s id m (record x { stopped = true })) id (let f : service.changed s id m (record x { stopped = true }) ≡ t = cc in f) (λ i. refl)
-served_brings r e s t id m x what.Resume alive is h = out_brings s t (service.changed s id m (record x { stopped = false })) id (let f : service.changed s id m (record x { stopped = false }) ≡ t = cc in f) (λ i. refl)
-served_brings r e s t id m x what.Kill alive is h = out_brings s t (with_process (without_message s id) m.to (Ended why.Killed)) id (let f : with_process (without_message s id) m.to (Ended why.Killed) ≡ t = cc in f) (λ i. refl)
-served_brings r e s t id m x (what.Read base len) alive is h =
+served_brings r e s t id m x PlainWhat.Stop alive is h = out_brings s t (service.changed s id m (record x { stopped = true })) id (let f : service.changed s id m (record x { stopped = true }) ≡ t = cc in f) (λ i. refl)
+served_brings r e s t id m x PlainWhat.Resume alive is h = out_brings s t (service.changed s id m (record x { stopped = false })) id (let f : service.changed s id m (record x { stopped = false }) ≡ t = cc in f) (λ i. refl)
+served_brings r e s t id m x PlainWhat.Kill alive is h = out_brings s t (with_process (without_message s id) m.to (Ended Why.Killed)) id (let f : with_process (without_message s id) m.to (Ended Why.Killed) ≡ t = cc in f) (λ i. refl)
+served_brings r e s t id m x (PlainWhat.Read base len) alive is h =
     let (c, served, last) = bind-is (pieces.reads x m base len) (λ v. Some (service.answered s id m v)) t is in
-    let k = if_some-is _ (record { process = x; answer = answer_to m (what.Block (take len (drop base x.memory))) }) c served in
+    let k = if_some-is _ (record { process = x; answer = answer_to m (PlainWhat.Block (take len (drop base x.memory))) }) c served in
     let f : service.answered s id m c ≡ t = cc in
-    answer_brings s t (service.changed s id m x) id m (what.Block (take len (drop base x.memory))) (ap (service.answered s id m) k ∙ f) (λ i. refl) refl
-served_brings r e s t id m x (what.Write base bytes) alive is h =
+    answer_brings s t (service.changed s id m x) id m (PlainWhat.Block (take len (drop base x.memory))) (ap (service.answered s id m) k ∙ f) (λ i. refl) refl
+served_brings r e s t id m x (PlainWhat.Write base bytes) alive is h =
     let (c, served, last) = bind-is (pieces.writes x m base bytes) (λ v. Some (service.answered s id m v)) t is in
     let y = record x { memory = pieces.written_at x.memory base bytes } in
-    let k = if_some-is _ (record { process = y; answer = answer_to m what.Written }) c served in
+    let k = if_some-is _ (record { process = y; answer = answer_to m PlainWhat.Written }) c served in
     let f : service.answered s id m c ≡ t = cc in
-    answer_brings s t (service.changed s id m y) id m what.Written (ap (service.answered s id m) k ∙ f) (λ i. refl) refl
-served_brings r e s t id m x (what.Block bytes) alive is h = lands_brings r e s t id m x (pieces.lands m.to x m x.status) refl is alive h
-served_brings r e s t id m x what.Written alive is h = lands_brings r e s t id m x (pieces.lands m.to x m x.status) refl is alive h
-served_brings r e s t id m x what.Gone alive is h = lands_brings r e s t id m x (pieces.lands m.to x m x.status) refl is alive h
-served_brings r e s t id m x (what.User a b c d) alive is h = cc
-served_brings r e s t id m x (what.Create a b) alive is h = cc
-served_brings r e s t id m x (what.Created a) alive is h = cc
-served_brings r e s t id m x what.NoRoom alive is h = cc
-served_brings r e s t id m x (what.Move a) alive is h = cc
-served_brings r e s t id m x (what.Moved a) alive is h = cc
+    answer_brings s t (service.changed s id m y) id m PlainWhat.Written (ap (service.answered s id m) k ∙ f) (λ i. refl) refl
+served_brings r e s t id m x (PlainWhat.Block bytes) alive is h = lands_brings r e s t id m x (pieces.lands m.to x m x.status) refl is alive h
+served_brings r e s t id m x PlainWhat.Written alive is h = lands_brings r e s t id m x (pieces.lands m.to x m x.status) refl is alive h
+served_brings r e s t id m x PlainWhat.Gone alive is h = lands_brings r e s t id m x (pieces.lands m.to x m x.status) refl is alive h
+served_brings r e s t id m x _ alive is h = cc
 
 -- servers
 abbrev SentBy : Pid → Option PlainMessage → Type 0
@@ -168,20 +107,8 @@ board_request b body [] = tt
 board_request b body (l ∷ ls) = refl
 
 board_sender : (b : Switchboard) (m : PlainMessage) (w : PlainWhat) (k : board.Took) → board.takes b m w ≡ Some k → SentBy switchboard k.answer
-board_sender b m (what.User code channel body links) k e = let f : board.takes_request b body links ≡ k = cc in subst (λ (v : board.Took). SentBy switchboard v.answer) f (board_request b body links)
-board_sender b m what.Stop k e = cc
-board_sender b m what.Resume k e = cc
-board_sender b m what.Kill k e = cc
-board_sender b m (what.Read a c) k e = cc
-board_sender b m (what.Write a c) k e = cc
-board_sender b m (what.Block a) k e = cc
-board_sender b m what.Written k e = cc
-board_sender b m what.Gone k e = cc
-board_sender b m (what.Create a c) k e = cc
-board_sender b m (what.Created a) k e = cc
-board_sender b m what.NoRoom k e = cc
-board_sender b m (what.Move a) k e = cc
-board_sender b m (what.Moved a) k e = cc
+board_sender b m (PlainWhat.User code channel body links) k e = let f : board.takes_request b body links ≡ k = cc in subst (λ (v : board.Took). SentBy switchboard v.answer) f (board_request b body links)
+board_sender b m _ k e = cc
 
 manager_bad : (g : Manager) (links : List PlainLink) → SentBy manager (manage.bad_request g links).message
 manager_bad g [] = tt
@@ -231,23 +158,13 @@ manager_no_room g n (Some r) k e =
     subst (λ (v : manage.Took). SentBy manager v.message) f refl
 
 manager_sender : (g : Manager) (machines images : ℕ) (m : PlainMessage) (w : PlainWhat) (k : manage.Took) → manage.takes g machines images m w ≡ Some k → SentBy manager k.message
-manager_sender g machines images m (what.User code channel body links) k e =
+manager_sender g machines images m (PlainWhat.User code channel body links) k e =
     let f : manage.takes_user g machines images code body links ≡ k = cc in
     subst (λ (v : manage.Took). SentBy manager v.message) f
     (manager_if (code == 0) (manage.requests g machines images body links) (manage.controls g (manage.child_numbered g.children code) body links) (manager_requests g machines images body links) (manager_controls g (manage.child_numbered g.children code) body links))
-manager_sender g machines images m (what.Created child) k e = manager_created g m.id.n child (manage.pending_numbered m.id.n g.pending) k e
-manager_sender g machines images m what.NoRoom k e = manager_no_room g m.id.n (manage.pending_numbered m.id.n g.pending) k e
-manager_sender g machines images m what.Stop k e = cc
-manager_sender g machines images m what.Resume k e = cc
-manager_sender g machines images m what.Kill k e = cc
-manager_sender g machines images m (what.Read a b) k e = cc
-manager_sender g machines images m (what.Write a b) k e = cc
-manager_sender g machines images m (what.Block a) k e = cc
-manager_sender g machines images m what.Written k e = cc
-manager_sender g machines images m what.Gone k e = cc
-manager_sender g machines images m (what.Create a b) k e = cc
-manager_sender g machines images m (what.Move a) k e = cc
-manager_sender g machines images m (what.Moved a) k e = cc
+manager_sender g machines images m (PlainWhat.Created child) k e = manager_created g m.id.n child (manage.pending_numbered m.id.n g.pending) k e
+manager_sender g machines images m PlainWhat.NoRoom k e = manager_no_room g m.id.n (manage.pending_numbered m.id.n g.pending) k e
+manager_sender g machines images m _ k e = cc
 
 server_brings : (s t u : OneKernel) (id : MsgId) (q : Pid) (o : Option PlainMessage) → SentBy q o → (q.num == 0) ≡ false → with_sent u o ≡ t → ((i : MsgId) → u.bag i ≡ (without_message s id).bag i) → Brings s t
 server_brings s t u id q None sends num is same = out_brings s t u id is same
@@ -273,26 +190,26 @@ took_brings s t id m false false is = cc
 
 -- a row a label
 brings : (r e : MsgId → ℕ) (s t : OneKernel) (l : Label) → step.step s l ≡ Some t → Sound r e s → Brings s t
-brings r e s t (label.Ran p k) is h = none_brings e s t None (bag_ran e s t p k is)
-brings r e s t (label.Call p n c) is h = none_brings e s t None (bag_call e s t p n c is)
-brings r e s t (label.Send p id) is h = let (x, next, rest) = bind-is (step.next s p) (step.sends s p id) t is in sends_brings r e s t p id x (nexts s p x next) rest h
-brings r e s t (label.Wait p) is h = none_brings e s t None (bag_wait e s t p is)
-brings r e s t (label.Out p w) is h = none_brings e s t None (bag_out e s t p w is)
-brings r e s t (label.End p y) is h = none_brings e s t None (bag_end e s t p y is)
-brings r e s t (label.Receive p id) is h = none_brings e s t (Some id) (bag_receive e s t p id is)
-brings r e s t (label.Refuse p id c) is h = none_brings e s t None (bag_refuse e s t p id c is)
-brings r e s t (label.Dropped id) is h = none_brings e s t (Some id) (bag_dropped e s t id is)
-brings r e s t (label.Served id) is h =
+brings r e s t (Label.Ran p k) is h = none_brings e s t None (bag_ran e s t p k is)
+brings r e s t (Label.Call p n c) is h = none_brings e s t None (bag_call e s t p n c is)
+brings r e s t (Label.Send p id) is h = let (x, next, rest) = bind-is (step.next s p) (step.sends s p id) t is in sends_brings r e s t p id x (nexts s p x next) rest h
+brings r e s t (Label.Wait p) is h = none_brings e s t None (bag_wait e s t p is)
+brings r e s t (Label.Out p w) is h = none_brings e s t None (bag_out e s t p w is)
+brings r e s t (Label.End p y) is h = none_brings e s t None (bag_end e s t p y is)
+brings r e s t (Label.Receive p id) is h = none_brings e s t (Some id) (bag_receive e s t p id is)
+brings r e s t (Label.Refuse p id c) is h = none_brings e s t None (bag_refuse e s t p id c is)
+brings r e s t (Label.Dropped id) is h = none_brings e s t (Some id) (bag_dropped e s t id is)
+brings r e s t (Label.Served id) is h =
     let (m, there, rest) = bind-is (s.bag id) (λ v. bind (step.alive (s.processes v.to)) (λ p. service.serves s id v p v.what)) t is in
     let (x, alive, last) = bind-is (step.alive (s.processes m.to)) (λ p. service.serves s id m p m.what) t rest in
     served_brings r e s t id m x m.what (alive-is (s.processes m.to) x alive) last h
-brings r e s t (label.Gone id) is h =
+brings r e s t (Label.Gone id) is h =
     let (m, there, rest) = bind-is (s.bag id) (λ v. bind (step.ended (s.processes v.to)) (step.says_gone s id v)) t is in
     let (y, gone, last) = bind-is (step.ended (s.processes m.to)) (step.says_gone s id m) t rest in
-    answer_brings s t (without_message s id) id m what.Gone (when-is (is_of_memory m.what) (with_sent (without_message s id) (Some (answer_to m what.Gone))) t last).1 (λ i. refl) refl
-brings r e s t (label.Took id) is h = let (m, there, rest) = bind-is (s.bag id) (service.takes s id) t is in took_brings s t id m (pid_eq m.to switchboard) (pid_eq m.to manager) rest
-brings r e s t (label.Created id p) is h = let (m, there, rest) = bind-is (s.bag id) (λ v. service.creates s id v p v.what) t is in creates_brings s t id m p m.what rest
-brings r e s t (label.NoSpace id a b) is h = let (m, there, rest) = bind-is (s.bag id) (λ v. service.has_no_room s id v v.what) t is in no_room_brings s t id m m.what rest
+    answer_brings s t (without_message s id) id m PlainWhat.Gone (when-is (is_of_memory m.what) (with_sent (without_message s id) (Some (answer_to m PlainWhat.Gone))) t last).1 (λ i. refl) refl
+brings r e s t (Label.Took id) is h = let (m, there, rest) = bind-is (s.bag id) (service.takes s id) t is in took_brings s t id m (pid_eq m.to switchboard) (pid_eq m.to manager) rest
+brings r e s t (Label.Created id p) is h = let (m, there, rest) = bind-is (s.bag id) (λ v. service.creates s id v p v.what) t is in creates_brings s t id m p m.what rest
+brings r e s t (Label.NoSpace id a b) is h = let (m, there, rest) = bind-is (s.bag id) (λ v. service.has_no_room s id v v.what) t is in no_room_brings s t id m m.what rest
 
 -- each step keeps it
 pub senders_step : (r e : MsgId → ℕ) (s t : OneKernel) (l : Label) → step.step s l ≡ Some t → Sound r e s → Senders s → Senders t

@@ -1,32 +1,8 @@
 -- Wherever the rule leads, each living process has as many link slots as the boot file's format gives.
-use Rattle.std.proofs.Common.{◌≡◌, ℕ, ◌≤◌, ◌==◌, ◌+◌, ◌&&◌, Bool, true, nat_le, nat_lt, List, [], ◌∷◌, ◌++◌, length, map, refl, ap, ◌∙◌, sym, subst, inl, inr, arith}
-use Rattle.std.specs.Prelude.{if◌then◌else◌, slice_get, option_map}
-use Rattle.std.specs.declared.option.Option.{Option}
-use Rattle.std.specs.declared.option.Option.TheVariants.{None, Some}
-use Rattle.std.proofs.lemmas.Bool.{cases_Bool}
-use Rattle.std.proofs.lemmas.Bool.Decides.{nat_tests}
-use Rattle.std.proofs.lemmas.List.{length-map}
-use Rattle.dm_link.specs.declared.Pid.{Pid}
-use Rattle.dm_link.specs.Names.{pid_eq}
-use Rattle.dm_link.specs.Plain.{plain_link}
-use Rattle.dm_onekernel.specs.declared.boot.BootImage.{BootImage}
-use Rattle.dm_onekernel.specs.declared.boot.BootProcess.{BootProcess}
-use Rattle.dm_onekernel.specs.declared.boot.Boot.{Boot}
-use Rattle.dm_onekernel.specs.declared.label.Label.{Label}
-use Rattle.dm_onekernel.specs.declared.label.Label.TheVariants as label
-use Rattle.dm_onekernel.specs.Boot.{IsValid, starting_at, processes_are_valid, process_is_valid, links_are_valid, slots_of}
-use Rattle.dm_onekernel.specs.PlainProcess.{PlainProcess}
-use Rattle.dm_onekernel.specs.Kernel.{Alive, OneKernel}
-use Rattle.dm_onekernel.specs.Start.{start, begun, first_life, life_at}
+use Rattle.dm_rulelaws.proofs.Names.{◌≡◌, ℕ, ◌≤◌, ◌==◌, ◌+◌, ◌&&◌, Bool, true, nat_le, nat_lt, List, [], ◌∷◌, ◌++◌, length, map, refl, ap, ◌∙◌, sym, subst, inl, inr, arith, if◌then◌else◌, slice_get, option_map, Option, None, Some}
+use Rattle.dm_rulelaws.proofs.Names.{cases_Bool, nat_tests, length-map, Pid, pid_eq, plain_link, BootImage, BootProcess, Boot, Label, IsValid, starting_at, processes_are_valid, process_is_valid, links_are_valid, slots_of, PlainProcess}
+use Rattle.dm_rulelaws.proofs.Names.{Alive, OneKernel, start, begun, first_life, life_at, replay, bind-is, Step, Point, first_point, labels, Spelled, group_of, Leads, Each}
 use Rattle.dm_onekernel.specs.Step as kernel
-use Rattle.dm_onekernel.specs.Step.{replay}
-use Rattle.dm_laws.proofs.Steps.{bind-is}
-use Rattle.dm_schedule.specs.declared.Step.{Step}
-use Rattle.dm_rule.specs.Point.{Point, first_point, labels}
-use Rattle.dm_rule.specs.Parts.{Spelled}
-use Rattle.dm_rule.specs.Rule.{group_of}
-use Rattle.dm_rule.specs.Laws.{Leads}
-use Rattle.dm_rulelaws.specs.Fits.{Each}
 use Rattle.dm_rulelaws.proofs.Fits.Rises.{both}
 use Rattle.dm_rulelaws.proofs.RunLabels.{group_replay}
 use Rattle.dm_rulelaws.proofs.Based.Constants.{constant_group}
@@ -37,20 +13,20 @@ use Rattle.dm_rulelaws.proofs.Tables.Servers.{slots_with_length}
 
 -- each step
 pub tables_step : (s t : OneKernel) (e : Label) → kernel.step s e ≡ Some t → Tables s → Tables t
-tables_step s t (label.Ran p k) is h = steps.ran_tables s t p k is h
-tables_step s t (label.Call p n c) is h = steps.call_step s t p n c is h
-tables_step s t (label.Send p id) is h = steps.send_step s t p id is h
-tables_step s t (label.Wait p) is h = steps.wait_step s t p is h
-tables_step s t (label.Out p w) is h = steps.out_step s t p w is h
-tables_step s t (label.End p y) is h = steps.end_step s t p y is h
-tables_step s t (label.Receive p id) is h = steps.receive_step s t p id is h
-tables_step s t (label.Refuse p id c) is h = steps.refuse_step s t p id c is h
-tables_step s t (label.Dropped id) is h = steps.dropped_step s t id is h
-tables_step s t (label.Served id) is h = steps.served_step s t id is h
-tables_step s t (label.Gone id) is h = steps.gone_step s t id is h
-tables_step s t (label.Took id) is h = servers.took_step s t id is h
-tables_step s t (label.Created id child) is h = servers.created_step s t id child is h
-tables_step s t (label.NoSpace id a b) is h = servers.no_space_step s t id a b is h
+tables_step s t (Label.Ran p k) is h = steps.ran_tables s t p k is h
+tables_step s t (Label.Call p n c) is h = steps.call_step s t p n c is h
+tables_step s t (Label.Send p id) is h = steps.send_step s t p id is h
+tables_step s t (Label.Wait p) is h = steps.wait_step s t p is h
+tables_step s t (Label.Out p w) is h = steps.out_step s t p w is h
+tables_step s t (Label.End p y) is h = steps.end_step s t p y is h
+tables_step s t (Label.Receive p id) is h = steps.receive_step s t p id is h
+tables_step s t (Label.Refuse p id c) is h = steps.refuse_step s t p id c is h
+tables_step s t (Label.Dropped id) is h = steps.dropped_step s t id is h
+tables_step s t (Label.Served id) is h = steps.served_step s t id is h
+tables_step s t (Label.Gone id) is h = steps.gone_step s t id is h
+tables_step s t (Label.Took id) is h = servers.took_step s t id is h
+tables_step s t (Label.Created id child) is h = servers.created_step s t id child is h
+tables_step s t (Label.NoSpace id a b) is h = servers.no_space_step s t id a b is h
 
 -- where a run begins
 abbrev ShortList : Boot → BootProcess → Type 0

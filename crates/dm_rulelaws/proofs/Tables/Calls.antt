@@ -1,29 +1,10 @@
 -- A call and a receive leave the number of link slots, and a call sends at most four links.
-use Rattle.std.proofs.Common.{◌≡◌, ℕ, zero, suc, ◌+◌, ◌≤◌, ◌==◌, ◌&&◌, ◌||◌, Bool, true, false, List, [], ◌∷◌, length, drop, filter_map, refl, ap, ◌∙◌, subst, nat_lt, arith}
-use Rattle.std.specs.Prelude.{⊤, if◌then◌else◌, slice_set}
-use Rattle.std.specs.List.{cons_option}
-use Rattle.std.specs.declared.option.Option.{Option}
-use Rattle.std.specs.declared.option.Option.TheVariants.{None, Some}
-use Rattle.std.proofs.lemmas.Bool.Decides.{nat_tests}
-use Rattle.std.proofs.lemmas.List.{length-take}
-use Rattle.dm_link.specs.declared.Pid.{Pid}
-use Rattle.dm_link.specs.Names.{pid_eq}
-use Rattle.dm_link.specs.Plain.{PlainLink}
-use Rattle.dm_linktable.specs.Slots.{first_empty, link_at}
-use Rattle.dm_message.specs.Plain as what
-use Rattle.dm_message.specs.Plain.{PlainMessage, PlainWhat}
-use Rattle.dm_process.specs.Directions.{direction_numbered}
-use Rattle.dm_process.specs.Mail.{on_mask}
-use Rattle.dm_process.specs.declared.process.Direction.{Direction}
-use Rattle.dm_process.specs.declared.process.Direction.TheVariants as direction
-use Rattle.dm_onekernel.specs.declared.label.Reply.{Reply}
-use Rattle.dm_onekernel.specs.declared.label.Reply.TheVariants as reply
-use Rattle.dm_onekernel.specs.PlainProcess.{PlainProcess, PlainStatus, Ready, Waiting, Moving, reg}
-use Rattle.dm_onekernel.specs.Refusals.{Check, first_failed}
+use Rattle.dm_rulelaws.proofs.Names.{◌≡◌, ℕ, zero, suc, ◌+◌, ◌≤◌, ◌==◌, ◌&&◌, ◌||◌, Bool, true, false, List, [], ◌∷◌, length, drop, filter_map, refl, ap, ◌∙◌, subst, nat_lt, arith, ⊤, if◌then◌else◌, slice_set, cons_option, Option, None}
+use Rattle.dm_rulelaws.proofs.Names.{Some, nat_tests, length-take, Pid, pid_eq, PlainLink, first_empty, link_at, PlainMessage, PlainWhat, direction_numbered, on_mask, Direction, Reply, PlainProcess, PlainStatus, Ready, Waiting, Moving, reg}
+use Rattle.dm_rulelaws.proofs.Names.{Check, first_failed, Called, Replies, Sends, Waits, Outputs, Ends, CallNumber}
 use Rattle.dm_onekernel.specs.Pieces as pieces
 use Rattle.dm_onekernel.specs.Receiving as receiving
 use Rattle.dm_onekernel.specs.Calls as calls
-use Rattle.dm_onekernel.specs.Calls.{Called, Replies, Sends, Waits, Outputs, Ends, CallNumber}
 use Rattle.dm_rulelaws.proofs.Tables.{FewLinks, SameSlots}
 
 -- lists of slots
@@ -74,7 +55,7 @@ puts_tables x l (Some slot) = set_length x.links slot (Some l)
 
 copies_tables : (x : PlainProcess) (o : Option PlainLink) → CallTables x (calls.copies x o)
 copies_tables x None = refl
-copies_tables x (Some l) = if_tables x (calls.is_reply l.kind) (calls.refused reply.NotCopyable x) (calls.puts_link x l (first_empty x.links)) refl (puts_tables x l (first_empty x.links))
+copies_tables x (Some l) = if_tables x (calls.is_reply l.kind) (calls.refused Reply.NotCopyable x) (calls.puts_link x l (first_empty x.links)) refl (puts_tables x l (first_empty x.links))
 
 drops_tables : (x : PlainProcess) (o : Option PlainLink) → CallTables x (calls.drops x o)
 drops_tables x None = refl
@@ -89,7 +70,7 @@ listed_few x e =
     omega (arith, a, b, c)
 
 sends_by : (x : PlainProcess) (p : Pid) (l : PlainLink) (a b : Bool) (rest : List Check) → nat_lt 4 (reg x.regs 4) ≡ b
-    → CallTables x (calls.unless_refused (first_failed (record { fails = a || b; reply = reply.TooLong } ∷ rest)) x (Sends (calls.message_over p x l) (calls.after_send x)))
+    → CallTables x (calls.unless_refused (first_failed (record { fails = a || b; reply = Reply.TooLong } ∷ rest)) x (Sends (calls.message_over p x l) (calls.after_send x)))
 sends_by x p l true b rest e = refl
 sends_by x p l false true rest e = refl
 sends_by x p l false false rest e =
@@ -99,19 +80,19 @@ sends_tables : (p : Pid) (x : PlainProcess) (o : Option PlainLink) → CallTable
 sends_tables p x None = refl
 sends_tables p x (Some l) =
     sends_by x p l (nat_lt (calls.most_body x) (reg x.regs 3)) (nat_lt 4 (reg x.regs 4))
-    (record { fails = calls.is_outside x (reg x.regs 2) (reg x.regs 3) || calls.is_outside x (reg x.regs 5) (reg x.regs 4); reply = reply.BadRange }
-    ∷ record { fails = calls.any_empty x.links (calls.listed x); reply = reply.NoLink }
-    ∷ record { fails = calls.reply_named_twice x.links (reg x.regs 1 ∷ calls.listed x); reply = reply.BadKind }
+    (record { fails = calls.is_outside x (reg x.regs 2) (reg x.regs 3) || calls.is_outside x (reg x.regs 5) (reg x.regs 4); reply = Reply.BadRange }
+    ∷ record { fails = calls.any_empty x.links (calls.listed x); reply = Reply.NoLink }
+    ∷ record { fails = calls.reply_named_twice x.links (reg x.regs 1 ∷ calls.listed x); reply = Reply.BadKind }
     ∷ []) refl
 
 -- data moves
 pub requests_few : (p : Pid) (x : PlainProcess) (dir : Direction) (owner : Pid) (base own left : ℕ) → FewLinks (pieces.requests p x dir owner base own left).message.what
-requests_few p x direction.FromArea owner base own left = tt
-requests_few p x direction.IntoArea owner base own left = tt
+requests_few p x Direction.FromArea owner base own left = tt
+requests_few p x Direction.IntoArea owner base own left = tt
 
 moves_bytes_tables : (p : Pid) (x : PlainProcess) (l : PlainLink) (dir : Direction) → CallTables x (calls.moves_bytes p x l dir)
 moves_bytes_tables p x l dir =
-    if_tables x (reg x.regs 5 == 0) (Replies reply.Done (calls.replied reply.Done x)) (calls.begins (pieces.requests p x dir l.to (l.area.base + reg x.regs 3) (reg x.regs 4) (reg x.regs 5))) refl
+    if_tables x (reg x.regs 5 == 0) (Replies Reply.Done (calls.replied Reply.Done x)) (calls.begins (pieces.requests p x dir l.to (l.area.base + reg x.regs 3) (reg x.regs 4) (reg x.regs 5))) refl
     (refl, requests_few p x dir l.to (l.area.base + reg x.regs 3) (reg x.regs 4) (reg x.regs 5))
 
 moves_over_tables : (p : Pid) (x : PlainProcess) (l : PlainLink) (o : Option Direction) → CallTables x (calls.moves_over p x l o)
@@ -123,7 +104,6 @@ moves_tables p x None = refl
 moves_tables p x (Some l) = moves_over_tables p x l (direction_numbered (reg x.regs 2))
 
 does_call_tables : (p : Pid) (x : PlainProcess) (n : CallNumber) → CallTables x (calls.does_call p x n)
-does_call_tables p x calls.Exit = tt
 does_call_tables p x calls.Out = refl
 does_call_tables p x calls.Make =
     unless_tables x (first_failed (calls.make_refusals x)) (calls.puts_link x (calls.own_link p x) (first_empty x.links)) (puts_tables x (calls.own_link p x) (first_empty x.links))
@@ -131,9 +111,9 @@ does_call_tables p x calls.Copy = copies_tables x (link_at x.links (reg x.regs 1
 does_call_tables p x calls.Drop = drops_tables x (link_at x.links (reg x.regs 1))
 does_call_tables p x calls.Send = sends_tables p x (link_at x.links (reg x.regs 1))
 does_call_tables p x calls.Receive =
-    if_tables x (calls.is_outside x (reg x.regs 2) (reg x.regs 3)) (calls.refused reply.BadRange x) (Waits (record x { status = Waiting (reg x.regs 1) (reg x.regs 2) (reg x.regs 3) })) refl refl
+    if_tables x (calls.is_outside x (reg x.regs 2) (reg x.regs 3)) (calls.refused Reply.BadRange x) (Waits (record x { status = Waiting (reg x.regs 1) (reg x.regs 2) (reg x.regs 3) })) refl refl
 does_call_tables p x calls.Move = moves_tables p x (link_at x.links (reg x.regs 1))
-does_call_tables p x calls.Unknown = tt
+does_call_tables p x _ = tt
 
 pub call_tables : (p : Pid) (x : PlainProcess) (n : ℕ) → CallTables x (calls.call p x n)
 call_tables p x n = does_call_tables p x (calls.call_number n)
@@ -160,22 +140,10 @@ if_completes x true c d h e = let f : c ≡ d = cc in subst (CompletedTables x) 
 if_completes x false c d h e = cc
 
 what_tables : (p : Pid) (x : PlainProcess) (m : PlainMessage) (mask base size : ℕ) (w : PlainWhat) (d : receiving.Completed) → receiving.completes_what p x m mask base size w ≡ Some d → CompletedTables x d
-what_tables p x m mask base size (what.User code channel body links) d e =
+what_tables p x m mask base size (PlainWhat.User code channel body links) d e =
     if_completes x (pid_eq m.to p && on_mask mask channel) (receiving.completes x base size code channel body links) d
     (completes_tables x base code channel body links (first_failed (receiving.receive_refusals x size body links))) e
-what_tables p x m mask base size what.Stop d e = cc
-what_tables p x m mask base size what.Resume d e = cc
-what_tables p x m mask base size what.Kill d e = cc
-what_tables p x m mask base size (what.Read a b) d e = cc
-what_tables p x m mask base size (what.Write a b) d e = cc
-what_tables p x m mask base size (what.Block a) d e = cc
-what_tables p x m mask base size what.Written d e = cc
-what_tables p x m mask base size what.Gone d e = cc
-what_tables p x m mask base size (what.Create a b) d e = cc
-what_tables p x m mask base size (what.Created a) d e = cc
-what_tables p x m mask base size what.NoRoom d e = cc
-what_tables p x m mask base size (what.Move a) d e = cc
-what_tables p x m mask base size (what.Moved a) d e = cc
+what_tables p x m mask base size _ d e = cc
 
 status_tables : (p : Pid) (x : PlainProcess) (m : PlainMessage) (st : PlainStatus) (d : receiving.Completed) → receiving.completes_status p x m st ≡ Some d → CompletedTables x d
 status_tables p x m (Waiting mask base size) d e = what_tables p x m mask base size m.what d e

@@ -1,30 +1,11 @@
 -- What the servers send encloses few links, and a process that is made has as many link slots as the format gives.
-use Rattle.std.proofs.Common.{◌≡◌, ℕ, ◌+◌, ◌*◌, ◌-◌, ◌≤◌, ◌==◌, ◌&&◌, Bool, true, false, List, [], ◌∷◌, ◌++◌, length, map, replicate, subst, nat_lt, arith}
-use Rattle.std.specs.Prelude.{⊤, if◌then◌else◌, slice_get}
-use Rattle.std.specs.declared.option.Option.{Option}
-use Rattle.std.specs.declared.option.Option.TheVariants.{None, Some}
-use Rattle.std.proofs.lemmas.List.{length-append, length-map, length-replicate}
-use Rattle.dm_link.specs.declared.Pid.{Pid}
-use Rattle.dm_link.specs.Names.{pid_eq, pid_of}
-use Rattle.dm_link.specs.Plain.{PlainLink}
-use Rattle.dm_message.specs.declared.MsgId.{MsgId}
-use Rattle.dm_message.specs.Plain as what
-use Rattle.dm_message.specs.Plain.{PlainMessage, PlainWhat}
-use Rattle.dm_onekernel.specs.declared.boot.BootImage.{BootImage}
-use Rattle.dm_onekernel.specs.declared.boot.Format.{Format}
-use Rattle.dm_onekernel.specs.declared.boot.Format.TheVariants as format
-use Rattle.dm_onekernel.specs.declared.label.Label.TheVariants as label
-use Rattle.dm_onekernel.specs.Boot.{first_number, slots_of, switchboard, manager}
-use Rattle.dm_onekernel.specs.Options.{bind}
-use Rattle.dm_onekernel.specs.Kernel.{Pending, Manager, OneKernel, with_sent}
-use Rattle.dm_onekernel.specs.Pieces.{answer_to}
+use Rattle.dm_rulelaws.proofs.Names.{◌≡◌, ℕ, ◌+◌, ◌*◌, ◌-◌, ◌≤◌, ◌==◌, ◌&&◌, Bool, true, false, List, [], ◌∷◌, ◌++◌, length, map, replicate, subst, nat_lt, arith, ⊤, if◌then◌else◌, slice_get, Option, None, Some, length-append, length-map}
+use Rattle.dm_rulelaws.proofs.Names.{length-replicate, Pid, pid_eq, pid_of, PlainLink, MsgId, Label, PlainMessage, PlainWhat, BootImage, Format, first_number, slots_of, switchboard, manager, bind, Pending, Manager, OneKernel, with_sent}
+use Rattle.dm_rulelaws.proofs.Names.{answer_to, without_message, begun, slots_with, bind-is, when-is}
 use Rattle.dm_onekernel.specs.Switchboard as board
 use Rattle.dm_onekernel.specs.Manager as manage
 use Rattle.dm_onekernel.specs.Service as service
-use Rattle.dm_onekernel.specs.Service.{without_message}
-use Rattle.dm_onekernel.specs.Start.{begun, slots_with}
 use Rattle.dm_onekernel.specs.Step as kernel
-use Rattle.dm_laws.proofs.Steps.{bind-is, when-is}
 use Rattle.dm_rulelaws.proofs.Tables.{FewLinks, Tables, out_tables, put_tables, set_tables}
 
 -- what a server sends
@@ -39,35 +20,19 @@ put_maybe u (Some m) f h = put_tables u m f h
 -- the switchboard
 answer_few : (a : board.Answer) → length (board.links_of_answer a) ≤ 4
 answer_few board.Registered = omega arith
-answer_few (board.Found link) = omega arith
-answer_few board.Unknown = omega arith
-answer_few board.Taken = omega arith
-answer_few board.BadLink = omega arith
-answer_few board.BadRequest = omega arith
+answer_few _ = omega arith
 
 request_few : (b : _) (body : List ℕ) (links : List PlainLink) → SendsFew (board.takes_request b body links).answer
 request_few b body [] = tt
 request_few b body (l ∷ ls) = answer_few (board.asks b.names body ls).answer
 
 board_row : (s t : OneKernel) (id : MsgId) (m : PlainMessage) (w : PlainWhat) → bind (board.takes s.switchboard m w) (λ (k : board.Took). Some (service.switchboard_took s id k)) ≡ Some t → Tables s → Tables t
-board_row s t id m (what.User code channel body links) e h =
+board_row s t id m (PlainWhat.User code channel body links) e h =
     let k = board.takes_request s.switchboard body links in
     let g : service.switchboard_took s id k ≡ t = cc in
     let out = out_tables s id h in
     subst Tables g (put_maybe (record (without_message s id) { switchboard = k.switchboard }) k.answer (request_few s.switchboard body links) (record { slots = out.slots; messages = out.messages }))
-board_row s t id m what.Stop e h = cc
-board_row s t id m what.Resume e h = cc
-board_row s t id m what.Kill e h = cc
-board_row s t id m (what.Read z1 z2) e h = cc
-board_row s t id m (what.Write z1 z2) e h = cc
-board_row s t id m (what.Block z1) e h = cc
-board_row s t id m what.Written e h = cc
-board_row s t id m what.Gone e h = cc
-board_row s t id m (what.Create z1 z2) e h = cc
-board_row s t id m (what.Created z1) e h = cc
-board_row s t id m what.NoRoom e h = cc
-board_row s t id m (what.Move z1) e h = cc
-board_row s t id m (what.Moved z1) e h = cc
+board_row s t id m _ e h = cc
 
 -- the manager
 bad_few : (g : Manager) (links : List PlainLink) → SendsFew (manage.bad_request g links).message
@@ -92,7 +57,7 @@ requests_few g machines images (a ∷ b ∷ c ∷ d ∷ []) links few =
     few_if (a == 1) (manage.wants_child g machines images b (256 * c + d) links) (manage.bad_request g links) (wants_few g machines images b (256 * c + d) links few) (bad_few g links)
 requests_few g machines images (a ∷ b ∷ c ∷ d ∷ e ∷ more) links few = bad_few g links
 
-control_by : (g : Manager) (child : Pid) (b c d : Bool) (links : List PlainLink) → SendsFew (manage.controls_child g child (if b then Some what.Stop else if c then Some what.Resume else if d then Some what.Kill else None) links).message
+control_by : (g : Manager) (child : Pid) (b c d : Bool) (links : List PlainLink) → SendsFew (manage.controls_child g child (if b then Some PlainWhat.Stop else if c then Some PlainWhat.Resume else if d then Some PlainWhat.Kill else None) links).message
 control_by g child true c d links = tt
 control_by g child false true d links = tt
 control_by g child false false true links = tt
@@ -126,22 +91,12 @@ no_room_few g n (Some r) k e =
     subst (λ (x : manage.Took). SendsFew x.message) f (let none : 0 ≤ 4 = omega arith in none)
 
 took_few : (g : Manager) (machines images : ℕ) (m : PlainMessage) (w : PlainWhat) (k : manage.Took) → manage.takes g machines images m w ≡ Some k → FewLinks w → SendsFew k.message
-took_few g machines images m (what.User code channel body links) k e few =
+took_few g machines images m (PlainWhat.User code channel body links) k e few =
     let f : manage.takes_user g machines images code body links ≡ k = cc in
     subst (λ (x : manage.Took). SendsFew x.message) f (user_few g machines images code body links few)
-took_few g machines images m (what.Created child) k e few = created_few g m.id.n child (manage.pending_numbered m.id.n g.pending) k e
-took_few g machines images m what.NoRoom k e few = no_room_few g m.id.n (manage.pending_numbered m.id.n g.pending) k e
-took_few g machines images m what.Stop k e few = cc
-took_few g machines images m what.Resume k e few = cc
-took_few g machines images m what.Kill k e few = cc
-took_few g machines images m (what.Read z1 z2) k e few = cc
-took_few g machines images m (what.Write z1 z2) k e few = cc
-took_few g machines images m (what.Block z1) k e few = cc
-took_few g machines images m what.Written k e few = cc
-took_few g machines images m what.Gone k e few = cc
-took_few g machines images m (what.Create z1 z2) k e few = cc
-took_few g machines images m (what.Move z1) k e few = cc
-took_few g machines images m (what.Moved z1) k e few = cc
+took_few g machines images m (PlainWhat.Created child) k e few = created_few g m.id.n child (manage.pending_numbered m.id.n g.pending) k e
+took_few g machines images m PlainWhat.NoRoom k e few = no_room_few g m.id.n (manage.pending_numbered m.id.n g.pending) k e
+took_few g machines images m _ k e few = cc
 
 takes_by : (s t : OneKernel) (id : MsgId) (m : PlainMessage) (b c : Bool) → FewLinks m.what
     → (if b then bind (board.takes s.switchboard m m.what) (λ (k : board.Took). Some (service.switchboard_took s id k))
@@ -155,7 +110,7 @@ takes_by s t id m false true few e h =
     subst Tables g (put_maybe (record (without_message s id) { manager = k.manager }) k.message (took_few s.manager s.machines (length s.images) m m.what k is few) (record { slots = out.slots; messages = out.messages }))
 takes_by s t id m false false few e h = cc
 
-pub took_step : (s t : OneKernel) (id : MsgId) → kernel.step s (label.Took id) ≡ Some t → Tables s → Tables t
+pub took_step : (s t : OneKernel) (id : MsgId) → kernel.step s (Label.Took id) ≡ Some t → Tables s → Tables t
 took_step s t id is h =
     let (m, there, rest) = bind-is (s.bag id) (service.takes s id) t is in
     takes_by s t id m (pid_eq m.to switchboard) (pid_eq m.to manager) (h.messages id m there) rest h
@@ -169,58 +124,34 @@ slots_with_length {L} n links le =
     omega (arith, a, b, c, le)
 
 pub most_slots : (f : Format) → 4 ≤ slots_of f
-most_slots format.One = omega arith
-most_slots format.Two = omega arith
+most_slots Format.One = omega arith
+most_slots Format.Two = omega arith
 
 child_length : (f : Format) (image : BootImage) (links : List PlainLink) → length links ≤ 4 → length (begun f image links).links ≡ slots_of f
 child_length f image links few = let many = most_slots f in slots_with_length (slots_of f) links (omega (arith, few, many))
 
 creates_row : (s t : OneKernel) (id : MsgId) (m : PlainMessage) (child : Pid) (w : PlainWhat) → FewLinks w → service.creates s id m child w ≡ Some t → Tables s → Tables t
-creates_row s t id m child (what.Create number links) few e h =
+creates_row s t id m child (PlainWhat.Create number links) few e h =
     let (image, found, rest) = bind-is (slice_get s.images number) (service.creates_of s id m child links) t e in
     let v = without_message s id in
     let u = service.with_child v child image links in
-    let k = when-is (service.is_kernel s m.to && pid_eq child (pid_of m.to.home (first_number + s.made m.to.home))) (with_sent u (Some (answer_to m (what.Created child)))) t rest in
+    let k = when-is (service.is_kernel s m.to && pid_eq child (pid_of m.to.home (first_number + s.made m.to.home))) (with_sent u (Some (answer_to m (PlainWhat.Created child)))) t rest in
     let on = set_tables v child (begun s.format image links) (child_length s.format image links few) (out_tables s id h) in
-    subst Tables k.1 (put_tables u (answer_to m (what.Created child)) tt (record { slots = on.slots; messages = on.messages }))
-creates_row s t id m child (what.User z1 z2 z3 z4) few e h = cc
-creates_row s t id m child what.Stop few e h = cc
-creates_row s t id m child what.Resume few e h = cc
-creates_row s t id m child what.Kill few e h = cc
-creates_row s t id m child (what.Read z1 z2) few e h = cc
-creates_row s t id m child (what.Write z1 z2) few e h = cc
-creates_row s t id m child (what.Block z1) few e h = cc
-creates_row s t id m child what.Written few e h = cc
-creates_row s t id m child what.Gone few e h = cc
-creates_row s t id m child (what.Created z1) few e h = cc
-creates_row s t id m child what.NoRoom few e h = cc
-creates_row s t id m child (what.Move z1) few e h = cc
-creates_row s t id m child (what.Moved z1) few e h = cc
+    subst Tables k.1 (put_tables u (answer_to m (PlainWhat.Created child)) tt (record { slots = on.slots; messages = on.messages }))
+creates_row s t id m child _ few e h = cc
 
-pub created_step : (s t : OneKernel) (id : MsgId) (child : Pid) → kernel.step s (label.Created id child) ≡ Some t → Tables s → Tables t
+pub created_step : (s t : OneKernel) (id : MsgId) (child : Pid) → kernel.step s (Label.Created id child) ≡ Some t → Tables s → Tables t
 created_step s t id child is h =
     let (m, there, rest) = bind-is (s.bag id) (λ (v : PlainMessage). service.creates s id v child v.what) t is in
     creates_row s t id m child m.what (h.messages id m there) rest h
 
 no_space_row : (s t : OneKernel) (id : MsgId) (m : PlainMessage) (w : PlainWhat) → service.has_no_room s id m w ≡ Some t → Tables s → Tables t
-no_space_row s t id m (what.Create image links) e h =
-    let k = when-is (service.is_kernel s m.to) (with_sent (without_message s id) (Some (answer_to m what.NoRoom))) t e in
-    subst Tables k.1 (put_tables (without_message s id) (answer_to m what.NoRoom) tt (out_tables s id h))
-no_space_row s t id m (what.User z1 z2 z3 z4) e h = cc
-no_space_row s t id m what.Stop e h = cc
-no_space_row s t id m what.Resume e h = cc
-no_space_row s t id m what.Kill e h = cc
-no_space_row s t id m (what.Read z1 z2) e h = cc
-no_space_row s t id m (what.Write z1 z2) e h = cc
-no_space_row s t id m (what.Block z1) e h = cc
-no_space_row s t id m what.Written e h = cc
-no_space_row s t id m what.Gone e h = cc
-no_space_row s t id m (what.Created z1) e h = cc
-no_space_row s t id m what.NoRoom e h = cc
-no_space_row s t id m (what.Move z1) e h = cc
-no_space_row s t id m (what.Moved z1) e h = cc
+no_space_row s t id m (PlainWhat.Create image links) e h =
+    let k = when-is (service.is_kernel s m.to) (with_sent (without_message s id) (Some (answer_to m PlainWhat.NoRoom))) t e in
+    subst Tables k.1 (put_tables (without_message s id) (answer_to m PlainWhat.NoRoom) tt (out_tables s id h))
+no_space_row s t id m _ e h = cc
 
-pub no_space_step : (s t : OneKernel) (id : MsgId) (a b : ℕ) → kernel.step s (label.NoSpace id a b) ≡ Some t → Tables s → Tables t
+pub no_space_step : (s t : OneKernel) (id : MsgId) (a b : ℕ) → kernel.step s (Label.NoSpace id a b) ≡ Some t → Tables s → Tables t
 no_space_step s t id a b is h =
     let (m, there, rest) = bind-is (s.bag id) (λ (v : PlainMessage). service.has_no_room s id v v.what) t is in
     no_space_row s t id m m.what rest h

@@ -1,39 +1,18 @@
 -- Each label of a process keeps the number of link slots, and so does what its kernel is asked.
-use Rattle.std.proofs.Common.{◌≡◌, ℕ, ◌+◌, ◌-◌, ◌==◌, ◌&&◌, Bool, true, false, length, take, drop, refl, ap, ◌∙◌, subst, nat_le}
-use Rattle.std.specs.Prelude.{⊤, if◌then◌else◌}
-use Rattle.std.specs.declared.option.Option.TheVariants.{None, Some}
-use Rattle.dm_link.specs.declared.Pid.{Pid}
-use Rattle.dm_message.specs.declared.MsgId.{MsgId}
-use Rattle.dm_message.specs.Ids.{id_eq}
-use Rattle.dm_message.specs.Plain as what
-use Rattle.dm_message.specs.Plain.{PlainMessage, PlainWhat}
-use Rattle.dm_process.specs.declared.process.Direction.{Direction}
-use Rattle.dm_process.specs.declared.process.Direction.TheVariants as direction
-use Rattle.dm_processor.specs.Instructions.{Row, instruction}
-use Rattle.dm_processor.specs.Instructions as row
-use Rattle.dm_onekernel.specs.declared.label.Label.TheVariants as label
-use Rattle.dm_onekernel.specs.declared.label.Reply.{Reply}
-use Rattle.dm_onekernel.specs.declared.label.Reply.TheVariants as reply
-use Rattle.dm_onekernel.specs.declared.label.Why.{Why}
-use Rattle.dm_onekernel.specs.declared.label.Why.TheVariants as why
-use Rattle.dm_onekernel.specs.Codes.{reply_eq, why_eq}
-use Rattle.dm_onekernel.specs.Options.{bind}
-use Rattle.dm_onekernel.specs.PlainProcess.{PlainProcess, PlainStatus, Ready, Waiting, Moving}
-use Rattle.dm_onekernel.specs.Kernel.{Alive, Ended, OneKernel, with_process, with_sent}
+use Rattle.dm_rulelaws.proofs.Names.{◌≡◌, ℕ, ◌+◌, ◌-◌, ◌==◌, ◌&&◌, Bool, true, false, length, take, drop, refl, ap, ◌∙◌, subst, nat_le, ⊤, if◌then◌else◌, None, Some, Pid, MsgId, id_eq, Label, PlainMessage, PlainWhat, Direction, Row}
+use Rattle.dm_rulelaws.proofs.Names.{instruction, Reply, Why, reply_eq, why_eq, bind, PlainProcess, PlainStatus, Ready, Waiting, Moving, Alive, Ended, OneKernel, with_process, with_sent, answer_to, without_message, is_of_memory, is_dropped}
+use Rattle.dm_rulelaws.proofs.Names.{bind-is, when-is, alive-is, if_some-is}
 use Rattle.dm_onekernel.specs.Calls as calls
 use Rattle.dm_onekernel.specs.Pieces as pieces
-use Rattle.dm_onekernel.specs.Pieces.{answer_to}
 use Rattle.dm_onekernel.specs.Receiving as receiving
 use Rattle.dm_onekernel.specs.Service as service
-use Rattle.dm_onekernel.specs.Service.{without_message, is_of_memory, is_dropped}
 use Rattle.dm_onekernel.specs.Step as kernel
-use Rattle.dm_laws.proofs.Steps.{bind-is, when-is, alive-is}
 use Rattle.dm_rulelaws.proofs.Fits.Receives.{running_is}
 use Rattle.dm_rulelaws.proofs.Tables.{FewLinks, Tables, SameSlots, out_tables, put_tables, end_tables, goes_tables, changed_tables}
 use Rattle.dm_rulelaws.proofs.Tables.Calls.{CallTables, CompletedTables, call_tables, with_tables, requests_few}
 
 -- ran
-pub ran_tables : (s t : OneKernel) (p : Pid) (k : ℕ) → kernel.step s (label.Ran p k) ≡ Some t → Tables s → Tables t
+pub ran_tables : (s t : OneKernel) (p : Pid) (k : ℕ) → kernel.step s (Label.Ran p k) ≡ Some t → Tables s → Tables t
 ran_tables s t p k is h =
     let (x, running, rest) = bind-is (kernel.running s p) (λ (w : PlainProcess). bind (kernel.plain_steps k (kernel.machine_of w)) (λ (m : kernel.Machine). Some (kernel.goes_on s p (kernel.with_machine w m)))) t is in
     let (m, plain, last) = bind-is (kernel.plain_steps k (kernel.machine_of x)) (λ (m : kernel.Machine). Some (kernel.goes_on s p (kernel.with_machine x m))) t rest in
@@ -52,8 +31,8 @@ record NextIs (s : OneKernel) (p : Pid) (n : kernel.Next) : Type 0 where
   same : NextTables x n
 
 next_row_is : (s : OneKernel) (p : Pid) (x : PlainProcess) (w : Row) (n : kernel.Next) → s.processes p ≡ Some (Alive x) → kernel.next_row p x w ≡ Some n → NextIs s p n
-next_row_is s p x (row.Plain regs bytes) n is e = cc
-next_row_is s p x (row.Calls number regs) n is e =
+next_row_is s p x (Row.Plain regs bytes) n is e = cc
+next_row_is s p x (Row.Calls number regs) n is e =
     let f : kernel.Calls number (calls.call p (record x { regs = regs }) number) ≡ n = cc in
     let z = record x { regs = regs } in
     record { x = x; alive = is; same = subst (NextTables x) f (of_call x z (calls.call p z number) refl (call_tables p z number)) }
@@ -64,7 +43,7 @@ next_row_is s p x (row.Calls number regs) n is e =
     of_call x z (calls.Waits y) e h = h ∙ ap length e
     of_call x z (calls.Outputs w y) e h = h ∙ ap length e
     of_call x z (calls.Ends y) e h = tt
-next_row_is s p x (row.Faults fault) n is e =
+next_row_is s p x (Row.Faults fault) n is e =
     let f : kernel.Faults fault ≡ n = cc in
     record { x = x; alive = is; same = subst (NextTables x) f tt }
 
@@ -83,7 +62,7 @@ reply_row s t p n c (kernel.Calls number (calls.Outputs word y)) w is h = cc
 reply_row s t p n c (kernel.Calls number (calls.Ends because)) w is h = cc
 reply_row s t p n c (kernel.Faults fault) w is h = cc
 
-pub call_step : (s t : OneKernel) (p : Pid) (n : ℕ) (c : Reply) → kernel.step s (label.Call p n c) ≡ Some t → Tables s → Tables t
+pub call_step : (s t : OneKernel) (p : Pid) (n : ℕ) (c : Reply) → kernel.step s (Label.Call p n c) ≡ Some t → Tables s → Tables t
 call_step s t p n c is h =
     let (x, next, rest) = bind-is (kernel.next s p) (kernel.replies s p n c) t is in
     reply_row s t p n c x (next_is s p x next) rest h
@@ -98,7 +77,7 @@ send_row s t p id (kernel.Calls number (calls.Outputs word y)) w is h = cc
 send_row s t p id (kernel.Calls number (calls.Ends because)) w is h = cc
 send_row s t p id (kernel.Faults fault) w is h = cc
 
-pub send_step : (s t : OneKernel) (p : Pid) (id : MsgId) → kernel.step s (label.Send p id) ≡ Some t → Tables s → Tables t
+pub send_step : (s t : OneKernel) (p : Pid) (id : MsgId) → kernel.step s (Label.Send p id) ≡ Some t → Tables s → Tables t
 send_step s t p id is h =
     let (x, next, rest) = bind-is (kernel.next s p) (kernel.sends s p id) t is in
     send_row s t p id x (next_is s p x next) rest h
@@ -113,7 +92,7 @@ wait_row s t p (kernel.Calls number (calls.Outputs word y)) w is h = cc
 wait_row s t p (kernel.Calls number (calls.Ends because)) w is h = cc
 wait_row s t p (kernel.Faults fault) w is h = cc
 
-pub wait_step : (s t : OneKernel) (p : Pid) → kernel.step s (label.Wait p) ≡ Some t → Tables s → Tables t
+pub wait_step : (s t : OneKernel) (p : Pid) → kernel.step s (Label.Wait p) ≡ Some t → Tables s → Tables t
 wait_step s t p is h =
     let (x, next, rest) = bind-is (kernel.next s p) (kernel.waits s p) t is in
     wait_row s t p x (next_is s p x next) rest h
@@ -128,20 +107,20 @@ out_row s t p word (kernel.Calls number (calls.Waits y)) w is h = cc
 out_row s t p word (kernel.Calls number (calls.Ends because)) w is h = cc
 out_row s t p word (kernel.Faults fault) w is h = cc
 
-pub out_step : (s t : OneKernel) (p : Pid) (word : ℕ) → kernel.step s (label.Out p word) ≡ Some t → Tables s → Tables t
+pub out_step : (s t : OneKernel) (p : Pid) (word : ℕ) → kernel.step s (Label.Out p word) ≡ Some t → Tables s → Tables t
 out_step s t p word is h =
     let (x, next, rest) = bind-is (kernel.next s p) (kernel.outputs s p word) t is in
     out_row s t p word x (next_is s p x next) rest h
 
 end_row : (s t : OneKernel) (p : Pid) (y : Why) (next : kernel.Next) → kernel.ends s p y next ≡ Some t → Tables s → Tables t
 end_row s t p y (kernel.Calls number (calls.Ends because)) is h = let k = when-is (why_eq y because) (with_process s p (Ended y)) t is in subst Tables k.1 (end_tables s p y h)
-end_row s t p y (kernel.Faults fault) is h = let k = when-is (why_eq y (why.Fault fault)) (with_process s p (Ended y)) t is in subst Tables k.1 (end_tables s p y h)
+end_row s t p y (kernel.Faults fault) is h = let k = when-is (why_eq y (Why.Fault fault)) (with_process s p (Ended y)) t is in subst Tables k.1 (end_tables s p y h)
 end_row s t p y (kernel.Calls number (calls.Replies d z)) is h = cc
 end_row s t p y (kernel.Calls number (calls.Sends m z)) is h = cc
 end_row s t p y (kernel.Calls number (calls.Waits z)) is h = cc
 end_row s t p y (kernel.Calls number (calls.Outputs word z)) is h = cc
 
-pub end_step : (s t : OneKernel) (p : Pid) (y : Why) → kernel.step s (label.End p y) ≡ Some t → Tables s → Tables t
+pub end_step : (s t : OneKernel) (p : Pid) (y : Why) → kernel.step s (Label.End p y) ≡ Some t → Tables s → Tables t
 end_step s t p y is h =
     let (x, next, rest) = bind-is (kernel.next s p) (kernel.ends s p y) t is in
     end_row s t p y x rest h
@@ -164,7 +143,7 @@ receive_row s t p id (receiving.Receives y) w is h =
     subst Tables eq (goes_tables (without_message s id) p w.x y w.alive w.same (out_tables s id h))
 receive_row s t p id (receiving.Refuses d y) w is h = cc
 
-pub receive_step : (s t : OneKernel) (p : Pid) (id : MsgId) → kernel.step s (label.Receive p id) ≡ Some t → Tables s → Tables t
+pub receive_step : (s t : OneKernel) (p : Pid) (id : MsgId) → kernel.step s (Label.Receive p id) ≡ Some t → Tables s → Tables t
 receive_step s t p id is h =
     let (c, e, rest) = bind-is (kernel.completing s p id) (kernel.receives s p id) t is in
     receive_row s t p id c (completing_is s p id c e) rest h
@@ -175,7 +154,7 @@ refuse_row s t p d (receiving.Refuses c y) w is h =
     let k = when-is (reply_eq d c) (kernel.goes_on s p y) t is in
     subst Tables k.1 (goes_tables s p w.x y w.alive w.same h)
 
-pub refuse_step : (s t : OneKernel) (p : Pid) (id : MsgId) (d : Reply) → kernel.step s (label.Refuse p id d) ≡ Some t → Tables s → Tables t
+pub refuse_step : (s t : OneKernel) (p : Pid) (id : MsgId) (d : Reply) → kernel.step s (Label.Refuse p id d) ≡ Some t → Tables s → Tables t
 refuse_step s t p id d is h =
     let (c, e, rest) = bind-is (kernel.completing s p id) (kernel.refuses s p d) t is in
     refuse_row s t p d c (completing_is s p id c e) rest h
@@ -186,7 +165,7 @@ LandTables x (pieces.Next m y) = SameSlots x y × FewLinks m.what
 LandTables x (pieces.Done c y) = SameSlots x y
 
 goes_on_by : (p : Pid) (x z : PlainProcess) (dir : Direction) (owner : Pid) (base own left : ℕ) (b : Bool) → SameSlots x z
-    → LandTables x (if b then pieces.done reply.Done z else pieces.next_request (pieces.requests p z dir owner (base + pieces.piece_of left) (own + pieces.piece_of left) (left - pieces.piece_of left)))
+    → LandTables x (if b then pieces.done Reply.Done z else pieces.next_request (pieces.requests p z dir owner (base + pieces.piece_of left) (own + pieces.piece_of left) (left - pieces.piece_of left)))
 goes_on_by p x z dir owner base own left true same = same
 goes_on_by p x z dir owner base own left false same = (same, requests_few p z dir owner (base + pieces.piece_of left) (own + pieces.piece_of left) (left - pieces.piece_of left))
 
@@ -195,39 +174,39 @@ if_lands x true k c h e = let f : k ≡ c = cc in subst (LandTables x) f h
 if_lands x false k c h e = cc
 
 lands_what_tables : (p : Pid) (x : PlainProcess) (dir : Direction) (owner : Pid) (base own left : ℕ) (w : PlainWhat) (c : pieces.Landed) → pieces.lands_what p x dir owner base own left w ≡ Some c → LandTables x c
-lands_what_tables p x direction.FromArea owner base own left (what.Block bytes) c e =
+lands_what_tables p x Direction.FromArea owner base own left (PlainWhat.Block bytes) c e =
     let z = record x { memory = pieces.written_at x.memory own bytes } in
-    if_lands x ((length bytes == pieces.piece_of left) && nat_le (own + left) (length x.memory)) (pieces.goes_on p z direction.FromArea owner base own left (pieces.piece_of left)) c
-    (goes_on_by p x z direction.FromArea owner base own left (left - pieces.piece_of left == 0) refl) e
-lands_what_tables p x direction.IntoArea owner base own left what.Written c e =
-    if_lands x (nat_le (own + left) (length x.memory)) (pieces.goes_on p x direction.IntoArea owner base own left (pieces.piece_of left)) c
-    (goes_on_by p x x direction.IntoArea owner base own left (left - pieces.piece_of left == 0) refl) e
-lands_what_tables p x direction.FromArea owner base own left what.Gone c e = let k : pieces.done reply.Gone x ≡ c = cc in subst (LandTables x) k refl
-lands_what_tables p x direction.IntoArea owner base own left what.Gone c e = let k : pieces.done reply.Gone x ≡ c = cc in subst (LandTables x) k refl
-lands_what_tables p x direction.FromArea owner base own left (what.User z1 z2 z3 z4) c e = cc
-lands_what_tables p x direction.FromArea owner base own left what.Stop c e = cc
-lands_what_tables p x direction.FromArea owner base own left what.Resume c e = cc
-lands_what_tables p x direction.FromArea owner base own left what.Kill c e = cc
-lands_what_tables p x direction.FromArea owner base own left (what.Read z1 z2) c e = cc
-lands_what_tables p x direction.FromArea owner base own left (what.Write z1 z2) c e = cc
-lands_what_tables p x direction.FromArea owner base own left what.Written c e = cc
-lands_what_tables p x direction.FromArea owner base own left (what.Create z1 z2) c e = cc
-lands_what_tables p x direction.FromArea owner base own left (what.Created z1) c e = cc
-lands_what_tables p x direction.FromArea owner base own left what.NoRoom c e = cc
-lands_what_tables p x direction.FromArea owner base own left (what.Move z1) c e = cc
-lands_what_tables p x direction.FromArea owner base own left (what.Moved z1) c e = cc
-lands_what_tables p x direction.IntoArea owner base own left (what.User z1 z2 z3 z4) c e = cc
-lands_what_tables p x direction.IntoArea owner base own left what.Stop c e = cc
-lands_what_tables p x direction.IntoArea owner base own left what.Resume c e = cc
-lands_what_tables p x direction.IntoArea owner base own left what.Kill c e = cc
-lands_what_tables p x direction.IntoArea owner base own left (what.Read z1 z2) c e = cc
-lands_what_tables p x direction.IntoArea owner base own left (what.Write z1 z2) c e = cc
-lands_what_tables p x direction.IntoArea owner base own left (what.Block z1) c e = cc
-lands_what_tables p x direction.IntoArea owner base own left (what.Create z1 z2) c e = cc
-lands_what_tables p x direction.IntoArea owner base own left (what.Created z1) c e = cc
-lands_what_tables p x direction.IntoArea owner base own left what.NoRoom c e = cc
-lands_what_tables p x direction.IntoArea owner base own left (what.Move z1) c e = cc
-lands_what_tables p x direction.IntoArea owner base own left (what.Moved z1) c e = cc
+    if_lands x ((length bytes == pieces.piece_of left) && nat_le (own + left) (length x.memory)) (pieces.goes_on p z Direction.FromArea owner base own left (pieces.piece_of left)) c
+    (goes_on_by p x z Direction.FromArea owner base own left (left - pieces.piece_of left == 0) refl) e
+lands_what_tables p x Direction.IntoArea owner base own left PlainWhat.Written c e =
+    if_lands x (nat_le (own + left) (length x.memory)) (pieces.goes_on p x Direction.IntoArea owner base own left (pieces.piece_of left)) c
+    (goes_on_by p x x Direction.IntoArea owner base own left (left - pieces.piece_of left == 0) refl) e
+lands_what_tables p x Direction.FromArea owner base own left PlainWhat.Gone c e = let k : pieces.done Reply.Gone x ≡ c = cc in subst (LandTables x) k refl
+lands_what_tables p x Direction.IntoArea owner base own left PlainWhat.Gone c e = let k : pieces.done Reply.Gone x ≡ c = cc in subst (LandTables x) k refl
+lands_what_tables p x Direction.FromArea owner base own left (PlainWhat.User z1 z2 z3 z4) c e = cc
+lands_what_tables p x Direction.FromArea owner base own left PlainWhat.Stop c e = cc
+lands_what_tables p x Direction.FromArea owner base own left PlainWhat.Resume c e = cc
+lands_what_tables p x Direction.FromArea owner base own left PlainWhat.Kill c e = cc
+lands_what_tables p x Direction.FromArea owner base own left (PlainWhat.Read z1 z2) c e = cc
+lands_what_tables p x Direction.FromArea owner base own left (PlainWhat.Write z1 z2) c e = cc
+lands_what_tables p x Direction.FromArea owner base own left PlainWhat.Written c e = cc
+lands_what_tables p x Direction.FromArea owner base own left (PlainWhat.Create z1 z2) c e = cc
+lands_what_tables p x Direction.FromArea owner base own left (PlainWhat.Created z1) c e = cc
+lands_what_tables p x Direction.FromArea owner base own left PlainWhat.NoRoom c e = cc
+lands_what_tables p x Direction.FromArea owner base own left (PlainWhat.Move z1) c e = cc
+lands_what_tables p x Direction.FromArea owner base own left (PlainWhat.Moved z1) c e = cc
+lands_what_tables p x Direction.IntoArea owner base own left (PlainWhat.User z1 z2 z3 z4) c e = cc
+lands_what_tables p x Direction.IntoArea owner base own left PlainWhat.Stop c e = cc
+lands_what_tables p x Direction.IntoArea owner base own left PlainWhat.Resume c e = cc
+lands_what_tables p x Direction.IntoArea owner base own left PlainWhat.Kill c e = cc
+lands_what_tables p x Direction.IntoArea owner base own left (PlainWhat.Read z1 z2) c e = cc
+lands_what_tables p x Direction.IntoArea owner base own left (PlainWhat.Write z1 z2) c e = cc
+lands_what_tables p x Direction.IntoArea owner base own left (PlainWhat.Block z1) c e = cc
+lands_what_tables p x Direction.IntoArea owner base own left (PlainWhat.Create z1 z2) c e = cc
+lands_what_tables p x Direction.IntoArea owner base own left (PlainWhat.Created z1) c e = cc
+lands_what_tables p x Direction.IntoArea owner base own left PlainWhat.NoRoom c e = cc
+lands_what_tables p x Direction.IntoArea owner base own left (PlainWhat.Move z1) c e = cc
+lands_what_tables p x Direction.IntoArea owner base own left (PlainWhat.Moved z1) c e = cc
 
 lands_if : (p : Pid) (x : PlainProcess) (b : Bool) (dir : Direction) (owner : Pid) (base own left : ℕ) (w : PlainWhat) (c : pieces.Landed) → (if b then pieces.lands_what p x dir owner base own left w else None) ≡ Some c → LandTables x c
 lands_if p x true dir owner base own left w c e = lands_what_tables p x dir owner base own left w c e
@@ -248,62 +227,52 @@ lands_row s t id m x is e h =
     let k : service.landed s id m c ≡ t = cc in
     subst Tables k (landed_tables s id m x c is (lands_by m.to x m x.status c lands) h)
 
--- served: a row a kind
-some_of : {A : Type 0} (b : Bool) (x y : A) → (if b then Some x else None) ≡ Some y → x ≡ y
-some_of true x y e = cc
-some_of false x y e = cc
-
 serves_row : (s t : OneKernel) (id : MsgId) (m : PlainMessage) (x : PlainProcess) (w : PlainWhat) → s.processes m.to ≡ Some (Alive x) → service.serves s id m x w ≡ Some t → Tables s → Tables t
-serves_row s t id m x what.Stop is e h =
+serves_row s t id m x PlainWhat.Stop is e h =
     let y = record x { stopped = true } in
     let k : service.changed s id m y ≡ t = cc in
     subst Tables k (changed_tables s id m x y is refl h)
-serves_row s t id m x what.Resume is e h =
+serves_row s t id m x PlainWhat.Resume is e h =
     let y = record x { stopped = false } in
     let k : service.changed s id m y ≡ t = cc in
     subst Tables k (changed_tables s id m x y is refl h)
-serves_row s t id m x what.Kill is e h =
-    let k : with_process (without_message s id) m.to (Ended why.Killed) ≡ t = cc in
-    subst Tables k (end_tables (without_message s id) m.to why.Killed (out_tables s id h))
-serves_row s t id m x (what.Read base len) is e h =
+serves_row s t id m x PlainWhat.Kill is e h =
+    let k : with_process (without_message s id) m.to (Ended Why.Killed) ≡ t = cc in
+    subst Tables k (end_tables (without_message s id) m.to Why.Killed (out_tables s id h))
+serves_row s t id m x (PlainWhat.Read base len) is e h =
     let (c, served, last) = bind-is (pieces.reads x m base len) (λ (v : pieces.Served). Some (service.answered s id m v)) t e in
-    let answer = answer_to m (what.Block (take len (drop base x.memory))) in
-    let k = some_of (nat_le (base + len) (length x.memory)) (record { process = x; answer = answer }) c served in
+    let answer = answer_to m (PlainWhat.Block (take len (drop base x.memory))) in
+    let k = if_some-is (nat_le (base + len) (length x.memory)) (record { process = x; answer = answer }) c served in
     let g : service.answered s id m c ≡ t = cc in
     subst Tables (ap (service.answered s id m) k ∙ g) (put_tables (service.changed s id m x) answer tt (changed_tables s id m x x is refl h))
-serves_row s t id m x (what.Write base bytes) is e h =
+serves_row s t id m x (PlainWhat.Write base bytes) is e h =
     let (c, served, last) = bind-is (pieces.writes x m base bytes) (λ (v : pieces.Served). Some (service.answered s id m v)) t e in
     let y = record x { memory = pieces.written_at x.memory base bytes } in
-    let k = some_of (nat_le (base + length bytes) (length x.memory)) (record { process = y; answer = answer_to m what.Written }) c served in
+    let k = if_some-is (nat_le (base + length bytes) (length x.memory)) (record { process = y; answer = answer_to m PlainWhat.Written }) c served in
     let g : service.answered s id m c ≡ t = cc in
-    subst Tables (ap (service.answered s id m) k ∙ g) (put_tables (service.changed s id m y) (answer_to m what.Written) tt (changed_tables s id m x y is refl h))
-serves_row s t id m x (what.Block bytes) is e h = lands_row s t id m x is e h
-serves_row s t id m x what.Written is e h = lands_row s t id m x is e h
-serves_row s t id m x what.Gone is e h = lands_row s t id m x is e h
-serves_row s t id m x (what.User z1 z2 z3 z4) is e h = cc
-serves_row s t id m x (what.Create z1 z2) is e h = cc
-serves_row s t id m x (what.Created z1) is e h = cc
-serves_row s t id m x what.NoRoom is e h = cc
-serves_row s t id m x (what.Move z1) is e h = cc
-serves_row s t id m x (what.Moved z1) is e h = cc
+    subst Tables (ap (service.answered s id m) k ∙ g) (put_tables (service.changed s id m y) (answer_to m PlainWhat.Written) tt (changed_tables s id m x y is refl h))
+serves_row s t id m x (PlainWhat.Block bytes) is e h = lands_row s t id m x is e h
+serves_row s t id m x PlainWhat.Written is e h = lands_row s t id m x is e h
+serves_row s t id m x PlainWhat.Gone is e h = lands_row s t id m x is e h
+serves_row s t id m x _ is e h = cc
 
-pub served_step : (s t : OneKernel) (id : MsgId) → kernel.step s (label.Served id) ≡ Some t → Tables s → Tables t
+pub served_step : (s t : OneKernel) (id : MsgId) → kernel.step s (Label.Served id) ≡ Some t → Tables s → Tables t
 served_step s t id is h =
     let (m, there, rest) = bind-is (s.bag id) (λ (v : PlainMessage). bind (kernel.alive (s.processes v.to)) (λ (p : PlainProcess). service.serves s id v p v.what)) t is in
     let (x, alive, last) = bind-is (kernel.alive (s.processes m.to)) (λ (p : PlainProcess). service.serves s id m p m.what) t rest in
     serves_row s t id m x m.what (alive-is (s.processes m.to) x alive) last h
 
 -- the ended
-pub dropped_step : (s t : OneKernel) (id : MsgId) → kernel.step s (label.Dropped id) ≡ Some t → Tables s → Tables t
+pub dropped_step : (s t : OneKernel) (id : MsgId) → kernel.step s (Label.Dropped id) ≡ Some t → Tables s → Tables t
 dropped_step s t id is h =
     let (m, there, rest) = bind-is (s.bag id) (λ (v : PlainMessage). bind (kernel.ended (s.processes v.to)) (kernel.drops s id v)) t is in
     let (y, ended, last) = bind-is (kernel.ended (s.processes m.to)) (kernel.drops s id m) t rest in
     let k = when-is (is_dropped m.what) (without_message s id) t last in
     subst Tables k.1 (out_tables s id h)
 
-pub gone_step : (s t : OneKernel) (id : MsgId) → kernel.step s (label.Gone id) ≡ Some t → Tables s → Tables t
+pub gone_step : (s t : OneKernel) (id : MsgId) → kernel.step s (Label.Gone id) ≡ Some t → Tables s → Tables t
 gone_step s t id is h =
     let (m, there, rest) = bind-is (s.bag id) (λ (v : PlainMessage). bind (kernel.ended (s.processes v.to)) (kernel.says_gone s id v)) t is in
     let (y, ended, last) = bind-is (kernel.ended (s.processes m.to)) (kernel.says_gone s id m) t rest in
-    let k = when-is (is_of_memory m.what) (with_sent (without_message s id) (Some (answer_to m what.Gone))) t last in
-    subst Tables k.1 (put_tables (without_message s id) (answer_to m what.Gone) tt (out_tables s id h))
+    let k = when-is (is_of_memory m.what) (with_sent (without_message s id) (Some (answer_to m PlainWhat.Gone))) t last in
+    subst Tables k.1 (put_tables (without_message s id) (answer_to m PlainWhat.Gone) tt (out_tables s id h))

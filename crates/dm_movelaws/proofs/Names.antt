@@ -1,0 +1,144 @@
+-- What the proofs of this crate name of what lies below it.
+pub use Rattle.std.proofs.Common.{append_assoc}
+pub use Rattle.std.proofs.Math.Seq.{drop-nil}
+pub use Rattle.std.proofs.lemmas.List.Elements.{filter-append}
+pub use Rattle.dm_onekernel.specs.Pieces.{piece_of}
+pub use Rattle.dm_laws.proofs.Counted.{Sent}
+pub use Rattle.dm_laws.proofs.Names.{Alive, Bool, Boot, BootImage, BootProcess, CallNumber, Called, Copy, Direction, Drop, Ends, IsValid, Label, Life, List, Make, Manager, Move, Moving, MsgId, None, OneKernel, Option, Out, Outputs, Pending}
+pub use Rattle.dm_laws.proofs.Names.{Pid, PlainLink, PlainMessage, PlainProcess, PlainStatus, PlainWhat, Ready, Receive, Replies, Reply, Row, Send, Sends, Some, Waiting, Waits, Why, [], answer_id, answer_to, ap, arith, bind, bool_eq}
+pub use Rattle.dm_laws.proofs.Names.{call_number, cases_Bool, direction_numbered, drop, entry, false, false≢true, first_empty, first_failed, first_life, first_number, id_eq, id_of, if◌then◌else◌, in_bag, inl, inr, instruction, is_of_memory}
+pub use Rattle.dm_laws.proofs.Names.{is_some, length, life_at, link_at, manager, map, nat_le, nat_lt, nat_tests, option_map, pid_eq, pid_of, plain_link, reception, receptions, refl, reg, replay, slice_get, start, subst, switchboard, sym}
+pub use Rattle.dm_laws.proofs.Names.{take, true, with_process, with_sent, without_message, ℕ, ⊤, ◌&&◌, ◌*◌, ◌++◌, ◌+◌, ◌-◌, ◌==◌, ◌∙◌, ◌∷◌, ◌≡◌, ◌≤◌, ◌⊎◌}
+pub use Rattle.dm_laws.proofs.Runs.{ended_stays, reached}
+pub use Rattle.dm_laws.proofs.Servers.{board_takes, manager_takes}
+pub use Rattle.dm_laws.proofs.Sound.{not_counted}
+pub use Rattle.dm_laws.proofs.Steps.{Completing, Sent-from}
+pub use Rattle.dm_line.specs.Ends.{block_line, each_machine, home_with, list_line, memory_lines, trimmed}
+pub use Rattle.dm_line.specs.Todo.{or}
+pub use Rattle.dm_line.specs.declared.end_line.EndLine.{EndLine}
+pub use Rattle.dm_line.specs.declared.end_line.Standing.{Standing}
+pub use Rattle.dm_rule.proofs.Apart.Groups.{moves_known, moving_stays_always}
+pub use Rattle.dm_rule.proofs.Apart.Rows.{ApartOf, FirstApart, SparesPart, apart_first}
+pub use Rattle.dm_rule.proofs.Apart.Turns.{migrates_apart, net_apart, turns_apart}
+pub use Rattle.dm_rule.proofs.Bags.{cases_zero, if_some-is as if_some, out_of}
+pub use Rattle.dm_rule.proofs.Groups.{acked_off, deliver_off, early_off, fits, migrate_off, tick_off}
+pub use Rattle.dm_rule.proofs.Homes.{HomesAre}
+pub use Rattle.dm_rule.proofs.Homes.Lines.{acting_label}
+pub use Rattle.dm_rule.proofs.Homes.Parts.{acting_taken}
+pub use Rattle.dm_rule.proofs.Homes.Servers.{numbered_from, still_pending}
+pub use Rattle.dm_rule.proofs.Letters.{from_kernel, gone_in}
+pub use Rattle.dm_rule.proofs.Lines.{at_machine_off, at_record_off, past_place, without_counts}
+pub use Rattle.dm_rule.proofs.Moves.Lists.{emptied}
+pub use Rattle.dm_rule.proofs.Moves.Rows.{accepted_off, frozen_off, home_again, home_off, lacks_off, left_off, memory_off, proto_off, restarted_off, state_off}
+pub use Rattle.dm_rule.proofs.Moves.Sent.{least_of as either, fits_packet, fits_put, line_next}
+pub use Rattle.dm_rule.proofs.Moves.States.{kernels_by, packet_off}
+pub use Rattle.dm_rule.proofs.Names.{About, Addresses, AddressesOn, Again, Answer, Child, Enclosed, Ended, Forward, Frozen, Gets, Held, Here, Holder, Inbox, Incoming, IsIn, IsOn, IsOthers, IsQuiet, IsStep, IsToken, Known, LandsSo, Leads}
+pub use Rattle.dm_rule.proofs.Names.{LifeGrows, Line, Load, MessageKind, Moves, Name, NamedLink, Nexts, NothingElse, Nowhere, Of, Over, Owner, Owns, Pair, Part, Phase, Place, Point, Queue, Ran, Receiver, Rests, Room, Routes, Says, Sender}
+pub use Rattle.dm_rule.proofs.Names.{ServerSends, Slot, Sound, Spares, Spelled, Spot, Stage, StandsNowhere, StandsOutside, StandsRight, Step, Told, Trail, Trails, TrailsAlways, Transmits, Trodden, Unknown, Untaken, View, accepts, actor}
+pub use Rattle.dm_rule.proofs.Names.{addresses_after, after, after_head, after_line, after_proto, after_put, after_step, alive-is, all_follow, along, answer_link, append-nil, ascends, asks_on, at_machine, at_pair, at_record, behind}
+pub use Rattle.dm_rule.proofs.Names.{belongs_to, bind-is, board_finds, board_keeps, board_took, both_true, called, child_links, child_number, chunks_of, comes, comes_to, completes, counts, counts_process, creates, destination, drop-length}
+pub use Rattle.dm_rule.proofs.Names.{drops, enclosed_from, encloses, ended_handles, ended_told, executes, fills_by, filter, first_awaited, first_gives, first_point, first_runnable, first_trails, first_trodden, first_view, follows_up}
+pub use Rattle.dm_rule.proofs.Names.{forward_about, forwarded_for, forwards, forwards_on, free_room, front_of, front_told, gets, given, gives, gives_piece, goes_out, goes_round, gone_to, group_of, handled, handled_first, has_room, headed}
+pub use Rattle.dm_rule.proofs.Names.{hears, held_for, here, here_handles, here_told, holder_eq, id_eq-is, id_eq-same, ids_at, is_apart, is_away, is_behind, is_between, is_counted, is_due, is_early, is_here, is_kernels, is_over, is_pid}
+pub use Rattle.dm_rule.proofs.Names.{is_restart, is_told_back, kernel_after, kernel_handles, kernel_hears, kernel_told, kills, knowing, known_at, knows, label_of, lands-is, leads_to, leaves, left_true, length-append, lines_of, link_to}
+pub use Rattle.dm_rule.proofs.Names.{machine_of, made, manager_answers, manager_sends, manager_tells, manager_took, marked, migrates, migrates_child, moved, moves_to, name_link, names, nexts, not, not_server, outcome, own_gives, own_id}
+pub use Rattle.dm_rule.proofs.Names.{packet_line, pid_eq-is, pid_eq-same, pieces_of, place_of_child, place_told, plain_kind, process_handles, process_told, puts, ran, receiver_in, receiver_of, receives, receives_links, receives_what}
+pub use Rattle.dm_rule.proofs.Names.{released, reply_eq, right_true, routes, says, sender_in, sender_of, sends_on, sends_what, sent_at, sent_off, served_told, server_told, serves_status, serves_what, slice_get_cases, slice_get_within}
+pub use Rattle.dm_rule.proofs.Names.{slot_after, slot_of, spelled, standing, stayed, stops, suc, taken_id, takes_block, takes_chunk, target_of, tells_back, times, to_kernel, to_of, token_in, told_between, trails_after, turns, unmoved}
+pub use Rattle.dm_rule.proofs.Names.{untaken, updated, updated_to, updates, view_after, when-is, why_eq, with_machine, with_pair, with_ring, without_front, without_id, zero, ◌/◌, ◌<◌, ◌||◌, ◌≢◌}
+pub use Rattle.dm_rule.proofs.Once.{one_of-same}
+pub use Rattle.dm_rule.proofs.Pairs.Lines.{AllFit, line_view, onward, pair_same, taken_pair, touches}
+pub use Rattle.dm_rule.proofs.Pairs.Migrating.{migrates_fit}
+pub use Rattle.dm_rule.proofs.Pairs.Moves.{or_first as or_last}
+pub use Rattle.dm_rule.proofs.Pairs.Stand.{set_is, set_other}
+pub use Rattle.dm_rule.proofs.Pairs.Turns.{turns_fit}
+pub use Rattle.dm_rule.proofs.Phases.Always.{phases_always}
+pub use Rattle.dm_rule.proofs.Phases.Calm.{Calm, Plain, between_of, calm_in, calm_same, other_than}
+pub use Rattle.dm_rule.proofs.Phases.Hears.{plain_by}
+pub use Rattle.dm_rule.proofs.Phases.Leaves.{fewer_record}
+pub use Rattle.dm_rule.proofs.Phases.Lines.{dropped_spots, first_kept, forwarded_spots, handled_spots, held_spots, off_zero, packet_calm, put_spots, queued_spots}
+pub use Rattle.dm_rule.proofs.Phases.Lives.{nowhere_known}
+pub use Rattle.dm_rule.proofs.Phases.Net.{migrates_quiet, net_parts, taken_calm}
+pub use Rattle.dm_rule.proofs.Phases.Pieces.{and_false, record_off}
+pub use Rattle.dm_rule.proofs.Phases.Put.{first_none, last_there, put_spot, put_there}
+pub use Rattle.dm_rule.proofs.Phases.Quiet.{Tame, line_calm, parts_settle, plain_in_bag, received_spots}
+pub use Rattle.dm_rule.proofs.Phases.Rests.{released_on}
+pub use Rattle.dm_rule.proofs.Phases.Stand.{held_plain, queued_plain}
+pub use Rattle.dm_rule.proofs.Phases.Start.{start_known, starts}
+pub use Rattle.dm_rule.proofs.Said.{fits_as}
+pub use Rattle.dm_rule.proofs.States.{PacketsKeep, PairsFit, said as last_point, puts_next, said, says_next, transmits_next}
+pub use Rattle.dm_rule.proofs.Trails.Along.{Carries, along_treads, trails_always_by}
+pub use Rattle.dm_rule.proofs.Trails.Found.{treads_start}
+pub use Rattle.dm_rule.proofs.Trails.Known.{get_at_end}
+pub use Rattle.dm_rule.proofs.Trails.Labels.{ended_on}
+pub use Rattle.dm_rule.proofs.Trails.Leads.{less_test, trail_leads}
+pub use Rattle.dm_rule.proofs.Trails.Lines.{pid_there}
+pub use Rattle.dm_rule.proofs.Trails.Puts.{migrate_from, migrate_to}
+pub use Rattle.dm_rule.proofs.Trails.Steps.{sent_on_at, set_off, two_apart}
+pub use Rattle.dm_rule.proofs.Trails.Treads.{KnownFits, LabelFits, LineFits, PutFits, Treads, held_topic, line_treads, queued_topic, taken_topic}
+pub use Rattle.dm_rule.proofs.Trails.Within.{HeadIn, Within, forwarded_acting, held_acting, line_within, queued_acting, trail_within}
+pub use Rattle.dm_rule.proofs.Turns.{created_off, ended_off, serving_off}
+pub use Rattle.dm_rule.specs.Addresses.{creates_what}
+pub use Rattle.dm_rule.specs.Ends.{Stood, alive_lines, child_lines, doing_of, each_process, end_lines, first_with, has, holding_lines, homes_with, inbox_lines, link_lines, name_lines, pending_lines, process_lines, queue_at, queue_lines}
+pub use Rattle.dm_rule.specs.Ends.{server_lines, slot_line, state_lines, stood, stood_at, stream_lines}
+pub use Rattle.dm_rule.specs.Migrating.{answers_in, behind_among, behind_count, holders_of, numbered, slots_from, slots_in}
+pub use Rattle.dm_rule.specs.Phases.{is_unknown}
+pub use Rattle.dm_rule.specs.Rule.{handles, lands}
+pub use Rattle.dm_rulelaws.proofs.Based.Always.{based_always, based_group, based_start}
+pub use Rattle.dm_rulelaws.proofs.Based.Constants.{constant_group, step_constant}
+pub use Rattle.dm_rulelaws.proofs.Based.Groups.{Begins, begins, group_keeps}
+pub use Rattle.dm_rulelaws.proofs.Based.Loud.{Loud, keeps_by}
+pub use Rattle.dm_rulelaws.proofs.Based.Needs.{AllLoose, Needs, NeedsLabel, NeedsPart, Rides, Said, Serves, Steps, Unborn, Walks, WalksOf, again_rides, begun, begun_sane, loose_walks, said_by}
+pub use Rattle.dm_rulelaws.proofs.Based.Queues.{told_kept, user_kind}
+pub use Rattle.dm_rulelaws.proofs.Based.Rows.{handles_walks, living, resting, round_walks, turned, unborn}
+pub use Rattle.dm_rulelaws.proofs.Based.Sets.{killed_or, set_all}
+pub use Rattle.dm_rulelaws.proofs.Based.Unmoved.{dropped_moves, held_moves, queued_moves}
+pub use Rattle.dm_rulelaws.proofs.Fits.Receives.{running_is}
+pub use Rattle.dm_rulelaws.proofs.Fits.Rises.{both, set_at, set_if}
+pub use Rattle.dm_rulelaws.proofs.Fits.Serves.{name_is}
+pub use Rattle.dm_rulelaws.proofs.Fits.Start.{fits_step}
+pub use Rattle.dm_rulelaws.proofs.Found.Always.{FoundBy}
+pub use Rattle.dm_rulelaws.proofs.Found.Core.{KnownIs, KnowsAt}
+pub use Rattle.dm_rulelaws.proofs.Found.Forward.{forwarded_own, moves_back, named_for, other_id}
+pub use Rattle.dm_rulelaws.proofs.Found.Groups.{queued_for, told_for, told_there}
+pub use Rattle.dm_rulelaws.proofs.Found.Labels.{fixed_home}
+pub use Rattle.dm_rulelaws.proofs.Found.Lists.{more_front}
+pub use Rattle.dm_rulelaws.proofs.Found.Parts.{again_same, own_fresh, own_outside, plain_own}
+pub use Rattle.dm_rulelaws.proofs.Found.Real.{made_free, named_real, or_cases, server_fixed}
+pub use Rattle.dm_rulelaws.proofs.Goes.Always.{front, front_own, own_by, stands_first, told_of}
+pub use Rattle.dm_rulelaws.proofs.Goes.Own.{apart_is, destination_knows, server_leaves, source_knows}
+pub use Rattle.dm_rulelaws.proofs.Goes.Parts.{some_is}
+pub use Rattle.dm_rulelaws.proofs.Goes.Runs.{Both, both_group, both_start}
+pub use Rattle.dm_rulelaws.proofs.Goes.Serves.{first_is}
+pub use Rattle.dm_rulelaws.proofs.Goes.Turns.{times_more, times_self}
+pub use Rattle.dm_rulelaws.proofs.Names.{AllSayable, AtHome, BagStep, Grown, InPhases, IsNet, IsNetLine, IsPending, KernelFits, KnownStands, LeadsBy, Links, Lives, Named, One, Outside, Phased, ReceivedAt, Rooted, SaidOn, Sane, Sayable}
+pub use Rattle.dm_rulelaws.proofs.Names.{State, Target, WhatFits, about_same, agrees, arrives_net, at_home, at_machine_at, at_place, at_record_at, awaits, bag_call, bag_created, bag_dropped, bag_end, bag_gone, bag_no_space, bag_out}
+pub use Rattle.dm_rulelaws.proofs.Names.{bag_ran, bag_receive, bag_refuse, bag_sends, bag_served, bag_took, bag_wait, both_lists, both_times, calm_phases, came, child_is, completing, destination_expects, dropped_known, due, ended-is, eq_is}
+pub use Rattle.dm_rulelaws.proofs.Names.{eq_self, first_off, first_told, forwarded_back, forwarded_known, front_gone, front_kernels, front_way, goes_between, group_is, grown_none, has_bytes, has_no_queue, has_nothing_held, head_calm}
+pub use Rattle.dm_rulelaws.proofs.Names.{held_known, hidden, homes_are, hushed, is_dropped, is_fixed, is_kill, is_piece, is_put, is_server, kernels_fresh, label_on, label_topic, labels, length-drop, length-take, letters, move_fits}
+pub use Rattle.dm_rulelaws.proofs.Names.{moves_away, not_false, not_kernels, not_true, one_of, or_first, out_off, outcome_sayable, pair_keeps, part_sane, parts, pending_of, phased_group, phased_start, pid_eq-swap, piece_fits, proto_acting}
+pub use Rattle.dm_rulelaws.proofs.Names.{proto_known, put_at, put_told_off, queued_known, rejoins, resends_net, rests_here, rooted, sane_line, second, served_keeps, server_at, source_holds, stands_right, status_awaits, times-append}
+pub use Rattle.dm_rulelaws.proofs.Names.{token_is, told_some, turn_off, under_way, with_label}
+pub use Rattle.dm_rulelaws.proofs.Own.Told.{is_place, own_sort}
+pub use Rattle.dm_rulelaws.proofs.Queued.{IsQueued}
+pub use Rattle.dm_rulelaws.proofs.RunLabels.{after_replay, group_replay, labels-append, replay-append}
+pub use Rattle.dm_rulelaws.proofs.Runs.{Based, Run}
+pub use Rattle.dm_rulelaws.proofs.RunsAlways.{run_always, run_group, run_start}
+pub use Rattle.dm_movelaws.specs.AtRest.{AtRest, AtRestAlways, DropsAlways, IsAt, IsWaiting, is_moving}
+pub use Rattle.dm_movelaws.specs.Counts.{CountsKept, CountsStay, gives_to, in_next, is_filled, is_owned, refilled}
+pub use Rattle.dm_movelaws.specs.Ends.{EndsAlways, asks, count, ends, is_for}
+pub use Rattle.dm_movelaws.specs.Forwards.{ForwardsTell, RequestsTell, Tells}
+pub use Rattle.dm_movelaws.specs.LifeLines.{IsPlace, IsSaid, LivesAreSaid, life_lines, stands_by, tells_life}
+pub use Rattle.dm_movelaws.specs.Links.{CountsPromise, IsThere}
+pub use Rattle.dm_movelaws.specs.Lists.{IsFor, IsUserFor, ListsAlways, ListsForTheirs}
+pub use Rattle.dm_movelaws.specs.Movers.{AnswersFor, AsksFor, HasEnded, HasPiece, MoversHavePieces, answers_piece, asks_piece}
+pub use Rattle.dm_movelaws.specs.Numbers.{IsBelow, NumbersAlways}
+pub use Rattle.dm_movelaws.specs.Open.{AllOpen, IsAnothers, IsAnothersIf, IsSpared, OpenKeeps, OpenMoves, OpenSpares, OpenStays, is_open, mark_by, mark_while, open_mark}
+pub use Rattle.dm_movelaws.specs.Pending.{HasOne, IsOfPending, PendingAscends, PendingHasOne, is_pending, makes}
+pub use Rattle.dm_movelaws.specs.Promise.{IsUnderWay, Promised, PromisesAlways, Unfilled, fills, update_of}
+pub use Rattle.dm_movelaws.specs.Protocol.{ProtocolMoves}
+pub use Rattle.dm_movelaws.specs.Real.{IsAboutReal, IsReal, Kernel, Made, RealAlways, Server}
+pub use Rattle.dm_movelaws.specs.Routed.{AreRouted, RoutedAlways, routed, with_put}
+pub use Rattle.dm_movelaws.specs.Stages.{Lacking, Mark, Reached, Staying, StepsInOrder, follows, in_order, left_open, mark_for, marks, with_mark}
+pub use Rattle.dm_movelaws.specs.Trail.{AddressesLead, ByForward, ByHolder, ByOwn, ByRequest, ByUpdate, IsLast, IsLed, IsNamed, Reaches, TrailStands, TrailsStand, ends_walk, has_it, is_made}
+pub use Rattle.dm_movelaws.specs.Updates.{Updated, UpdatesAlways, is_owner, listings}

@@ -1,0 +1,76 @@
+-- What the proofs of this crate name of what lies below it.
+pub use Rattle.std.proofs.Common.{eq-eqb, eqb-true, lit<, not, suc, zero, ◌%◌, ◌<◌, ◌||◌, ◌≢◌}
+pub use Rattle.std.proofs.Math.Seq.{drop-length}
+pub use Rattle.std.proofs.lemmas.Bool.{cases_eq, or_cases, or_left, or_right}
+pub use Rattle.std.proofs.lemmas.List.{append-nil, drop-append-le, length-append}
+pub use Rattle.std.proofs.lemmas.Option.{slice_get_cases, slice_get_within}
+pub use Rattle.std.specs.List.{cons_option, position_or_len}
+pub use Rattle.std.specs.Option.{is_none}
+pub use Rattle.std.specs.Prelude.{cond, filter, filter_map, replicate, slice_index, slice_set, ◌/◌}
+pub use Rattle.dm_link.specs.Names.{Place, place_of}
+pub use Rattle.dm_link.specs.declared.Kind.TheVariants.{General}
+pub use Rattle.dm_link.specs.declared.Link.{Link}
+pub use Rattle.dm_processor.specs.Instructions.{past}
+unfoldable pub use Rattle.dm_processor.specs.Instructions.{instruction}
+pub use Rattle.dm_processor.specs.Opcodes.{opcode_of}
+pub use Rattle.dm_processor.specs.declared.opcodes.Opcode.{Opcode}
+pub use Rattle.dm_processor.specs.declared.registers.Fault.{Fault}
+pub use Rattle.dm_processor.specs.declared.registers.Regs.{Regs}
+pub use Rattle.dm_message.specs.Kinds.{plain_kind}
+pub use Rattle.dm_message.specs.declared.kind.MessageKind.{MessageKind}
+pub use Rattle.dm_schedule.specs.declared.Directive.{Directive}
+pub use Rattle.dm_schedule.specs.declared.Step.{Step}
+pub use Rattle.dm_process.specs.Mail.{on_mask}
+pub use Rattle.dm_onekernel.specs.Boot.{is_general, slots_of}
+pub use Rattle.dm_onekernel.specs.Codes.{reply_code, reply_eq, why_eq}
+pub use Rattle.dm_onekernel.specs.Kernel.{NamedLink}
+pub use Rattle.dm_onekernel.specs.PlainProcess.{setting}
+pub use Rattle.dm_onekernel.specs.Start.{slots_with}
+pub use Rattle.dm_onekernel.specs.Step.{machine_of, with_machine}
+pub use Rattle.dm_onekernel.specs.declared.boot.Format.TheVariants.{One}
+pub use Rattle.dm_laws.proofs.Entered.{Entered, Made, asks, counts, is_counted, request_id, unentered}
+pub use Rattle.dm_laws.proofs.Equal.{id_eq-is, id_eq-same, id_eq-swap, pid_eq-is, pid_eq-same}
+pub use Rattle.dm_laws.proofs.Grown.{LifeGrows}
+pub use Rattle.dm_laws.proofs.Movers.{sent_at, sent_off, stayed}
+pub use Rattle.dm_laws.proofs.Names.{Alive, Bool, Boot, BootImage, BootProcess, CallNumber, Called, Direction, Ends, IsValid, Label, Life, List, Manager, Moving, MsgId, None, OneKernel, Option, Outputs, Pending, Pid, PlainLink}
+pub use Rattle.dm_laws.proofs.Names.{PlainMessage, PlainProcess, PlainStatus, PlainWhat, Ready, Replies, Reply, Row, Sends, Some, Waiting, Waits, Why, [], answer_id, answer_to, ap, arith, begun, bind, cases_Bool, direction_numbered, drop}
+pub use Rattle.dm_laws.proofs.Names.{entry, false, false≢true, first_empty, first_failed, first_life, first_number, id_eq, id_of, if◌then◌else◌, in_bag, inl, inr, is_of_memory, is_some, length, life_at, link_at, manager, map, nat_le}
+pub use Rattle.dm_laws.proofs.Names.{nat_lt, nat_tests, option_map, pid_eq, pid_of, plain_link, processes_are_valid, reception, refl, reg, slice_get, start, starting_at, subst, switchboard, sym, take, true, when, with_process, with_sent}
+pub use Rattle.dm_laws.proofs.Names.{without_message, ℕ, ⊤, ◌&&◌, ◌*◌, ◌++◌, ◌+◌, ◌-◌, ◌==◌, ◌∙◌, ◌∷◌, ◌≡◌, ◌≤◌, ◌⊎◌}
+pub use Rattle.dm_laws.proofs.Runs.{after_step, start-sound}
+pub use Rattle.dm_laws.proofs.Servers.{ServerSends}
+pub use Rattle.dm_laws.proofs.Services.{LandsSo, lands-is}
+pub use Rattle.dm_laws.proofs.Sound.{Sound, counts_process, not_server}
+pub use Rattle.dm_laws.proofs.Steps.{Nexts, alive-is, bind-is, nexts, when-is}
+pub use Rattle.dm_line.proofs.Below.{all_of_each, both_true, each_of_all, left_true, right_true}
+pub use Rattle.dm_line.specs.Each.{all_below}
+pub use Rattle.dm_line.specs.Sets.{at_id, at_machine, at_pair, at_pid, at_record, moved_back, without, without_front, without_id}
+pub use Rattle.dm_line.specs.Todo.{Next, Todo, all_of}
+pub use Rattle.dm_line.specs.declared.line.Line.{Line}
+pub use Rattle.dm_line.specs.declared.line.Load.{Load}
+pub use Rattle.dm_line.specs.declared.line.Stage.{Stage}
+pub use Rattle.dm_rule.specs.Addresses.{Addresses, Answer, Child, Enclosed, Gets, Holder, Name, Owner, Receiver, Sender, Slot, addresses_after, all_follow, answer_link, answers, belongs_to, board_finds, board_keeps, board_takes, child_from}
+pub use Rattle.dm_rule.specs.Addresses.{child_links, child_number, enclosed_from, encloses, fills, fills_by, first_addresses, first_gives, forwards, gets, given, gives, here, holder_eq, home_of, is_behind, is_pid, is_told_back, lands}
+pub use Rattle.dm_rule.specs.Addresses.{leads_to, link_to, links_at, made, manager_answers, manager_sends, manager_takes, manager_tells, name_link, nth_child, own_gives, owner_in, owner_of, place_in, place_known, place_named}
+pub use Rattle.dm_rule.specs.Addresses.{place_of_child, place_told, receives_links, receives_what, sends_what, serves_what, slot_after, slot_of, tells_back, unmoved, updated, updated_to}
+pub use Rattle.dm_rule.specs.Apart.{AllSpare, IsOthers, Spares}
+pub use Rattle.dm_rule.specs.Good.{next_step}
+pub use Rattle.dm_rule.specs.Homes.{Homes, are_for_home, are_home, ascends, enclosed_of, is_for_home, links_in, names, sender_of, to_of}
+pub use Rattle.dm_rule.specs.Laws.{AreStill, IsStep, IsStill, LeadHomeAlways, Leads, MovingStaysAlways, PairsStandAlways, PhasesAlways, QuietIsTested, StandsOnceAlways, TellsRightAlways}
+pub use Rattle.dm_rule.specs.Migrating.{accepts, chunks_of, ended_told, forwards_on, gives_piece, here_told, kernel_told, leaves, migrates, migrates_child, moves_to, pieces_of, process_told, sends_on, server_told, takes_block, takes_chunk}
+pub use Rattle.dm_rule.specs.Migrating.{to_kernel, updates}
+pub use Rattle.dm_rule.specs.Pairs.{HomeStands, PairStands}
+pub use Rattle.dm_rule.specs.Parts.{Again, Owns, Part, Routes, Says, Spelled, Transmits, behind, goes_out, lines_of, packet_line, puts, spelled, window}
+pub use Rattle.dm_rule.specs.Phases.{Alone, HasToken, IsIn, IsToken, Moves, Nowhere, Over, Phase, Rests, comes, is_apart, is_away, is_between, is_due, is_early, is_here, is_over, is_restart, knows, receiver_in, sender_in, token_in}
+pub use Rattle.dm_rule.specs.Phases.{told_between}
+pub use Rattle.dm_rule.specs.Point.{Point, after, after_line, first_point, kernel_after, label_of, moved}
+pub use Rattle.dm_rule.specs.Quiet.{IsQuiet, has_mail, is_quiet, pair_is_quiet}
+pub use Rattle.dm_rule.specs.Rule.{Ran, Room, arrives, board_took, called, comes_to, completes, creates, drops, ended_handles, executes, first_awaited, first_runnable, fits, free_room, goes_round, group_of, has, has_room, headed, hears}
+pub use Rattle.dm_rule.specs.Rule.{here_handles, kept_from, kernel_handles, kernel_hears, less, let_go, manager_took, more, numbers_from, outcome, outstanding, process_handles, ran, receives, repeats, resends, routes, says, serves_status}
+pub use Rattle.dm_rule.specs.Rule.{stops, takes, takes_on, turns}
+pub use Rattle.dm_rule.specs.Spots.{Held, Inbox, Queue, Spot, StandsAsBag, StandsNowhere, StandsOnce, StandsOutside, StandsRight, Untaken, ids_at, standing, times, untaken}
+pub use Rattle.dm_rule.specs.Tells.{TellsRight}
+pub use Rattle.dm_rule.specs.Trails.{AddressesOn, IsOn, LeadsAlong, OwnOn, Stood, Trail, Trailed, Trails, TrailsAlways, Trodden, along, destination, first_trails, first_trodden, leads, leads_on, trails_after}
+pub use Rattle.dm_rule.specs.View.{About, Ended, Forward, Frozen, Here, Incoming, Known, NothingElse, Of, Pair, Sent, Told, Unknown, View, actor, after_head, after_label, after_packet, after_proto, after_put, after_stage, after_taken}
+pub use Rattle.dm_rule.specs.View.{asks_on, at_least, begins, dropped_for, ended, first_view, follows_up, forward_about, forwarded_for, front_of, front_told, gone_after, gone_to, handled, handled_first, held_for, is_kernels, kills, knowing}
+pub use Rattle.dm_rule.specs.View.{known_at, marked, marked_at, oldest, own_id, queued_for, receiver_of, released, ring_at, routed_on, served_told, taken_id, target_of, view_after, with_pair, with_ring, without_first}

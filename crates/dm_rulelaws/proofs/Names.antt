@@ -1,0 +1,88 @@
+-- What the proofs of this crate name of what lies below it.
+pub use Rattle.std.proofs.Common.{min}
+pub use Rattle.std.proofs.lemmas.Grind.{common_steps}
+pub use Rattle.std.proofs.lemmas.List.{length-drop, length-map, length-replicate, length-take}
+pub use Rattle.dm_processor.proofs.Lengths.{instruction-lengths}
+pub use Rattle.dm_processor.specs.Kept.{KeepsLengths}
+pub use Rattle.dm_onekernel.specs.Boot.{area_is_empty, area_is_within, blocks_of_image, controls_child, leads_somewhere, leads_to_process, leads_to_server, link_is_valid, links_are_valid, memory_size, process_is_valid, process_named}
+pub use Rattle.dm_onekernel.specs.Codes.{why_code}
+pub use Rattle.dm_onekernel.specs.Pieces.{written_at}
+pub use Rattle.dm_onekernel.specs.Refusals.{Check}
+pub use Rattle.dm_onekernel.specs.Service.{is_dropped}
+pub use Rattle.dm_onekernel.specs.Start.{memory_of}
+pub use Rattle.dm_onekernel.specs.declared.boot.Format.{Format}
+pub use Rattle.dm_laws.proofs.Counted.{is_piece, pending_of}
+pub use Rattle.dm_laws.proofs.Equal.{pid_eq-swap}
+pub use Rattle.dm_laws.proofs.Grown.{Grown}
+pub use Rattle.dm_laws.proofs.Movers.{One, came, out_at, out_off}
+pub use Rattle.dm_laws.proofs.Names.{Alive, Bool, Boot, BootImage, BootProcess, CallNumber, Called, Direction, Ended, Ends, IsValid, Label, Life, List, Manager, Moving, MsgId, None, OneKernel, Option, Outputs, Pending, Pid, PlainLink}
+pub use Rattle.dm_laws.proofs.Names.{PlainMessage, PlainProcess, PlainStatus, PlainWhat, Ready, Replies, Reply, Row, Sends, Some, Switchboard, Waiting, Waits, Why, [], answer_id, answer_to, ap, arith, begun, bind, cases_Bool}
+pub use Rattle.dm_laws.proofs.Names.{direction_numbered, drop, entry, false, false≢true, first_empty, first_failed, first_life, first_number, id_eq, id_of, if◌then◌else◌, in_bag, inl, inr, instruction, is_of_memory, is_some, length}
+pub use Rattle.dm_laws.proofs.Names.{life_at, link_at, manager, map, nat_le, nat_lt, nat_tests, option_map, pid_eq, pid_of, plain_link, processes_are_valid, reception, refl, reg, replay, slice_get, start, starting_at, subst, switchboard}
+pub use Rattle.dm_laws.proofs.Names.{sym, take, true, when, with_process, with_sent, without_message, ℕ, ⊤, ◌&&◌, ◌*◌, ◌++◌, ◌+◌, ◌-◌, ◌==◌, ◌∙◌, ◌∷◌, ◌≡◌, ◌≤◌, ◌⊎◌}
+pub use Rattle.dm_laws.proofs.Servers.{ended-is}
+pub use Rattle.dm_laws.proofs.Steps.{Runs, completing}
+pub use Rattle.dm_rule.proofs.Bags.{BagStep, bag_call, bag_created, bag_dropped, bag_end, bag_gone, bag_no_space, bag_out, bag_ran, bag_receive, bag_refuse, bag_sends, bag_served, bag_took, bag_wait, board_id, id_in, if_some-is, landed_id}
+pub use Rattle.dm_rule.proofs.Bags.{manager_id, served_id, took_id, zero_if}
+pub use Rattle.dm_rule.proofs.Groups.{IsNet, IsNetLine, arrives_net, group_is, resends_net, stands_right, turn_off}
+pub use Rattle.dm_rule.proofs.Homes.{AtHome, at_home, homes_are}
+pub use Rattle.dm_rule.proofs.Homes.Labels.{SaidOn, is_still, label_on}
+pub use Rattle.dm_rule.proofs.Homes.Lines.{Home, acting_dropped, home_start, homes_of}
+pub use Rattle.dm_rule.proofs.Homes.Lists.{all_stand, stands}
+pub use Rattle.dm_rule.proofs.Homes.Servers.{and-both, ascends_last, ascends_more, ascends_without}
+pub use Rattle.dm_rule.proofs.Homes.Serves.{ReceivedAt}
+pub use Rattle.dm_rule.proofs.Homes.Start.{Homes-start}
+pub use Rattle.dm_rule.proofs.Homes.Turns.{for_home, home_group, none_replaced, runnable_home}
+pub use Rattle.dm_rule.proofs.Hushed.{hushed, is_put}
+pub use Rattle.dm_rule.proofs.Letters.{kernels_fresh, letters, letters_bag, not_kernels}
+pub use Rattle.dm_rule.proofs.Lines.{at_machine_at, at_place, at_record_at, eq_is, eq_self, hidden, not_true, pair_keeps, parts}
+pub use Rattle.dm_rule.proofs.Lives.{Kept, grown_none}
+pub use Rattle.dm_rule.proofs.Moves.Lists.{both_lists, both_times, first_off, flip_zero, under_way, without_all, without_at, zero_cases}
+pub use Rattle.dm_rule.proofs.Moves.Sent.{least_of, sent_way}
+pub use Rattle.dm_rule.proofs.Moves.States.{front_kernels, front_one, front_way, not_first}
+pub use Rattle.dm_rule.proofs.Names.{About, Addresses, Again, Answer, AreStill, Child, Enclosed, Forward, Frozen, Gets, Held, Here, Holder, Inbox, Incoming, IsIn, IsStep, IsStill, Known, LandsSo, Leads, LifeGrows, Line, Link, Load, Made}
+pub use Rattle.dm_rule.proofs.Names.{MessageKind, Moves, Name, NamedLink, Next, Nexts, NothingElse, Of, Owner, Owns, Pair, Part, Phase, Place, Point, Queue, Receiver, Regs, Rests, Routes, Says, Sender, ServerSends, Slot, Sound, Spelled}
+pub use Rattle.dm_rule.proofs.Names.{Spot, Stage, StandsAsBag, StandsNowhere, StandsOutside, StandsRight, Step, Todo, Told, Transmits, Unknown, Untaken, View, accepts, after, after_head, after_label, after_line, after_proto, after_put}
+pub use Rattle.dm_rule.proofs.Names.{after_stage, after_step, after_taken, alive-is, all_follow, answer_link, are_for_home, are_home, ascends, asks_on, at_id, at_machine, at_pair, at_record, begins, behind, bind-is, board_finds}
+pub use Rattle.dm_rule.proofs.Names.{board_keeps, board_takes, child_from, child_number, chunks_of, comes, cons_option, counts, dropped_for, enclosed_of, ended, ended_told, filter, filter_map, first_gives, first_point, first_view, fits}
+pub use Rattle.dm_rule.proofs.Names.{follows_up, forward_about, forwarded_for, forwards, forwards_on, free_room, front_of, front_told, gets, given, gives, gives_piece, goes_out, gone_to, group_of, handled, handled_first, headed, hears}
+pub use Rattle.dm_rule.proofs.Names.{held_for, here_told, holder_eq, id_eq-is, id_eq-same, is_apart, is_away, is_behind, is_between, is_counted, is_early, is_for_home, is_general, is_here, is_kernels, is_restart, is_told_back, kernel_after}
+pub use Rattle.dm_rule.proofs.Names.{kernel_hears, kernel_told, kills, known_at, knows, label_of, lands, lands-is, leaves, length-append, lines_of, link_to, links_in, manager_takes, marked, migrates, migrates_child, moved, moved_back}
+pub use Rattle.dm_rule.proofs.Names.{moves_to, name_link, names, next_step, nexts, not, not_server, oldest, on_mask, outcome, own_gives, own_id, owner_in, owner_of, packet_line, pid_eq-is, pid_eq-same, pieces_of, place_known}
+pub use Rattle.dm_rule.proofs.Names.{place_of_child, place_told, plain_kind, process_told, puts, queued_for, receiver_in, receiver_of, replicate, reply_code, reply_eq, request_id, right_true, ring_at, routed_on, sender_in, sender_of}
+pub use Rattle.dm_rule.proofs.Names.{sends_on, sent_at, served_told, server_told, serves_what, slice_set, slot_of, slots_of, slots_with, spelled, standing, start-sound, stayed, suc, taken_id, takes_block, takes_chunk, target_of, tells_back}
+pub use Rattle.dm_rule.proofs.Names.{times, to_kernel, to_of, told_between, unentered, unmoved, untaken, updated, updated_to, updates, view_after, when-is, why_eq, with_machine, without, without_front, without_id, zero, ◌/◌, ◌<◌, ◌||◌, ◌≢◌}
+pub use Rattle.dm_rule.proofs.Once.{one_of}
+pub use Rattle.dm_rule.proofs.Pairs.Moves.{or_first}
+pub use Rattle.dm_rule.proofs.Phases.Always.{Phased, phased_group, phased_start}
+pub use Rattle.dm_rule.proofs.Phases.Answers.{about_same, due, front_gone, inbox_is, second}
+pub use Rattle.dm_rule.proofs.Phases.Groups.{Rooted}
+pub use Rattle.dm_rule.proofs.Phases.Leaves.{first_of, told_some}
+pub use Rattle.dm_rule.proofs.Phases.Lines.{dropped_known, forwarded_known, held_known, put_at, queued_known}
+pub use Rattle.dm_rule.proofs.Phases.Net.{head_calm}
+pub use Rattle.dm_rule.proofs.Phases.Pieces.{not_false, proto_acting, proto_known}
+pub use Rattle.dm_rule.proofs.Phases.Quiet.{is_kill}
+pub use Rattle.dm_rule.proofs.Phases.Rests.{rests_here}
+pub use Rattle.dm_rule.proofs.Phases.Stand.{InPhases, calm_phases, token_at, token_is}
+pub use Rattle.dm_rule.proofs.Rooted.Groups.{moves_away, rooted}
+pub use Rattle.dm_rule.proofs.Standing.{StandsAsBag-elsewhere, StandsAsBag-one, times-append}
+pub use Rattle.dm_rule.proofs.States.{State, put_told_off}
+pub use Rattle.dm_rule.proofs.Telling.{AllSayable, Sane, Sayable, came_from, outcome_sayable, part_sane, sane_line}
+pub use Rattle.dm_rule.proofs.Trails.Labels.{label_told, label_topic}
+pub use Rattle.dm_rule.proofs.Trails.Lines.{behind_where, forwarded_back, leads_where, unnamed_receiver, unnamed_sender}
+pub use Rattle.dm_rule.proofs.Trails.Places.{Comes, Goes, Links, Named, holder_is}
+pub use Rattle.dm_rule.proofs.Trails.Puts.{child_is, is_own, not_own, plain_gives, put_named, told_again}
+pub use Rattle.dm_rule.proofs.Trails.Spares.{Outside, creates_what_spares, finds_spares, gives_spares, keeps_spares, made_spares, manager_takes_spares, not_is, receives_spares, sends_spares, spared_receiver, spared_sender, spares}
+pub use Rattle.dm_rule.proofs.Trails.Spares.{spares_both, two_more}
+pub use Rattle.dm_rule.proofs.Trails.Steps.{destination_expects, source_holds}
+pub use Rattle.dm_rule.proofs.Turns.{served_keeps}
+pub use Rattle.dm_rule.specs.Addresses.{goes_between}
+pub use Rattle.dm_rule.specs.Good.{IsRun}
+pub use Rattle.dm_rule.specs.Phases.{is_of_source}
+pub use Rattle.dm_rule.specs.Point.{labels, with_label}
+pub use Rattle.dm_rule.specs.View.{Target, first_told, rejoins, target_in}
+pub use Rattle.dm_rulelaws.specs.Fits.{Each, IsPending, KernelFits, LinkFits, Lives, ProcessFits, SlotFits, WhatFits, awaits, gives_no_right, has_bytes, is_server, move_fits, piece_fits, status_awaits, takes_users}
+pub use Rattle.dm_rulelaws.specs.Found.{Found, ListsStand, has_no_queue, has_nothing_held, is_fixed, machine_of}
+pub use Rattle.dm_rulelaws.specs.KnownStands.{KnownStands, agrees, rings, server_at, turns_here}
+pub use Rattle.dm_rulelaws.specs.Laws.{FitsAlways, FoundAlways, GoesOnAlways, KnownAlways, RuleDecides, ShorterBegins}
+pub use Rattle.dm_rulelaws.specs.Order.{LeadsBy, ReceivesInOrder, channel_in}

@@ -1,0 +1,59 @@
+-- What the proofs of this crate name of what lies below it.
+pub use Rattle.std.proofs.Common.{length-append, length-drop, mul-add, mul-one, mul-suc, suc-mul, ◌^◌}
+pub use Rattle.std.proofs.lemmas.Bool.Decides.{eqb_tells, leb_tells}
+pub use Rattle.std.proofs.lemmas.List.Elements.{All-append, All-cons, All-nil}
+pub use Rattle.std.proofs.lemmas.Nat.{mul-le}
+pub use Rattle.std.specs.List.{All}
+unfoldable pub use Rattle.dm_processor.specs.Instructions.{instruction}
+pub use Rattle.dm_laws.proofs.Names.{Alive, Bool, Boot, BootImage, IsValid, Label, Life, List, MsgId, None, Option, Pending, Pid, PlainLink, PlainMessage, PlainProcess, PlainWhat, Some, [], answer_id, ap, arith, bind, cases_Bool, drop}
+pub use Rattle.dm_laws.proofs.Names.{false, false≢true, first_number, id_eq, id_of, if◌then◌else◌, inl, inr, is_some, length, manager, nat_le, nat_lt, nat_tests, pid_eq, pid_of, refl, slice_get, subst, switchboard, sym, take, true, ℕ, ⊤}
+pub use Rattle.dm_laws.proofs.Names.{◌&&◌, ◌*◌, ◌++◌, ◌+◌, ◌-◌, ◌==◌, ◌∙◌, ◌∷◌, ◌≡◌, ◌≤◌, ◌⊎◌}
+pub use Rattle.dm_line.specs.Each.{sum_below}
+pub use Rattle.dm_line.specs.Todo.{Two, begin_pass, below, here_or_later, in_pass, is_over, next, next_delivery, next_directive, next_pass, next_turn, pairs_of, pairs_with, pass_begun, settles, takes_turn}
+pub use Rattle.dm_line.specs.declared.pass.Pass.{Pass}
+pub use Rattle.dm_line.specs.declared.pass.Pass.TheVariants.{Settle}
+pub use Rattle.dm_rule.proofs.Groups.{GroupIs, stands_once_always}
+pub use Rattle.dm_rule.proofs.Homes.Calls.{or-left}
+pub use Rattle.dm_rule.proofs.Names.{About, Addresses, Again, Child, Directive, Forward, Held, Here, Inbox, IsQuiet, IsStep, Known, Leads, Line, Load, MessageKind, Name, NamedLink, Next, NothingElse, Of, Owns, Pair, PairStands, Part, Point}
+pub use Rattle.dm_rule.proofs.Names.{Receiver, Room, Routes, Says, Sender, Sent, Slot, Spelled, Spot, Stage, StandsOutside, StandsRight, Step, TellsRight, Todo, Told, Transmits, Untaken, View, accepts, after, after_line, all_of, arrives}
+pub use Rattle.dm_rule.proofs.Names.{asks_on, at_id, at_least, at_machine, at_pair, behind, bind-is, board_took, chunks_of, comes_to, creates, dropped_for, drops, ended_handles, ended_told, filter, first_point, first_view, fits, follows_up}
+pub use Rattle.dm_rule.proofs.Names.{forwarded_for, forwards_on, free_room, goes_out, gone_after, group_of, handled, has, has_mail, has_room, hears, held_for, here_handles, here_told, id_eq-is, id_eq-same, is_between, is_kernels, is_quiet}
+pub use Rattle.dm_rule.proofs.Names.{is_told_back, kept_from, kernel_handles, kernel_hears, kernel_told, kills, leads, leads_on, leaves, less, let_go, lines_of, manager_took, marked, marked_at, migrates, more, moved, next_step, not}
+pub use Rattle.dm_rule.proofs.Names.{numbers_from, oldest, outcome, outstanding, own_id, packet_line, pieces_of, place_told, plain_kind, process_handles, process_told, puts, queued_for, receiver_of, repeats, resends, right_true, routed_on}
+pub use Rattle.dm_rule.proofs.Names.{routes, says, sends_on, served_told, server_told, slice_set, spelled, standing, suc, taken_id, takes, takes_block, takes_chunk, takes_on, target_of, times, to_kernel, to_of, turns, untaken, view_after}
+pub use Rattle.dm_rule.proofs.Names.{window, without_first, without_front, zero, ◌/◌, ◌<◌, ◌||◌, ◌≢◌}
+pub use Rattle.dm_rule.proofs.Pairs.{Pairs, Pairs-always, Pairs-group, Pairs-start, acked_out_by, pair_home, pairs_stand_always}
+pub use Rattle.dm_rule.proofs.Pairs.Comes.{less-left}
+pub use Rattle.dm_rule.proofs.Pairs.Lines.{AllFit-later, Fits, Onward, fitting_goes, one_view, says_view, transmits_view, two_views}
+pub use Rattle.dm_rule.proofs.Pairs.Moves.{Paired, at_least-more, off, off_has, or_cases, or_first as or_second}
+pub use Rattle.dm_rule.proofs.Pairs.Stand.{Apart, KeptStands, set_same, two_of}
+pub use Rattle.dm_rule.proofs.Pairs.Turns.{resends_fit}
+pub use Rattle.dm_rule.proofs.QuietTests.{passes_quiet, quiet_passes, eq_is as test_same}
+pub use Rattle.dm_rule.proofs.Telling.{tells_right_always}
+pub use Rattle.dm_rule.proofs.Worked.{hi}
+pub use Rattle.dm_rule.specs.Ends.{awaits, leading}
+pub use Rattle.dm_rule.specs.Good.{IsKept, first_undelivered, undelivered}
+pub use Rattle.dm_rule.specs.Rule.{comes}
+pub use Rattle.dm_rule.specs.View.{is_own}
+pub use Rattle.dm_rulelaws.proofs.Names.{IsNet, IsNetLine, IsRun, acting_dropped, arrives_net, at_machine_at, eq_is, first_told, group_is, hushed, is_fixed, is_put, is_server, not_is, not_true, times-append}
+pub use Rattle.dm_rulelaws.proofs.RunsAlways.{found_always}
+pub use Rattle.dm_movelaws.proofs.After.{group_after}
+pub use Rattle.dm_movelaws.proofs.At.RestAlways.{at_rest_always, within}
+pub use Rattle.dm_movelaws.proofs.At.RestOnly.{dropped_known}
+pub use Rattle.dm_movelaws.proofs.At.RestPairs.{routed_always}
+pub use Rattle.dm_movelaws.proofs.Ends.Parts.{count-append}
+pub use Rattle.dm_movelaws.proofs.Ends.Sources.{line_ids}
+pub use Rattle.dm_movelaws.proofs.Names.{AllFit, AtRest, ByHolder, ByOwn, EndLine, IsNamed, Standing, Stood, alive_lines, based_always, behind_count, block_line, child_lines, count, doing_of, drop-nil, each_machine, each_process, end_lines}
+pub use Rattle.dm_movelaws.proofs.Names.{first_with, forwarded_acting, handles, holding_lines, home_with, homes_with, inbox_lines, is_moving, lands, line_view, link_lines, list_line, memory_lines, migrates_fit, more_front, name_lines}
+pub use Rattle.dm_movelaws.proofs.Names.{onward, or, pair_same, pending_lines, process_lines, queue_at, queue_lines, queued_acting, run_always, server_lines, set_is, set_other, slot_line, state_lines, stood, stood_at, stream_lines}
+pub use Rattle.dm_movelaws.proofs.Names.{taken_pair, touches, trimmed, turns_fit}
+pub use Rattle.dm_movelaws.proofs.Promise.Finds.{leads_append}
+pub use Rattle.dm_movelaws.proofs.ProtocolMoves.{protocol_moves}
+pub use Rattle.dm_movelaws.proofs.Trail.Rows.{or_first}
+pub use Rattle.dm_movelaws.proofs.Trail.Standing.{addresses_lead}
+pub use Rattle.dm_movelaws.specs.Protocol.{IsOfMove}
+pub use Rattle.dm_settlelaws.specs.Laws.{EndsAtRest, EndsQuiet, EndsResting, FewPuts, LeftFalls, PairsRestAlways, SettlesAlways, TurnsFall, TurnsLeftFew}
+pub use Rattle.dm_settlelaws.specs.Left.{IsLess, Left, Messages, Numbers, Packets, Releases, left, lets_go, load_left, numbers_left, one_each, one_let_go, pair_left, told_lets_go, turns_left, weight, weight_of, weight_to, wire_left}
+pub use Rattle.dm_settlelaws.specs.Passes.{IsSettleStep, SettleGoes, ends_settled, is_at_rest, is_settle, stands_here}
+pub use Rattle.dm_settlelaws.specs.Puts.{OnlyLight, SettlesBy, is_light, is_light_kind, says_put}
+pub use Rattle.dm_settlelaws.specs.Rests.{HasCome, HasPacket, PairRests}
