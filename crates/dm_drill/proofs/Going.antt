@@ -1,5 +1,5 @@
 -- A drill goes on, directive by directive: as a run does, with what is counted beside what is printed.
-use Rattle.std.proofs.Common.{◌≡◌, ◌≤◌, ◌<◌, ℕ, ◌+◌, Bool, true, false, List, [], ◌∷◌, ◌++◌, length, take, drop, get_or, add-one, refl, ap, ◌∙◌, sym, subst, append_assoc, inl, inr}
+use Rattle.std.proofs.Common.{◌≡◌, ◌≤◌, ◌<◌, ℕ, ◌+◌, ◌^◌, Bool, true, false, List, [], ◌∷◌, ◌++◌, length, take, drop, get_or, add-one, refl, ap, ◌∙◌, sym, subst, append_assoc, inl, inr}
 use Rattle.std.proofs.lemmas.List.{drop_all, append-nil, take-append-drop}
 use Rattle.std.proofs.Math.Seq.{drop-cons}
 use Rattle.std.specs.List.{All}
@@ -35,11 +35,13 @@ use Rattle.dm_mirror.specs.Run.{RunStands, joined}
 use Rattle.dm_mirror.specs.Todo.{IsDirective}
 use Rattle.dm_outside.specs.Outside.{appended}
 use Rattle.dm_run.specs.Appended.{IsCutShort}
-use Rattle.dm_run.specs.Coming.{HasCome, Offered}
+use Rattle.dm_run.specs.Coming.{HasCome, Offered, rounds_of}
 use Rattle.dm_run.specs.Printed.{Lasts}
 use Rattle.dm_run.proofs.Comes as run
 use Rattle.dm_run.proofs.Decisions.{ends_once}
 use Rattle.dm_run.proofs.Laws as laws
+use Rattle.dm_run.proofs.Settling as settling
+use Rattle.dm_run.proofs.Settling.{IsOnWay}
 use Rattle.dm_run.proofs.Writing.{appended_twice, some_left}
 use Rattle.dm_drill.specs.declared.drill.Drill.{Drill}
 use Rattle.dm_drill.specs.Counts.{with_group, with_groups, nothing}
@@ -56,6 +58,12 @@ may_go dr b ds t before after w n valid h is = run.may_go b ds t (Some []) (Some
 
 comes_as : (dr : Drill) (b : Boot) (ds : List Directive) (t u : Todo) (before after : Told) (w : WorldState) → HasDrilled dr.trace b ds t before after w → next_step (length b.machines) w t ≡ next_step (length b.machines) w u → HasDrilled dr.trace b ds u before after w
 comes_as dr b ds t u before after w h e = record { groups = h.groups; end = h.end; left = h.left; stands = h.stands; follows = h.follows ∙ e; fits = h.fits; counted = h.counted; written = h.written }
+
+-- a directive is under way before its first group
+pub on_way_first : (dr : Drill) (b : Boot) (d : Directive) (ds rest : List Directive) (before now : Told) (w : WorldState) (c : Cursor) → IsValid b → rounds_of c < 2 ^ 32 → HasDrilled dr.trace b ds (all_of (d ∷ rest)) before now w
+    → next_step (length b.machines) w (all_of (d ∷ rest)) ≡ next_step (length b.machines) w (todo_of (length b.machines) c rest) → IsOnWay b w c (w.groups + 2 ^ 90)
+on_way_first dr b d ds rest before now w c valid rounds h same =
+    settling.on_way_first b d ds rest (Some []) (Some (text_of_lines (joined h.groups))) w c valid rounds (run_of dr.trace b ds (all_of (d ∷ rest)) before now w h) same
 
 -- a group was printed for a directive, and brought the run on
 abbrev pub Brings : Drill → Boot → WorldState → WorldState → Told → Told → Step → Type 0

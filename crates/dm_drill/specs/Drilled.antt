@@ -1,5 +1,5 @@
 -- How far a drill has come, and what it has printed and counted.
-use Rattle.std.specs.Prelude.{◌≡◌, ◌↔◌, ⊤, ℕ, ◌<◌, ◌^◌, ◌⊎◌, Bool, true, false, List, [], ◌∷◌, ◌++◌, length}
+use Rattle.std.specs.Prelude.{◌≡◌, ◌↔◌, ℕ, ◌<◌, ◌⊎◌, Bool, true, false, List, [], ◌∷◌, ◌++◌, length}
 use Rattle.std.specs.List.{All}
 use Rattle.std.specs.declared.option.Option.{Option}
 use Rattle.std.specs.declared.option.Option.TheVariants.{Some}
@@ -7,17 +7,12 @@ use Rattle.std.specs.declared.result.Result.{Result}
 use Rattle.std.specs.declared.result.Result.TheVariants.{Ok, Err}
 use Rattle.dm_onekernel.specs.declared.boot.Boot.{Boot}
 use Rattle.dm_schedule.specs.declared.Directive.{Directive}
-use Rattle.dm_schedule.specs.declared.Directive.TheVariants as directive
 use Rattle.dm_line.specs.declared.line.Line.{Line}
 use Rattle.dm_line.specs.Todo.{Todo, all_of}
-use Rattle.dm_rule.specs.Laws.{IsStep}
 use Rattle.dm_rule.specs.Point.{Point}
 use Rattle.dm_rule.specs.Quiet.{IsQuiet}
 use Rattle.dm_text.specs.Fits.{LineFits}
 use Rattle.dm_text.specs.Text.{text_of_lines}
-use Rattle.dm_line.specs.declared.pass.Pass.TheVariants.{Round, Settle}
-use Rattle.dm_world.specs.declared.cursor.Cursor.{Cursor}
-use Rattle.dm_world.specs.declared.cursor.Cursor.TheVariants as cursor
 use Rattle.dm_world.specs.declared.world.World.{World}
 use Rattle.dm_world.specs.World.{WorldState}
 use Rattle.dm_world.specs.Next.{next_step}
@@ -31,19 +26,6 @@ use Rattle.dm_drill.specs.declared.drill.Drill.{Drill}
 use Rattle.dm_drill.specs.Counts.{with_groups, totals_of}
 use Rattle.dm_drill.specs.Summary.{summary}
 use Rattle.dm_drill.specs.Totals.{Totals}
-
--- a directive of a drill for so many machines: an elementary one, or a round
-abbrev pub IsDrilled : ℕ → Directive → Type 0
-IsDrilled machines (directive.One s) = IsStep machines s
-IsDrilled machines directive.Round = ⊤
-IsDrilled machines (directive.Spin n) = ⊥
-IsDrilled machines directive.Settle = ⊥
-
--- how many rounds are left is within its type
-abbrev pub RoundsFit : Cursor → Type 0
-RoundsFit (cursor.One s) = ⊤
-RoundsFit (cursor.Passing (Round k) place) = k < 2 ^ 32
-RoundsFit (cursor.Passing Settle place) = ⊤
 
 -- what the sink tells, and what was counted
 pub record Told : Type 0 where

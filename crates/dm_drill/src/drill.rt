@@ -7,10 +7,10 @@ ghost use Rattle.dm_text.specs.Fits.{LineFits};
 ghost use Rattle.dm_world.specs.May.{MayStep};
 ghost use Rattle.dm_world.specs.Meets.{IsWorld, state_of};
 ghost use Rattle.dm_world.specs.Next.{next_step};
-ghost use Rattle.dm_run.specs.Coming.{Blames, IsAfter, IsAtStart, Offered};
+ghost use Rattle.dm_run.specs.Coming.{Blames, IsAfter, IsAtStart, IsFor, Offered, rounds_of};
 ghost use Rattle.dm_run.specs.Printed.{Lasts};
 ghost use Rattle.dm_drill.specs.Counts.{nothing, shown, with_group};
-ghost use Rattle.dm_drill.specs.Drilled.{Came, Ended, HasDrilled, IsDrilled, IsDue, RoundsFit, Told, at, text_shown};
+ghost use Rattle.dm_drill.specs.Drilled.{Came, Ended, HasDrilled, IsDue, Told, at, text_shown};
 ghost use Rattle.dm_drill.specs.Summary.{summary};
 
 use crate::counts::Counts;
@@ -34,8 +34,7 @@ pub struct Drill {
     pub trace: bool,
 }
 
-/// Does these directives, each an elementary one or a round, counts what happens, writes the lines of each where that is asked
-/// for, and then the summary. Without lines nothing is written before the summary.
+/// Does these directives, counts what happens, writes the lines of each where that is asked for, and then the summary.
 pub fn run_drill<K: Sink>(
     alloc: Global,
     drill: &Drill,
@@ -44,7 +43,7 @@ pub fn run_drill<K: Sink>(
     out: &mut K,
 ) -> Result<(), Stop>
     requires fresh { IsAtStart world.old }
-    requires each { All (IsDrilled (length world.old.boot.machines)) directives.now }
+    requires each { All (IsFor (length world.old.boot.machines)) directives.now }
     requires few { length directives.now ≤ 16777216 }
     ensures ended { Ended drill.now world.old.boot directives.now (K.told out.old) (K.told out.new) world.new result }
     ensures lasts { OnOk result (Lasts world.old.boot directives.now) }
@@ -71,15 +70,14 @@ fn drill_directive<K: Sink>(
     requires world { IsWorld world.old }
     requires running { world.old.stopped ≡ false }
     requires due { IsDue drill.now.trace world.old directive.now (at (K.told out.old) (shown counts.old)) }
-    requires drilled { IsDrilled (length world.old.boot.machines) directive.now }
-    requires groups { world.old.groups + 2 ^ 80 ≤ 2 ^ 126 }
+    requires groups { world.old.groups + 2 ^ 90 ≤ 2 ^ 126 }
     ensures came { (ds rest : List TheDirective) (before : Told) →
         HasDrilled drill.now.trace world.old.boot ds (all_of (directive.now ∷ rest)) before (at (K.told out.old) (shown counts.old)) (state_of world.old) →
         Came drill.now world.old.boot ds (all_of rest) before (at (K.told out.new) (shown counts.new)) world.new result }
     ensures world { OnOk result (IsWorld world.new) }
     ensures running { OnOk result (world.new.stopped ≡ false) }
     ensures boot { OnOk result (world.new.boot ≡ world.old.boot) }
-    ensures groups { OnOk result (world.new.groups ≤ world.old.groups + 2 ^ 80) }
+    ensures groups { OnOk result (world.new.groups ≤ world.old.groups + 2 ^ 90) }
     ensures blames { Blames (K.faults out.old) (K.faults out.new) result }
     ensures writes { K.faults out.old ≤ K.faults out.new }
 {
@@ -92,9 +90,9 @@ fn drill_directive<K: Sink>(
     Ok(())
 }
 
-/// The number of rounds that are left is within its type.
+/// A cursor's number of rounds is within its type.
 fn rounds_fit(cursor: Cursor)
-    ensures { RoundsFit cursor }
+    ensures { rounds_of cursor < 2 ^ 32 }
 {}
 
 /// Does an elementary directive, counts its lines, and writes them where that is asked for.

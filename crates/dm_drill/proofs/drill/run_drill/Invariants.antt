@@ -12,6 +12,6 @@ invariant-directives g l = record {
   boot : l.world.boot ≡ l.initial.world.boot;
   fresh : shown l.initial.counts ≡ nothing;
   come : HasDrilled l.drill.trace l.initial.world.boot l.directives (all_of (drop l.directive-index l.directives)) (at (g.K.Sink.told l.initial.out) (shown l.initial.counts)) (at (g.K.Sink.told l.out) (shown l.counts)) (state_of l.world);
-  groups : l.world.groups ≤ l.directive-index * 2 ^ 80;
+  groups : l.world.groups ≤ l.directive-index * 2 ^ 90;
   steady : g.K.Sink.faults l.out ≡ g.K.Sink.faults l.initial.out;
 }
