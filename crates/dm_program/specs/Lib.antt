@@ -3,6 +3,7 @@ pub mod Request
 pub mod FileWords
 pub mod RunWords
 pub mod CheckWords
+pub mod DrillWords
 pub mod Words
 pub mod Files
 pub mod Inputs
@@ -10,5 +11,6 @@ pub mod Asked
 pub mod Outside
 pub mod Runs
 pub mod Checks
+pub mod Drills
 pub mod Program
 pub mod Laws
