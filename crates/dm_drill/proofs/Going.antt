@@ -1,5 +1,5 @@
 -- A drill goes on, directive by directive: as a run does, with what is counted beside what is printed.
-use Rattle.std.proofs.Common.{◌≡◌, ◌≤◌, ◌<◌, ℕ, ◌+◌, ◌^◌, Bool, true, false, List, [], ◌∷◌, ◌++◌, length, take, drop, get_or, add-one, refl, ap, ◌∙◌, sym, subst, append_assoc, inl, inr}
+use Rattle.std.proofs.Common.{◌≡◌, ◌≤◌, ◌<◌, ℕ, ◌+◌, ◌^◌, Bool, true, false, List, [], ◌∷◌, ◌++◌, length, take, drop, get_or, add-one, refl, ap, ◌∙◌, sym, subst, append_assoc, inl, inr, arith}
 use Rattle.std.proofs.lemmas.List.{drop_all, append-nil, take-append-drop}
 use Rattle.std.proofs.Math.Seq.{drop-cons}
 use Rattle.std.specs.List.{All}
@@ -166,6 +166,17 @@ comes_first dr b ds before w valid fit e = record {
   fits = All-nil LineFits;
   counted = sym (groups_none before.totals);
   written = run.appended_none before.text ∙ ap (appended before.text) (sym (shown_none dr.trace));
+}
+
+-- nothing was done yet
+pub nothing_drilled : (trace : Bool) (b : Boot) (ds : List Directive) (before : Option (List ℕ)) → IsOfFirst trace b ds before before
+nothing_drilled trace b ds before = record {
+  groups = [];
+  end = first_point b;
+  left = all_of ds;
+  good = record { run = (refl, refl); replays = refl; received = λ i. omega arith };
+  fits = All-nil LineFits;
+  written = run.appended_none before ∙ ap (appended before) (sym (shown_none trace));
 }
 
 -- memory lacked

@@ -16,10 +16,11 @@ use Rattle.clap.specs.declared.error.kind.ErrorKind.TheVariants as kind
 use Rattle.clap.specs.declared.parser.matches.ValueSource.{ValueSource}
 use Rattle.clap.specs.declared.parser.matches.ValueSource.TheVariants.{DefaultValue, CommandLine}
 use Rattle.clap.specs.declared.builder.value_parser.Reading.{Reading}
+use Rattle.dm_program.specs.DrillWords.{drawn_by, lines_of, machines_of, seed_of, trace_of}
 use Rattle.dm_program.specs.FileWords.{both}
-use Rattle.dm_program.specs.Request.{Request, Check, Run}
+use Rattle.dm_program.specs.Request.{Request, Check, Drill, Run}
 use Rattle.dm_program.specs.RunWords.{run_command}
-use Rattle.dm_program.specs.Words.{IsTaken, demosmp, request_at, request_of}
+use Rattle.dm_program.specs.Words.{AreTaken, IsTaken, demosmp, request_at, request_of}
 
 -- where two steps pass, each does
 both_pass : (a b : Kinds) → or_else a b ≡ [] → (a ≡ []) × (b ≡ [])
@@ -272,9 +273,9 @@ level_passes s names h words has_subcommand below e =
 
 -- ---- the commands
 
--- a command whose words pass asks for something
+-- a command whose words pass, and which takes their values, asks for something
 abbrev Asks : Shape → Type 0
-Asks s = (words : List Text) → level_fault s [] nothing_held words false [] ≡ [] → (r : Request) × (request_at (rows_at s words) ≡ Some r)
+Asks s = (words : List Text) → level_fault s [] nothing_held words false [] ≡ [] → AreTaken (Some (rows_at s words)) → (r : Request) × (request_at (rows_at s words) ≡ Some r)
 
 -- the subcommand of this place, as it is read
 abbrev in_place : ℕ → List Shape → Shape
@@ -290,6 +291,9 @@ check_built = in_place 1 (built demosmp).subs
 
 each_of_run : Each run_built.rules
 each_of_run = (inl (refl, refl), (inl (refl, refl), (inr refl, tt)))
+
+abbrev drill_built : Shape
+drill_built = in_place 2 (built demosmp).subs
 
 each_of_check : Each check_built.rules
 each_of_check = (inl (refl, refl), (inl (refl, refl), (inr refl, tt)))
@@ -320,14 +324,26 @@ names_both s one other words each checks e =
     record { first = given_first one (matched s words) full given.0; second = given_first other (matched s words) full given.1 }
 
 run_asks : Asks run_built
-run_asks words e =
+run_asks words e values =
     let names = names_both run_built (codes "boot") (codes "schedule") words each_of_run (λ rows. refl) e in
     (Run names.first.0 names.second.0, ap₂ (both (λ boot schedule. Run boot schedule)) names.first.1 names.second.1)
 
 check_asks : Asks check_built
-check_asks words e =
+check_asks words e values =
     let names = names_both check_built (codes "boot") (codes "trace") words each_of_check (λ rows. refl) e in
     (Check names.first.0 names.second.0, ap₂ (both (λ boot trace. Check boot trace)) names.first.1 names.second.1)
+
+-- a command that takes three numbers draws a drill of them
+all_there : (trace : Bool) (seed machines lines : Option ℕ) → is_some seed && (is_some machines && is_some lines) ≡ true → (r : Request) × (drawn_by trace seed machines lines ≡ Some r)
+all_there trace (Some seed) (Some machines) (Some lines) e = (Drill (record { seed = seed; machines = machines; lines = lines; trace = trace }), refl)
+all_there trace (Some seed) (Some machines) None e = cc
+all_there trace (Some seed) None lines e = cc
+all_there trace None machines lines e = cc
+
+drill_asks : Asks drill_built
+drill_asks words e values =
+    let rows : List Row = (rows_at drill_built words).1 in
+    all_there (trace_of rows) (seed_of rows) (machines_of rows) (lines_of rows) values
 
 -- ---- the command line
 
@@ -337,7 +353,7 @@ AllAsk (s ∷ ss) = Asks s × AllAsk ss
 
 -- a row a command
 all_ask : AllAsk (built demosmp).subs
-all_ask = (run_asks, (check_asks, tt))
+all_ask = (run_asks, (check_asks, (drill_asks, tt)))
 
 abbrev AsksIf : Option Shape → Type 0
 AsksIf None = ⊤
@@ -351,13 +367,13 @@ found_asks test (s ∷ ss) all = go (test s) (found_asks test ss all.1)
     go true later = all.0
     go false later = later
 
-entered_asks : (stop : Option (Text × List Text)) → is_some (entered (built demosmp) stop) ≡ true → entered_fault (built demosmp) stop ≡ [] → (r : Request) × (option_and_then request_at (entered (built demosmp) stop) ≡ Some r)
-entered_asks None has below = cc
-entered_asks (Some p) has below = go (find (λ s. answers_to p.0 (label_of s)) (built demosmp).subs) (found_asks (λ s. answers_to p.0 (label_of s)) (built demosmp).subs all_ask) has below
+entered_asks : (stop : Option (Text × List Text)) → is_some (entered (built demosmp) stop) ≡ true → entered_fault (built demosmp) stop ≡ [] → AreTaken (entered (built demosmp) stop) → (r : Request) × (option_and_then request_at (entered (built demosmp) stop) ≡ Some r)
+entered_asks None has below values = cc
+entered_asks (Some p) has below values = go (find (λ s. answers_to p.0 (label_of s)) (built demosmp).subs) (found_asks (λ s. answers_to p.0 (label_of s)) (built demosmp).subs all_ask) has below values
   where
-    go : (o : Option Shape) → AsksIf o → is_some (option_map (λ s. rows_at s p.1) o) ≡ true → option_map_or (λ s. level_fault s [] nothing_held p.1 false []) o [] ≡ [] → (r : Request) × (option_and_then request_at (option_map (λ s. rows_at s p.1) o) ≡ Some r)
-    go None asks has below = cc
-    go (Some s) asks has below = asks p.1 below
+    go : (o : Option Shape) → AsksIf o → is_some (option_map (λ s. rows_at s p.1) o) ≡ true → option_map_or (λ s. level_fault s [] nothing_held p.1 false []) o [] ≡ [] → AreTaken (option_map (λ s. rows_at s p.1) o) → (r : Request) × (option_and_then request_at (option_map (λ s. rows_at s p.1) o) ≡ Some r)
+    go None asks has below values = cc
+    go (Some s) asks has below values = asks p.1 below values
 
 wants_one : (b : Bool) (rows : List Row) → check_fault (built demosmp).top rows b ≡ [] → b ≡ true
 wants_one true rows e = refl
@@ -366,19 +382,19 @@ wants_one false rows e =
     cc
 
 -- words that the command line takes ask for something
-pub asked_there : (words : List Text) → fault_of demosmp words ≡ [] → (r : Request) × (option_and_then request_at (subcommand_of demosmp words) ≡ Some r)
-asked_there words e =
+pub asked_there : (words : List Text) → fault_of demosmp words ≡ [] → AreTaken (subcommand_of demosmp words) → (r : Request) × (option_and_then request_at (subcommand_of demosmp words) ≡ Some r)
+asked_there words e values =
     let stop : Option (Text × List Text) = stop_after (built demosmp).top.rules (labels_of (built demosmp)) (argument_words demosmp words) in
     let top : Shape = (built demosmp).top in
     let names : Names = labels_of (built demosmp) in
     let given : List Text = argument_words demosmp words in
     let passes = level_passes top names nothing_held given (is_some (entered (built demosmp) stop)) (entered_fault (built demosmp) stop) e in
-    entered_asks stop (wants_one (is_some (entered (built demosmp) stop)) (finished top.rules (walk top.rules names nothing_held given).held) passes.checks) passes.under
+    entered_asks stop (wants_one (is_some (entered (built demosmp) stop)) (finished top.rules (walk top.rules names nothing_held given).held) passes.checks) passes.under values
 
 -- so nothing is asked for only where the command line doesn't take the words
 pub only_refused : (words : List Text) → request_of words ≡ None → IsTaken words → ⊥
 only_refused words none taken =
-    let there = asked_there words taken in
-    let some : request_of words ≡ Some there.0 = ap (λ (kinds : Kinds). if is_empty kinds then option_and_then request_at (subcommand_of demosmp words) else None) taken ∙ there.1 in
+    let there = asked_there words taken.passes taken.values in
+    let some : request_of words ≡ Some there.0 = ap (λ (kinds : Kinds). if is_empty kinds then option_and_then request_at (subcommand_of demosmp words) else None) taken.passes ∙ there.1 in
     let bad : None ≡ Some there.0 = sym none ∙ some in
     cc

@@ -3,10 +3,13 @@ use Rattle.std.specs.declared.option.Option.{Option}
 use Rattle.std.specs.declared.option.Option.TheVariants.{None, Some}
 use Rattle.dm_program.specs.declared.words.Request.{Request as TheRequest}
 use Rattle.dm_program.specs.declared.status.Status.{Status}
+use Rattle.dm_draw.specs.Boot.{boot_of}
+use Rattle.dm_program.specs.Drills.{directives_of}
 use Rattle.dm_program.specs.Outside.{around}
 use Rattle.dm_program.specs.Program.{ProgramMeets}
 use Rattle.dm_program.specs.Request.{Request}
-use Rattle.dm_program.specs.Words.{request_of, request_said}
+use Rattle.dm_program.specs.Words.{IsInRange, request_of, request_said}
+use Rattle.dm_program.proofs.Drills.{drill_completes, drill_shelf, drill_taken, drill_wears}
 use Rattle.dm_program.proofs.Lacking.{no_request}
 use Rattle.dm_program.proofs.program.run_program.Goals as goal
 
@@ -44,6 +47,38 @@ returns-in-Ok-Check-clause-meets g c =
       shelf = c.check_files.ensures.shelf;
       sink = c.check_files.ensures.sink;
     })
+
+pub drill-requires : goal.drill-requires
+drill-requires g c = subst IsInRange c.in-Ok-Drill.field-0-is c.in-Ok-Drill.ensures.within
+
+pub returns-in-Ok-Drill-clause-meets : goal.returns-in-Ok-Drill-clause-meets
+returns-in-Ok-Drill-clause-meets g c =
+    let d = c.in-Ok-Drill.drawn in
+    let before = g.K.Sink.told c.args.out.now in
+    let after = g.K.Sink.told c.drill.new.out in
+    let faults = g.K.Sink.faults c.args.out.now in
+    let faults' = g.K.Sink.faults c.drill.new.out in
+    subst (λ (r : Option Request). ProgramMeets g.F.Shelf.asked g.F.Shelf.faults r
+    (around g.F.Shelf.told g.F.Shelf.faults g.K.Sink.told g.K.Sink.faults c.args.shelf.now c.args.shelf.now c.args.out.now c.drill.new.out c.drill.new.world) c.args.shelf.now c.args.shelf.now c.drill.result)
+    (sym (c.in-Ok-Drill.ensures.asks ∙ ap (λ (r : TheRequest). Some (request_said r)) c.in-Ok-Drill.field-0-is))
+    (record {
+      says = c.drill.ensures.says;
+      completes = λ lasts never. drill_completes d (boot_of d.machines) (directives_of d) before after c.drill.new.world faults faults' c.drill.result c.drill.ensures.says c.drill.ensures.sink lasts never.writes;
+      wears = λ from to wears never. drill_wears d (boot_of d.machines) (directives_of d) before after c.drill.new.world faults faults' c.drill.result from to c.drill.ensures.says c.drill.ensures.sink wears never.writes;
+      unread = refl;
+      shelf = drill_shelf d (boot_of d.machines) (directives_of d) before after c.drill.new.world (g.F.Shelf.faults c.args.shelf.now) c.drill.result c.drill.ensures.says;
+      sink = c.drill.ensures.sink;
+    })
+
+pub returns-in-Ok-Drill-clause-refused : goal.returns-in-Ok-Drill-clause-refused
+returns-in-Ok-Drill-clause-refused g c = λ usage taken.
+    let d = c.in-Ok-Drill.drawn in
+    drill_taken d (boot_of d.machines) (directives_of d) (g.K.Sink.told c.args.out.now) (g.K.Sink.told c.drill.new.out) c.drill.new.world c.drill.result c.drill.ensures.says usage
+
+pub returns-in-Ok-Drill-clause-shelf : goal.returns-in-Ok-Drill-clause-shelf
+returns-in-Ok-Drill-clause-shelf g c =
+    let d = c.in-Ok-Drill.drawn in
+    drill_shelf d (boot_of d.machines) (directives_of d) (g.K.Sink.told c.args.out.now) (g.K.Sink.told c.drill.new.out) c.drill.new.world (g.F.Shelf.faults c.args.shelf.now) c.drill.result c.drill.ensures.says
 
 pub returns-in-Err-clause-meets : goal.returns-in-Err-clause-meets
 returns-in-Err-clause-meets g c =
