@@ -60,7 +60,7 @@ pub no_first : (asked : Text → Text → Request) (one other : Text) (f : Found
 no_first asked one other f first is none = ap (λ o. both asked o (first_of other (rows_of f))) (sym (first_value-rows f one) ∙ sym is ∙ none)
 
 pub both_found : (asked : Text → Text → Request) (one other : Text) (f : Found) (first second : Option Text) → first ≡ first_value f one → second ≡ first_value f other → two_files asked one other (rows_of f) ≡ both asked first second
-both_found asked one other f first second is then = sym (ap₂ (both asked) (is ∙ first_value-rows f one) (then ∙ first_value-rows f other))
+both_found asked one other f first second is also = sym (ap₂ (both asked) (is ∙ first_value-rows f one) (also ∙ first_value-rows f other))
 
 -- what is asked for by the name and the matches of the subcommand that was used
 pub used_rows : {B : Type 0} (name : B → Text) (rows : B → List Row) (o : Option B) (n : Text) (rs : List Row) → Some n ≡ option_map name o → Some rs ≡ option_map (λ (p : Text × List Row). p.1) (option_map (λ b. (name b, rows b)) o) → option_and_then request_at (option_map (λ b. (name b, rows b)) o) ≡ request_at (n, rs)
