@@ -56,7 +56,7 @@ run_of tr b ds t before after w h = record { groups = h.groups; end = h.end; lef
 may_go : (dr : Drill) (b : Boot) (ds : List Directive) (t : Todo) (before after : Told) (w : WorldState) (n : Next) → IsValid b → HasDrilled dr.trace b ds t before after w → next_step (length b.machines) w t ≡ Some n → MayStep b w n.step
 may_go dr b ds t before after w n valid h is = run.may_go b ds t (Some []) (Some (text_of_lines (joined h.groups))) w n valid (run_of dr.trace b ds t before after w h) is
 
-comes_as : (dr : Drill) (b : Boot) (ds : List Directive) (t u : Todo) (before after : Told) (w : WorldState) → HasDrilled dr.trace b ds t before after w → next_step (length b.machines) w t ≡ next_step (length b.machines) w u → HasDrilled dr.trace b ds u before after w
+pub comes_as : (dr : Drill) (b : Boot) (ds : List Directive) (t u : Todo) (before after : Told) (w : WorldState) → HasDrilled dr.trace b ds t before after w → next_step (length b.machines) w t ≡ next_step (length b.machines) w u → HasDrilled dr.trace b ds u before after w
 comes_as dr b ds t u before after w h e = record { groups = h.groups; end = h.end; left = h.left; stands = h.stands; follows = h.follows ∙ e; fits = h.fits; counted = h.counted; written = h.written }
 
 -- a directive is under way before its first group
