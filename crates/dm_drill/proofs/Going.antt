@@ -1,9 +1,9 @@
 -- A drill goes on, directive by directive: as a run does, with what is counted beside what is printed.
-use Rattle.std.proofs.Common.{◌≡◌, ◌≤◌, ◌<◌, ℕ, ◌+◌, ◌^◌, Bool, true, false, List, [], ◌∷◌, ◌++◌, length, take, drop, get_or, add-one, refl, ap, ◌∙◌, sym, subst, append_assoc, inl, inr, arith}
-use Rattle.std.proofs.lemmas.List.{drop_all, append-nil, take-append-drop}
+use Rattle.std.proofs.Common.{◌≡◌, ◌≤◌, ◌<◌, ℕ, ◌+◌, ◌^◌, Bool, true, false, List, [], ◌∷◌, ◌++◌, length, take, drop, get_or, add-one, refl, ap, ◌∙◌, sym, subst, inl, inr, arith}
+use Rattle.std.proofs.lemmas.List.{drop_all, append-nil}
 use Rattle.std.proofs.Math.Seq.{drop-cons}
 use Rattle.std.specs.List.{All}
-use Rattle.std.proofs.lemmas.List.Elements.{All-nil, All-append}
+use Rattle.std.proofs.lemmas.List.Elements.{All-nil}
 use Rattle.std.proofs.lemmas.Bool.{false≢true}
 use Rattle.std.specs.declared.option.Option.{Option}
 use Rattle.std.specs.declared.option.Option.TheVariants.{None, Some}
@@ -20,9 +20,9 @@ use Rattle.dm_schedule.specs.declared.Step.{Step}
 use Rattle.dm_schedule.specs.declared.Directive.{Directive}
 use Rattle.dm_line.specs.declared.line.Line.{Line}
 use Rattle.dm_line.specs.Todo.{Todo, Next, all_of}
-use Rattle.dm_rule.specs.Point.{Point, first_point}
+use Rattle.dm_rule.specs.Point.{first_point}
 use Rattle.dm_text.specs.Fits.{LineFits}
-use Rattle.dm_text.specs.Text.{text, text_of_lines}
+use Rattle.dm_text.specs.Text.{text_of_lines}
 use Rattle.dm_world.specs.declared.cursor.Cursor.{Cursor}
 use Rattle.dm_world.specs.Cursor.{NextIs, todo_of}
 use Rattle.dm_world.specs.May.{MayStep}
@@ -34,7 +34,6 @@ use Rattle.dm_world.specs.World.{WorldState, Says, WornOut, first_world, world_s
 use Rattle.dm_mirror.specs.Run.{RunStands, joined}
 use Rattle.dm_mirror.specs.Todo.{IsDirective}
 use Rattle.dm_outside.specs.Outside.{appended}
-use Rattle.dm_run.specs.Appended.{IsCutShort}
 use Rattle.dm_run.specs.Coming.{HasCome, Offered, rounds_of}
 use Rattle.dm_run.specs.Printed.{Lasts}
 use Rattle.dm_run.proofs.Comes as run
@@ -42,7 +41,7 @@ use Rattle.dm_run.proofs.Decisions.{ends_once}
 use Rattle.dm_run.proofs.Laws as laws
 use Rattle.dm_run.proofs.Settling as settling
 use Rattle.dm_run.proofs.Settling.{IsOnWay}
-use Rattle.dm_run.proofs.Writing.{appended_twice, some_left}
+use Rattle.dm_run.proofs.Writing.{some_left}
 use Rattle.dm_drill.specs.declared.drill.Drill.{Drill}
 use Rattle.dm_drill.specs.Counts.{with_group, with_groups, nothing}
 use Rattle.dm_drill.specs.Summary.{summary}

@@ -1,4 +1,4 @@
-use Rattle.std.proofs.Common.{◌≡◌, ◌↔◌, true, Bool, List, ℕ, [], length, refl, sym, ◌∙◌, subst}
+use Rattle.std.proofs.Common.{◌≡◌, ◌↔◌, true, Bool, [], refl, sym, ◌∙◌, subst}
 use Rattle.dm_line.specs.Todo.{all_of}
 use Rattle.dm_rule.specs.Quiet.{IsQuiet}
 use Rattle.dm_world.specs.Meets.{state_of}
