@@ -26,18 +26,13 @@ use Rattle.dm_check.specs.declared.fault.TraceFault.{TraceFault}
 use Rattle.dm_check.specs.declared.fault.TraceFault.TheVariants.{NotDue}
 use Rattle.dm_check.specs.declared.stop.CheckNo.{CheckNo}
 use Rattle.dm_check.specs.declared.stop.CheckNo.TheVariants as no
-use Rattle.dm_check.specs.Checking.{HasChecked, NoGroup, RefusedSo, first_line, head_of_line}
+use Rattle.dm_check.specs.Checked.{HasChecked, NoGroup}
+use Rattle.dm_check.specs.Checking.{RefusedSo, first_line, head_of_line}
 use Rattle.dm_check.specs.Good.{AllHeld, AreHeads, EndsFit, IsTrace, good_verdict, text_behind}
 use Rattle.dm_check.specs.Judge as judge
 use Rattle.dm_check.specs.Judge.{Verdict, Refused, Falls, at_head, behind_line, begins_group, can_hold, judged_from, unless_worn, verdict}
 use Rattle.dm_check.proofs.Groups.{fresh_group, group_head, kept_last}
-use Rattle.dm_check.proofs.Judging.{due_group, no_group}
-
--- lines behind lines
-pub lines_append : (a b : List Line) → text_of_lines (a ++ b) ≡ text_of_lines a ++ text_of_lines b
-unfolding text_of_lines
-lines_append [] b = refl
-lines_append (l ∷ ls) b = ap (λ t. text l ++ t) (lines_append ls b) ∙ sym (append_assoc (text l) (text_of_lines ls) (text_of_lines b))
+use Rattle.dm_check.proofs.Judging.{due_group, lines_append, no_group}
 
 pub joined_last : (gs : List (List Line)) (g : List Line) → joined (gs ++ g ∷ []) ≡ joined gs ++ g
 joined_last [] g = append-nil g

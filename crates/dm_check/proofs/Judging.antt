@@ -35,6 +35,12 @@ use Rattle.dm_check.specs.Checking.{FallsBy, first_line, head_of_line, is_final}
 use Rattle.dm_check.specs.Judge as judge
 use Rattle.dm_check.specs.Judge.{Verdict, Ended, Refused, Due, Nothing, Taken, Stands, Falls, is_text, behind_line, told, at_end, at_head, begins_group, unless_worn, can_hold, taken, ended, judged_from}
 
+-- lines behind lines
+pub lines_append : (a b : List Line) → text_of_lines (a ++ b) ≡ text_of_lines a ++ text_of_lines b
+unfolding text_of_lines
+lines_append [] b = refl
+lines_append (l ∷ ls) b = ap (λ t. text l ++ t) (lines_append ls b) ∙ sym (append_assoc (text l) (text_of_lines ls) (text_of_lines b))
+
 -- the text is over
 pub at_text_end : (b : Boot) (due : Due) (number : ℕ) → judged_from b due number (pieces 10 []) ≡ ended due number
 unfolding pieces
@@ -74,13 +80,13 @@ text_other bytes printed h = by_test (is_text bytes printed) refl
 
 -- the line that is due stands
 pub line_stands : (b : Boot) (l : Line) (ls : List Line) (pt : Point) (n number : ℕ) (bytes rest : List ℕ) → LineFits l → bytes ≡ text l ++ rest
-    → judged_from b (judge.Line l ls pt n) number (pieces 10 bytes) ≡ judged_from b (behind_line ls pt n) (number + 1) (pieces 10 rest)
+    → judged_from b (judge.InGroup l ls pt n) number (pieces 10 bytes) ≡ judged_from b (behind_line ls pt n) (number + 1) (pieces 10 rest)
 line_stands b l ls pt n number bytes rest h e =
     let w : List ℕ = line_bytes (words l) in
     let is : w ++ codes "\n" ≡ text l = sym (spelled_bytes (words l)) in
-    ap (λ t. judged_from b (judge.Line l ls pt n) number (pieces 10 t)) e
-    ∙ ap (judged_from b (judge.Line l ls pt n) number) (pieces_of_line (words l) rest (words-are l h))
-    ∙ goes_from b (judge.Line l ls pt n) (behind_line ls pt n) number w (pieces 10 rest) (some_piece 10 rest) (lines_have l w h is)
+    ap (λ t. judged_from b (judge.InGroup l ls pt n) number (pieces 10 t)) e
+    ∙ ap (judged_from b (judge.InGroup l ls pt n) number) (pieces_of_line (words l) rest (words-are l h))
+    ∙ goes_from b (judge.InGroup l ls pt n) (behind_line ls pt n) number w (pieces 10 rest) (some_piece 10 rest) (lines_have l w h is)
     (ap (λ (t : Bool). if t then Stands (behind_line ls pt n) else told b.quantum l (pieces 32 w)) (text_same w (text l) is))
 
 pub end_stands : (b : Boot) (l : EndLine) (ls : List EndLine) (n number : ℕ) (bytes rest : List ℕ) → EndFits l → IsFull l → bytes ≡ end_text l ++ rest
@@ -117,7 +123,7 @@ ends_stand b (l ∷ ls) n number h f =
 
 -- where a text doesn't begin with the line that is due, its first line is told as another one
 pub told_other : (b : Boot) (l : Line) (ls : List Line) (pt : Point) (n : ℕ) (bytes w rest : List ℕ) → ((others : List ℕ) → bytes ≡ text l ++ others → ⊥) → pieces 10 bytes ≡ w ∷ pieces 10 rest
-    → taken b (judge.Line l ls pt n) w ≡ told b.quantum l (pieces 32 w)
+    → taken b (judge.InGroup l ls pt n) w ≡ told b.quantum l (pieces 32 w)
 told_other b l ls pt n bytes w rest no cut =
     let is : bytes ≡ w ++ 10 ∷ rest = cut_is 10 bytes w rest cut in
     let other = text_other w (text l) (λ e. no rest (is ∙ sym (append_assoc w (codes "\n") rest) ∙ ap (λ t. t ++ rest) e)) in

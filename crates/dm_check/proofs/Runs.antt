@@ -45,10 +45,9 @@ use Rattle.dm_check.specs.Good.{AllHeld, EndsFit, IsTrace, good_verdict, text_be
 use Rattle.dm_check.specs.Judge as judge
 use Rattle.dm_check.specs.Judge.{Open, Ended, can_hold, behind_line, judged_from, verdict}
 use Rattle.dm_check.specs.Laws.{IsHome, HasHome, TracesAreGood, BeginningsAreOpen, RunsAreEnded}
-use Rattle.dm_check.proofs.Checks.{lines_append}
 use Rattle.dm_check.proofs.Fulls.{ends_full}
 use Rattle.dm_check.proofs.Groups.{fresh_group, group_head}
-use Rattle.dm_check.proofs.Judging.{at_text_end, due_ends, due_group, ends_stand, group_stands}
+use Rattle.dm_check.proofs.Judging.{at_text_end, due_ends, due_group, ends_stand, group_stands, lines_append}
 use Rattle.dm_check.proofs.Names.{AreNames, names_always}
 
 -- the first line of a text, where more pieces follow
