@@ -59,6 +59,11 @@ none_left (x ∷ xs) h = absurd (some (length (x ∷ xs)) (omega arith) h)
     some : (k : ℕ) → 0 < k → (k == 0) ≡ true → ⊥
     some k m e = let f : k ≡ 0 = grind (arith, nat_tests, e) in omega arith
 
+-- the first line of a text, where more pieces follow
+pub first_of : (w : List ℕ) (ps : List (List ℕ)) → (ps ≡ [] → ⊥) → first_line (w ∷ ps) ≡ Some w
+first_of w [] some = absurd (some refl)
+first_of w (p ∷ ps) some = refl
+
 -- lines behind lines
 pub lines_append : (a b : List Line) → text_of_lines (a ++ b) ≡ text_of_lines a ++ text_of_lines b
 unfolding text_of_lines

@@ -5,4 +5,5 @@ pub mod Fulls
 pub mod Checks
 pub mod Following
 pub mod Runs
+pub mod Ending
 mod Worked
