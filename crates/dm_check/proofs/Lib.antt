@@ -6,4 +6,3 @@ pub mod Checks
 pub mod Following
 pub mod Runs
 pub mod Ending
-mod Worked
