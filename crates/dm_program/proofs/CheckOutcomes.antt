@@ -1,17 +1,17 @@
 -- Files come to one thing: whether the trace is good is a function of them, where no read and no write fails and memory is there.
-use Rattle.std.proofs.Common.{◌≡◌, ◌⊎◌, inl, inr, ◌≤◌, ◌<◌, ℕ, Bool, true, false, List, length, refl, ap, ap₂, sym, subst, ◌∙◌, cond, nat_lt, arith}
+use Rattle.std.proofs.Common.{◌≡◌, ◌⊎◌, inl, inr, ℕ, Bool, true, false, List, length, refl, ap, ap₂, sym, subst, ◌∙◌, cond, nat_lt}
 use Rattle.std.specs.declared.option.Option.{Option}
 use Rattle.std.specs.declared.option.Option.TheVariants.{None, Some}
 use Rattle.dm_onekernel.specs.declared.boot.Boot.{Boot}
 use Rattle.dm_outside.specs.Outside.{RoseOrFull, appended}
 use Rattle.dm_check.specs.declared.fault.TraceFault.{TraceFault}
 use Rattle.dm_check.specs.Faults.{number_of_fault}
-use Rattle.dm_check.specs.Good.{IsTrace, good_verdict}
+use Rattle.dm_check.specs.Good.{good_verdict}
 use Rattle.dm_check.specs.Judge.{Verdict, Open, Ended, Refused, verdict}
 use Rattle.dm_program.specs.declared.status.Status.{Status}
 use Rattle.dm_program.specs.declared.status.Status.TheVariants.{Done, Usage, ReadFault, NoMemory, WriteFault, BootRefused, ScheduleRefused, TooLong, Worn, TraceRefused}
 use Rattle.dm_program.specs.declared.status.Input.TheVariants as input
-use Rattle.dm_program.specs.Checks.{BeginsGood, CheckSays, GivesGood, GivesRefused, HasTrace, NoBytes, NoTrace, RefusesTrace, SaysGood, good_line, most_trace}
+use Rattle.dm_program.specs.Checks.{CheckSays, GivesGood, GivesRefused, HasTrace, NoTrace, good_line, most_trace}
 use Rattle.dm_program.specs.Files.{IsLonger}
 use Rattle.dm_program.specs.Inputs.{AfterBoot}
 use Rattle.dm_program.specs.Status.{BlamesShelf, BlamesSink, IsWant}

@@ -1,21 +1,19 @@
 -- What the program promises where memory lacks before anything was done, or the words ask for nothing.
-use Rattle.std.proofs.Common.{◌≡◌, ◌⊎◌, inl, inr, ℕ, List, refl, ap, sym, subst, ◌∙◌}
+use Rattle.std.proofs.Common.{◌≡◌, inl, inr, ℕ, List, refl, sym, subst}
 use Rattle.std.specs.declared.option.Option.{Option}
 use Rattle.std.specs.declared.option.Option.TheVariants.{None, Some}
 use Rattle.dm_memory.specs.declared.NoMemory.{NoMemory as TheNoMemory}
 use Rattle.dm_draw.specs.Boot.{boot_of}
 use Rattle.dm_drill.specs.Drilled.{IsOfFirst}
 use Rattle.dm_drill.proofs.Going.{nothing_drilled}
-use Rattle.dm_program.specs.declared.status.Input.{Input}
-use Rattle.dm_program.specs.declared.status.Status.{Status}
-use Rattle.dm_program.specs.declared.status.Status.TheVariants.{Done, Usage, ReadFault, NoMemory, Worn}
+use Rattle.dm_program.specs.declared.status.Status.TheVariants.{Usage, NoMemory}
 use Rattle.dm_program.specs.declared.words.WordsNo.{WordsNo}
 use Rattle.dm_program.specs.declared.words.WordsNo.TheVariants as why
 use Rattle.dm_program.specs.Drills.{directives_of}
 use Rattle.dm_program.specs.Outside.{Outside}
 use Rattle.dm_program.specs.Program.{ProgramMeets}
 use Rattle.dm_program.specs.Request.{Request, Check, Drill, Run}
-use Rattle.dm_program.specs.Status.{IsWant, status_of_no}
+use Rattle.dm_program.specs.Status.{status_of_no}
 
 -- nothing was done
 pub record Untouched (o : Outside) : Type 0 where

@@ -1,26 +1,23 @@
 -- What `run` writes, `check` finds good.
-use Rattle.std.proofs.Common.{◌≡◌, ◌⊎◌, inl, inr, ◌≤◌, ℕ, Bool, true, false, List, [], ◌++◌, length, refl, ap, sym, subst, ◌∙◌, append-nil}
+use Rattle.std.proofs.Common.{◌≡◌, ◌⊎◌, inl, inr, ℕ, Bool, true, false, List, [], ◌++◌, length, ap, sym, subst, ◌∙◌, append-nil}
 use Rattle.std.specs.List.{All}
 use Rattle.std.specs.declared.option.Option.{Option}
-use Rattle.std.specs.declared.option.Option.TheVariants.{None, Some}
+use Rattle.std.specs.declared.option.Option.TheVariants.{Some}
 use Rattle.dm_onekernel.specs.declared.boot.Boot.{Boot}
 use Rattle.dm_schedule.specs.declared.Directive.{Directive}
 use Rattle.dm_line.specs.declared.line.Line.{Line}
-use Rattle.dm_mirror.specs.Run.{IsGood, joined}
-use Rattle.dm_mirror.specs.Todo.{IsDirective}
+use Rattle.dm_mirror.specs.Run.{IsGood}
 use Rattle.dm_outside.specs.Outside.{appended}
 use Rattle.dm_check.specs.Good.{good_verdict}
-use Rattle.dm_check.specs.Judge.{Ended, Open, verdict}
+use Rattle.dm_check.specs.Judge.{verdict}
 use Rattle.dm_check.specs.Laws.{HasHome}
 use Rattle.dm_check.proofs.Runs.{beginnings_open, runs_ended}
 use Rattle.dm_run.specs.Printed.{IsWhole, IsWorn}
 use Rattle.dm_program.specs.declared.status.Status.{Status}
-use Rattle.dm_program.specs.declared.status.Status.TheVariants.{Done, Worn}
-use Rattle.dm_program.specs.Checks.{Accepts, GivesGood, HasTrace, good_line}
+use Rattle.dm_program.specs.Checks.{Accepts, GivesGood, HasTrace}
 use Rattle.dm_program.specs.Inputs.{AcceptsFiles, SaysBoot, SaysDirectives}
 use Rattle.dm_program.specs.Laws.{IsKept, RunsCheck, SaysItIs, WornRunsCheck}
 use Rattle.dm_program.specs.Outside.{Outside, NeverFails}
-use Rattle.dm_program.specs.Runs.{Runs, SaysRun}
 use Rattle.dm_program.specs.Status.{IsWant}
 use Rattle.dm_program.proofs.Schedules.{are_read}
 

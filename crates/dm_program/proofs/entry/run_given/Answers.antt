@@ -1,5 +1,4 @@
 use Rattle.std.proofs.Common.{rules, ◌≡◌, List, ℕ, map, refl, string_bytes, subst, sym}
-use Rattle.std.specs.declared.option.Option.TheVariants.{None}
 use Rattle.dm_program.specs.Outside.{around}
 use Rattle.dm_program.specs.Program.{ProgramMeets}
 use Rattle.dm_program.specs.Words.{IsTaken, request_of}

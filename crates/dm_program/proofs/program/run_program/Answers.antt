@@ -1,4 +1,4 @@
-use Rattle.std.proofs.Common.{rules, ◌≡◌, ◌∙◌, List, ℕ, ap, map, refl, sym, subst}
+use Rattle.std.proofs.Common.{rules, ◌∙◌, List, ℕ, ap, map, refl, sym, subst}
 use Rattle.std.specs.declared.option.Option.{Option}
 use Rattle.std.specs.declared.option.Option.TheVariants.{None, Some}
 use Rattle.dm_program.specs.declared.words.Request.{Request as TheRequest}

@@ -1,5 +1,4 @@
 use Rattle.std.proofs.Common.{◌≡◌, List, ℕ, subst}
-use Rattle.dm_check.specs.Checking.{RefusedSo}
 use Rattle.dm_check.specs.Good.{IsTrace, good_verdict}
 use Rattle.dm_check.specs.Judge.{verdict}
 use Rattle.dm_program.proofs.commands.check.check.Goals as goal

@@ -1,4 +1,4 @@
-use Rattle.std.proofs.Common.{ℕ, length, subst, sym}
+use Rattle.std.proofs.Common.{ℕ, subst, sym}
 use Rattle.std.specs.List.{All}
 use Rattle.dm_run.specs.Coming.{IsFor}
 use Rattle.dm_program.proofs.Drills.{all_for}
