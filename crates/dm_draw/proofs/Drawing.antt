@@ -10,7 +10,7 @@ pub state_none : (machines x : ℕ) → state_behind machines x 0 ≡ x
 unfolding state_behind
 state_none machines x = refl
 
-drawn_next : (machines x n : ℕ) → directives_drawn machines x (suc n) ≡ directives_drawn machines x n ++ (directive_drawn machines (state_behind machines x n)).directive ∷ []
+pub drawn_next : (machines x n : ℕ) → directives_drawn machines x (suc n) ≡ directives_drawn machines x n ++ (directive_drawn machines (state_behind machines x n)).directive ∷ []
 unfolding directives_drawn
 drawn_next machines x n = refl
 

@@ -1,5 +1,5 @@
 -- The directives of a drill.
-use Rattle.std.specs.Prelude.{ℕ, zero, suc, ◌+◌, ◌-◌, ◌%◌, ◌==◌, nat_lt, if◌then◌else◌, List, [], ◌∷◌, ◌++◌}
+use Rattle.std.specs.Prelude.{◌≢◌, ⊤, ◌<◌, ℕ, zero, suc, ◌+◌, ◌-◌, ◌%◌, ◌==◌, nat_lt, if◌then◌else◌, List, [], ◌∷◌, ◌++◌}
 use Rattle.dm_link.specs.Names.{pid_of}
 use Rattle.dm_schedule.specs.declared.Step.TheVariants as step
 use Rattle.dm_schedule.specs.declared.Directive.{Directive}
@@ -57,3 +57,13 @@ state_behind machines x (suc n) = (directive_drawn machines (state_behind machin
 unfoldable pub directives_drawn : ℕ → ℕ → ℕ → List Directive
 directives_drawn machines x zero = []
 directives_drawn machines x (suc n) = directives_drawn machines x n ++ (directive_drawn machines (state_behind machines x n)).directive ∷ []
+
+-- a directive for so many machines, an elementary one or a round
+abbrev pub IsDrawn : ℕ → Directive → Type 0
+IsDrawn machines (directive.One (step.Turn m)) = m < machines
+IsDrawn machines (directive.One (step.Tick m)) = m < machines
+IsDrawn machines (directive.One (step.Deliver a b k)) = (a < machines) × (b < machines) × (a ≢ b)
+IsDrawn machines (directive.One (step.Migrate p m)) = m < machines
+IsDrawn machines directive.Round = ⊤
+IsDrawn machines (directive.Spin n) = ⊥
+IsDrawn machines directive.Settle = ⊥

@@ -1,5 +1,5 @@
 //! The system of a drill.
-ghost use Rattle.std.specs.Prelude.{◌≡◌, ◌≤◌, ◌<◌, ◌*◌, ◌∷◌, [], IfOk};
+ghost use Rattle.std.specs.Prelude.{◌≡◌, ◌≤◌, ◌<◌, ◌*◌, ◌∷◌, [], IfOk, length};
 ghost use Rattle.dm_onekernel.specs.Boot.{IsValid};
 ghost use Rattle.dm_draw.specs.Boot.{boot_of, image, link_to, machines_of, pid_at, process_at, processes_of};
 
@@ -22,6 +22,7 @@ pub fn drill_boot(alloc: Global, machines: u8) -> Result<Boot, NoMemory>
     requires { (2 ≤ machines) × (machines ≤ 16) }
     ensures boot { IfOk result (λ b. b ≡ boot_of machines) }
     ensures valid { IfOk result IsValid }
+    ensures machines { IfOk result (λ b. length b.machines ≡ machines) }
 {
     Ok(Boot {
         numbers: 1_048_576,

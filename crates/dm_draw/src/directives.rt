@@ -2,7 +2,7 @@
 ghost use Rattle.std.specs.Prelude.{◌≡◌, ◌≤◌, ◌<◌, IfOk, length};
 ghost use Rattle.std.specs.List.{All};
 ghost use Rattle.dm_schedule.specs.declared.Directive.{Directive as TheDirective};
-ghost use Rattle.dm_draw.specs.Directives.{deliver_drawn, directive_drawn, directives_drawn, migrate_drawn, tick_drawn, turn_drawn};
+ghost use Rattle.dm_draw.specs.Directives.{IsDrawn, deliver_drawn, directive_drawn, directives_drawn, migrate_drawn, tick_drawn, turn_drawn};
 
 use crate::draw::Generator;
 use dm_link::{FIRST_NUMBER, Pid};
@@ -19,6 +19,8 @@ pub fn drill_directives(
 ) -> Result<Vec<Directive>, NoMemory>
     requires { (2 ≤ machines) × (machines ≤ 16) }
     ensures drawn { IfOk result (λ ds. ds.items ≡ directives_drawn machines seed lines) }
+    ensures each { IfOk result (λ ds. All (IsDrawn machines) ds.items) }
+    ensures count { IfOk result (λ ds. length ds.items ≡ lines) }
 {
     let mut generator = Generator::new(seed);
     let mut directives = Vec::new(alloc);

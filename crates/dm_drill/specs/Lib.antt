@@ -1,3 +1,4 @@
 pub mod Totals
 pub mod Counts
 pub mod Summary
+pub mod Drilled

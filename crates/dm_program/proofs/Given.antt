@@ -6,7 +6,7 @@ use Rattle.std.specs.Option.{option_map_or}
 use Rattle.std.specs.Str.{bytes_eq, chars}
 use Rattle.clap.specs.Lexer.{long_of, short_of}
 use Rattle.clap.specs.Facts.{explicit_source, unwrap_or_range}
-use Rattle.clap.specs.Walk.{Held, Names, Outcome, Row, Rule, Step, Text, Waiting, Walk, action_of, answers_to, after_flag, after_step, arg_by_id, arg_by_index, arg_by_long, arg_by_short, at_row, attached_value, bundle_met, bundle_step, default_rows, finished, first_of, flag_met, idle, is_empty, is_pending, has_row, long_met, long_or_other, more_values, most_values, next, nothing_held, option, option_met, option_word, plain, plain_word, positional, positional_held, pushed, reacted, reading_by, refused, rows_after, settled, settled_rows, short_met, short_or_plain, stop_after, subcommand, subcommand_met, subcommand_or_other, takes_several, takes_values, to_positional, trailing, used, used_as, used_by_id, value, values_or_missing, waits, walk, walk_from, walked, walked_from, with_default, with_values, without, word_met, done}
+use Rattle.clap.specs.Walk.{Held, Names, Outcome, Row, Rule, Step, Text, Waiting, Walk, action_of, answers_to, after_flag, after_step, arg_by_id, arg_by_index, arg_by_long, arg_by_short, at_row, attached_value, bundle_met, bundle_step, default_rows, finished, first_of, flag_met, idle, is_empty, is_pending, has_row, long_met, long_or_other, more_values, most_values, next, nothing_held, option, option_met, option_word, plain, plain_word, positional, positional_held, pushed, reacted, reading_by, refused, settled, settled_rows, short_met, short_or_plain, stop_after, subcommand, subcommand_met, subcommand_or_other, takes_several, takes_values, to_positional, trailing, used, used_as, used_by_id, value, values_or_missing, waits, walk, walk_from, walked, walked_from, with_default, with_values, without, word_met, done}
 use Rattle.clap.specs.Kinds.{Kinds, check_kinds, or_else, range_kinds}
 use Rattle.clap.specs.Takes.{is_given}
 use Rattle.clap.specs.Faults.{action_fault, bundle_step_fault, check_fault, defaults_fault, entered_fault, fault_of, flag_word_fault, flags_fault, level_fault, long_fault, option_fault, other_fault, positional_fault, react_fault, settle_fault, short_fault, step_fault, stray_fault, use_fault, walk_fault, word_fault}
@@ -16,9 +16,11 @@ use Rattle.clap.specs.declared.error.kind.ErrorKind.TheVariants as kind
 use Rattle.clap.specs.declared.parser.matches.ValueSource.{ValueSource}
 use Rattle.clap.specs.declared.parser.matches.ValueSource.TheVariants.{DefaultValue, CommandLine}
 use Rattle.clap.specs.declared.builder.value_parser.Reading.{Reading}
-use Rattle.dm_program.specs.Request.{Request, Run}
-use Rattle.dm_program.specs.RunWords.{both, run_command}
-use Rattle.dm_program.specs.Words.{IsTaken, demosmp, request_at, request_of}
+use Rattle.dm_program.specs.DrillWords.{drawn_by, lines_of, machines_of, seed_of, trace_of}
+use Rattle.dm_program.specs.FileWords.{both}
+use Rattle.dm_program.specs.Request.{Request, Check, Drill, Run}
+use Rattle.dm_program.specs.RunWords.{run_command}
+use Rattle.dm_program.specs.Words.{AreTaken, IsTaken, demosmp, request_at, request_of}
 
 -- where two steps pass, each does
 both_pass : (a b : Kinds) → or_else a b ≡ [] → (a ≡ []) × (b ≡ [])
@@ -271,37 +273,77 @@ level_passes s names h words has_subcommand below e =
 
 -- ---- the commands
 
--- a command whose words pass asks for something
+-- a command whose words pass, and which takes their values, asks for something
 abbrev Asks : Shape → Type 0
-Asks s = (words : List Text) → level_fault s [] nothing_held words false [] ≡ [] → (r : Request) × (request_at (rows_at s words) ≡ Some r)
+Asks s = (words : List Text) → level_fault s [] nothing_held words false [] ≡ [] → AreTaken (Some (rows_at s words)) → (r : Request) × (request_at (rows_at s words) ≡ Some r)
 
--- the first subcommand as it is read
-abbrev first_of_all : List Shape → Shape
-first_of_all [] = run_command
-first_of_all (s ∷ ss) = s
+-- the subcommand of this place, as it is read
+abbrev in_place : ℕ → List Shape → Shape
+in_place k [] = run_command
+in_place zero (s ∷ ss) = s
+in_place (suc k) (s ∷ ss) = in_place k ss
 
 abbrev run_built : Shape
-run_built = first_of_all (built demosmp).subs
+run_built = in_place 0 (built demosmp).subs
 
-each_one : Each run_built.rules
-each_one = (inl (refl, refl), (inl (refl, refl), (inr refl, tt)))
+abbrev check_built : Shape
+check_built = in_place 1 (built demosmp).subs
+
+each_of_run : Each run_built.rules
+each_of_run = (inl (refl, refl), (inl (refl, refl), (inr refl, tt)))
+
+abbrev drill_built : Shape
+drill_built = in_place 2 (built demosmp).subs
+
+each_of_check : Each check_built.rules
+each_of_check = (inl (refl, refl), (inl (refl, refl), (inr refl, tt)))
 
 both_given : (x y : Bool) → check_kinds false false (not x || (not y || false)) ≡ [] → (x ≡ true) × (y ≡ true)
 both_given true true e = (refl, refl)
 both_given true false e = cc
 both_given false y e = cc
 
+-- the matches of a command
+abbrev matched : Shape → List Text → List Row
+matched s words = finished s.rules (walk s.rules [] nothing_held words).held
+
+-- a command that has to name two files names them
+record NamesBoth (one other : Text) (rows : List Row) : Type 0 where
+  first : (v : Text) × (first_of one rows ≡ Some v)
+  second : (v : Text) × (first_of other rows ≡ Some v)
+
+names_both : (s : Shape) (one other : Text) (words : List Text) → Each s.rules
+    → ((rows : List Row) → check_fault s rows false ≡ check_kinds false false (not (is_given one rows) || (not (is_given other rows) || false)))
+    → level_fault s [] nothing_held words false [] ≡ [] → NamesBoth one other (matched s words)
+names_both s one other words each checks e =
+    let end : Held = (walk s.rules [] nothing_held words).held in
+    let passes = level_passes s [] nothing_held words false [] e in
+    let ends : Full end.rows = full_walk s [] each words (walk_from nothing_held) passes.walks tt in
+    let full : Full (matched s words) = full_defaults s.rules (settled s.rules end).rows (full_settled s.rules each s.args_override_self end passes.settles ends) in
+    let given = both_given (is_given one (matched s words)) (is_given other (matched s words)) (sym (checks (matched s words)) ∙ passes.checks) in
+    record { first = given_first one (matched s words) full given.0; second = given_first other (matched s words) full given.1 }
+
 run_asks : Asks run_built
-run_asks words e =
-    let end : Held = (walk run_built.rules [] nothing_held words).held in
-    let rows : List Row = finished run_built.rules end in
-    let passes = level_passes run_built [] nothing_held words false [] e in
-    let ends : Full end.rows = full_walk run_built [] each_one words (walk_from nothing_held) passes.walks tt in
-    let full : Full rows = full_defaults run_built.rules (settled run_built.rules end).rows (full_settled run_built.rules each_one false end passes.settles ends) in
-    let given = both_given (is_given (codes "boot") rows) (is_given (codes "schedule") rows) passes.checks in
-    let boot = given_first (codes "boot") rows full given.0 in
-    let schedule = given_first (codes "schedule") rows full given.1 in
-    (Run boot.0 schedule.0, ap₂ both boot.1 schedule.1)
+run_asks words e values =
+    let names = names_both run_built (codes "boot") (codes "schedule") words each_of_run (λ rows. refl) e in
+    (Run names.first.0 names.second.0, ap₂ (both (λ boot schedule. Run boot schedule)) names.first.1 names.second.1)
+
+check_asks : Asks check_built
+check_asks words e values =
+    let names = names_both check_built (codes "boot") (codes "trace") words each_of_check (λ rows. refl) e in
+    (Check names.first.0 names.second.0, ap₂ (both (λ boot trace. Check boot trace)) names.first.1 names.second.1)
+
+-- a command that takes three numbers draws a drill of them
+all_there : (trace : Bool) (seed machines lines : Option ℕ) → is_some seed && (is_some machines && is_some lines) ≡ true → (r : Request) × (drawn_by trace seed machines lines ≡ Some r)
+all_there trace (Some seed) (Some machines) (Some lines) e = (Drill (record { seed = seed; machines = machines; lines = lines; trace = trace }), refl)
+all_there trace (Some seed) (Some machines) None e = cc
+all_there trace (Some seed) None lines e = cc
+all_there trace None machines lines e = cc
+
+drill_asks : Asks drill_built
+drill_asks words e values =
+    let rows : List Row = (rows_at drill_built words).1 in
+    all_there (trace_of rows) (seed_of rows) (machines_of rows) (lines_of rows) values
 
 -- ---- the command line
 
@@ -311,7 +353,7 @@ AllAsk (s ∷ ss) = Asks s × AllAsk ss
 
 -- a row a command
 all_ask : AllAsk (built demosmp).subs
-all_ask = (run_asks, tt)
+all_ask = (run_asks, (check_asks, (drill_asks, tt)))
 
 abbrev AsksIf : Option Shape → Type 0
 AsksIf None = ⊤
@@ -325,13 +367,13 @@ found_asks test (s ∷ ss) all = go (test s) (found_asks test ss all.1)
     go true later = all.0
     go false later = later
 
-entered_asks : (stop : Option (Text × List Text)) → is_some (entered (built demosmp) stop) ≡ true → entered_fault (built demosmp) stop ≡ [] → (r : Request) × (option_and_then request_at (entered (built demosmp) stop) ≡ Some r)
-entered_asks None has below = cc
-entered_asks (Some p) has below = go (find (λ s. answers_to p.0 (label_of s)) (built demosmp).subs) (found_asks (λ s. answers_to p.0 (label_of s)) (built demosmp).subs all_ask) has below
+entered_asks : (stop : Option (Text × List Text)) → is_some (entered (built demosmp) stop) ≡ true → entered_fault (built demosmp) stop ≡ [] → AreTaken (entered (built demosmp) stop) → (r : Request) × (option_and_then request_at (entered (built demosmp) stop) ≡ Some r)
+entered_asks None has below values = cc
+entered_asks (Some p) has below values = go (find (λ s. answers_to p.0 (label_of s)) (built demosmp).subs) (found_asks (λ s. answers_to p.0 (label_of s)) (built demosmp).subs all_ask) has below values
   where
-    go : (o : Option Shape) → AsksIf o → is_some (option_map (λ s. rows_at s p.1) o) ≡ true → option_map_or (λ s. level_fault s [] nothing_held p.1 false []) o [] ≡ [] → (r : Request) × (option_and_then request_at (option_map (λ s. rows_at s p.1) o) ≡ Some r)
-    go None asks has below = cc
-    go (Some s) asks has below = asks p.1 below
+    go : (o : Option Shape) → AsksIf o → is_some (option_map (λ s. rows_at s p.1) o) ≡ true → option_map_or (λ s. level_fault s [] nothing_held p.1 false []) o [] ≡ [] → AreTaken (option_map (λ s. rows_at s p.1) o) → (r : Request) × (option_and_then request_at (option_map (λ s. rows_at s p.1) o) ≡ Some r)
+    go None asks has below values = cc
+    go (Some s) asks has below values = asks p.1 below values
 
 wants_one : (b : Bool) (rows : List Row) → check_fault (built demosmp).top rows b ≡ [] → b ≡ true
 wants_one true rows e = refl
@@ -340,19 +382,19 @@ wants_one false rows e =
     cc
 
 -- words that the command line takes ask for something
-pub asked_there : (words : List Text) → fault_of demosmp words ≡ [] → (r : Request) × (option_and_then request_at (subcommand_of demosmp words) ≡ Some r)
-asked_there words e =
+pub asked_there : (words : List Text) → fault_of demosmp words ≡ [] → AreTaken (subcommand_of demosmp words) → (r : Request) × (option_and_then request_at (subcommand_of demosmp words) ≡ Some r)
+asked_there words e values =
     let stop : Option (Text × List Text) = stop_after (built demosmp).top.rules (labels_of (built demosmp)) (argument_words demosmp words) in
     let top : Shape = (built demosmp).top in
     let names : Names = labels_of (built demosmp) in
     let given : List Text = argument_words demosmp words in
     let passes = level_passes top names nothing_held given (is_some (entered (built demosmp) stop)) (entered_fault (built demosmp) stop) e in
-    entered_asks stop (wants_one (is_some (entered (built demosmp) stop)) (finished top.rules (walk top.rules names nothing_held given).held) passes.checks) passes.under
+    entered_asks stop (wants_one (is_some (entered (built demosmp) stop)) (finished top.rules (walk top.rules names nothing_held given).held) passes.checks) passes.under values
 
 -- so nothing is asked for only where the command line doesn't take the words
 pub only_refused : (words : List Text) → request_of words ≡ None → IsTaken words → ⊥
 only_refused words none taken =
-    let there = asked_there words taken in
-    let some : request_of words ≡ Some there.0 = ap (λ (kinds : Kinds). if is_empty kinds then option_and_then request_at (subcommand_of demosmp words) else None) taken ∙ there.1 in
+    let there = asked_there words taken.passes taken.values in
+    let some : request_of words ≡ Some there.0 = ap (λ (kinds : Kinds). if is_empty kinds then option_and_then request_at (subcommand_of demosmp words) else None) taken.passes ∙ there.1 in
     let bad : None ≡ Some there.0 = sym none ∙ some in
     cc

@@ -1,17 +1,19 @@
 -- What the program promises where memory lacks before anything was done, or the words ask for nothing.
-use Rattle.std.proofs.Common.{◌≡◌, ◌⊎◌, inl, inr, ℕ, List, refl, ap, sym, subst, ◌∙◌}
+use Rattle.std.proofs.Common.{◌≡◌, inl, inr, ℕ, List, refl, sym, subst}
 use Rattle.std.specs.declared.option.Option.{Option}
 use Rattle.std.specs.declared.option.Option.TheVariants.{None, Some}
 use Rattle.dm_memory.specs.declared.NoMemory.{NoMemory as TheNoMemory}
-use Rattle.dm_program.specs.declared.status.Input.{Input}
-use Rattle.dm_program.specs.declared.status.Status.{Status}
-use Rattle.dm_program.specs.declared.status.Status.TheVariants.{Done, Usage, ReadFault, NoMemory, Worn}
+use Rattle.dm_draw.specs.Boot.{boot_of}
+use Rattle.dm_drill.specs.Drilled.{IsOfFirst}
+use Rattle.dm_drill.proofs.Going.{nothing_drilled}
+use Rattle.dm_program.specs.declared.status.Status.TheVariants.{Usage, NoMemory}
 use Rattle.dm_program.specs.declared.words.WordsNo.{WordsNo}
 use Rattle.dm_program.specs.declared.words.WordsNo.TheVariants as why
+use Rattle.dm_program.specs.Drills.{directives_of}
 use Rattle.dm_program.specs.Outside.{Outside}
 use Rattle.dm_program.specs.Program.{ProgramMeets}
-use Rattle.dm_program.specs.Request.{Request, Run}
-use Rattle.dm_program.specs.Status.{IsWant, status_of_no}
+use Rattle.dm_program.specs.Request.{Request, Check, Drill, Run}
+use Rattle.dm_program.specs.Status.{status_of_no}
 
 -- nothing was done
 pub record Untouched (o : Outside) : Type 0 where
@@ -31,6 +33,27 @@ lacks_meets asked faults (Some (Run boot schedule)) o shelf lack h nothing = rec
   asks = inl (nothing boot);
   boot_fault = λ e. absurd cc;
   schedule_fault = λ e. absurd cc;
+  shelf = h.reads;
+  sink = h.writes;
+}
+lacks_meets asked faults (Some (Check boot trace)) o shelf lack h nothing = record {
+  says = inr (record { why = tt; nothing = h.told });
+  accepts = λ files groups ended told gives never. inr (lack, refl);
+  finds = λ files line why told gives quiet. inr (lack, refl);
+  refuses = λ files due told why some quiet. inr (lack, refl);
+  asks = inl (nothing boot);
+  boot_fault = λ e. absurd cc;
+  trace_fault = λ e. absurd cc;
+  no_world = h.no_world;
+  shelf = h.reads;
+  sink = h.writes;
+}
+
+lacks_meets asked faults (Some (Drill d)) o shelf lack h nothing = record {
+  says = subst (λ (after : Option (List ℕ)). IsOfFirst d.trace (boot_of d.machines) (directives_of d) o.before after) (sym h.told) (nothing_drilled d.trace (boot_of d.machines) (directives_of d) o.before);
+  completes = λ lasts never. inr (lack, refl);
+  wears = λ from to wears never. inr (lack, refl);
+  unread = refl;
   shelf = h.reads;
   sink = h.writes;
 }

@@ -3,6 +3,9 @@ pub mod Given
 pub mod Reading
 pub mod Schedules
 pub mod Endings
+pub mod Drills
 mod Outcomes
+mod CheckOutcomes
+mod RunsChecked
 mod Whose
 mod Lacking

@@ -1,7 +1,6 @@
 -- Which files are asked for, in which order, and whose read fails.
-use Rattle.std.specs.Prelude.{◌≡◌, ℕ, ◌⊎◌, List}
+use Rattle.std.specs.Prelude.{ℕ, ◌⊎◌, List}
 use Rattle.std.specs.declared.option.Option.{Option}
-use Rattle.std.specs.declared.option.Option.TheVariants.{None, Some}
 use Rattle.dm_onekernel.specs.declared.boot.Boot.{Boot}
 use Rattle.dm_outside.specs.Outside.{RoseOrFull}
 use Rattle.dm_program.specs.Inputs.{SaysBoot}

@@ -1,10 +1,16 @@
 pub mod Status
 pub mod Request
+pub mod FileWords
 pub mod RunWords
+pub mod CheckWords
+pub mod DrillWords
 pub mod Words
 pub mod Files
 pub mod Inputs
 pub mod Asked
 pub mod Outside
 pub mod Runs
+pub mod Checks
+pub mod Drills
 pub mod Program
+pub mod Laws

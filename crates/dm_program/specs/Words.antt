@@ -1,5 +1,5 @@
 -- The words of the command line, as `clap` takes them, and what they ask for.
-use Rattle.std.specs.Prelude.{◌≡◌, ℕ, true, List, [], ◌∷◌, codes, option_and_then, if◌then◌else◌}
+use Rattle.std.specs.Prelude.{◌≡◌, ⊤, ℕ, Bool, true, List, [], ◌∷◌, codes, option_and_then, if◌then◌else◌}
 use Rattle.std.specs.Str.{bytes_eq}
 use Rattle.std.specs.declared.option.Option.{Option}
 use Rattle.std.specs.declared.option.Option.TheVariants.{None, Some}
@@ -8,17 +8,27 @@ use Rattle.clap.specs.Simple.{App, Shape, new_shape, subcommand_of, with_subcomm
 use Rattle.clap.specs.Faults.{fault_of}
 use Rattle.dm_program.specs.declared.words.Request.{Request as TheRequest}
 use Rattle.dm_program.specs.declared.words.Request.TheVariants as the
-use Rattle.dm_program.specs.Request.{Request, Run}
+use Rattle.dm_program.specs.Request.{Request, Check, Drill, Run}
+use Rattle.dm_program.specs.CheckWords.{check_command, check_request}
+use Rattle.dm_program.specs.DrillWords.{IsWithin, drill_command, drill_request, has_numbers}
 use Rattle.dm_program.specs.RunWords.{run_command, run_request}
 
--- a command: its name and its options, and what its matches ask for
+-- a command: its name and its options, which of their values it takes, and what its matches ask for
 pub record Command : Type 0 where
   pub shape : Shape
+  pub takes : List Row → Bool
   pub request : List Row → Option Request
+
+-- any values
+abbrev pub any : List Row → Bool
+any rows = true
 
 -- the commands of the program, a row each
 abbrev pub commands : List Command
-commands = record { shape = run_command; request = run_request } ∷ []
+commands =
+    record { shape = run_command; takes = any; request = run_request } ∷
+    record { shape = check_command; takes = any; request = check_request } ∷
+    record { shape = drill_command; takes = has_numbers; request = drill_request } ∷ []
 
 abbrev pub with_commands : App → List Command → App
 with_commands a [] = a
@@ -37,9 +47,19 @@ request_in (c ∷ cs) name rows = if bytes_eq name c.shape.name then c.request r
 abbrev pub request_at : List ℕ × List Row → Option Request
 request_at found = request_in commands found.0 found.1
 
--- the command takes the words: no step of their parse fails
-abbrev pub IsTaken : List (List ℕ) → Type 0
-IsTaken words = fault_of demosmp words ≡ []
+-- whether the command of this name takes the values of its options
+abbrev pub takes_in : List Command → List ℕ → List Row → Bool
+takes_in [] name rows = true
+takes_in (c ∷ cs) name rows = if bytes_eq name c.shape.name then c.takes rows else takes_in cs name rows
+
+abbrev pub AreTaken : Option (List ℕ × List Row) → Type 0
+AreTaken None = ⊤
+AreTaken (Some found) = takes_in commands found.0 found.1 ≡ true
+
+-- the command takes the words: no step of their parse fails, and the numbers that they say are in their ranges
+pub record IsTaken (words : List (List ℕ)) : Type 0 where
+  pub passes : fault_of demosmp words ≡ []
+  pub values : AreTaken (subcommand_of demosmp words)
 
 -- what the words ask for, where the command takes them
 abbrev pub request_of : List (List ℕ) → Option Request
@@ -48,3 +68,11 @@ request_of words = if is_empty (fault_of demosmp words) then option_and_then req
 -- a request of the code, by its names alone
 abbrev pub request_said : TheRequest → Request
 request_said (the.Run boot schedule) = Run boot.now schedule.now
+request_said (the.Check boot trace) = Check boot.now trace.now
+request_said (the.Drill drill) = Drill drill
+
+-- the numbers of a drill are in their ranges
+abbrev pub IsInRange : TheRequest → Type 0
+IsInRange (the.Run boot schedule) = ⊤
+IsInRange (the.Check boot trace) = ⊤
+IsInRange (the.Drill drill) = IsWithin drill

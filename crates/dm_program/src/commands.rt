@@ -1,2 +1,4 @@
 //! The commands of the program, a file each.
+pub mod check;
+pub mod drill;
 pub mod run;

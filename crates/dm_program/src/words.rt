@@ -1,16 +1,22 @@
 //! The words of the command line, and what they ask for.
-ghost use Rattle.std.specs.Prelude.{◌≡◌, map, option_and_then, option_map, false, Some, None, IfOk, IfErr};
+ghost use Rattle.std.specs.Prelude.{◌≡◌, ◌≤◌, map, option_and_then, option_map, false, Some, None, IfOk, IfErr, IfSome};
 ghost use Rattle.clap.specs.Built.{AddsSubcommand};
 ghost use Rattle.clap.specs.Words.{app_of, found_of, rows_of, rule_of, subcommand_rows_of, with_subcommand as with_shape};
 ghost use Rattle.clap.specs.declared.builder.command.Command.{Command as TheCommand};
 ghost use Rattle.dm_program.specs.Status.{status_of_no};
-ghost use Rattle.dm_program.specs.RunWords.{file_option, run_command as run_shape, run_request as run_asked};
-ghost use Rattle.dm_program.specs.Words.{IsTaken, demosmp, request_at, request_of, request_said};
+ghost use Rattle.dm_program.specs.CheckWords.{check_command as check_shape, check_request as check_asked};
+ghost use Rattle.clap.specs.Walk.{first_of};
+ghost use Rattle.dm_program.specs.DrillWords.{drill_command as drill_shape, drill_request as drill_asked, flag_option, lines_in, lines_of, machines_in, machines_of, number_option, seed_of, trace_of};
+ghost use Rattle.dm_program.specs.FileWords.{file_option};
+ghost use Rattle.dm_program.specs.RunWords.{run_command as run_shape, run_request as run_asked};
+ghost use Rattle.dm_program.specs.Words.{IsInRange, IsTaken, demosmp, request_at, request_of, request_said};
 
 use crate::status::Status;
-use clap::{Arg, ArgMatches, Command};
+use clap::{Arg, ArgAction, ArgMatches, Command};
+use dm_drill::drill::Drill;
 use dm_memory::NoMemory;
 use dm_memory::of_clap::{NoMatches, matches_from, with_arg, with_subcommand};
+use dm_shape::names::{byte, count};
 use std::alloc::Global;
 
 /// Why the words ask for nothing.
@@ -39,11 +45,16 @@ impl WordsNo {
 pub enum Request<'a> {
     /// To run the schedule of a file on the system of a boot file.
     Run { boot: &'a str, schedule: &'a str },
+    /// To check that the trace of a file is what the system of a boot file prints.
+    Check { boot: &'a str, trace: &'a str },
+    /// To do a drill: its machines are 2 to 16, its directives 1 to 10,000.
+    Drill(Drill),
 }
 
 /// What the words ask for, where they are those of a command.
 pub fn read_words<'a>(alloc: Global, words: &'a [&'a str]) -> Result<Request<'a>, WordsNo>
     ensures asks { IfOk result (λ r. request_of (map (λ w. w.now) words.now) ≡ Some (request_said r)) }
+    ensures within { IfOk result IsInRange }
     ensures refused { IfErr result (λ e. e ≡ WordsNo.Usage → IsTaken (map (λ w. w.now) words.now) → ⊥) }
     ensures usage { IfErr result (λ e. e ≡ WordsNo.Usage → request_of (map (λ w. w.now) words.now) ≡ None) }
 {
@@ -68,7 +79,9 @@ fn command<'a>(alloc: Global) -> Result<Command<'a>, NoMemory>
     let top = Command::new(alloc, "demosmp")
         .disable_help_subcommand(true)
         .subcommand_required(true);
-    with_subcommand(top, run_command(alloc)?)
+    let one = with_subcommand(top, run_command(alloc)?)?;
+    let two = with_subcommand(one, check_command(alloc)?)?;
+    with_subcommand(two, drill_command(alloc)?)
 }
 
 /// The command `run`: whatever command line takes it in has its shape behind the others.
@@ -80,6 +93,26 @@ fn run_command<'a>(alloc: Global) -> Result<Command<'a>, NoMemory>
     Ok(run)
 }
 
+/// The command `check`: whatever command line takes it in has its shape behind the others.
+fn check_command<'a>(alloc: Global) -> Result<Command<'a>, NoMemory>
+    ensures { IfOk result (λ c. (old new : TheCommand) → AddsSubcommand old c new → app_of new ≡ with_shape (app_of old) check_shape) }
+{
+    let check = with_arg(Command::new(alloc, "check"), file(alloc, "boot"))?;
+    let check = with_arg(check, file(alloc, "trace"))?;
+    Ok(check)
+}
+
+/// The command `drill`: whatever command line takes it in has its shape behind the others.
+fn drill_command<'a>(alloc: Global) -> Result<Command<'a>, NoMemory>
+    ensures { IfOk result (λ c. (old new : TheCommand) → AddsSubcommand old c new → app_of new ≡ with_shape (app_of old) drill_shape) }
+{
+    let drill = with_arg(Command::new(alloc, "drill"), number(alloc, "seed"))?;
+    let drill = with_arg(drill, number(alloc, "machines"))?;
+    let drill = with_arg(drill, number(alloc, "lines"))?;
+    let drill = with_arg(drill, flag(alloc, "trace"))?;
+    Ok(drill)
+}
+
 /// The option `--name FILE`, which has to be there.
 fn file<'a>(alloc: Global, name: &'a str) -> Arg<'a>
     ensures rule { rule_of result ≡ file_option name.now }
@@ -88,9 +121,26 @@ fn file<'a>(alloc: Global, name: &'a str) -> Arg<'a>
     Arg::new(alloc, name).long(name).required(true)
 }
 
+/// The option `--name NUMBER`, which has to be there.
+fn number<'a>(alloc: Global, name: &'a str) -> Arg<'a>
+    ensures rule { rule_of result ≡ number_option name.now }
+    ensures local { result.global ≡ false }
+{
+    Arg::new(alloc, name).long(name).required(true)
+}
+
+/// The option `--name`, which may be there.
+fn flag<'a>(alloc: Global, name: &'a str) -> Arg<'a>
+    ensures rule { rule_of result ≡ flag_option name.now }
+    ensures local { result.global ≡ false }
+{
+    Arg::new(alloc, name).long(name).action(ArgAction::SetTrue)
+}
+
 /// What the matches of the subcommand ask for.
 fn request_in<'a>(matches: &ArgMatches<'a>) -> Option<Request<'a>>
-    ensures { option_map request_said result ≡ option_and_then request_at (subcommand_rows_of matches.now) }
+    ensures asked { option_map request_said result ≡ option_and_then request_at (subcommand_rows_of matches.now) }
+    ensures within { IfSome result IsInRange }
 {
     match matches.subcommand() {
         Some((name, found)) => request_of_command(name, found),
@@ -100,19 +150,123 @@ fn request_in<'a>(matches: &ArgMatches<'a>) -> Option<Request<'a>>
 
 /// What the matches of the command of this name ask for, a row a command.
 fn request_of_command<'a>(name: &str, found: &ArgMatches<'a>) -> Option<Request<'a>>
-    ensures { option_map request_said result ≡ request_at (name.now, rows_of (found_of found.now)) }
+    ensures asked { option_map request_said result ≡ request_at (name.now, rows_of (found_of found.now)) }
+    ensures within { IfSome result IsInRange }
 {
     if name == "run" {
         return run_request(found);
+    }
+    if name == "check" {
+        return check_request(found);
+    }
+    if name == "drill" {
+        return drill_request(found);
     }
     None
 }
 
 /// The two files that the matches of `run` name.
 fn run_request<'a>(matches: &ArgMatches<'a>) -> Option<Request<'a>>
-    ensures { option_map request_said result ≡ run_asked (rows_of (found_of matches.now)) }
+    ensures asked { option_map request_said result ≡ run_asked (rows_of (found_of matches.now)) }
+    ensures within { IfSome result IsInRange }
 {
     let boot = matches.get_str("boot")?;
     let schedule = matches.get_str("schedule")?;
     Some(Request::Run { boot, schedule })
+}
+
+/// The two files that the matches of `check` name.
+fn check_request<'a>(matches: &ArgMatches<'a>) -> Option<Request<'a>>
+    ensures asked { option_map request_said result ≡ check_asked (rows_of (found_of matches.now)) }
+    ensures within { IfSome result IsInRange }
+{
+    let boot = matches.get_str("boot")?;
+    let trace = matches.get_str("trace")?;
+    Some(Request::Check { boot, trace })
+}
+
+/// The drill that the matches of `drill` ask for, where its numbers are in their ranges.
+fn drill_request<'a>(matches: &ArgMatches<'a>) -> Option<Request<'a>>
+    ensures asked { option_map request_said result ≡ drill_asked (rows_of (found_of matches.now)) }
+    ensures within { IfSome result IsInRange }
+{
+    let seed = seed(matches)?;
+    let machines = machines(matches)?;
+    let lines = lines(matches)?;
+    let trace = has_trace(matches);
+    Some(Request::Drill(Drill {
+        seed,
+        machines,
+        lines,
+        trace,
+    }))
+}
+
+/// The number of the option `--seed`.
+fn seed(matches: &ArgMatches<'_>) -> Option<u32>
+    ensures { result ≡ seed_of (rows_of (found_of matches.now)) }
+{
+    match value(matches, "seed") {
+        Some(word) => count(word.as_bytes()),
+        None => None,
+    }
+}
+
+/// The number of the option `--machines`, if it is in its range.
+fn machines(matches: &ArgMatches<'_>) -> Option<u8>
+    ensures number { result ≡ machines_of (rows_of (found_of matches.now)) }
+    ensures least { IfSome result (λ n. 2 ≤ n) }
+    ensures most { IfSome result (λ n. n ≤ 16) }
+{
+    match value(matches, "machines") {
+        Some(word) => machines_in(word),
+        None => None,
+    }
+}
+
+/// The number of machines that a word says.
+fn machines_in(word: &str) -> Option<u8>
+    ensures number { result ≡ machines_in word.now }
+    ensures least { IfSome result (λ n. 2 ≤ n) }
+    ensures most { IfSome result (λ n. n ≤ 16) }
+{
+    let n = byte(word.as_bytes())?;
+    if 2 <= n && n <= 16 { Some(n) } else { None }
+}
+
+/// The number of the option `--lines`, if it is in its range.
+fn lines(matches: &ArgMatches<'_>) -> Option<u32>
+    ensures number { result ≡ lines_of (rows_of (found_of matches.now)) }
+    ensures most { IfSome result (λ n. n ≤ 10000) }
+{
+    match value(matches, "lines") {
+        Some(word) => lines_in(word),
+        None => None,
+    }
+}
+
+/// The number of directives that a word says.
+fn lines_in(word: &str) -> Option<u32>
+    ensures number { result ≡ lines_in word.now }
+    ensures most { IfSome result (λ n. n ≤ 10000) }
+{
+    let n = count(word.as_bytes())?;
+    if 1 <= n && n <= 10_000 { Some(n) } else { None }
+}
+
+/// Whether the option `--trace` is there.
+fn has_trace(matches: &ArgMatches<'_>) -> bool
+    ensures { result ≡ trace_of (rows_of (found_of matches.now)) }
+{
+    match value(matches, "trace") {
+        Some(word) => word == "true",
+        None => false,
+    }
+}
+
+/// The first value of an option.
+fn value<'a>(matches: &ArgMatches<'a>, name: &str) -> Option<&'a str>
+    ensures { option_map (λ s. s.now) result ≡ first_of name.now (rows_of (found_of matches.now)) }
+{
+    matches.get_str(name)
 }

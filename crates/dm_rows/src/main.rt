@@ -2,12 +2,14 @@
 //! system's tables: both tables, `runs` and `rows`, lie in data/ beside the files that they name. Then what no run shows.
 #![tactic(auto)]
 
+mod failing;
 mod others;
 mod row;
 mod run;
 
 use anyhow::{Context, Result};
-use others::{fail_in_turn, read_files, say_errors, step_flat, write_out};
+use failing::fail_in_turn;
+use others::{read_files, say_errors, step_flat, write_out};
 use row::Row;
 use run::{Ending, Run};
 use std::fs;

@@ -72,7 +72,7 @@ fn run<K: Sink>(alloc: Global, inputs: Inputs, out: &mut K, world: &mut Option<W
 }
 
 /// The status of a run that came to its end, or stopped.
-fn status_of(ended: Result<(), Stop>) -> Status
+pub fn status_of(ended: Result<(), Stop>) -> Status
     ensures { result ≡ ended_with ended }
 {
     match ended {

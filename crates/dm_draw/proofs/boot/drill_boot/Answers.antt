@@ -1,7 +1,9 @@
-use Rattle.std.proofs.Common.{rules, subst, sym}
+use Rattle.std.proofs.Common.{rules, ap, length, subst, sym, ◌∙◌}
+use Rattle.dm_onekernel.specs.declared.boot.Boot.{Boot}
 use Rattle.dm_onekernel.specs.Boot.{IsValid}
 use Rattle.dm_draw.specs.Boot.{boot_of}
 use Rattle.dm_draw.proofs.Valid.{boot_valid}
+use Rattle.dm_draw.proofs.Within.{boot_machines}
 use Rattle.dm_draw.proofs.boot.drill_boot.Goals as goal
 
 pub returns-clause-boot : goal.returns-clause-boot
@@ -10,3 +12,6 @@ returns-clause-boot c = search rules
 
 pub returns-clause-valid : goal.returns-clause-valid
 returns-clause-valid c = subst IsValid (sym (returns-clause-boot c)) (boot_valid c.args.machines c.requires.0 c.requires.1)
+
+pub returns-clause-machines : goal.returns-clause-machines
+returns-clause-machines c = ap (λ (b : Boot). length b.machines) (returns-clause-boot c) ∙ boot_machines c.args.machines

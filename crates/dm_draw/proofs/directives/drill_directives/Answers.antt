@@ -1,7 +1,9 @@
-use Rattle.std.proofs.Common.{◌≡◌, ◌++◌, ◌∷◌, [], sym, ap, ◌∙◌}
+use Rattle.std.proofs.Common.{rules, ◌≡◌, ◌++◌, ◌∷◌, [], List, length, sym, ap, subst, ◌∙◌}
+use Rattle.std.specs.List.{All}
 use Rattle.dm_schedule.specs.declared.Directive.{Directive}
-use Rattle.dm_draw.specs.Directives.{directive_drawn, directives_drawn, state_behind}
+use Rattle.dm_draw.specs.Directives.{IsDrawn, directive_drawn, directives_drawn, state_behind}
 use Rattle.dm_draw.proofs.Drawing.{drawn_none, state_none, drawn_more, state_more}
+use Rattle.dm_draw.proofs.Within.{directives_count, directives_fit}
 use Rattle.dm_draw.proofs.directives.drill_directives.Goals as goal
 
 pub loop-init : goal.loop-init
@@ -20,3 +22,12 @@ loop-preserved c =
       drawn = c.in_ok-push.ensures.items ∙ (ap (λ ds. ds ++ c.draw_directive.result ∷ []) c.loop.invariant.drawn ∙ (ap (λ (d : Directive). directives_drawn m x n ++ d ∷ []) said ∙ sym (drawn_more m x n)));
       state = c.draw_directive.ensures.state ∙ (ap (λ s. (directive_drawn m s).state) c.loop.invariant.state ∙ sym (state_more m x n));
     }
+
+pub returns-clause-drawn : goal.returns-clause-drawn
+returns-clause-drawn c = search rules
+
+pub returns-clause-each : goal.returns-clause-each
+returns-clause-each c = subst (All (IsDrawn c.args.machines)) (sym (returns-clause-drawn c)) (directives_fit c.args.machines c.args.seed c.args.lines c.requires.0)
+
+pub returns-clause-count : goal.returns-clause-count
+returns-clause-count c = ap (λ (ds : List Directive). length ds) (returns-clause-drawn c) ∙ directives_count c.args.machines c.args.seed c.args.lines

@@ -1,8 +1,7 @@
 use Rattle.std.proofs.Common.{rules, ◌≡◌, List, ℕ, map, refl, string_bytes, subst, sym}
-use Rattle.std.specs.declared.option.Option.TheVariants.{None}
 use Rattle.dm_program.specs.Outside.{around}
 use Rattle.dm_program.specs.Program.{ProgramMeets}
-use Rattle.dm_program.specs.Words.{request_of}
+use Rattle.dm_program.specs.Words.{IsTaken, request_of}
 use Rattle.dm_program.proofs.Lacking.{lacks_meets}
 use Rattle.dm_program.proofs.entry.run_given.Goals as goal
 
@@ -16,3 +15,8 @@ pub returns-in-Ok-clause-meets : goal.returns-in-Ok-clause-meets
 returns-in-Ok-clause-meets g c =
     let nothing : (name : List ℕ) → g.F.Shelf.asked c.args.shelf.now name c.args.shelf.now = λ name. search rules in
     rw c.in-Ok.is (lacks_meets g.F.Shelf.asked g.F.Shelf.faults (request_of (map string_bytes c.in-Ok.words.items)) _ c.args.shelf.now c.in-Err-texts.no (record { told = refl; reads = refl; writes = refl; no_world = refl }) nothing)
+
+pub returns-in-Ok-texts-clause-refused : goal.returns-in-Ok-texts-clause-refused
+returns-in-Ok-texts-clause-refused g c =
+    let e : map (λ w. w.now) c.as_slice-in-Ok-texts.result.now ≡ map string_bytes c.in-Ok.words.items = search rules in
+    rw c.in-Ok.is (λ usage taken. c.run_program.ensures.refused usage (subst IsTaken (sym e) taken))

@@ -1,37 +1,84 @@
-use Rattle.std.proofs.Common.{rules, Bor, ◌≡◌, ◌∙◌, List, ℕ, ap, map, refl, sym, subst}
+use Rattle.std.proofs.Common.{rules, ◌∙◌, List, ℕ, ap, map, refl, sym, subst}
 use Rattle.std.specs.declared.option.Option.{Option}
 use Rattle.std.specs.declared.option.Option.TheVariants.{None, Some}
 use Rattle.dm_program.specs.declared.words.Request.{Request as TheRequest}
-use Rattle.dm_program.specs.declared.words.Request.TheVariants as the
 use Rattle.dm_program.specs.declared.status.Status.{Status}
+use Rattle.dm_draw.specs.Boot.{boot_of}
+use Rattle.dm_program.specs.Drills.{directives_of}
 use Rattle.dm_program.specs.Outside.{around}
 use Rattle.dm_program.specs.Program.{ProgramMeets}
 use Rattle.dm_program.specs.Request.{Request}
-use Rattle.dm_program.specs.Words.{request_of, request_said}
+use Rattle.dm_program.specs.Words.{IsInRange, request_of, request_said}
+use Rattle.dm_program.proofs.Drills.{drill_completes, drill_shelf, drill_taken, drill_wears}
 use Rattle.dm_program.proofs.Lacking.{no_request}
 use Rattle.dm_program.proofs.program.run_program.Goals as goal
 
--- a request to run has two names
-names_of : (r : TheRequest) → (boot : Bor (List ℕ)) × (schedule : Bor (List ℕ)) × (r ≡ the.Run boot schedule)
-names_of (the.Run boot schedule) = (boot, schedule, refl)
-
 pub returns-in-Ok-Run-clause-meets : goal.returns-in-Ok-Run-clause-meets
 returns-in-Ok-Run-clause-meets g c =
-    let (boot, schedule, e) = names_of c.in-Ok-Run.field-0 in
     subst (λ (r : Option Request). ProgramMeets g.F.Shelf.asked g.F.Shelf.faults r
     (around g.F.Shelf.told g.F.Shelf.faults g.K.Sink.told g.K.Sink.faults c.args.shelf.now c.run_files.new.shelf c.args.out.now c.run_files.new.out c.run_files.new.world) c.args.shelf.now c.run_files.new.shelf c.run_files.result)
-    (sym (c.in-Ok-Run.ensures.asks ∙ ap (λ (r : TheRequest). Some (request_said r)) e))
+    (sym (c.in-Ok-Run.ensures.asks ∙ ap (λ (r : TheRequest). Some (request_said r)) c.in-Ok-Run.field-0-is))
     (record {
-      says = rw e at c.run_files.ensures.says;
-      completes = rw e at c.run_files.ensures.completes;
-      wears = rw e at c.run_files.ensures.wears;
-      refuses = rw e at c.run_files.ensures.refuses;
-      asks = rw e at c.run_files.ensures.asks;
-      boot_fault = rw e at c.run_files.ensures.boot_fault;
-      schedule_fault = rw e at c.run_files.ensures.schedule_fault;
+      says = c.run_files.ensures.says;
+      completes = c.run_files.ensures.completes;
+      wears = c.run_files.ensures.wears;
+      refuses = c.run_files.ensures.refuses;
+      asks = c.run_files.ensures.asks;
+      boot_fault = c.run_files.ensures.boot_fault;
+      schedule_fault = c.run_files.ensures.schedule_fault;
       shelf = c.run_files.ensures.shelf;
       sink = c.run_files.ensures.sink;
     })
+
+pub returns-in-Ok-Check-clause-meets : goal.returns-in-Ok-Check-clause-meets
+returns-in-Ok-Check-clause-meets g c =
+    subst (λ (r : Option Request). ProgramMeets g.F.Shelf.asked g.F.Shelf.faults r
+    (around g.F.Shelf.told g.F.Shelf.faults g.K.Sink.told g.K.Sink.faults c.args.shelf.now c.check_files.new.shelf c.args.out.now c.check_files.new.out None) c.args.shelf.now c.check_files.new.shelf c.check_files.result)
+    (sym (c.in-Ok-Check.ensures.asks ∙ ap (λ (r : TheRequest). Some (request_said r)) c.in-Ok-Check.field-0-is))
+    (record {
+      says = c.check_files.ensures.says;
+      accepts = c.check_files.ensures.accepts;
+      finds = c.check_files.ensures.finds;
+      refuses = c.check_files.ensures.refuses;
+      asks = c.check_files.ensures.asks;
+      boot_fault = c.check_files.ensures.boot_fault;
+      trace_fault = c.check_files.ensures.trace_fault;
+      no_world = refl;
+      shelf = c.check_files.ensures.shelf;
+      sink = c.check_files.ensures.sink;
+    })
+
+pub drill-requires : goal.drill-requires
+drill-requires g c = subst IsInRange c.in-Ok-Drill.field-0-is c.in-Ok-Drill.ensures.within
+
+pub returns-in-Ok-Drill-clause-meets : goal.returns-in-Ok-Drill-clause-meets
+returns-in-Ok-Drill-clause-meets g c =
+    let d = c.in-Ok-Drill.drawn in
+    let before = g.K.Sink.told c.args.out.now in
+    let after = g.K.Sink.told c.drill.new.out in
+    let faults = g.K.Sink.faults c.args.out.now in
+    let faults' = g.K.Sink.faults c.drill.new.out in
+    subst (λ (r : Option Request). ProgramMeets g.F.Shelf.asked g.F.Shelf.faults r
+    (around g.F.Shelf.told g.F.Shelf.faults g.K.Sink.told g.K.Sink.faults c.args.shelf.now c.args.shelf.now c.args.out.now c.drill.new.out c.drill.new.world) c.args.shelf.now c.args.shelf.now c.drill.result)
+    (sym (c.in-Ok-Drill.ensures.asks ∙ ap (λ (r : TheRequest). Some (request_said r)) c.in-Ok-Drill.field-0-is))
+    (record {
+      says = c.drill.ensures.says;
+      completes = λ lasts never. drill_completes d (boot_of d.machines) (directives_of d) before after c.drill.new.world faults faults' c.drill.result c.drill.ensures.says c.drill.ensures.sink lasts never.writes;
+      wears = λ from to wears never. drill_wears d (boot_of d.machines) (directives_of d) before after c.drill.new.world faults faults' c.drill.result from to c.drill.ensures.says c.drill.ensures.sink wears never.writes;
+      unread = refl;
+      shelf = drill_shelf d (boot_of d.machines) (directives_of d) before after c.drill.new.world (g.F.Shelf.faults c.args.shelf.now) c.drill.result c.drill.ensures.says;
+      sink = c.drill.ensures.sink;
+    })
+
+pub returns-in-Ok-Drill-clause-refused : goal.returns-in-Ok-Drill-clause-refused
+returns-in-Ok-Drill-clause-refused g c = λ usage taken.
+    let d = c.in-Ok-Drill.drawn in
+    drill_taken d (boot_of d.machines) (directives_of d) (g.K.Sink.told c.args.out.now) (g.K.Sink.told c.drill.new.out) c.drill.new.world c.drill.result c.drill.ensures.says usage
+
+pub returns-in-Ok-Drill-clause-shelf : goal.returns-in-Ok-Drill-clause-shelf
+returns-in-Ok-Drill-clause-shelf g c =
+    let d = c.in-Ok-Drill.drawn in
+    drill_shelf d (boot_of d.machines) (directives_of d) (g.K.Sink.told c.args.out.now) (g.K.Sink.told c.drill.new.out) c.drill.new.world (g.F.Shelf.faults c.args.shelf.now) c.drill.result c.drill.ensures.says
 
 pub returns-in-Err-clause-meets : goal.returns-in-Err-clause-meets
 returns-in-Err-clause-meets g c =

@@ -9,5 +9,5 @@ pub returns-in-Ok-matches_from-clause-refused : goal.returns-in-Ok-matches_from-
 returns-in-Ok-matches_from-clause-refused c = λ usage is_taken.
     let words : List (List ℕ) = map (λ w. w.now) c.args.words.now in
     let parse = c.in-Ok-matches_from in
-    let none : request_of words ≡ None = taken (app_of c.in-Ok.command) words parse.matches c.in-Ok.ensures parse.ensures.fails parse.ensures.matches ∙ sym c.in-None.ensures in
+    let none : request_of words ≡ None = taken (app_of c.in-Ok.command) words parse.matches c.in-Ok.ensures parse.ensures.fails parse.ensures.matches ∙ sym c.in-None.ensures.asked in
     only_refused words none is_taken

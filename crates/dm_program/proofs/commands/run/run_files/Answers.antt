@@ -1,4 +1,4 @@
-use Rattle.std.proofs.Common.{List, inl, inr, length, sym, subst, ◌∙◌}
+use Rattle.std.proofs.Common.{List, inl, inr, length, sym, subst}
 use Rattle.dm_onekernel.specs.declared.boot.Boot.{Boot}
 use Rattle.dm_schedule.specs.declared.Directive.{Directive}
 use Rattle.dm_run.specs.Printed.{Lasts, Wears}

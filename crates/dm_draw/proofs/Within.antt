@@ -1,0 +1,84 @@
+-- What is drawn for so many machines is for machines that are there.
+use Rattle.std.proofs.Common.{◌≡◌, ◌≢◌, ◌⊎◌, inl, inr, ℕ, zero, suc, ◌+◌, ◌-◌, ◌*◌, ◌/◌, ◌%◌, ◌^◌, ◌<◌, ◌≤◌, ◌==◌, nat_lt, Bool, true, false, if◌then◌else◌, List, [], ◌∷◌, ◌++◌, length, length-append, refl, ap, ◌∙◌, sym, subst, arith}
+use Rattle.std.specs.List.{All}
+use Rattle.std.proofs.lemmas.List.Elements.{All-nil, All-cons, All-append}
+use Rattle.std.proofs.lemmas.Nat.{mod_below, mod-mul-add}
+use Rattle.dm_schedule.specs.declared.Directive.{Directive}
+use Rattle.dm_draw.specs.Boot.{boot_of, machines_of, machine}
+use Rattle.dm_draw.specs.Directives.{Drawn, IsDrawn, deliver_drawn, directive_drawn, directives_drawn, migrate_drawn, round_drawn, state_behind, tick_drawn, turn_drawn}
+use Rattle.dm_draw.specs.Draw.{drawn, stepped}
+use Rattle.dm_draw.proofs.Drawing.{drawn_next, drawn_none}
+
+pub drawn_below : (n x : ℕ) → 0 < n → drawn n x < n
+unfolding drawn
+drawn_below n x h = mod_below (stepped x / 2 ^ 33) n h
+
+-- which of two numbers is the lesser
+lesser : (m n : ℕ) → (m < n) ⊎ (n ≤ m)
+lesser zero zero = inr (omega arith)
+lesser zero (suc n) = inl (omega arith)
+lesser (suc m) zero = inr (omega arith)
+lesser (suc m) (suc n) = elim (lesser m n) [
+  | inl h ↦ inl (omega (arith, h))
+  | inr h ↦ inr (omega (arith, h))
+]
+
+-- a machine that lies fewer steps round than there are machines is another
+another : (n a r : ℕ) → a < n → r < n - 1 → a ≢ (a + 1 + r) % n
+another n a r h k = λ same. elim (lesser (a + 1 + r) n) [
+  | inl l ↦
+      let e : (0 * n + (a + 1 + r)) % n ≡ a + 1 + r = mod-mul-add 0 n (a + 1 + r) l in
+      let f : 0 * n + (a + 1 + r) ≡ a + 1 + r = omega arith in
+      let g : (a + 1 + r) % n ≡ a + 1 + r = ap (λ x. x % n) (sym f) ∙ e in
+      omega (arith, same, g)
+  | inr l ↦
+      let e : (1 * n + (a + 1 + r - n)) % n ≡ a + 1 + r - n = mod-mul-add 1 n (a + 1 + r - n) (omega (arith, h, k, l)) in
+      let f : 1 * n + (a + 1 + r - n) ≡ a + 1 + r = omega (arith, l) in
+      let g : (a + 1 + r) % n ≡ a + 1 + r - n = ap (λ x. x % n) (sym f) ∙ e in
+      omega (arith, same, g, h, k, l)
+]
+
+delivers : (n x : ℕ) → 2 ≤ n → IsDrawn n (deliver_drawn n x).directive
+delivers n x least =
+    let a = drawn_below n x (omega (arith, least)) in
+    let r = drawn_below (n - 1) (stepped x) (omega (arith, least)) in
+    (a, mod_below (drawn n x + 1 + drawn (n - 1) (stepped x)) n (omega (arith, least)), another n (drawn n x) (drawn (n - 1) (stepped x)) a r)
+
+pub directive_fits : (n x : ℕ) → 2 ≤ n → IsDrawn n (directive_drawn n x).directive
+unfolding directive_drawn
+directive_fits n x least = go (nat_lt (drawn 8 x) 3) (drawn 8 x == 3) (drawn 8 x == 4) (drawn 8 x == 5)
+  where
+    some : 0 < n
+    some = omega (arith, least)
+    go : (a b c d : Bool) → IsDrawn n (if a then turn_drawn n (stepped x) else if b then tick_drawn n (stepped x) else if c then migrate_drawn n (stepped x) else if d then deliver_drawn n (stepped x) else round_drawn (stepped x)).directive
+    go true b c d = drawn_below n (stepped x) some
+    go false true c d = drawn_below n (stepped x) some
+    go false false true d = drawn_below n (stepped (stepped (stepped x))) some
+    go false false false true = delivers n (stepped x) least
+    go false false false false = tt
+
+pub directives_fit : (n x k : ℕ) → 2 ≤ n → All (IsDrawn n) (directives_drawn n x k)
+directives_fit n x zero least = subst (All (IsDrawn n)) (sym (drawn_none n x)) (All-nil (IsDrawn n))
+directives_fit n x (suc k) least =
+    let d : Directive = (directive_drawn n (state_behind n x k)).directive in
+    subst (All (IsDrawn n)) (sym (drawn_next n x k)) (All-append (IsDrawn n) (directives_drawn n x k) (d ∷ []) (directives_fit n x k least) (All-cons (IsDrawn n) d [] (directive_fits n (state_behind n x k) least) (All-nil (IsDrawn n))))
+
+pub directives_count : (n x k : ℕ) → length (directives_drawn n x k) ≡ k
+directives_count n x zero = ap (λ (ds : List Directive). length ds) (drawn_none n x)
+directives_count n x (suc k) =
+    let d : Directive = (directive_drawn n (state_behind n x k)).directive in
+    let e : length (directives_drawn n x (suc k)) ≡ length (directives_drawn n x k ++ d ∷ []) = ap (λ (ds : List Directive). length ds) (drawn_next n x k) in
+    let f = length-append (directives_drawn n x k) (d ∷ []) in
+    let g = directives_count n x k in
+    omega (arith, e, f, g)
+
+machines_count : (n : ℕ) → length (machines_of n) ≡ n
+machines_count zero = refl
+machines_count (suc n) =
+    let f = length-append (machines_of n) (machine ∷ []) in
+    let g = machines_count n in
+    omega (arith, f, g)
+
+pub boot_machines : (n : ℕ) → length (boot_of n).machines ≡ n
+unfolding boot_of
+boot_machines n = machines_count n

@@ -1,0 +1,22 @@
+use Rattle.std.proofs.Common.{◌≡◌, ◌-◌, ◌+◌, ◌^◌, false, List, ◌∷◌, length}
+use Rattle.dm_schedule.specs.declared.Directive.{Directive}
+use Rattle.dm_line.specs.Todo.{all_of}
+use Rattle.dm_world.specs.Cursor.{todo_of}
+use Rattle.dm_world.specs.Meets.{IsWorld, state_of}
+use Rattle.dm_run.proofs.Settling.{IsOnWay}
+use Rattle.dm_drill.specs.Counts.{shown}
+use Rattle.dm_drill.specs.Drilled.{HasDrilled, Told, at}
+use Rattle.dm_drill.proofs.drill.drill_directive.Given as goal
+
+abbrev pub invariant-steps : goal.invariant-steps
+invariant-steps g l = record {
+  world : IsWorld l.world;
+  running : l.world.stopped ≡ false;
+  boot : l.world.boot ≡ l.initial.world.boot;
+  come : (ds rest : List Directive) (before : Told) → HasDrilled l.drill.trace l.initial.world.boot ds (all_of (l.directive ∷ rest)) before (at (g.K.Sink.told l.initial.out) (shown l.initial.counts)) (state_of l.initial.world) → HasDrilled l.drill.trace l.initial.world.boot ds (todo_of (length l.initial.world.boot.machines) l.cursor rest) before (at (g.K.Sink.told l.out) (shown l.counts)) (state_of l.world);
+  way : IsOnWay l.initial.world.boot (state_of l.world) l.cursor (l.initial.world.groups + 2 ^ 90);
+  steady : g.K.Sink.faults l.out ≡ g.K.Sink.faults l.initial.out;
+}
+
+abbrev pub decreases-steps : goal.decreases-steps
+decreases-steps g l = l.initial.world.groups + 2 ^ 90 - l.world.groups

@@ -1,0 +1,17 @@
+use Rattle.std.proofs.Common.{◌≡◌, ◌≤◌, ◌*◌, ◌^◌, false, drop}
+use Rattle.dm_line.specs.Todo.{all_of}
+use Rattle.dm_world.specs.Meets.{IsWorld, state_of}
+use Rattle.dm_drill.specs.Counts.{nothing, shown}
+use Rattle.dm_drill.specs.Drilled.{HasDrilled, at}
+use Rattle.dm_drill.proofs.drill.run_drill.Given as goal
+
+abbrev pub invariant-directives : goal.invariant-directives
+invariant-directives g l = record {
+  world : IsWorld l.world;
+  running : l.world.stopped ≡ false;
+  boot : l.world.boot ≡ l.initial.world.boot;
+  fresh : shown l.initial.counts ≡ nothing;
+  come : HasDrilled l.drill.trace l.initial.world.boot l.directives (all_of (drop l.directive-index l.directives)) (at (g.K.Sink.told l.initial.out) (shown l.initial.counts)) (at (g.K.Sink.told l.out) (shown l.counts)) (state_of l.world);
+  groups : l.world.groups ≤ l.directive-index * 2 ^ 90;
+  steady : g.K.Sink.faults l.out ≡ g.K.Sink.faults l.initial.out;
+}

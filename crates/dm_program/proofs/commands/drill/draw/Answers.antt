@@ -1,0 +1,10 @@
+use Rattle.std.proofs.Common.{ℕ, subst, sym}
+use Rattle.std.specs.List.{All}
+use Rattle.dm_run.specs.Coming.{IsFor}
+use Rattle.dm_program.proofs.Drills.{all_for}
+use Rattle.dm_program.proofs.commands.drill.draw.Goals as goal
+
+pub returns-clause-each : goal.returns-clause-each
+returns-clause-each c =
+    subst (λ (n : ℕ). All (IsFor n) c.in_ok-directives.directives.items) (sym c.in_ok-boot.ensures.machines)
+    (all_for c.args.drill.now.machines c.in_ok-directives.directives.items c.in_ok-directives.ensures.each)
