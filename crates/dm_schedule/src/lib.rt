@@ -3,7 +3,7 @@
 
 mod directives;
 mod keywords;
-mod lines;
+pub mod lines;
 mod numbers;
 mod operands;
 

@@ -1,0 +1,34 @@
+-- Loops that look for the first that isn't good, and for a line.
+use Rattle.std.proofs.Common.{◌≡◌, ℕ, ◌+◌, ◌-◌, ◌<◌, ◌≤◌, zero, suc, Bool, true, false, if◌then◌else◌, List, [], ◌∷◌, length, get_or, drop, map, slice_get, refl, ap, ◌∙◌}
+use Rattle.std.proofs.Math.ListN.{drop_of_length-le}
+use Rattle.dm_explain.specs.Faults.{first_bad}
+use Rattle.dm_explain.specs.LineAt.{line_or_nothing}
+use Rattle.dm_explain.proofs.Pieces.{read_at}
+
+pub bad-end : {K W : Type 0} (f : K → W) (good : W → Bool) (told : W → List ℕ) (other : List ℕ) (ks : List K) (i : ℕ) → length ks ≤ i → first_bad good told other (map f (drop i ks)) ≡ other
+unfolding first_bad
+bad-end f good told other ks i past = ap (λ ys. first_bad good told other (map f ys)) (drop_of_length-le ks past)
+
+pub bad-more : {K W : Type 0} (f : K → W) (good : W → Bool) (told : W → List ℕ) (other : List ℕ) (ks : List K) (i : ℕ) (k : K) → i < length ks → k ≡ get_or ks i k → good (f k) ≡ true → first_bad good told other (map f (drop i ks)) ≡ first_bad good told other (map f (drop (i + 1) ks))
+unfolding first_bad
+bad-more f good told other ks i k within read passes =
+    ap (λ ys. first_bad good told other (map f ys)) (read_at ks i k within read)
+    ∙ ap (λ t. if t then first_bad good told other (map f (drop (i + 1) ks)) else told (f k)) passes
+
+pub bad-here : {K W : Type 0} (f : K → W) (good : W → Bool) (told : W → List ℕ) (other : List ℕ) (ks : List K) (i : ℕ) (k : K) → i < length ks → k ≡ get_or ks i k → good (f k) ≡ false → first_bad good told other (map f (drop i ks)) ≡ told (f k)
+unfolding first_bad
+bad-here f good told other ks i k within read fails =
+    ap (λ ys. first_bad good told other (map f ys)) (read_at ks i k within read)
+    ∙ ap (λ t. if t then first_bad good told other (map f (drop (i + 1) ks)) else told (f k)) fails
+
+pub ruleset bad_lemmas = (bad-end, bad-more, bad-here)
+
+-- the first of some lines, and a later one
+pub line-first : (ls : List (List ℕ)) (l : List ℕ) (rest : List (List ℕ)) (left : ℕ) → ls ≡ l ∷ rest → left ≡ 0 → line_or_nothing (slice_get ls left) ≡ l
+line-first ls l rest left is none = ap (λ xs. line_or_nothing (slice_get xs left)) is ∙ ap (λ n. line_or_nothing (slice_get (l ∷ rest) n)) none
+
+pub line-later : (ls : List (List ℕ)) (l : List ℕ) (rest : List (List ℕ)) (left : ℕ) → ls ≡ l ∷ rest → (left ≡ 0 → ⊥) → line_or_nothing (slice_get ls left) ≡ line_or_nothing (slice_get rest (left - 1))
+line-later ls l rest zero is some = absurd (some refl)
+line-later ls l rest (suc left) is some = ap (λ xs. line_or_nothing (slice_get xs (suc left))) is
+
+pub ruleset line_lemmas = (line-first, line-later)
