@@ -15,7 +15,7 @@ use Rattle.dm_run.specs.Coming.{Blames, Ended}
 use Rattle.dm_run.specs.Printed.{Lasts, Wears}
 use Rattle.dm_run.proofs.Endings.{worn_same}
 use Rattle.dm_program.specs.declared.status.Status.{Status}
-use Rattle.dm_program.specs.declared.status.Status.TheVariants.{Done, Usage, ReadFault, NoMemory, WriteFault, BootRefused, ScheduleRefused, TooLong, Worn}
+use Rattle.dm_program.specs.declared.status.Status.TheVariants.{Done, Usage, ReadFault, NoMemory, WriteFault, BootRefused, ScheduleRefused, TooLong, Worn, TraceRefused}
 use Rattle.dm_program.specs.Runs.{RunSays}
 use Rattle.dm_program.specs.Status.{BlamesShelf, BlamesSink, IsWant, ended_with}
 
@@ -44,6 +44,7 @@ run_shelf b ds before after world old new (BootRefused number place) h e = e
 run_shelf b ds before after world old new (ScheduleRefused line why) h e = e
 run_shelf b ds before after world old new (TooLong i) h e = e
 run_shelf b ds before after world old new (Worn from to) h e = e
+run_shelf b ds before after world old new (TraceRefused line why) h e = e
 
 -- a run of directives that last comes to its end, unless memory lacks or a write fails
 pub completes : (b : Boot) (ds : List Directive) (before after : Option (List ℕ)) (world : Option World) (faults faults' : ℕ) (s : Status) → RunSays b ds before after world s → BlamesSink faults faults' s → Lasts b ds → (RoseOrFull faults faults' → ⊥) → (s ≡ Done) ⊎ IsWant s
@@ -56,6 +57,7 @@ completes b ds before after world faults faults' (ReadFault i) h k l q = absurd 
 completes b ds before after world faults faults' (BootRefused number place) h k l q = absurd h
 completes b ds before after world faults faults' (ScheduleRefused line why) h k l q = absurd h
 completes b ds before after world faults faults' (TooLong i) h k l q = absurd h
+completes b ds before after world faults faults' (TraceRefused line why) h k l q = absurd h
 
 -- and one of directives that come to a worn pair stops there
 pub wears_out : (b : Boot) (ds : List Directive) (before after : Option (List ℕ)) (world : Option World) (faults faults' : ℕ) (s : Status) (from to : ℕ) → RunSays b ds before after world s → BlamesSink faults faults' s → Wears b ds from to → (RoseOrFull faults faults' → ⊥) → (s ≡ Worn from to) ⊎ IsWant s
@@ -70,3 +72,4 @@ wears_out b ds before after world faults faults' (ReadFault i) from to h k w q =
 wears_out b ds before after world faults faults' (BootRefused number place) from to h k w q = absurd h
 wears_out b ds before after world faults faults' (ScheduleRefused line why) from to h k w q = absurd h
 wears_out b ds before after world faults faults' (TooLong i) from to h k w q = absurd h
+wears_out b ds before after world faults faults' (TraceRefused line why) from to h k w q = absurd h

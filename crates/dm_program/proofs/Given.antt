@@ -16,8 +16,9 @@ use Rattle.clap.specs.declared.error.kind.ErrorKind.TheVariants as kind
 use Rattle.clap.specs.declared.parser.matches.ValueSource.{ValueSource}
 use Rattle.clap.specs.declared.parser.matches.ValueSource.TheVariants.{DefaultValue, CommandLine}
 use Rattle.clap.specs.declared.builder.value_parser.Reading.{Reading}
-use Rattle.dm_program.specs.Request.{Request, Run}
-use Rattle.dm_program.specs.RunWords.{both, run_command}
+use Rattle.dm_program.specs.FileWords.{both}
+use Rattle.dm_program.specs.Request.{Request, Check, Run}
+use Rattle.dm_program.specs.RunWords.{run_command}
 use Rattle.dm_program.specs.Words.{IsTaken, demosmp, request_at, request_of}
 
 -- where two steps pass, each does
@@ -275,33 +276,58 @@ level_passes s names h words has_subcommand below e =
 abbrev Asks : Shape → Type 0
 Asks s = (words : List Text) → level_fault s [] nothing_held words false [] ≡ [] → (r : Request) × (request_at (rows_at s words) ≡ Some r)
 
--- the first subcommand as it is read
-abbrev first_of_all : List Shape → Shape
-first_of_all [] = run_command
-first_of_all (s ∷ ss) = s
+-- the subcommand of this place, as it is read
+abbrev in_place : ℕ → List Shape → Shape
+in_place k [] = run_command
+in_place zero (s ∷ ss) = s
+in_place (suc k) (s ∷ ss) = in_place k ss
 
 abbrev run_built : Shape
-run_built = first_of_all (built demosmp).subs
+run_built = in_place 0 (built demosmp).subs
 
-each_one : Each run_built.rules
-each_one = (inl (refl, refl), (inl (refl, refl), (inr refl, tt)))
+abbrev check_built : Shape
+check_built = in_place 1 (built demosmp).subs
+
+each_of_run : Each run_built.rules
+each_of_run = (inl (refl, refl), (inl (refl, refl), (inr refl, tt)))
+
+each_of_check : Each check_built.rules
+each_of_check = (inl (refl, refl), (inl (refl, refl), (inr refl, tt)))
 
 both_given : (x y : Bool) → check_kinds false false (not x || (not y || false)) ≡ [] → (x ≡ true) × (y ≡ true)
 both_given true true e = (refl, refl)
 both_given true false e = cc
 both_given false y e = cc
 
+-- the matches of a command
+abbrev matched : Shape → List Text → List Row
+matched s words = finished s.rules (walk s.rules [] nothing_held words).held
+
+-- a command that has to name two files names them
+record NamesBoth (one other : Text) (rows : List Row) : Type 0 where
+  first : (v : Text) × (first_of one rows ≡ Some v)
+  second : (v : Text) × (first_of other rows ≡ Some v)
+
+names_both : (s : Shape) (one other : Text) (words : List Text) → Each s.rules
+    → ((rows : List Row) → check_fault s rows false ≡ check_kinds false false (not (is_given one rows) || (not (is_given other rows) || false)))
+    → level_fault s [] nothing_held words false [] ≡ [] → NamesBoth one other (matched s words)
+names_both s one other words each checks e =
+    let end : Held = (walk s.rules [] nothing_held words).held in
+    let passes = level_passes s [] nothing_held words false [] e in
+    let ends : Full end.rows = full_walk s [] each words (walk_from nothing_held) passes.walks tt in
+    let full : Full (matched s words) = full_defaults s.rules (settled s.rules end).rows (full_settled s.rules each s.args_override_self end passes.settles ends) in
+    let given = both_given (is_given one (matched s words)) (is_given other (matched s words)) (sym (checks (matched s words)) ∙ passes.checks) in
+    record { first = given_first one (matched s words) full given.0; second = given_first other (matched s words) full given.1 }
+
 run_asks : Asks run_built
 run_asks words e =
-    let end : Held = (walk run_built.rules [] nothing_held words).held in
-    let rows : List Row = finished run_built.rules end in
-    let passes = level_passes run_built [] nothing_held words false [] e in
-    let ends : Full end.rows = full_walk run_built [] each_one words (walk_from nothing_held) passes.walks tt in
-    let full : Full rows = full_defaults run_built.rules (settled run_built.rules end).rows (full_settled run_built.rules each_one false end passes.settles ends) in
-    let given = both_given (is_given (codes "boot") rows) (is_given (codes "schedule") rows) passes.checks in
-    let boot = given_first (codes "boot") rows full given.0 in
-    let schedule = given_first (codes "schedule") rows full given.1 in
-    (Run boot.0 schedule.0, ap₂ both boot.1 schedule.1)
+    let names = names_both run_built (codes "boot") (codes "schedule") words each_of_run (λ rows. refl) e in
+    (Run names.first.0 names.second.0, ap₂ (both (λ boot schedule. Run boot schedule)) names.first.1 names.second.1)
+
+check_asks : Asks check_built
+check_asks words e =
+    let names = names_both check_built (codes "boot") (codes "trace") words each_of_check (λ rows. refl) e in
+    (Check names.first.0 names.second.0, ap₂ (both (λ boot trace. Check boot trace)) names.first.1 names.second.1)
 
 -- ---- the command line
 
@@ -311,7 +337,7 @@ AllAsk (s ∷ ss) = Asks s × AllAsk ss
 
 -- a row a command
 all_ask : AllAsk (built demosmp).subs
-all_ask = (run_asks, tt)
+all_ask = (run_asks, (check_asks, tt))
 
 abbrev AsksIf : Option Shape → Type 0
 AsksIf None = ⊤

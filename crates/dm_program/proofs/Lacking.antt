@@ -10,7 +10,7 @@ use Rattle.dm_program.specs.declared.words.WordsNo.{WordsNo}
 use Rattle.dm_program.specs.declared.words.WordsNo.TheVariants as why
 use Rattle.dm_program.specs.Outside.{Outside}
 use Rattle.dm_program.specs.Program.{ProgramMeets}
-use Rattle.dm_program.specs.Request.{Request, Run}
+use Rattle.dm_program.specs.Request.{Request, Check, Run}
 use Rattle.dm_program.specs.Status.{IsWant, status_of_no}
 
 -- nothing was done
@@ -31,6 +31,18 @@ lacks_meets asked faults (Some (Run boot schedule)) o shelf lack h nothing = rec
   asks = inl (nothing boot);
   boot_fault = λ e. absurd cc;
   schedule_fault = λ e. absurd cc;
+  shelf = h.reads;
+  sink = h.writes;
+}
+lacks_meets asked faults (Some (Check boot trace)) o shelf lack h nothing = record {
+  says = inr (record { why = tt; nothing = h.told });
+  accepts = λ files groups ended told gives never. inr (lack, refl);
+  finds = λ files line why told gives quiet. inr (lack, refl);
+  refuses = λ files due told why some quiet. inr (lack, refl);
+  asks = inl (nothing boot);
+  boot_fault = λ e. absurd cc;
+  trace_fault = λ e. absurd cc;
+  no_world = h.no_world;
   shelf = h.reads;
   sink = h.writes;
 }

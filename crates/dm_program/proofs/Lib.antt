@@ -4,5 +4,7 @@ pub mod Reading
 pub mod Schedules
 pub mod Endings
 mod Outcomes
+mod CheckOutcomes
+mod RunsChecked
 mod Whose
 mod Lacking

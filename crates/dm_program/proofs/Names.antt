@@ -12,8 +12,8 @@ use Rattle.clap.specs.declared.parser.matches.ArgMatches.{ArgMatches}
 use Rattle.clap.specs.declared.parser.matches.Found.{Found}
 use Rattle.clap.proofs.OnLiterals.{clap_on_literals}
 use Rattle.clap.proofs.WalkLemmas.{first_value-rows}
+use Rattle.dm_program.specs.FileWords.{both, two_files}
 use Rattle.dm_program.specs.Request.{Request}
-use Rattle.dm_program.specs.RunWords.{both, run_request}
 use Rattle.dm_program.specs.Words.{demosmp, request_at, request_of}
 
 -- no option of the command has a rule on another
@@ -56,11 +56,11 @@ not_taken a words is k =
     free is_free
 
 -- what the getters of the matches read
-pub no_boot : (f : Found) (boot : Option Text) → boot ≡ first_value f (codes "boot") → boot ≡ None → run_request (rows_of f) ≡ None
-no_boot f boot b none = ap (λ o. both o (first_of (codes "schedule") (rows_of f))) (sym (first_value-rows f (codes "boot")) ∙ sym b ∙ none)
+pub no_first : (asked : Text → Text → Request) (one other : Text) (f : Found) (first : Option Text) → first ≡ first_value f one → first ≡ None → two_files asked one other (rows_of f) ≡ None
+no_first asked one other f first is none = ap (λ o. both asked o (first_of other (rows_of f))) (sym (first_value-rows f one) ∙ sym is ∙ none)
 
-pub both_found : (f : Found) (boot schedule : Option Text) → boot ≡ first_value f (codes "boot") → schedule ≡ first_value f (codes "schedule") → run_request (rows_of f) ≡ both boot schedule
-both_found f boot schedule b s = sym (ap₂ both (b ∙ first_value-rows f (codes "boot")) (s ∙ first_value-rows f (codes "schedule")))
+pub both_found : (asked : Text → Text → Request) (one other : Text) (f : Found) (first second : Option Text) → first ≡ first_value f one → second ≡ first_value f other → two_files asked one other (rows_of f) ≡ both asked first second
+both_found asked one other f first second is then = sym (ap₂ (both asked) (is ∙ first_value-rows f one) (then ∙ first_value-rows f other))
 
 -- what is asked for by the name and the matches of the subcommand that was used
 pub used_rows : {B : Type 0} (name : B → Text) (rows : B → List Row) (o : Option B) (n : Text) (rs : List Row) → Some n ≡ option_map name o → Some rs ≡ option_map (λ (p : Text × List Row). p.1) (option_map (λ b. (name b, rows b)) o) → option_and_then request_at (option_map (λ b. (name b, rows b)) o) ≡ request_at (n, rs)

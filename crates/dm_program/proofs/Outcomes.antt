@@ -13,21 +13,21 @@ use Rattle.dm_schedule.specs.declared.Directive.{Directive}
 use Rattle.dm_schedule.specs.Schedule.{Schedule, Accepted, Refused, directives_of, number_of_fault}
 use Rattle.dm_outside.specs.Outside.{RoseOrFull}
 use Rattle.dm_program.specs.declared.status.Status.{Status}
-use Rattle.dm_program.specs.declared.status.Status.TheVariants.{Done, Usage, ReadFault, NoMemory, WriteFault, BootRefused, ScheduleRefused, TooLong, Worn}
+use Rattle.dm_program.specs.declared.status.Status.TheVariants.{Done, Usage, ReadFault, NoMemory, WriteFault, BootRefused, ScheduleRefused, TooLong, Worn, TraceRefused}
 use Rattle.dm_program.specs.declared.status.Input.TheVariants as input
 use Rattle.dm_program.specs.Inputs.{AcceptsFiles, AfterBoot, HasFile, NoFiles, RefusesBoot, RefusesSchedule, SaysBoot, SaysDirectives, SaysFiles, most_boot, most_schedule}
 use Rattle.dm_program.specs.Files.{IsLonger}
 use Rattle.dm_program.specs.Status.{BlamesSink, IsWant}
 
-abbrev Files : Type 0
+abbrev pub Files : Type 0
 Files = List ℕ → Option (List ℕ)
 
 -- what a boot file's bytes come to, and what is done with its system
-abbrev boot_read : Result Boot (BootRule × ℕ) → (Boot → Status) → Status
+abbrev pub boot_read : Result Boot (BootRule × ℕ) → (Boot → Status) → Status
 boot_read (Ok b) k = k b
 boot_read (Err e) k = BootRefused (rule_number e.0) e.1
 
-abbrev boot_part : Option (List ℕ) → (Boot → Status) → Status
+abbrev pub boot_part : Option (List ℕ) → (Boot → Status) → Status
 boot_part None k = Usage
 boot_part (Some bytes) k = cond (nat_lt most_boot (length bytes)) (TooLong input.Boot) (boot_read (boot_of bytes) k)
 
@@ -48,13 +48,13 @@ last_part ds = Done
 abbrev outcome : Files → List ℕ → List ℕ → Status
 outcome files boot schedule = boot_part (files boot) (λ b. schedule_part (files schedule) (length b.machines) last_part)
 
-above : (a b : ℕ) → a < b → nat_lt a b ≡ true
+pub above : (a b : ℕ) → a < b → nat_lt a b ≡ true
 above a b h = grind (arith, nat_tests)
 
-not_above : (a b : ℕ) → b ≤ a → nat_lt a b ≡ false
+pub not_above : (a b : ℕ) → b ≤ a → nat_lt a b ≡ false
 not_above a b h = grind (arith, nat_tests)
 
-long_boot : (files : Files) (boot : List ℕ) (k : Boot → Status) → IsLonger (Some files) boot most_boot → boot_part (files boot) k ≡ TooLong input.Boot
+pub long_boot : (files : Files) (boot : List ℕ) (k : Boot → Status) → IsLonger (Some files) boot most_boot → boot_part (files boot) k ≡ TooLong input.Boot
 long_boot files boot k h =
     ap (λ o. boot_part o k) h.1 ∙ ap (λ t. cond t (TooLong input.Boot) (boot_read (boot_of h.0) k)) (above most_boot (length h.0) h.2)
 
@@ -64,10 +64,10 @@ read_boot_file files boot bytes r k h e =
     ∙ ap (λ t. cond t (TooLong input.Boot) (boot_read (boot_of bytes) k)) (not_above most_boot (length bytes) h.within)
     ∙ ap (λ x. boot_read x k) e
 
-refused_boot : (files : Files) (boot : List ℕ) (number place : ℕ) (k : Boot → Status) → RefusesBoot (Some files) boot number place → boot_part (files boot) k ≡ BootRefused number place
+pub refused_boot : (files : Files) (boot : List ℕ) (number place : ℕ) (k : Boot → Status) → RefusesBoot (Some files) boot number place → boot_part (files boot) k ≡ BootRefused number place
 refused_boot files boot number place k h = read_boot_file files boot h.bytes (Err (h.rule, place)) k h.file h.refused ∙ ap (λ n. BootRefused n place) (sym h.number_is)
 
-said_boot : (files : Files) (boot : List ℕ) (b : Boot) (k : Boot → Status) → SaysBoot (Some files) boot b → boot_part (files boot) k ≡ k b
+pub said_boot : (files : Files) (boot : List ℕ) (b : Boot) (k : Boot → Status) → SaysBoot (Some files) boot b → boot_part (files boot) k ≡ k b
 said_boot files boot b k h = read_boot_file files boot h.bytes (Ok b) k h.file h.says
 
 long_schedule : (files : Files) (schedule : List ℕ) (machines : ℕ) (k : List Directive → Status) → IsLonger (Some files) schedule most_schedule → schedule_part (files schedule) machines k ≡ TooLong input.Schedule
@@ -110,16 +110,19 @@ no_files files boot schedule old new Done quiet some h = absurd h
 no_files files boot schedule old new Usage quiet some h = absurd h
 no_files files boot schedule old new (ReadFault input.Boot) quiet some h = absurd (quiet h)
 no_files files boot schedule old new (ReadFault input.Schedule) quiet some h = absurd (quiet h.holds)
+no_files files boot schedule old new (ReadFault input.Trace) quiet some h = absurd h
 no_files files boot schedule old new (NoMemory lack) quiet some h = absurd (some (lack, refl))
 no_files files boot schedule old new WriteFault quiet some h = absurd h
 no_files files boot schedule old new (BootRefused number place) quiet some h = refused_boot files boot number place _ h
 no_files files boot schedule old new (ScheduleRefused line why) quiet some h = bad_schedule files boot schedule line why h
 no_files files boot schedule old new (TooLong input.Boot) quiet some h = long_boot files boot _ h
 no_files files boot schedule old new (TooLong input.Schedule) quiet some h = late_schedule files boot schedule h
+no_files files boot schedule old new (TooLong input.Trace) quiet some h = absurd h
 no_files files boot schedule old new (Worn from to) quiet some h = absurd h
+no_files files boot schedule old new (TraceRefused line why) quiet some h = absurd h
 
 -- a status is want of memory, or isn't
-want_or_not : (s : Status) → IsWant s ⊎ (IsWant s → ⊥)
+pub want_or_not : (s : Status) → IsWant s ⊎ (IsWant s → ⊥)
 want_or_not (NoMemory lack) = inl (lack, refl)
 want_or_not Done = inr (λ w. let e : Done ≡ NoMemory w.0 = w.1 in cc)
 want_or_not Usage = inr (λ w. let e : Usage ≡ NoMemory w.0 = w.1 in cc)
@@ -129,6 +132,7 @@ want_or_not (BootRefused number place) = inr (λ w. let e : BootRefused number p
 want_or_not (ScheduleRefused line why) = inr (λ w. let e : ScheduleRefused line why ≡ NoMemory w.0 = w.1 in cc)
 want_or_not (TooLong i) = inr (λ w. let e : TooLong i ≡ NoMemory w.0 = w.1 in cc)
 want_or_not (Worn from to) = inr (λ w. let e : Worn from to ≡ NoMemory w.0 = w.1 in cc)
+want_or_not (TraceRefused line why) = inr (λ w. let e : TraceRefused line why ≡ NoMemory w.0 = w.1 in cc)
 
 -- two reasons why there is no run are one, unless one of them is want of memory
 pub one_reason : (boot schedule : List ℕ) (told : Option Files) (files : Files) (old new : ℕ) (s t : Status) → told ≡ Some files → NoFiles told boot schedule old new t → NoFiles (Some files) boot schedule old new s → (IsWant s → ⊥) → (RoseOrFull old new → ⊥) → (t ≡ s) ⊎ IsWant t
@@ -147,6 +151,7 @@ not_run boot schedule files old new (BootRefused number place) e h = cc
 not_run boot schedule files old new (ScheduleRefused line why) e h = cc
 not_run boot schedule files old new (TooLong i) e h = cc
 not_run boot schedule files old new (Worn from to) e h = h
+not_run boot schedule files old new (TraceRefused line why) e h = h
 
 -- where files are accepted, only want of memory comes before the run
 pub only_want : (boot schedule : List ℕ) (told : Option Files) (files : Files) (old new : ℕ) (b : Boot) (ds : List Directive) (t : Status) → told ≡ Some files → NoFiles told boot schedule old new t → AcceptsFiles (Some files) boot schedule b ds → (RoseOrFull old new → ⊥) → IsWant t
@@ -168,13 +173,14 @@ never_sink boot schedule told old new k (BootRefused number place) h = refl
 never_sink boot schedule told old new k (ScheduleRefused line why) h = refl
 never_sink boot schedule told old new k (TooLong i) h = refl
 never_sink boot schedule told old new k (Worn from to) h = refl
+never_sink boot schedule told old new k (TraceRefused line why) h = refl
 
 -- and files that are accepted say one system and one list of directives
 pub record SaysSame (b c : Boot) (ds es : List Directive) : Type 0 where
   pub boots : b ≡ c
   pub directives : ds ≡ es
 
-some_one : {A : Type 0} (o : Option A) (x y : A) → o ≡ Some x → o ≡ Some y → x ≡ y
+pub some_one : {A : Type 0} (o : Option A) (x y : A) → o ≡ Some x → o ≡ Some y → x ≡ y
 some_one o x y e f = let g : Some x ≡ Some y = sym e ∙ f in cc
 
 abbrev boot_or : Boot → Result Boot (BootRule × ℕ) → Boot
@@ -187,7 +193,7 @@ ok_one r x y e f = let g : boot_or x (Ok x) ≡ boot_or x (Ok y) = ap (boot_or x
 accepted_one : (s : Schedule) (x y : List Directive) → s ≡ Accepted x → s ≡ Accepted y → x ≡ y
 accepted_one s x y e f = let g : Accepted x ≡ Accepted y = sym e ∙ f in cc
 
-same_boot : (files : Files) (x y : List ℕ) (b c : Boot) → x ≡ y → SaysBoot (Some files) x b → SaysBoot (Some files) y c → b ≡ c
+pub same_boot : (files : Files) (x y : List ℕ) (b c : Boot) → x ≡ y → SaysBoot (Some files) x b → SaysBoot (Some files) y c → b ≡ c
 same_boot files x y b c e h k =
     let bytes : h.bytes ≡ k.bytes = some_one (files x) h.bytes k.bytes h.file.is (ap files e ∙ k.file.is) in
     ok_one (boot_of h.bytes) b c h.says (ap boot_of bytes ∙ k.says)

@@ -22,11 +22,16 @@ use Rattle.dm_schedule.specs.Numbers.{number_of, process_of}
 use Rattle.dm_schedule.specs.Operands.{Value, Values, value_of, values_of, within, ◌>>=◌}
 use Rattle.dm_schedule.specs.Schedule.{Schedule, Accepted, Refused, made, directive_of, begins_comment, line_directive, also, with_line, lines_from, directives_of}
 use Rattle.dm_run.specs.Coming.{IsFor}
+use Rattle.dm_check.specs.Laws.{HasHome}
+
+-- a directive for so many machines, whose process is at home on one of them
+abbrev IsFit : ℕ → Directive → Type 0
+IsFit machines d = IsFor machines d × HasHome machines d
 
 -- each of these is
-abbrev pub AreFor : ℕ → List Directive → Type 0
-AreFor machines [] = ⊤
-AreFor machines (d ∷ ds) = IsFor machines d × AreFor machines ds
+abbrev AreFit : ℕ → List Directive → Type 0
+AreFit machines [] = ⊤
+AreFit machines (d ∷ ds) = IsFit machines d × AreFit machines ds
 
 -- what holds of a value, if there is one
 abbrev OkHas : {A : Type 0} → (A → Type 0) → Result A LineFault → Type 0
@@ -93,47 +98,47 @@ left_of false b e = cc
 is_apart : (a c : ℕ) → (a == c) ≡ false → a ≢ c
 is_apart a c e = grind (arith, nat_tests)
 
-deliver_has : (machines a c k : ℕ) (same : Bool) → (a == c) ≡ same → a < machines → c < machines → OkHas (IsFor machines) (if same then Err SameMachine else Ok (directive.One (step.Deliver a c k)))
+deliver_has : (machines a c k : ℕ) (same : Bool) → (a == c) ≡ same → a < machines → c < machines → OkHas (IsFit machines) (if same then Err SameMachine else Ok (directive.One (step.Deliver a c k)))
 deliver_has machines a c k true e h g = tt
-deliver_has machines a c k false e h g = (h, g, is_apart a c e)
+deliver_has machines a c k false e h g = ((h, g, is_apart a c e), tt)
 
-made_has : (machines : ℕ) (k : Keyword) (v : Values (operands k)) → ValuesFit machines (operands k) v → OkHas (IsFor machines) (made k v)
-made_has machines Turn v h = is_below v.0 machines h.0
-made_has machines Tick v h = is_below v.0 machines h.0
+made_has : (machines : ℕ) (k : Keyword) (v : Values (operands k)) → ValuesFit machines (operands k) v → OkHas (IsFit machines) (made k v)
+made_has machines Turn v h = (is_below v.0 machines h.0, tt)
+made_has machines Tick v h = (is_below v.0 machines h.0, tt)
 made_has machines Deliver v h = deliver_has machines v.0 v.1.0 v.1.1.0 (v.0 == v.1.0) refl (is_below v.0 machines h.0) (is_below v.1.0 machines h.1.0)
-made_has machines Migrate v h = is_below v.1.0 machines h.1.0
-made_has machines Round v h = tt
-made_has machines Spin v h = in_range v.0 h.0
-made_has machines Settle v h = tt
+made_has machines Migrate v h = (is_below v.1.0 machines h.1.0, is_below v.0.home machines (left_of (nat_lt v.0.home machines) (nat_le v.0.num 4294967295) h.0))
+made_has machines Round v h = (tt, tt)
+made_has machines Spin v h = (in_range v.0 h.0, tt)
+made_has machines Settle v h = (tt, tt)
 
-counted_has : (machines : ℕ) (k : Keyword) (ws : List (List ℕ)) (b : Bool) → OkHas (IsFor machines) (if b then values_of machines (operands k) ws >>= made k else Err WrongCount)
-counted_has machines k ws true = then_has (ValuesFit machines (operands k)) (IsFor machines) (values_of machines (operands k) ws) (made k) (values_has machines (operands k) ws) (made_has machines k)
+counted_has : (machines : ℕ) (k : Keyword) (ws : List (List ℕ)) (b : Bool) → OkHas (IsFit machines) (if b then values_of machines (operands k) ws >>= made k else Err WrongCount)
+counted_has machines k ws true = then_has (ValuesFit machines (operands k)) (IsFit machines) (values_of machines (operands k) ws) (made k) (values_has machines (operands k) ws) (made_has machines k)
 counted_has machines k ws false = tt
 
-directive_has : (machines : ℕ) (k : Option Keyword) (ws : List (List ℕ)) → OkHas (IsFor machines) (directive_of machines k ws)
+directive_has : (machines : ℕ) (k : Option Keyword) (ws : List (List ℕ)) → OkHas (IsFit machines) (directive_of machines k ws)
 unfolding directive_of
 directive_has machines None ws = tt
 directive_has machines (Some k) ws = counted_has machines k ws (length ws == length (operands k))
 
-abbrev SomeFor : ℕ → Option Directive → Type 0
-SomeFor machines None = ⊤
-SomeFor machines (Some d) = IsFor machines d
+abbrev SomeFit : ℕ → Option Directive → Type 0
+SomeFit machines None = ⊤
+SomeFit machines (Some d) = IsFit machines d
 
-commented_has : (machines : ℕ) (b : Bool) (r : Result Directive LineFault) → OkHas (IsFor machines) r → OkHas (SomeFor machines) (if b then Ok None else r >>= λ d. Ok (Some d))
+commented_has : (machines : ℕ) (b : Bool) (r : Result Directive LineFault) → OkHas (IsFit machines) r → OkHas (SomeFit machines) (if b then Ok None else r >>= λ d. Ok (Some d))
 commented_has machines true r h = tt
-commented_has machines false r h = then_has (IsFor machines) (SomeFor machines) r (λ d. Ok (Some d)) h (λ d k. k)
+commented_has machines false r h = then_has (IsFit machines) (SomeFit machines) r (λ d. Ok (Some d)) h (λ d k. k)
 
-line_has : (machines : ℕ) (ws : List (List ℕ)) → OkHas (SomeFor machines) (line_directive machines ws)
+line_has : (machines : ℕ) (ws : List (List ℕ)) → OkHas (SomeFit machines) (line_directive machines ws)
 unfolding line_directive
 line_has machines [] = tt
 line_has machines (w ∷ ws) = commented_has machines (begins_comment w) (directive_of machines (keyword_of w) ws) (directive_has machines (keyword_of w) ws)
 
 -- at most one directive a line
 abbrev Has : ℕ → ℕ → Schedule → Type 0
-Has machines n (Accepted ds) = AreFor machines ds × (length ds ≤ n)
+Has machines n (Accepted ds) = AreFit machines ds × (length ds ≤ n)
 Has machines n (Refused line fault) = ⊤
 
-also_has : (machines n : ℕ) (d : Directive) (s : Schedule) → IsFor machines d → Has machines n s → Has machines (suc n) (also d s)
+also_has : (machines n : ℕ) (d : Directive) (s : Schedule) → IsFit machines d → Has machines n s → Has machines (suc n) (also d s)
 also_has machines n d (Accepted ds) h k = ((h, k.0), omega (arith, k.1))
 also_has machines n d (Refused line fault) h k = tt
 
@@ -141,7 +146,7 @@ more_has : (machines n : ℕ) (s : Schedule) → Has machines n s → Has machin
 more_has machines n (Accepted ds) k = (k.0, omega (arith, k.1))
 more_has machines n (Refused line fault) k = tt
 
-with_has : (machines n line : ℕ) (r : Result (Option Directive) LineFault) (s : Schedule) → OkHas (SomeFor machines) r → Has machines n s → Has machines (suc n) (with_line line r s)
+with_has : (machines n line : ℕ) (r : Result (Option Directive) LineFault) (s : Schedule) → OkHas (SomeFit machines) r → Has machines n s → Has machines (suc n) (with_line line r s)
 with_has machines n line (Ok None) s h k = more_has machines n s k
 with_has machines n line (Ok (Some d)) s h k = also_has machines n d s h k
 with_has machines n line (Err e) s h k = tt
@@ -166,19 +171,24 @@ unfolding lines
 few_lines [] = omega arith
 few_lines (c ∷ cs) = if_count (length cs) c (lines cs) (ends_line c) (is_return c && line_ends cs) (few_lines cs)
 
-all_for : (machines : ℕ) (ds : List Directive) → AreFor machines ds → All (IsFor machines) ds
+all_for : (machines : ℕ) (ds : List Directive) → AreFit machines ds → All (IsFor machines) ds
 all_for machines [] h = All-nil (IsFor machines)
-all_for machines (d ∷ ds) h = All-cons (IsFor machines) d ds h.0 (all_for machines ds h.1)
+all_for machines (d ∷ ds) h = All-cons (IsFor machines) d ds h.0.0 (all_for machines ds h.1)
+
+all_home : (machines : ℕ) (ds : List Directive) → AreFit machines ds → All (HasHome machines) ds
+all_home machines [] h = All-nil (HasHome machines)
+all_home machines (d ∷ ds) h = All-cons (HasHome machines) d ds h.0.1 (all_home machines ds h.1)
 
 -- the directives of an accepted text are for its machines, and at most as many as it has bytes
 pub record AreRead (text : List ℕ) (machines : ℕ) (ds : List Directive) : Type 0 where
   pub each : All (IsFor machines) ds
+  pub homes : All (HasHome machines) ds
   pub few : length ds ≤ length text
 
 read_so : (text : List ℕ) (machines : ℕ) (s : Schedule) (ds : List Directive) → Has machines (length (lines text)) s → s ≡ Accepted ds → AreRead text machines ds
 read_so text machines s ds h e =
     let k : Has machines (length (lines text)) (Accepted ds) = subst (Has machines (length (lines text))) e h in
-    record { each = all_for machines ds k.0; few = let g = k.1 in omega (arith, g, few_lines text) }
+    record { each = all_for machines ds k.0; homes = all_home machines ds k.0; few = let g = k.1 in omega (arith, g, few_lines text) }
 
 pub are_read : (text : List ℕ) (machines : ℕ) (ds : List Directive) → directives_of text machines ≡ Accepted ds → AreRead text machines ds
 unfolding directives_of

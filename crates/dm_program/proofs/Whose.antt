@@ -5,25 +5,33 @@ use Rattle.std.specs.Result.{IfErr, IsErr, IsErrAnd}
 use Rattle.std.specs.declared.result.Result.TheVariants.{Ok, Err}
 use Rattle.std.specs.declared.option.Option.{Option}
 use Rattle.std.specs.declared.result.Result.{Result}
+use Rattle.dm_outside.specs.Outside.{RoseOrFull}
+use Rattle.dm_program.specs.declared.status.Input.{Input}
+use Rattle.dm_program.specs.declared.status.Input.TheVariants as input
 use Rattle.dm_program.specs.declared.status.Status.{Status}
 use Rattle.dm_program.specs.declared.status.Status.TheVariants as status
-use Rattle.dm_program.specs.declared.status.Input.TheVariants as input
 use Rattle.dm_program.specs.Asked.{AsksBoth, FailsSecond}
+use Rattle.dm_program.specs.Checks.{NoBytes}
 use Rattle.dm_program.specs.Inputs.{NoDirectives}
-
--- a read of the schedule failed, after the boot file's
-second_fails : {S : Type 0} (asked : S → List ℕ → S → Type 0) (faults : S → ℕ) (files told : Option (List ℕ → Option (List ℕ))) (boot schedule : List ℕ) (machines : ℕ) (old new : S) (a : AsksBoth asked files boot schedule old new) (s : Status)
-    → NoDirectives told schedule machines (faults a.between) (faults new) s → s ≡ status.ReadFault input.Schedule → FailsSecond asked faults files boot schedule old new
-second_fails asked faults files told boot schedule machines old new a s why is =
-    let rose : NoDirectives told schedule machines (faults a.between) (faults new) (status.ReadFault input.Schedule) = subst (λ x. NoDirectives told schedule machines (faults a.between) (faults new) x) is why in
-    (a, rose)
 
 -- what holds of the one error holds of the error there is
 if_err : {A E : Type 0} (r : Result A E) (e : E) (P : E → Type 0) → IsErr r × IsErrAnd r (λ y. y ≡ e) → P e → IfErr r P
 if_err (Ok x) e P h p = absurd (false≢true h.0)
 if_err (Err y) e P h p = subst P (sym h.1) p
 
+-- a read of the second file failed, after the boot file's
+second_fails : {S A : Type 0} (asked : S → List ℕ → S → Type 0) (faults : S → ℕ) (files : Option (List ℕ → Option (List ℕ))) (boot second : List ℕ) (old new : S) (a : AsksBoth asked files boot second old new) (i : Input) (Why : Status → Type 0)
+    → (Why (status.ReadFault i) → RoseOrFull (faults a.between) (faults new)) → (r : Result A Status) (e : Status) → IsErr r × IsErrAnd r (λ y. y ≡ e) → Why e → IfErr r (λ s. s ≡ status.ReadFault i → FailsSecond asked faults files boot second old new)
+second_fails asked faults files boot second old new a i Why rose r e is why = if_err r e (λ s. s ≡ status.ReadFault i → FailsSecond asked faults files boot second old new) is (λ f. (a, rose (subst Why f why)))
+
+-- the schedule's
 pub fault_told : {S A : Type 0} (asked : S → List ℕ → S → Type 0) (faults : S → ℕ) (files told : Option (List ℕ → Option (List ℕ))) (boot schedule : List ℕ) (machines : ℕ) (old new : S) (a : AsksBoth asked files boot schedule old new) (r : Result A Status) (e : Status)
     → IsErr r × IsErrAnd r (λ y. y ≡ e) → NoDirectives told schedule machines (faults a.between) (faults new) e → IfErr r (λ s. s ≡ status.ReadFault input.Schedule → FailsSecond asked faults files boot schedule old new)
 fault_told asked faults files told boot schedule machines old new a r e is why =
-    if_err r e (λ s. s ≡ status.ReadFault input.Schedule → FailsSecond asked faults files boot schedule old new) is (λ f. second_fails asked faults files told boot schedule machines old new a e why f)
+    second_fails asked faults files boot schedule old new a input.Schedule (λ s. NoDirectives told schedule machines (faults a.between) (faults new) s) (λ h. h) r e is why
+
+-- the trace's
+pub trace_fault_told : {S A : Type 0} (asked : S → List ℕ → S → Type 0) (faults : S → ℕ) (files told : Option (List ℕ → Option (List ℕ))) (boot trace : List ℕ) (old new : S) (a : AsksBoth asked files boot trace old new) (r : Result A Status) (e : Status)
+    → IsErr r × IsErrAnd r (λ y. y ≡ e) → NoBytes told trace (faults a.between) (faults new) e → IfErr r (λ s. s ≡ status.ReadFault input.Trace → FailsSecond asked faults files boot trace old new)
+trace_fault_told asked faults files told boot trace old new a r e is why =
+    second_fails asked faults files boot trace old new a input.Trace (λ s. NoBytes told trace (faults a.between) (faults new) s) (λ h. h) r e is why

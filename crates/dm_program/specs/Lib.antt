@@ -1,10 +1,14 @@
 pub mod Status
 pub mod Request
+pub mod FileWords
 pub mod RunWords
+pub mod CheckWords
 pub mod Words
 pub mod Files
 pub mod Inputs
 pub mod Asked
 pub mod Outside
 pub mod Runs
+pub mod Checks
 pub mod Program
+pub mod Laws

@@ -8,11 +8,11 @@ use Rattle.dm_run.specs.declared.stop.Stop.{Stop}
 use Rattle.dm_run.specs.declared.stop.Stop.TheVariants as stop
 use Rattle.dm_memory.specs.declared.NoMemory.{NoMemory as TheNoMemory}
 use Rattle.dm_program.specs.declared.status.Input.{Input}
-use Rattle.dm_program.specs.declared.status.Input.TheVariants.{Boot, Schedule}
+use Rattle.dm_program.specs.declared.status.Input.TheVariants.{Boot, Schedule, Trace}
 use Rattle.dm_program.specs.declared.words.WordsNo.{WordsNo}
 use Rattle.dm_program.specs.declared.words.WordsNo.TheVariants as why
 use Rattle.dm_program.specs.declared.status.Status.{Status}
-use Rattle.dm_program.specs.declared.status.Status.TheVariants.{Done, Usage, ReadFault, NoMemory, WriteFault, BootRefused, ScheduleRefused, TooLong, Worn}
+use Rattle.dm_program.specs.declared.status.Status.TheVariants.{Done, Usage, ReadFault, NoMemory, WriteFault, BootRefused, ScheduleRefused, TooLong, Worn, TraceRefused}
 
 -- the number that the program ends with
 abbrev pub code_of : Status → ℕ
@@ -25,11 +25,13 @@ code_of (BootRefused number place) = 6
 code_of (ScheduleRefused line why) = 7
 code_of (TooLong input) = 8
 code_of (Worn from to) = 9
+code_of (TraceRefused line why) = 10
 
 -- the name of a file that is too long
 abbrev pub input_text : Input → List ℕ
 input_text Boot = codes "boot"
 input_text Schedule = codes "schedule"
+input_text Trace = codes "trace"
 
 -- the line that the program says at its end
 abbrev pub text_of : Status → List ℕ
@@ -42,6 +44,7 @@ text_of (BootRefused number place) = codes "boot refused: " ++ decimal number ++
 text_of (ScheduleRefused line why) = codes "schedule refused: line " ++ decimal line ++ codes ", why " ++ decimal why
 text_of (TooLong input) = codes "too long: " ++ input_text input
 text_of (Worn from to) = codes "worn: " ++ decimal from ++ codes " to " ++ decimal to
+text_of (TraceRefused line why) = codes "trace refused: line " ++ decimal line ++ codes ", why " ++ decimal why
 
 -- a text that isn't empty, with a line feed
 abbrev pub as_line : List ℕ → List ℕ
@@ -79,6 +82,7 @@ BlamesShelf old new (BootRefused number place) = new ≡ old
 BlamesShelf old new (ScheduleRefused line why) = new ≡ old
 BlamesShelf old new (TooLong input) = new ≡ old
 BlamesShelf old new (Worn from to) = new ≡ old
+BlamesShelf old new (TraceRefused line why) = new ≡ old
 
 -- and so the sink's
 abbrev pub BlamesSink : ℕ → ℕ → Status → Type 0
@@ -91,3 +95,4 @@ BlamesSink old new (BootRefused number place) = new ≡ old
 BlamesSink old new (ScheduleRefused line why) = new ≡ old
 BlamesSink old new (TooLong input) = new ≡ old
 BlamesSink old new (Worn from to) = new ≡ old
+BlamesSink old new (TraceRefused line why) = new ≡ old

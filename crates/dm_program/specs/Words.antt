@@ -8,7 +8,8 @@ use Rattle.clap.specs.Simple.{App, Shape, new_shape, subcommand_of, with_subcomm
 use Rattle.clap.specs.Faults.{fault_of}
 use Rattle.dm_program.specs.declared.words.Request.{Request as TheRequest}
 use Rattle.dm_program.specs.declared.words.Request.TheVariants as the
-use Rattle.dm_program.specs.Request.{Request, Run}
+use Rattle.dm_program.specs.Request.{Request, Check, Run}
+use Rattle.dm_program.specs.CheckWords.{check_command, check_request}
 use Rattle.dm_program.specs.RunWords.{run_command, run_request}
 
 -- a command: its name and its options, and what its matches ask for
@@ -18,7 +19,7 @@ pub record Command : Type 0 where
 
 -- the commands of the program, a row each
 abbrev pub commands : List Command
-commands = record { shape = run_command; request = run_request } ∷ []
+commands = record { shape = run_command; request = run_request } ∷ record { shape = check_command; request = check_request } ∷ []
 
 abbrev pub with_commands : App → List Command → App
 with_commands a [] = a
@@ -48,3 +49,4 @@ request_of words = if is_empty (fault_of demosmp words) then option_and_then req
 -- a request of the code, by its names alone
 abbrev pub request_said : TheRequest → Request
 request_said (the.Run boot schedule) = Run boot.now schedule.now
+request_said (the.Check boot trace) = Check boot.now trace.now

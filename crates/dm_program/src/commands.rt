@@ -1,2 +1,3 @@
 //! The commands of the program, a file each.
+pub mod check;
 pub mod run;

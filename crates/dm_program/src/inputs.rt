@@ -1,9 +1,10 @@
-//! What the program reads before a run: the boot file and the schedule.
+//! What the program reads before it does something: the boot file, and the schedule or the trace.
 ghost use Rattle.std.specs.Prelude.{◌≡◌, ◌≤◌, IfErr, IfOk, length};
 ghost use Rattle.std.specs.List.{All};
 ghost use Rattle.dm_onekernel.specs.Boot.{IsValid};
 ghost use Rattle.dm_program.specs.Asked.{AsksFiles, FailsAlone, FailsSecond};
-ghost use Rattle.dm_program.specs.Inputs.{AcceptsFiles, NoBoot, NoDirectives, NoFiles, SaysBoot, SaysDirectives};
+ghost use Rattle.dm_program.specs.Checks.{HasTrace, NoBytes, NoTrace, most_trace};
+ghost use Rattle.dm_program.specs.Inputs.{AcceptsFiles, HasFile, NoBoot, NoDirectives, NoFiles, SaysBoot, SaysDirectives};
 ghost use Rattle.dm_program.specs.Status.{BlamesShelf};
 ghost use Rattle.dm_run.specs.Coming.{IsFor};
 
@@ -20,6 +21,9 @@ const MOST_BOOT: u32 = 1_048_576;
 
 /// The most bytes of a schedule.
 const MOST_SCHEDULE: u32 = 16_777_216;
+
+/// The most bytes of a trace.
+const MOST_TRACE: u32 = 16_777_216;
 
 /// What a run begins with.
 #[derive(Drop)]
@@ -53,6 +57,56 @@ pub fn read_files<F: Shelf>(
     let machines = boot.machines.len() as u8;
     let directives = read_directives(alloc, schedule, machines, shelf)?;
     Ok(Inputs { boot, directives })
+}
+
+/// What there is to check: a system, and the bytes of a trace.
+#[derive(Drop)]
+pub struct Traced {
+    pub boot: Boot,
+    pub trace: Vec<u8>,
+}
+
+/// The system of the boot file of the first name, and the trace of the second, or why there is nothing to check.
+pub fn read_trace_files<F: Shelf>(
+    alloc: Global,
+    boot: &str,
+    trace: &str,
+    shelf: &mut F,
+) -> Result<Traced, Status>
+    ensures has { IfOk result (λ t. HasTrace (F.told shelf.old) boot.now trace.now t.boot t.trace.items) }
+    ensures valid { IfOk result (λ t. IsValid t.boot) }
+    ensures short { IfOk result (λ t. length t.trace.items ≤ 16777216) }
+    ensures none { IfErr result (λ s. NoTrace (F.told shelf.old) boot.now trace.now (F.faults shelf.old) (F.faults shelf.new) s) }
+    ensures same { F.told shelf.new ≡ F.told shelf.old }
+    ensures steady { IfOk result (λ _. F.faults shelf.new ≡ F.faults shelf.old) }
+    ensures blames { IfErr result (λ s. BlamesShelf (F.faults shelf.old) (F.faults shelf.new) s) }
+    ensures reads { F.faults shelf.old ≤ F.faults shelf.new }
+    ensures asks { AsksFiles F.asked (F.told shelf.old) boot.now trace.now shelf.old shelf.new }
+    ensures boot_fault { IfErr result (λ s. s ≡ Status.ReadFault Input.Boot → FailsAlone F.asked F.faults boot.now shelf.old shelf.new) }
+    ensures trace_fault { IfErr result (λ s. s ≡ Status.ReadFault Input.Trace →
+        FailsSecond F.asked F.faults (F.told shelf.old) boot.now trace.now shelf.old shelf.new) }
+{
+    let boot = read_system(alloc, boot, shelf)?;
+    let trace = read_trace(alloc, trace, shelf)?;
+    Ok(Traced { boot, trace })
+}
+
+/// The bytes of the trace of this name.
+fn read_trace<F: Shelf>(alloc: Global, name: &str, shelf: &mut F) -> Result<Vec<u8>, Status>
+    ensures file { IfOk result (λ t. HasFile (F.told shelf.old) name.now most_trace t.items) }
+    ensures none { IfErr result (λ s. NoBytes (F.told shelf.old) name.now (F.faults shelf.old) (F.faults shelf.new) s) }
+    ensures same { F.told shelf.new ≡ F.told shelf.old }
+    ensures steady { IfOk result (λ _. F.faults shelf.new ≡ F.faults shelf.old) }
+    ensures blames { IfErr result (λ s. BlamesShelf (F.faults shelf.old) (F.faults shelf.new) s) }
+    ensures reads { F.faults shelf.old ≤ F.faults shelf.new }
+    ensures asks { F.asked shelf.old name.now shelf.new }
+{
+    match read_file(alloc, shelf, name, MOST_TRACE) {
+        Ok(bytes) => Ok(bytes),
+        Err(ReadNo::Fault) => Err(Status::ReadFault(Input::Trace)),
+        Err(ReadNo::NoMemory(no)) => Err(Status::NoMemory(no)),
+        Err(ReadNo::TooLong) => Err(Status::TooLong(Input::Trace)),
+    }
 }
 
 /// The system that the boot file of this name says.

@@ -5,6 +5,7 @@ mod commands;
 mod ending;
 mod entry;
 mod inputs;
+pub mod laws;
 mod program;
 mod read;
 mod status;

@@ -5,6 +5,7 @@ ghost use Rattle.dm_program.specs.Program.{ProgramMeets};
 ghost use Rattle.dm_program.specs.Status.{BlamesShelf, BlamesSink};
 ghost use Rattle.dm_program.specs.Words.{IsTaken, request_of};
 
+use crate::commands::check::check_files;
 use crate::commands::run::run_files;
 use crate::status::Status;
 use crate::words::{Request, read_words};
@@ -34,6 +35,7 @@ pub fn run_program<F: Shelf, K: Sink>(
         Ok(Request::Run { boot, schedule }) => {
             run_files(alloc, boot, schedule, shelf, out, world)
         }
+        Ok(Request::Check { boot, trace }) => check_files(alloc, boot, trace, shelf, out),
         Err(no) => no.status(),
     }
 }

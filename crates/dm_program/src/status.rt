@@ -6,11 +6,12 @@ use arrayvec::ArrayString;
 use dm_memory::NoMemory;
 use itoa::Buffer;
 
-/// One of the two files that the program reads.
+/// One of the files that the program reads.
 #[derive(Clone, Copy, Debug, PartialEq, Eq)]
 pub enum Input {
     Boot,
     Schedule,
+    Trace,
 }
 
 /// How a run of the program ended.
@@ -34,6 +35,8 @@ pub enum Status {
     TooLong(Input),
     /// A message was to be routed between two machines that count as many as they may.
     Worn { from: u8, to: u8 },
+    /// The first line of the trace that isn't what the system prints, counted from 1, and what is wrong with it.
+    TraceRefused { line: u64, why: u8 },
 }
 
 impl Status {
@@ -51,6 +54,7 @@ impl Status {
             Status::ScheduleRefused { .. } => 7,
             Status::TooLong(_) => 8,
             Status::Worn { .. } => 9,
+            Status::TraceRefused { .. } => 10,
         }
     }
 }
@@ -81,12 +85,14 @@ pub fn status_text(status: &Status) -> ArrayString<96>
         Status::ScheduleRefused { line, why } => schedule_refused(line, why),
         Status::TooLong(Input::Boot) => words("too long: boot"),
         Status::TooLong(Input::Schedule) => words("too long: schedule"),
+        Status::TooLong(Input::Trace) => words("too long: trace"),
         Status::Worn { from, to } => worn(from, to),
+        Status::TraceRefused { line, why } => trace_refused(line, why),
     }
 }
 
 /// A text of these words.
-fn words(s: &str) -> ArrayString<96>
+pub(crate) fn words(s: &str) -> ArrayString<96>
     requires { length s.now ≤ 95 }
     ensures { result.bytes ≡ s.now }
 {
@@ -119,6 +125,18 @@ fn schedule_refused(line: u64, why: u8) -> ArrayString<96>
     text
 }
 
+/// What a refused trace is told.
+fn trace_refused(line: u64, why: u8) -> ArrayString<96>
+    ensures short { length result.bytes ≤ 95 }
+    ensures text { result.bytes ≡ text_of (Status.TraceRefused line why) }
+{
+    let mut text = words("trace refused: line ");
+    push_number(&mut text, line);
+    text.push_str(", why ");
+    push_number(&mut text, why as u64);
+    text
+}
+
 /// What is told of two machines that count as many messages as they may.
 fn worn(from: u8, to: u8) -> ArrayString<96>
     ensures short { length result.bytes ≤ 95 }
@@ -132,7 +150,7 @@ fn worn(from: u8, to: u8) -> ArrayString<96>
 }
 
 /// Adds a number in decimal digits.
-fn push_number(text: &mut ArrayString<96>, n: u64)
+pub(crate) fn push_number(text: &mut ArrayString<96>, n: u64)
     requires { length text.old.bytes + 20 ≤ 96 }
     ensures written { text.new.bytes ≡ text.old.bytes ++ decimal n }
     ensures room { length text.new.bytes ≤ length text.old.bytes + 20 }

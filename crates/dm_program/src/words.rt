@@ -4,7 +4,9 @@ ghost use Rattle.clap.specs.Built.{AddsSubcommand};
 ghost use Rattle.clap.specs.Words.{app_of, found_of, rows_of, rule_of, subcommand_rows_of, with_subcommand as with_shape};
 ghost use Rattle.clap.specs.declared.builder.command.Command.{Command as TheCommand};
 ghost use Rattle.dm_program.specs.Status.{status_of_no};
-ghost use Rattle.dm_program.specs.RunWords.{file_option, run_command as run_shape, run_request as run_asked};
+ghost use Rattle.dm_program.specs.CheckWords.{check_command as check_shape, check_request as check_asked};
+ghost use Rattle.dm_program.specs.FileWords.{file_option};
+ghost use Rattle.dm_program.specs.RunWords.{run_command as run_shape, run_request as run_asked};
 ghost use Rattle.dm_program.specs.Words.{IsTaken, demosmp, request_at, request_of, request_said};
 
 use crate::status::Status;
@@ -39,6 +41,8 @@ impl WordsNo {
 pub enum Request<'a> {
     /// To run the schedule of a file on the system of a boot file.
     Run { boot: &'a str, schedule: &'a str },
+    /// To check that the trace of a file is what the system of a boot file prints.
+    Check { boot: &'a str, trace: &'a str },
 }
 
 /// What the words ask for, where they are those of a command.
@@ -68,7 +72,8 @@ fn command<'a>(alloc: Global) -> Result<Command<'a>, NoMemory>
     let top = Command::new(alloc, "demosmp")
         .disable_help_subcommand(true)
         .subcommand_required(true);
-    with_subcommand(top, run_command(alloc)?)
+    let one = with_subcommand(top, run_command(alloc)?)?;
+    with_subcommand(one, check_command(alloc)?)
 }
 
 /// The command `run`: whatever command line takes it in has its shape behind the others.
@@ -78,6 +83,15 @@ fn run_command<'a>(alloc: Global) -> Result<Command<'a>, NoMemory>
     let run = with_arg(Command::new(alloc, "run"), file(alloc, "boot"))?;
     let run = with_arg(run, file(alloc, "schedule"))?;
     Ok(run)
+}
+
+/// The command `check`: whatever command line takes it in has its shape behind the others.
+fn check_command<'a>(alloc: Global) -> Result<Command<'a>, NoMemory>
+    ensures { IfOk result (λ c. (old new : TheCommand) → AddsSubcommand old c new → app_of new ≡ with_shape (app_of old) check_shape) }
+{
+    let check = with_arg(Command::new(alloc, "check"), file(alloc, "boot"))?;
+    let check = with_arg(check, file(alloc, "trace"))?;
+    Ok(check)
 }
 
 /// The option `--name FILE`, which has to be there.
@@ -105,6 +119,9 @@ fn request_of_command<'a>(name: &str, found: &ArgMatches<'a>) -> Option<Request<
     if name == "run" {
         return run_request(found);
     }
+    if name == "check" {
+        return check_request(found);
+    }
     None
 }
 
@@ -115,4 +132,13 @@ fn run_request<'a>(matches: &ArgMatches<'a>) -> Option<Request<'a>>
     let boot = matches.get_str("boot")?;
     let schedule = matches.get_str("schedule")?;
     Some(Request::Run { boot, schedule })
+}
+
+/// The two files that the matches of `check` name.
+fn check_request<'a>(matches: &ArgMatches<'a>) -> Option<Request<'a>>
+    ensures { option_map request_said result ≡ check_asked (rows_of (found_of matches.now)) }
+{
+    let boot = matches.get_str("boot")?;
+    let trace = matches.get_str("trace")?;
+    Some(Request::Check { boot, trace })
 }

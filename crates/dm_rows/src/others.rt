@@ -3,6 +3,7 @@
 
 use anyhow::Result;
 use dm_boot::{BootNo, BootRule};
+use dm_check::{CheckNo, TraceFault};
 use dm_outside::{Failed, MemShelf, MemSink, RealShelf, RealSink, Shelf, Sink};
 use dm_packet::Bad;
 use dm_processor::{Flat, Regs, step};
@@ -147,6 +148,18 @@ pub fn say_errors(rt: &HostRuntime) -> Result<()> {
             "schedule, {}: {}",
             fault.number(),
             SchedNo::Refused { line: 7, fault }
+        )?;
+    }
+    for fault in [
+        TraceFault::NotALine,
+        TraceFault::NotDue,
+        TraceFault::NotAStep,
+        TraceFault::NotTheEnd,
+    ] {
+        println!(rt;
+            "trace, {}: {}",
+            fault.number(),
+            CheckNo::Refused { line: 7, fault }
         )?;
     }
     let rule = BootRule::ProcessRoom;

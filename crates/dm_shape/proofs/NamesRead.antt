@@ -108,6 +108,19 @@ unfolding pieces
 joined-pieces sep [] = refl
 joined-pieces sep (b ∷ bs) = joined_first sep b bs (b == sep) refl (joined-pieces sep bs)
 
+joined_more : (sep : ℕ) (a : List ℕ) (ps : List (List ℕ)) → (ps ≡ [] → ⊥) → joined sep (a ∷ ps) ≡ a ++ sep ∷ joined sep ps
+joined_more sep a [] h = absurd (h refl)
+joined_more sep a (p ∷ ps) h = refl
+
+-- a text is its first piece, the separator, and what stands behind it
+pub cut_is : (sep : ℕ) (w a rest : List ℕ) → pieces sep w ≡ a ∷ pieces sep rest → w ≡ a ++ sep ∷ rest
+cut_is sep w a rest e =
+    sym (joined-pieces sep w) ∙ ap (λ ps. joined sep ps) e ∙ joined_more sep a (pieces sep rest) (some_piece sep rest) ∙ ap (λ xs. a ++ sep ∷ xs) (joined-pieces sep rest)
+
+-- so it is where another piece follows, whatever it is
+pub first_is : (sep : ℕ) (w a b : List ℕ) (ps : List (List ℕ)) → pieces sep w ≡ a ∷ b ∷ ps → (rest : List ℕ) × (w ≡ a ++ sep ∷ rest)
+first_is sep w a b ps e = (joined sep (b ∷ ps), sym (joined-pieces sep w) ∙ ap (λ qs. joined sep qs) e)
+
 pub one_piece : (sep : ℕ) (w a : List ℕ) → pieces sep w ≡ a ∷ [] → w ≡ a
 one_piece sep w a e = sym (joined-pieces sep w) ∙ ap (λ ps. joined sep ps) e
 

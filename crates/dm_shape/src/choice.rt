@@ -59,7 +59,7 @@ impl Choice {
 }
 
 /// Whether a word is one of these.
-pub(crate) fn is_one_of(word: &[u8], words: &[&str]) -> bool
+pub fn is_one_of(word: &[u8], words: &[&str]) -> bool
     ensures { result ≡ list_any (λ w. bytes_eq word.now w.now) words.now }
 {
     words.iter().any(|w| word == w.as_bytes())

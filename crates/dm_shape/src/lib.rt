@@ -4,7 +4,7 @@
 //! no matter here.
 #![tactic(auto)]
 
-mod choice;
+pub mod choice;
 pub mod head;
 pub mod laws;
 pub mod names;
@@ -14,6 +14,5 @@ mod sort;
 pub mod split;
 mod table;
 
-pub use choice::Choice;
 pub use shape::{Shape, has_shape};
 pub use sort::Sort;

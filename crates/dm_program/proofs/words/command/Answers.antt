@@ -2,11 +2,16 @@ use Rattle.std.proofs.Common.{rules, ◌≡◌, true, ap, ap₂, ◌∙◌, code
 use Rattle.std.proofs.lemmas.Result.{IfOk-weaker}
 use Rattle.clap.specs.Words.{App, app_of, new_app, with_subcommand}
 use Rattle.clap.specs.Simple.{app_of_fields, on_top}
+use Rattle.dm_program.specs.CheckWords.{check_command}
 use Rattle.dm_program.specs.RunWords.{run_command}
 use Rattle.dm_program.proofs.words.command.Goals as goal
+
+abbrev first : App
+first = on_top (λ s. record s { disable_help_subcommand = true; subcommand_required = true }) (new_app (codes "demosmp"))
 
 pub returns : goal.returns
 returns c =
     let quiet : app_of c.disable_help_subcommand.result ≡ on_top (λ s. record s { disable_help_subcommand = true }) (new_app (codes "demosmp")) = ap app_of_fields c.disable_help_subcommand.ensures ∙ ap (on_top (λ s. record s { disable_help_subcommand = true })) c.new.ensures.app in
-    let needs : app_of c.subcommand_required.result ≡ on_top (λ s. record s { disable_help_subcommand = true; subcommand_required = true }) (new_app (codes "demosmp")) = ap app_of_fields c.subcommand_required.ensures ∙ ap (on_top (λ s. record s { subcommand_required = true })) quiet in
-    IfOk-weaker c.with_subcommand.result _ _ (λ r h. c.in_ok-run_command.ensures c.subcommand_required.result r h ∙ ap (λ (a : App). with_subcommand a run_command) needs) c.with_subcommand.ensures
+    let needs : app_of c.subcommand_required.result ≡ first = ap app_of_fields c.subcommand_required.ensures ∙ ap (on_top (λ s. record s { subcommand_required = true })) quiet in
+    let one : app_of c.in_ok-one.one ≡ with_subcommand first run_command = c.in_ok-run_command.ensures c.subcommand_required.result c.in_ok-one.one c.in_ok-one.ensures ∙ ap (λ (a : App). with_subcommand a run_command) needs in
+    IfOk-weaker c.with_subcommand-2.result _ _ (λ r h. c.in_ok-check_command.ensures c.in_ok-one.one r h ∙ ap (λ (a : App). with_subcommand a check_command) one) c.with_subcommand-2.ensures

@@ -1,0 +1,174 @@
+-- How far a text has been checked, group by group.
+use Rattle.std.proofs.Common.{◌≡◌, ◌≤◌, ℕ, suc, ◌+◌, Bool, true, false, if◌then◌else◌, List, [], ◌∷◌, ◌++◌, length, map, refl, ap, sym, ◌∙◌, subst, append_assoc, append-nil, length-append, arith, Some, None}
+use Rattle.std.specs.List.{All}
+use Rattle.std.proofs.lemmas.List.Elements.{All-nil, All-cons, All-append}
+use Rattle.dm_onekernel.specs.declared.boot.Boot.{Boot}
+use Rattle.dm_onekernel.specs.Boot.{IsValid}
+use Rattle.dm_schedule.specs.declared.Step.{Step}
+use Rattle.dm_schedule.specs.declared.Step.TheVariants as step
+use Rattle.dm_line.specs.declared.line.Line.{Line}
+use Rattle.dm_line.specs.declared.line.Line.TheVariants as line
+use Rattle.dm_line.specs.Todo.{all_of}
+use Rattle.dm_rule.specs.Laws.{IsStep}
+use Rattle.dm_rule.specs.Parts.{Spelled}
+use Rattle.dm_rule.specs.Point.{Point, first_point}
+use Rattle.dm_rule.specs.Rule.{group_of}
+use Rattle.dm_rule.specs.Worn.{IsWorn, worn_in}
+use Rattle.dm_text.specs.Fits.{LineFits}
+use Rattle.dm_text.specs.Reading.{pieces}
+use Rattle.dm_text.specs.Text.{text, text_of_lines}
+use Rattle.dm_world.specs.World.{WorldState, first_world}
+use Rattle.dm_mirror.specs.Ran.{ones, Ran}
+use Rattle.dm_mirror.specs.Run.{joined}
+use Rattle.dm_node.specs.declared.stop.Stop.TheVariants as stop
+use Rattle.dm_run.specs.Running.{RanOn, RunsOn, StopsWorn}
+use Rattle.dm_check.specs.declared.fault.TraceFault.{TraceFault}
+use Rattle.dm_check.specs.declared.fault.TraceFault.TheVariants.{NotDue}
+use Rattle.dm_check.specs.declared.stop.CheckNo.{CheckNo}
+use Rattle.dm_check.specs.declared.stop.CheckNo.TheVariants as no
+use Rattle.dm_check.specs.Checking.{HasChecked, NoGroup, RefusedSo, first_line, head_of_line}
+use Rattle.dm_check.specs.Good.{AllHeld, AreHeads, EndsFit, IsTrace, good_verdict, text_behind}
+use Rattle.dm_check.specs.Judge as judge
+use Rattle.dm_check.specs.Judge.{Verdict, Refused, Falls, at_head, behind_line, begins_group, can_hold, judged_from, unless_worn, verdict}
+use Rattle.dm_check.proofs.Groups.{fresh_group, group_head, kept_last}
+use Rattle.dm_check.proofs.Judging.{due_group, no_group}
+
+-- lines behind lines
+pub lines_append : (a b : List Line) → text_of_lines (a ++ b) ≡ text_of_lines a ++ text_of_lines b
+unfolding text_of_lines
+lines_append [] b = refl
+lines_append (l ∷ ls) b = ap (λ t. text l ++ t) (lines_append ls b) ∙ sym (append_assoc (text l) (text_of_lines ls) (text_of_lines b))
+
+pub joined_last : (gs : List (List Line)) (g : List Line) → joined (gs ++ g ∷ []) ≡ joined gs ++ g
+joined_last [] g = append-nil g
+joined_last (h ∷ hs) g = ap (λ (ls : List Line). h ++ ls) (joined_last hs g) ∙ sym (append_assoc h (joined hs) g)
+
+heads_last : (es : List Step) (gs : List (List Line)) (e : Step) (g rest : List Line) → AreHeads es gs → g ≡ line.Head e ∷ rest → AreHeads (es ++ e ∷ []) (gs ++ g ∷ [])
+heads_last [] [] e g rest h is = ((rest, is), tt)
+heads_last [] (k ∷ gs) e g rest h is = absurd h
+heads_last (d ∷ es) [] e g rest h is = absurd h
+heads_last (d ∷ es) (k ∷ gs) e g rest h is = (h.0, heads_last es gs e g rest h.1 is)
+
+held_last : (machines : ℕ) (es : List Step) (e : Step) → AllHeld machines es → can_hold machines e ≡ true → AllHeld machines (es ++ e ∷ [])
+held_last machines es e h is = All-append (λ d. can_hold machines d ≡ true) es (e ∷ []) h (All-cons (λ d. can_hold machines d ≡ true) e [] is (All-nil (λ d. can_hold machines d ≡ true)))
+
+-- before the first line
+pub checks_begin : (b : Boot) (bytes : List ℕ) (w : WorldState) → Ran b [] [] (first_point b) w → HasChecked b bytes bytes 1 0 w
+unfolding verdict text_of_lines
+checks_begin b bytes w ran = record {
+  steps = [];
+  lines = [];
+  point = first_point b;
+  ran = ran;
+  held = All-nil (λ e. can_hold (length b.machines) e ≡ true);
+  heads = tt;
+  fits = All-nil LineFits;
+  count = refl;
+  read = refl;
+  goes = refl;
+}
+
+-- the group of a head is due, and its lines stand
+pub checks_on : (b : Boot) (bytes rest others : List ℕ) (number groups : ℕ) (w v : WorldState) (e : Step) (lines : List Line) → HasChecked b bytes rest number groups w
+    → head_of_line (first_line (pieces 10 rest)) ≡ Some e → can_hold (length b.machines) e ≡ true → RunsOn w b e lines v → All LineFits lines → rest ≡ text_of_lines lines ++ others
+    → ((pt : Point) (n : ℕ) → judged_from b (behind_line lines pt n) number (pieces 10 rest) ≡ judged_from b (judge.Head pt n) (number + length lines) (pieces 10 others))
+    → HasChecked b bytes others (number + length lines) (groups + 1) v
+checks_on b bytes rest others number groups w v e lines h head held runs fits read goes =
+    let r : RanOn b h.steps h.lines h.point e lines v = runs h.steps h.lines h.point h.ran in
+    let due : group_of b h.point e ≡ Some r.spelled = r.due in
+    let kept = kept_last b h.lines lines (first_point b) r.spelled.point (all_of (ones (h.steps ++ e ∷ []))) (all_of []) r.ran.good.run in
+    let fresh = fresh_group b h.point e r.spelled due kept.counts in
+    let (behind, begins) = group_head b h.point e r.spelled due in
+    let counts : length h.lines ≡ groups = h.count in
+    record {
+      steps = h.steps ++ e ∷ [];
+      lines = h.lines ++ lines ∷ [];
+      point = r.spelled.point;
+      ran = r.ran;
+      held = held_last (length b.machines) h.steps e h.held held;
+      heads = heads_last h.steps h.lines e lines behind h.heads (r.said ∙ begins);
+      fits = subst (All LineFits) (sym (joined_last h.lines lines)) (All-append LineFits (joined h.lines) lines h.fits fits);
+      count = omega (arith, counts, length-append h.lines (lines ∷ []));
+      read =
+          h.read ∙ ap (λ t. text_of_lines (joined h.lines) ++ t) read ∙ sym (append_assoc (text_of_lines (joined h.lines)) (text_of_lines lines) others)
+          ∙ ap (λ t. t ++ others) (sym (lines_append (joined h.lines) lines)) ∙ ap (λ ls. text_of_lines ls ++ others) (sym (joined_last h.lines lines));
+      goes =
+          h.goes ∙ due_group b h.point groups number (pieces 10 rest) e r.spelled (line.Head e) behind head held due fresh begins
+          ∙ ap (λ ls. judged_from b (behind_line ls r.spelled.point (groups + 1)) number (pieces 10 rest)) (sym r.said)
+          ∙ goes r.spelled.point (groups + 1);
+    }
+
+-- a refusal on what is left is that of the whole text
+pub refused_on : (v u : Verdict) (x : CheckNo) → v ≡ u → RefusedSo u x → RefusedSo v x
+refused_on v u x e h = subst (λ t. RefusedSo t x) (sym e) h
+
+-- its lines don't stand
+pub checks_fall : (b : Boot) (bytes rest : List ℕ) (number groups : ℕ) (w v : WorldState) (e : Step) (lines : List Line) (x : CheckNo) → HasChecked b bytes rest number groups w
+    → head_of_line (first_line (pieces 10 rest)) ≡ Some e → can_hold (length b.machines) e ≡ true → RunsOn w b e lines v
+    → ((pt : Point) (n : ℕ) → RefusedSo (judged_from b (behind_line lines pt n) number (pieces 10 rest)) x) → RefusedSo (verdict b bytes) x
+checks_fall b bytes rest number groups w v e lines x h head held runs falls =
+    let r : RanOn b h.steps h.lines h.point e lines v = runs h.steps h.lines h.point h.ran in
+    let due : group_of b h.point e ≡ Some r.spelled = r.due in
+    let kept = kept_last b h.lines lines (first_point b) r.spelled.point (all_of (ones (h.steps ++ e ∷ []))) (all_of []) r.ran.good.run in
+    let fresh = fresh_group b h.point e r.spelled due kept.counts in
+    let (behind, begins) = group_head b h.point e r.spelled due in
+    refused_on (verdict b bytes) (judged_from b (behind_line lines r.spelled.point (groups + 1)) number (pieces 10 rest)) x
+    (h.goes ∙ due_group b h.point groups number (pieces 10 rest) e r.spelled (line.Head e) behind head held due fresh begins
+    ∙ ap (λ ls. judged_from b (behind_line ls r.spelled.point (groups + 1)) number (pieces 10 rest)) (sym r.said))
+    (falls r.spelled.point (groups + 1))
+
+-- no group is due
+pub checks_stop : (b : Boot) (bytes rest : List ℕ) (number groups : ℕ) (w : WorldState) (e : Step) (x : CheckNo) → HasChecked b bytes rest number groups w
+    → head_of_line (first_line (pieces 10 rest)) ≡ Some e → NoGroup b w e number x → RefusedSo (verdict b bytes) x
+checks_stop b bytes rest number groups w e (no.NoMemory lack) h head none = tt
+checks_stop b bytes rest number groups w e (no.Refused line fault) h head (at, is, falls) =
+    h.goes ∙ no_group b h.point groups number (pieces 10 rest) e head (λ l. falls h.steps h.lines h.point groups l h.ran)
+    ∙ ap (λ (k : ℕ). Refused k NotDue) (sym at) ∙ ap (λ (f : TraceFault). Refused line f) (sym is)
+
+-- no head is left
+pub checks_good : (b : Boot) (bytes rest : List ℕ) (number groups : ℕ) (ended : Bool) (w : WorldState) → (h : HasChecked b bytes rest number groups w) → rest ≡ text_behind ended h.point → EndsFit ended h.point → IsTrace b bytes groups ended
+checks_good b bytes rest number groups ended w h is fit = record {
+  steps = h.steps;
+  groups = h.lines;
+  end = h.point;
+  good = h.ran.good;
+  held = h.held;
+  heads = h.heads;
+  counts = h.count;
+  fits = h.fits;
+  ends_fit = fit;
+  text = h.read ∙ ap (λ t. text_of_lines (joined h.lines) ++ t) is;
+}
+
+-- the same of a world of this boot file, and of the lines as a slice
+pub checks_more : (b c : Boot) (bytes rest others : List ℕ) (number groups : ℕ) (w v : WorldState) (e : Step) (lines slice : List Line) → c ≡ b → slice ≡ lines → HasChecked b bytes rest number groups w
+    → head_of_line (first_line (pieces 10 rest)) ≡ Some e → can_hold (length c.machines) e ≡ true → RunsOn w c e lines v → All LineFits lines → rest ≡ text_of_lines slice ++ others
+    → ((d : Boot) (pt : Point) (n : ℕ) → judged_from d (behind_line slice pt n) number (pieces 10 rest) ≡ judged_from d (judge.Head pt n) (number + length slice) (pieces 10 others))
+    → HasChecked b bytes others (number + length lines) (groups + 1) v
+checks_more b c bytes rest others number groups w v e lines slice same is h head held runs fits read goes =
+    checks_on b bytes rest others number groups w v e lines h head (subst (λ (d : Boot). can_hold (length d.machines) e ≡ true) same held) (subst (λ (d : Boot). RunsOn w d e lines v) same runs) fits
+    (subst (λ (ls : List Line). rest ≡ text_of_lines ls ++ others) is read)
+    (subst (λ (ls : List Line). (pt : Point) (n : ℕ) → judged_from b (behind_line ls pt n) number (pieces 10 rest) ≡ judged_from b (judge.Head pt n) (number + length ls) (pieces 10 others)) is (goes b))
+
+pub checks_less : (b c : Boot) (quantum : ℕ) (bytes rest : List ℕ) (number groups : ℕ) (w v : WorldState) (e : Step) (lines slice : List Line) (x : CheckNo) → c ≡ b → b.quantum ≡ quantum → slice ≡ lines → HasChecked b bytes rest number groups w
+    → head_of_line (first_line (pieces 10 rest)) ≡ Some e → can_hold (length c.machines) e ≡ true → RunsOn w c e lines v
+    → ((d : Boot) (pt : Point) (n : ℕ) → d.quantum ≡ quantum → RefusedSo (judged_from d (behind_line slice pt n) number (pieces 10 rest)) x) → RefusedSo (verdict b bytes) x
+checks_less b c quantum bytes rest number groups w v e lines slice x same equal is h head held runs falls =
+    checks_fall b bytes rest number groups w v e lines x h head (subst (λ (d : Boot). can_hold (length d.machines) e ≡ true) same held) (subst (λ (d : Boot). RunsOn w d e lines v) same runs)
+    (subst (λ (ls : List Line). (pt : Point) (n : ℕ) → RefusedSo (judged_from b (behind_line ls pt n) number (pieces 10 rest)) x) is (λ pt n. falls b pt n equal))
+
+-- a head that no schedule can hold has no group that is due
+pub none_unheld : (b : Boot) (w : WorldState) (e : Step) (number : ℕ) (x : CheckNo) → x ≡ no.Refused number NotDue → can_hold (length b.machines) e ≡ false → NoGroup b w e number x
+none_unheld b w e number x is held =
+    subst (NoGroup b w e number) (sym is) (refl, refl, λ es gs pt n bytes r. ap (λ (t : Bool). if t then begins_group b pt n bytes (group_of b pt e) else Falls NotDue) held)
+
+-- nor has one whose group would route a message between two machines that count as many as they may
+pub none_worn : (b : Boot) (w : WorldState) (e : Step) (number from to : ℕ) (x : CheckNo) → x ≡ no.Refused number NotDue → can_hold (length b.machines) e ≡ true → StopsWorn b w e (stop.Worn from to) → NoGroup b w e number x
+none_worn b w e number from to x is held worn =
+    subst (NoGroup b w e number) (sym is) (refl, refl, λ es gs pt n bytes r. falls pt n bytes (worn es gs pt r))
+  where
+    falls : (pt : Point) (n : ℕ) (bytes : List ℕ) → IsWorn b pt e from to → at_head b pt n bytes (Some e) ≡ Falls NotDue
+    falls pt n bytes h =
+        ap (λ (t : Bool). if t then begins_group b pt n bytes (group_of b pt e) else Falls NotDue) held
+        ∙ ap (begins_group b pt n bytes) h.due
+        ∙ ap (λ o. unless_worn o (judge.begins b.quantum h.group.lines h.group.point (n + 1) bytes)) h.first

@@ -1,0 +1,15 @@
+use Rattle.std.proofs.Common.{◌≡◌, ◌≤◌, ℕ, ◌+◌, ◌++◌, length, take, drop}
+use Rattle.dm_onekernel.specs.declared.boot.Boot.{Boot}
+use Rattle.dm_text.specs.Reading.{pieces}
+use Rattle.dm_text.specs.Text.{text_of_ends}
+use Rattle.dm_check.specs.Judge as judge
+use Rattle.dm_check.specs.Judge.{judged_from}
+use Rattle.dm_check.proofs.follow.follow_ends.Given as goal
+
+abbrev pub invariant-ends : goal.invariant-ends
+invariant-ends l = record {
+  goes : (b : Boot) (n : ℕ) → judged_from b (judge.End l.ends n) l.initial.at (pieces 10 l.initial.rest) ≡ judged_from b (judge.End (drop l.due-index l.ends) n) l.at (pieces 10 l.rest);
+  read : l.initial.rest ≡ text_of_ends (take l.due-index l.ends) ++ l.rest;
+  number : l.at ≡ l.initial.at + l.due-index;
+  room : l.at + length l.rest ≤ l.initial.at + length l.initial.rest;
+}

@@ -1,0 +1,15 @@
+use Rattle.std.proofs.Common.{◌≡◌, ◌≤◌, ℕ, ◌+◌, ◌++◌, length, take, drop}
+use Rattle.dm_onekernel.specs.declared.boot.Boot.{Boot}
+use Rattle.dm_rule.specs.Point.{Point}
+use Rattle.dm_text.specs.Reading.{pieces}
+use Rattle.dm_text.specs.Text.{text_of_lines}
+use Rattle.dm_check.specs.Judge.{behind_line, judged_from}
+use Rattle.dm_check.proofs.follow.follow_lines.Given as goal
+
+abbrev pub invariant-lines : goal.invariant-lines
+invariant-lines l = record {
+  goes : (b : Boot) (pt : Point) (n : ℕ) → judged_from b (behind_line l.lines pt n) l.initial.at (pieces 10 l.initial.rest) ≡ judged_from b (behind_line (drop l.due-index l.lines) pt n) l.at (pieces 10 l.rest);
+  read : l.initial.rest ≡ text_of_lines (take l.due-index l.lines) ++ l.rest;
+  number : l.at ≡ l.initial.at + l.due-index;
+  room : l.at + length l.rest ≤ l.initial.at + length l.initial.rest;
+}

@@ -1,0 +1,18 @@
+use Rattle.std.proofs.Common.{◌≡◌, ◌≤◌, ◌+◌, length}
+use Rattle.dm_world.specs.Meets.{state_of}
+use Rattle.dm_run.specs.Running.{IsRunning}
+use Rattle.dm_check.specs.Checking.{HasChecked}
+use Rattle.dm_check.proofs.trace.check_on.Given as goal
+
+abbrev pub invariant-groups : goal.invariant-groups
+invariant-groups l = record {
+  running : IsRunning l.world;
+  checked : HasChecked l.initial.world.boot l.trace l.rest l.number l.groups (state_of l.world);
+  boot : l.world.boot ≡ l.initial.world.boot;
+  counted : l.world.groups ≡ l.groups;
+  room : l.number + length l.rest ≤ 1 + length l.trace;
+  few : l.groups + length l.rest ≤ length l.trace;
+}
+
+abbrev pub decreases-groups : goal.decreases-groups
+decreases-groups l = length l.rest

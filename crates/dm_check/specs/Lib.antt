@@ -1,0 +1,6 @@
+pub mod Faults
+pub mod Classes
+pub mod Judge
+pub mod Good
+pub mod Checking
+pub mod Laws

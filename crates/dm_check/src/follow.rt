@@ -1,0 +1,215 @@
+//! Lines that are due, compared with those of a text.
+ghost use Rattle.std.specs.Prelude.{◌≡◌, ◌∷◌, ◌++◌, ◌+◌, ◌^◌, ◌<◌, ℕ, List, IfErr, IfNone, IfOk, IfSome, OnOk, length};
+ghost use Rattle.std.specs.List.{All};
+ghost use Rattle.dm_line.specs.declared.end_line.EndLine.{EndLine as TheEndLine};
+ghost use Rattle.dm_line.specs.declared.line.Line.{Line as TheLine};
+ghost use Rattle.dm_onekernel.specs.declared.boot.Boot.{Boot as TheBoot};
+ghost use Rattle.dm_rule.specs.Point.{Point};
+ghost use Rattle.dm_text.specs.Fits.{EndFits, LineFits};
+ghost use Rattle.dm_text.specs.Reading.{pieces};
+ghost use Rattle.dm_text.specs.Text.{end_text, text as line_text, text_of_ends, text_of_lines};
+ghost use Rattle.dm_shape.specs.Full.{IsFull};
+ghost use Rattle.dm_check.specs.Checking.{FallsBy, RefusedSo, StandsAs};
+ghost use Rattle.dm_check.specs.Judge as judge;
+ghost use Rattle.dm_check.specs.Judge.{Due, Ended, Refused, behind_line, judged_from};
+
+use crate::classes::tells_call;
+use crate::fault::TraceFault;
+use crate::stop::CheckNo;
+use crate::told::{Other, step_fault, told};
+use dm_line::end_line::EndLine;
+use dm_line::line::Line;
+use dm_link::Pid;
+use dm_shape::has_shape;
+use dm_shape::split::split;
+use dm_text::text::{write_end, write_line};
+
+/// Follows the lines of a group through a text whose first line has this number, and gives the text behind them. The page
+/// holds each line meanwhile.
+pub(crate) fn follow_lines<'a>(
+    quantum: u32,
+    lines: &[Line],
+    text: &'a [u8],
+    number: u64,
+    page: &mut Vec<u8>,
+) -> Result<&'a [u8], CheckNo>
+    requires fits { All LineFits lines.now }
+    requires room { number + length text.now < 2 ^ 62 }
+    ensures read { IfOk result (λ rest. text.now ≡ text_of_lines lines.now ++ rest.now) }
+    ensures goes { (b : TheBoot) (pt : Point) (n : ℕ) → IfOk result (λ rest.
+        judged_from b (behind_line lines.now pt n) number (pieces 10 text.now)
+        ≡ judged_from b (judge.Head pt n) (number + length lines.now) (pieces 10 rest.now)) }
+    ensures refused { (b : TheBoot) (pt : Point) (n : ℕ) → b.quantum ≡ quantum →
+        IfErr result (RefusedSo (judged_from b (behind_line lines.now pt n) number (pieces 10 text.now))) }
+{
+    let mut rest = text;
+    let mut at = number;
+    'lines: for due in lines {
+        rest = follow_line(quantum, due, rest, at, page)?;
+        at += 1;
+    }
+    Ok(rest)
+}
+
+/// Follows one line through a text that begins with the line of this number.
+fn follow_line<'a>(
+    quantum: u32,
+    due: &Line,
+    text: &'a [u8],
+    number: u64,
+    page: &mut Vec<u8>,
+) -> Result<&'a [u8], CheckNo>
+    requires { number + length text.now < 2 ^ 62 }
+    ensures read { IfOk result (λ rest. text.now ≡ line_text due.now ++ rest.now) }
+    ensures goes { (b : TheBoot) (ls : List TheLine) (pt : Point) (n : ℕ) → LineFits due.now → IfOk result (λ rest.
+        judged_from b (judge.Line due.now ls pt n) number (pieces 10 text.now) ≡ judged_from b (behind_line ls pt n) (number + 1) (pieces 10 rest.now)) }
+    ensures refused { (b : TheBoot) (ls : List TheLine) (pt : Point) (n : ℕ) → b.quantum ≡ quantum →
+        IfErr result (RefusedSo (judged_from b (judge.Line due.now ls pt n) number (pieces 10 text.now))) }
+{
+    page.clear();
+    if let Err(no) = write_line(due, page) {
+        return Err(CheckNo::NoMemory(no));
+    }
+    match behind(text, page.as_slice()) {
+        Some(rest) => Ok(rest),
+        None => Err(otherwise(quantum, due, text, number)),
+    }
+}
+
+/// Follows the lines at the end of a run through a text whose first line has this number: behind them nothing may stand.
+pub(crate) fn follow_ends(
+    ends: &[EndLine],
+    text: &[u8],
+    number: u64,
+    page: &mut Vec<u8>,
+) -> Result<(), CheckNo>
+    requires fits { All EndFits ends.now }
+    requires full { All IsFull ends.now }
+    requires room { number + length text.now < 2 ^ 62 }
+    ensures read { OnOk result (text.now ≡ text_of_ends ends.now) }
+    ensures ended { (b : TheBoot) (n : ℕ) → OnOk result (judged_from b (judge.End ends.now n) number (pieces 10 text.now) ≡ Ended n) }
+    ensures refused { (b : TheBoot) (n : ℕ) → IfErr result (RefusedSo (judged_from b (judge.End ends.now n) number (pieces 10 text.now))) }
+{
+    let mut rest = text;
+    let mut at = number;
+    'ends: for due in ends {
+        rest = follow_end(due, rest, at, page)?;
+        at += 1;
+    }
+    if rest.is_empty() {
+        Ok(())
+    } else {
+        Err(refused(at, unless_none(rest, TraceFault::NotTheEnd)))
+    }
+}
+
+/// Follows one of the lines at the end of a run through a text that begins with the line of this number.
+fn follow_end<'a>(
+    due: &EndLine,
+    text: &'a [u8],
+    number: u64,
+    page: &mut Vec<u8>,
+) -> Result<&'a [u8], CheckNo>
+    ensures read { IfOk result (λ rest. text.now ≡ end_text due.now ++ rest.now) }
+    ensures refused { (b : TheBoot) (es : List TheEndLine) (n : ℕ) →
+        IfErr result (RefusedSo (judged_from b (judge.End (due.now ∷ es) n) number (pieces 10 text.now))) }
+{
+    page.clear();
+    if let Err(no) = write_end(due, page) {
+        return Err(CheckNo::NoMemory(no));
+    }
+    match behind(text, page.as_slice()) {
+        Some(rest) => Ok(rest),
+        None => Err(refused(number, unless_none(text, TraceFault::NotTheEnd))),
+    }
+}
+
+/// The text behind its beginning, if it begins so.
+fn behind<'a>(text: &'a [u8], begin: &[u8]) -> Option<&'a [u8]>
+    ensures some { IfSome result (λ others. text.now ≡ begin.now ++ others.now) }
+    ensures none { IfNone result ((others : List ℕ) → text.now ≡ begin.now ++ others → ⊥) }
+{
+    if text.starts_with(begin) {
+        Some(&text[begin.len()..])
+    } else {
+        None
+    }
+}
+
+/// A refusal.
+pub(crate) fn refused(line: u64, fault: TraceFault) -> CheckNo
+    ensures { result ≡ CheckNo.Refused line fault }
+{
+    CheckNo::Refused { line, fault }
+}
+
+/// What is wrong at the beginning of a text where this is wrong with each line of the format, and with the end of the text.
+pub(crate) fn unless_none(text: &[u8], fault: TraceFault) -> TraceFault
+    ensures { (b : TheBoot) (due : Due) (number : ℕ) → FallsBy b due number text.now fault →
+        judged_from b due number (pieces 10 text.now) ≡ Refused number result }
+{
+    match stands(text) {
+        Standing::Nothing => fault,
+        Standing::Line(_, _) => fault,
+        Standing::NoLine => TraceFault::NotALine,
+    }
+}
+
+/// What stands at the beginning of a text.
+#[derive(Clone, Copy)]
+pub(crate) enum Standing<'a> {
+    /// The text is empty.
+    Nothing,
+    /// A line of the format, and the text behind its line feed.
+    Line(&'a [u8], &'a [u8]),
+    /// Something else.
+    NoLine,
+}
+
+/// What stands at the beginning of a text.
+fn stands(text: &[u8]) -> Standing<'_>
+    ensures { StandsAs text.now result }
+{
+    if text.is_empty() {
+        return Standing::Nothing;
+    }
+    let (line, others) = split(text, b'\n');
+    match others {
+        None => Standing::NoLine,
+        Some(others) => {
+            if has_shape(line) {
+                Standing::Line(line, others)
+            } else {
+                Standing::NoLine
+            }
+        }
+    }
+}
+
+/// What a text is refused for that doesn't begin with the line that is due.
+fn otherwise(quantum: u32, due: &Line, text: &[u8], number: u64) -> CheckNo
+    requires other { (rest : List ℕ) → text.now ≡ line_text due.now ++ rest → ⊥ }
+    requires room { number < 2 ^ 62 }
+    ensures { (b : TheBoot) (ls : List TheLine) (pt : Point) (n : ℕ) → b.quantum ≡ quantum →
+        RefusedSo (judged_from b (judge.Line due.now ls pt n) number (pieces 10 text.now)) result }
+{
+    match stands(text) {
+        Standing::Nothing => refused(number, TraceFault::NotDue),
+        Standing::NoLine => refused(number, TraceFault::NotALine),
+        Standing::Line(line, others) => match told(quantum, due, line) {
+            Other::Falls(fault) => refused(number, fault),
+            Other::Fewer(pid) => refused(number + 1, behind_fewer(pid, others)),
+        },
+    }
+}
+
+/// What is wrong behind a line that tells of fewer instructions of a process than are due.
+fn behind_fewer(pid: Pid, text: &[u8]) -> TraceFault
+    ensures { (b : TheBoot) (number : ℕ) → judged_from b (judge.Nothing pid) number (pieces 10 text.now) ≡ Refused number result }
+{
+    match stands(text) {
+        Standing::Nothing => TraceFault::NotDue,
+        Standing::NoLine => TraceFault::NotALine,
+        Standing::Line(line, _) => step_fault(tells_call(pid, line)),
+    }
+}

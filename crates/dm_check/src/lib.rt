@@ -1,0 +1,17 @@
+//! Whether a text is what the system prints.
+//!
+//! The checker is the system itself: it takes each head of the text as a directive, steps a world, and compares what the world
+//! prints with the text, line by line.
+#![tactic(auto)]
+
+mod classes;
+pub mod fault;
+mod follow;
+pub mod laws;
+mod stop;
+mod told;
+pub mod trace;
+
+pub use fault::TraceFault;
+pub use stop::CheckNo;
+pub use trace::{Good, check_trace};

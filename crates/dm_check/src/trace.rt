@@ -1,0 +1,171 @@
+//! A whole text.
+ghost use Rattle.std.specs.Prelude.{◌≡◌, ◌+◌, ◌^◌, ◌<◌, ◌≤◌, ℕ, List, IfErr, IfOk, None, OnOk, Some, length, true};
+ghost use Rattle.std.specs.List.{All};
+ghost use Rattle.dm_line.specs.declared.line.Line.{Line as TheLine};
+ghost use Rattle.dm_onekernel.specs.Boot.{IsValid};
+ghost use Rattle.dm_rule.specs.Point.{Point};
+ghost use Rattle.dm_schedule.specs.declared.Step.{Step as TheStep};
+ghost use Rattle.dm_text.specs.Fits.{LineFits};
+ghost use Rattle.dm_text.specs.Reading.{pieces};
+ghost use Rattle.dm_world.specs.Meets.{state_of};
+ghost use Rattle.dm_mirror.specs.Ran.{Ran};
+ghost use Rattle.dm_run.specs.Running.{IsRunning, RunsOn};
+ghost use Rattle.dm_check.specs.Checking.{HasChecked, NoGroup, RefusedSo, first_line, head_of_line, is_final};
+ghost use Rattle.dm_check.specs.Good.{EndsFit, IsTrace, good_verdict, text_behind};
+ghost use Rattle.dm_check.specs.Judge as judge;
+ghost use Rattle.dm_check.specs.Judge.{can_hold, judged_from, verdict};
+
+use crate::fault::TraceFault;
+use crate::follow::{follow_ends, follow_lines, refused, unless_none};
+use crate::stop::CheckNo;
+use dm_line::line::Line;
+use dm_onekernel::Boot;
+use dm_run::{begin, end_lines, step_on};
+use dm_schedule::Step;
+use dm_shape::head::head;
+use dm_shape::split::split;
+use dm_world::{Stop, World};
+use std::alloc::Global;
+
+/// A text that is what the system prints.
+#[derive(Clone, Copy, Debug, PartialEq, Eq)]
+pub struct Good {
+    /// How many groups it has.
+    pub groups: u64,
+    /// Whether the lines at the end stand behind them.
+    pub ended: bool,
+}
+
+/// Checks that a text is what the system of a boot file prints, for the directives that its heads are.
+pub fn check_trace(alloc: Global, boot: Boot, trace: &[u8]) -> Result<Good, CheckNo>
+    requires valid { IsValid boot }
+    requires short { length trace.now ≤ 16777216 }
+    ensures verdict { IfOk result (λ g. verdict boot trace.now ≡ good_verdict g.groups g.ended) }
+    ensures good { IfOk result (λ g. IsTrace boot trace.now g.groups g.ended) }
+    ensures refused { IfErr result (RefusedSo (verdict boot trace.now)) }
+{
+    let quantum = boot.quantum;
+    let machines = boot.machines.len() as u8;
+    match begin(alloc, boot) {
+        Ok(mut world) => check_on(alloc, quantum, machines, &mut world, trace),
+        Err(no) => Err(CheckNo::NoMemory(no)),
+    }
+}
+
+/// Checks a text from its beginning on, with a world that has done nothing yet.
+fn check_on(
+    alloc: Global,
+    quantum: u32,
+    machines: u8,
+    world: &mut World,
+    trace: &[u8],
+) -> Result<Good, CheckNo>
+    requires running { IsRunning world.old }
+    requires begun { HasChecked world.old.boot trace.now trace.now 1 0 (state_of world.old) }
+    requires groups { world.old.groups ≡ 0 }
+    requires quantum { world.old.boot.quantum ≡ quantum }
+    requires machines { length world.old.boot.machines ≡ machines }
+    requires short { length trace.now ≤ 16777216 }
+    ensures verdict { IfOk result (λ g. verdict world.old.boot trace.now ≡ good_verdict g.groups g.ended) }
+    ensures good { IfOk result (λ g. IsTrace world.old.boot trace.now g.groups g.ended) }
+    ensures refused { IfErr result (RefusedSo (verdict world.old.boot trace.now)) }
+{
+    let mut page = Vec::new(alloc);
+    let mut rest = trace;
+    let mut number: u64 = 1;
+    let mut groups: u64 = 0;
+    'groups: while let Some(step) = first_head(rest) {
+        let lines = group(machines, &step, number, world)?;
+        rest = follow_lines(quantum, lines.as_slice(), rest, number, &mut page)?;
+        number += lines.len() as u64;
+        groups += 1;
+    }
+    let ended = is_ended(world, rest, number, &mut page)?;
+    Ok(Good { groups, ended })
+}
+
+/// The directive of the head with which a text begins.
+fn first_head(text: &[u8]) -> Option<Step>
+    ensures { result ≡ head_of_line (first_line (pieces 10 text.now)) }
+{
+    let (line, others) = split(text, b'\n');
+    match others {
+        Some(_) => head(line),
+        None => None,
+    }
+}
+
+/// The group of a head that stands in the line of this number, if one is due.
+fn group(machines: u8, step: &Step, number: u64, world: &mut World) -> Result<Vec<Line>, CheckNo>
+    requires running { IsRunning world.old }
+    requires groups { world.old.groups < 2 ^ 127 }
+    requires machines { length world.old.boot.machines ≡ machines }
+    ensures held { OnOk result (can_hold machines step.now ≡ true) }
+    ensures runs_on { IfOk result (λ lines. RunsOn (state_of world.old) world.old.boot step.now lines.items (state_of world.new)) }
+    ensures fits { IfOk result (λ lines. All LineFits lines.items) }
+    ensures running { OnOk result (IsRunning world.new) }
+    ensures counts { OnOk result (world.new.groups ≡ world.old.groups + 1) }
+    ensures boot { world.new.boot ≡ world.old.boot }
+    ensures none { IfErr result (NoGroup world.old.boot (state_of world.old) step.now number) }
+{
+    if !can_hold(machines, step) {
+        return Err(refused(number, TraceFault::NotDue));
+    }
+    match step_on(world, step) {
+        Ok(lines) => Ok(lines),
+        Err(Stop::NoMemory(no)) => Err(CheckNo::NoMemory(no)),
+        Err(Stop::Worn { .. }) => Err(refused(number, TraceFault::NotDue)),
+    }
+}
+
+/// Whether a schedule for so many machines can hold a directive, whatever the number of its packet.
+fn can_hold(machines: u8, step: &Step) -> bool
+    ensures { result ≡ can_hold machines step.now }
+{
+    match *step {
+        Step::Turn(m) => m < machines,
+        Step::Tick(m) => m < machines,
+        Step::Deliver { a, b, .. } => a < machines && b < machines && a != b,
+        Step::Migrate { pid, to } => pid.home < machines && to < machines,
+    }
+}
+
+/// Whether the lines at the end stand behind whole groups, where a text isn't over. No head begins it.
+fn is_ended(world: &World, text: &[u8], number: u64, page: &mut Vec<u8>) -> Result<bool, CheckNo>
+    requires running { IsRunning world.now }
+    requires no_head { head_of_line (first_line (pieces 10 text.now)) ≡ None }
+    requires room { number + length text.now < 2 ^ 62 }
+    ensures verdict { (es : List TheStep) (gs : List (List TheLine)) (pt : Point) (n : ℕ) → Ran world.now.boot es gs pt (state_of world.now) →
+        IfOk result (λ ended. judged_from world.now.boot (judge.Head pt n) number (pieces 10 text.now) ≡ good_verdict n ended) }
+    ensures text { (es : List TheStep) (gs : List (List TheLine)) (pt : Point) → Ran world.now.boot es gs pt (state_of world.now) →
+        IfOk result (λ ended. text.now ≡ text_behind ended pt) }
+    ensures fits { (es : List TheStep) (gs : List (List TheLine)) (pt : Point) → Ran world.now.boot es gs pt (state_of world.now) →
+        IfOk result (λ ended. EndsFit ended pt) }
+    ensures refused { (es : List TheStep) (gs : List (List TheLine)) (pt : Point) (n : ℕ) → Ran world.now.boot es gs pt (state_of world.now) →
+        IfErr result (RefusedSo (judged_from world.now.boot (judge.Head pt n) number (pieces 10 text.now))) }
+{
+    if text.is_empty() {
+        return Ok(false);
+    }
+    if !begins_end(text) {
+        return Err(refused(number, unless_none(text, TraceFault::NotDue)));
+    }
+    match end_lines(world) {
+        Ok(ends) => match follow_ends(ends.as_slice(), text, number, page) {
+            Ok(()) => Ok(true),
+            Err(no) => Err(no),
+        },
+        Err(no) => Err(CheckNo::NoMemory(no)),
+    }
+}
+
+/// Whether a text begins with the line `final`.
+fn begins_end(text: &[u8]) -> bool
+    ensures { result ≡ is_final (first_line (pieces 10 text.now)) }
+{
+    let (line, others) = split(text, b'\n');
+    match others {
+        Some(_) => line == "final".as_bytes(),
+        None => false,
+    }
+}

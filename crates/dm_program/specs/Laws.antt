@@ -1,0 +1,39 @@
+-- What the commands say of each other.
+use Rattle.std.specs.Prelude.{◌≡◌, ◌≤◌, ℕ, ◌⊎◌, Bool, true, false, List, [], length}
+use Rattle.std.specs.declared.option.Option.{Option}
+use Rattle.std.specs.declared.option.Option.TheVariants.{Some}
+use Rattle.dm_outside.specs.Outside.{appended}
+use Rattle.dm_program.specs.declared.status.Status.{Status}
+use Rattle.dm_program.specs.declared.status.Status.TheVariants.{Done, Worn}
+use Rattle.dm_program.specs.Checks.{Accepts, good_line, most_trace}
+use Rattle.dm_program.specs.Outside.{Outside, NeverFails}
+use Rattle.dm_program.specs.Runs.{SaysRun}
+use Rattle.dm_program.specs.Status.{IsWant}
+
+-- what a run has written, from nothing on, is the trace that is checked, with the same boot file
+pub record IsKept (boot trace : List ℕ) (run check : Outside) : Type 0 where
+  pub files : List ℕ → Option (List ℕ)
+  pub later : List ℕ → Option (List ℕ)
+  pub at_run : run.files ≡ Some files
+  pub at_check : check.files ≡ Some later
+  pub boot_is : later boot ≡ files boot
+  pub from_nothing : run.before ≡ Some []
+  pub trace_is : later trace ≡ run.after
+  pub short : (bytes : List ℕ) → later trace ≡ Some bytes → length bytes ≤ most_trace
+
+-- it was said that the trace is good
+pub record SaysItIs (ended : Bool) (o : Outside) (s : Status) : Type 0 where
+  pub groups : ℕ
+  pub done : s ≡ Done
+  pub said : o.after ≡ appended o.before (good_line groups ended)
+
+-- the trace of a run that came to its end is good, ended
+abbrev pub RunsCheck : Type 0
+RunsCheck =
+    (boot schedule trace : List ℕ) (run check : Outside) (s : Status) → SaysRun boot schedule run Done → IsKept boot trace run check → Accepts boot trace check s → NeverFails check → SaysItIs true check s ⊎ IsWant s
+
+-- that of a run that stopped at two machines that count as many messages as they may is good, open
+abbrev pub WornRunsCheck : Type 0
+WornRunsCheck =
+    (boot schedule trace : List ℕ) (run check : Outside) (from to : ℕ) (s : Status) → SaysRun boot schedule run (Worn from to) → IsKept boot trace run check → Accepts boot trace check s → NeverFails check
+    → SaysItIs false check s ⊎ IsWant s
