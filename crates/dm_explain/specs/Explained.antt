@@ -4,6 +4,7 @@ use Rattle.std.specs.List.{concat}
 use Rattle.std.specs.Fmt.{decimal}
 use Rattle.toml.specs.Data.{Members, table}
 use Rattle.dm_onekernel.specs.declared.boot.Boot.{Boot}
+use Rattle.dm_onekernel.specs.Boot.{IsValid}
 use Rattle.dm_schedule.specs.Schedule.{Accepted, Refused, directives_of}
 use Rattle.dm_boot.specs.declared.rules.BootRule.{BootRule}
 use Rattle.dm_boot.specs.Boot.{boot_of, document_of}
@@ -62,3 +63,8 @@ ExplainsBoot bytes (boot.Refused rule place text) = TellsRefused bytes rule plac
 abbrev pub ExplainsSchedule : List ℕ → ℕ → ScheduleTold → Type 0
 ExplainsSchedule bytes machines (schedule.Directives ds text) = (directives_of bytes machines ≡ Accepted ds.items) × (text.items ≡ directives_told ds.items)
 ExplainsSchedule bytes machines (schedule.Refused line fault text) = (directives_of bytes machines ≡ Refused line fault) × (text.items ≡ line_told bytes line fault)
+
+-- a system that is said may start
+abbrev pub IsToldValid : BootTold → Type 0
+IsToldValid (boot.System b text) = IsValid b
+IsToldValid (boot.Refused rule place text) = ⊤

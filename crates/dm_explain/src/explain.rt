@@ -2,7 +2,7 @@
 ghost use Rattle.std.specs.Prelude.{◌≡◌, ◌++◌, IfOk, None, OnOk, Some};
 ghost use Rattle.toml.specs.View.{table_view};
 ghost use Rattle.dm_boot.specs.Boot.{document_of};
-ghost use Rattle.dm_explain.specs.Explained.{ExplainsBoot, ExplainsSchedule, IsLineSaid, line_behind, unread_told};
+ghost use Rattle.dm_explain.specs.Explained.{ExplainsBoot, ExplainsSchedule, IsLineSaid, IsToldValid, line_behind, unread_told};
 
 use crate::part::{Part, put, put_parts};
 use crate::schedule::{put_directives, put_line};
@@ -48,7 +48,8 @@ pub enum ScheduleTold {
 /// Says what a boot file says, or which rule it breaks.
 #[tactic(auto, using(dm_boot::proofs::Documents::document_lemmas))]
 pub fn explain_boot(alloc: Global, bytes: &[u8]) -> Result<BootTold, NoMemory>
-    ensures { IfOk result (λ told. ExplainsBoot bytes.now told) }
+    ensures explains { IfOk result (λ told. ExplainsBoot bytes.now told) }
+    ensures valid { IfOk result IsToldValid }
 {
     match table_from_slice(alloc, bytes) {
         Ok(table) => explain_table(alloc, bytes, table),
@@ -61,7 +62,8 @@ pub fn explain_boot(alloc: Global, bytes: &[u8]) -> Result<BootTold, NoMemory>
 #[tactic(auto, using(dm_boot::proofs::Documents::document_lemmas))]
 fn explain_table(alloc: Global, bytes: &[u8], table: Table) -> Result<BootTold, NoMemory>
     requires { document_of bytes.now ≡ Some (table_view table) }
-    ensures { IfOk result (λ told. ExplainsBoot bytes.now told) }
+    ensures explains { IfOk result (λ told. ExplainsBoot bytes.now told) }
+    ensures valid { IfOk result IsToldValid }
 {
     let top = Value::Table(table);
     let mut text = Vec::new(alloc);
@@ -82,7 +84,8 @@ fn explain_table(alloc: Global, bytes: &[u8], table: Table) -> Result<BootTold, 
 #[tactic(auto, unfolding(dm_boot::specs::Boot::boot_of))]
 fn explain_unread(alloc: Global, bytes: &[u8]) -> Result<BootTold, NoMemory>
     requires { document_of bytes.now ≡ None }
-    ensures { IfOk result (λ told. ExplainsBoot bytes.now told) }
+    ensures explains { IfOk result (λ told. ExplainsBoot bytes.now told) }
+    ensures valid { IfOk result IsToldValid }
 {
     let mut text = Vec::new(alloc);
     put_unread(&mut text, unread_line(alloc, bytes))?;

@@ -19,13 +19,13 @@ use crate::wanted::{
     machine_ranges, process_keys, top_keys, top_ranges,
 };
 use dm_asm::{AsmNo, Image, Why, assemble};
+use dm_boot::BootRule;
 use dm_boot::document::Document;
 use dm_boot::limits::{format_of, machine_number};
 use dm_boot::names::{is_name, is_server};
 use dm_boot::shapes::is_link;
-use dm_boot::tables::{has_text, items_at, text_at};
-use dm_boot::targets::{has_target, is_limited, memory_of};
-use dm_boot::BootRule;
+use dm_boot::tables::{items_at, text_at};
+use dm_boot::targets::{has_target, is_control, is_limited, memory_of};
 use dm_memory::NoMemory;
 use std::alloc::Global;
 use toml::Value;
@@ -563,7 +563,7 @@ fn put_link(
 fn put_link_keys(into: &mut Vec<u8>, link: &Value) -> Result<(), NoMemory>
     ensures { OnOk result (into.new.items ≡ into.old.items ++ link_keys_told (view link.now)) }
 {
-    if has_text(link, "control") {
+    if is_control(link) {
         put_key_fault(into, link, &control_keys(), &["control"], "")
     } else {
         put_key_fault(
@@ -582,7 +582,7 @@ fn put_link_keys(into: &mut Vec<u8>, link: &Value) -> Result<(), NoMemory>
 fn put_target(into: &mut Vec<u8>, link: &Value) -> Result<(), NoMemory>
     ensures { OnOk result (into.new.items ≡ into.old.items ++ target_told (view link.now)) }
 {
-    if has_text(link, "control") {
+    if is_control(link) {
         put_parts(
             into,
             &[

@@ -3,6 +3,8 @@ pub mod Request
 pub mod FileWords
 pub mod RunWords
 pub mod CheckWords
+pub mod ChartWords
+pub mod ExplainWords
 pub mod Words
 pub mod Files
 pub mod Inputs
@@ -10,5 +12,7 @@ pub mod Asked
 pub mod Outside
 pub mod Runs
 pub mod Checks
+pub mod Charts
+pub mod Explains
 pub mod Program
 pub mod Laws

@@ -1,5 +1,5 @@
 -- The words of the command line, as `clap` takes them, and what they ask for.
-use Rattle.std.specs.Prelude.{◌≡◌, ℕ, true, List, [], ◌∷◌, codes, option_and_then, if◌then◌else◌}
+use Rattle.std.specs.Prelude.{◌≡◌, ℕ, true, List, [], ◌∷◌, codes, option_and_then, option_map, if◌then◌else◌}
 use Rattle.std.specs.Str.{bytes_eq}
 use Rattle.std.specs.declared.option.Option.{Option}
 use Rattle.std.specs.declared.option.Option.TheVariants.{None, Some}
@@ -8,8 +8,10 @@ use Rattle.clap.specs.Simple.{App, Shape, new_shape, subcommand_of, with_subcomm
 use Rattle.clap.specs.Faults.{fault_of}
 use Rattle.dm_program.specs.declared.words.Request.{Request as TheRequest}
 use Rattle.dm_program.specs.declared.words.Request.TheVariants as the
-use Rattle.dm_program.specs.Request.{Request, Check, Run}
+use Rattle.dm_program.specs.Request.{Request, Chart, Check, Explain, Run}
+use Rattle.dm_program.specs.ChartWords.{chart_command, chart_request}
 use Rattle.dm_program.specs.CheckWords.{check_command, check_request}
+use Rattle.dm_program.specs.ExplainWords.{explain_command, explain_request}
 use Rattle.dm_program.specs.RunWords.{run_command, run_request}
 
 -- a command: its name and its options, and what its matches ask for
@@ -19,7 +21,9 @@ pub record Command : Type 0 where
 
 -- the commands of the program, a row each
 abbrev pub commands : List Command
-commands = record { shape = run_command; request = run_request } ∷ record { shape = check_command; request = check_request } ∷ []
+commands =
+    record { shape = run_command; request = run_request } ∷ record { shape = check_command; request = check_request }
+    ∷ record { shape = chart_command; request = chart_request } ∷ record { shape = explain_command; request = explain_request } ∷ []
 
 abbrev pub with_commands : App → List Command → App
 with_commands a [] = a
@@ -50,3 +54,5 @@ request_of words = if is_empty (fault_of demosmp words) then option_and_then req
 abbrev pub request_said : TheRequest → Request
 request_said (the.Run boot schedule) = Run boot.now schedule.now
 request_said (the.Check boot trace) = Check boot.now trace.now
+request_said (the.Chart boot schedule) = Chart boot.now schedule.now
+request_said (the.Explain boot schedule) = Explain boot.now (option_map (λ s. s.now) schedule)

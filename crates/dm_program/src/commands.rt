@@ -1,3 +1,5 @@
 //! The commands of the program, a file each.
+pub mod chart;
 pub mod check;
+pub mod explain;
 pub mod run;
