@@ -44,6 +44,12 @@ first_same a c k (p ∷ ps) = ap (λ (o : Option ℕ). if p.delivered then o els
 undelivered_same : (b : Boot) (w : WorldState) (pt : Point) (l : Placed) (h : History) (a c : ℕ) → PairStands b pt l w h a c → world.undelivered w a c ≡ rule.undelivered pt.view a c
 undelivered_same b w pt l h a c p = ap (first_unseen 0) p.bytes ∙ (first_same a c 0 (h.packets a c) ∙ ap (first_undelivered 0) p.packets)
 
+pub undelivered_said : (b : Boot) (es : List Step) (w : WorldState) (pt : Point) (a c : ℕ) → IsValid b → Leads b (first_point b) es pt → Stands b w pt → a < length b.machines → c < length b.machines → a ≢ c → world.undelivered w a c ≡ rule.undelivered pt.view a c
+undelivered_said b es w pt a c valid leads stands from to apart =
+    let ((l, h, s), counts) = stands in
+    let machines = machines_stay b es pt valid leads in
+    undelivered_same b w pt l h a c (s.pairs a c (omega (arith, from, machines)) (omega (arith, to, machines)) apart)
+
 -- two ways to find a wire's first packet that agree on each pair of different machines
 abbrev Agrees : ℕ → (ℕ → ℕ → Option ℕ) → (ℕ → ℕ → Option ℕ) → Type 0
 Agrees machines f g = (a c : ℕ) → a < machines → c < machines → a ≢ c → f a c ≡ g a c

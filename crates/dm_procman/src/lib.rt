@@ -22,7 +22,7 @@ mod starting;
 
 use children::Children;
 use dm_link::{Addr, Link, Pid};
-use dm_memory::{NoMemory, push};
+use dm_memory::NoMemory;
 use dm_message::{Message, MsgId, What};
 use dm_onekernel::Boot;
 use making::{answer_over, control_link};
@@ -167,7 +167,7 @@ impl ProcMan {
             at: pid.home,
             moves: 0,
         };
-        push(&mut self.children, child)?;
+        self.children.push(child)?;
         let request = take_pending(&mut self.pending, number);
         let control = control_link(self.children.len() as u32);
         Ok(Some(self.answer(&request.answer, 0, &[control])))

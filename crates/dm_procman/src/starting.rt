@@ -4,7 +4,7 @@ ghost use Rattle.dm_procman.specs.Managing.{child_of};
 
 use crate::children::Children;
 use dm_link::Addr;
-use dm_memory::{NoMemory, push};
+use dm_memory::NoMemory;
 use dm_onekernel::Boot;
 use std::alloc::Global;
 
@@ -19,7 +19,7 @@ pub fn children_of(alloc: Global, boot: &Boot) -> Result<Children, NoMemory>
             at: process.pid.home,
             moves: 0,
         };
-        push(&mut children, child)?;
+        children.push(child)?;
     }
     Ok(children)
 }

@@ -63,8 +63,8 @@ fn say_first_run(
     );
     let files = vec![in alloc; boot, schedule]?;
     let mut shelf = MemShelf::new(files, Vec::from_slice(alloc, reads)?);
-    let mut out = MemSink::new(alloc, 4_096, Vec::from_slice(alloc, writes)?)?;
-    let mut errors = MemSink::new(alloc, 96, Vec::new(alloc))?;
+    let mut out = MemSink::new(Vec::with_capacity(alloc, 4_096)?, Vec::from_slice(alloc, writes)?);
+    let mut errors = MemSink::new(Vec::with_capacity(alloc, 96)?, Vec::new(alloc));
     let mut words = Vec::new(alloc);
     for word in WORDS {
         words.push(String::from_str(alloc, word)?)?;

@@ -9,3 +9,4 @@ pub mod Counted
 pub mod Endings
 pub mod Stepping
 pub mod Steps
+pub mod Settling

@@ -10,12 +10,17 @@ use Rattle.dm_schedule.specs.declared.Step.{Step}
 use Rattle.dm_schedule.specs.declared.Directive.{Directive}
 use Rattle.dm_schedule.specs.declared.Directive.TheVariants as directive
 use Rattle.dm_line.specs.declared.line.Line.{Line}
+use Rattle.dm_line.specs.declared.pass.Pass.TheVariants.{Round, Settle}
 use Rattle.dm_line.specs.Todo.{Todo, all_of}
 use Rattle.dm_rule.specs.Laws.{IsStep}
 use Rattle.dm_rule.specs.Point.{Point}
 use Rattle.dm_text.specs.Fits.{LineFits}
 use Rattle.dm_text.specs.Text.{text_of_lines}
+use Rattle.dm_world.specs.declared.cursor.Cursor.{Cursor}
+use Rattle.dm_world.specs.declared.cursor.Cursor.TheVariants.{One, Passing}
 use Rattle.dm_world.specs.declared.world.World.{World}
+use Rattle.dm_world.specs.Readable.{AreReadBack, gave}
+use Rattle.dm_world.specs.Whole.{AreWhole}
 use Rattle.dm_world.specs.World.{WorldState, Says, first_world, world_step}
 use Rattle.dm_world.specs.Next.{next_step}
 use Rattle.dm_world.specs.Meets.{IsWorld, state_of}
@@ -74,10 +79,12 @@ abbrev pub Ended : {A : Type 0} → Boot → List Directive → Option (List ℕ
 Ended b ds before after w (Ok _) = IsWhole b ds before after (Some w)
 Ended b ds before after w (Err s) = Stopped b ds before after (Some w) s
 
--- the world after an elementary directive
+-- the world after an elementary directive; what was put on wires is read again, and a process that was frozen can be carried whole
 pub record IsAfter (b : Boot) (old : WorldState) (e : Step) (new : WorldState) : Type 0 where
   pub lines : List Line
   pub happens : world_step b old e ≡ Some (Says (record { state = new; lines = lines }))
+  pub again : AreReadBack (gave b old e)
+  pub whole : AreWhole old e
 
 -- a world as its boot file has it, before the first directive
 pub record IsAtStart (w : World) : Type 0 where
@@ -94,3 +101,9 @@ BlamesBy old new (Worn from to) = new ≡ old
 abbrev pub Blames : {A : Type 0} → ℕ → ℕ → Result A Stop → Type 0
 Blames old new (Ok _) = new ≡ old
 Blames old new (Err s) = BlamesBy old new s
+
+-- how many rounds are left of a directive, behind the pass that it is in
+abbrev pub rounds_of : Cursor → ℕ
+rounds_of (One e) = 0
+rounds_of (Passing (Round k) place) = k
+rounds_of (Passing Settle place) = 0

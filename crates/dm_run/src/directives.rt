@@ -1,5 +1,5 @@
 //! Running directives, and writing what happens.
-ghost use Rattle.std.specs.Prelude.{◌≡◌, ◌≤◌, ◌<◌, ◌+◌, ◌^◌, ℕ, List, Option, Some, OnOk, false, length, [], ◌∷◌};
+ghost use Rattle.std.specs.Prelude.{◌≡◌, ◌≤◌, ◌<◌, ◌+◌, ◌*◌, ◌^◌, ℕ, List, Option, Some, OnOk, false, length, [], ◌∷◌};
 ghost use Rattle.std.specs.List.{All};
 ghost use Rattle.dm_schedule.specs.declared.Directive.{Directive as TheDirective};
 ghost use Rattle.dm_line.specs.Todo.{Todo, Next, all_of};
@@ -8,20 +8,16 @@ ghost use Rattle.dm_world.specs.Ends.{MayEnd};
 ghost use Rattle.dm_world.specs.Meets.{IsWorld, state_of};
 ghost use Rattle.dm_world.specs.Next.{next_step};
 ghost use Rattle.dm_world.specs.World.{first_world};
-ghost use Rattle.dm_run.specs.Coming.{Blames, Came, Ended, HasCome, IsAfter, IsDue, IsFor, IsAtStart};
+ghost use Rattle.dm_run.specs.Coming.{Blames, Came, Ended, HasCome, IsAfter, IsDue, IsFor, IsAtStart, rounds_of};
 ghost use Rattle.dm_run.specs.Printed.{Lasts};
 ghost use Rattle.dm_run.specs.Running.{IsRunning};
 
 use crate::offering::{offer, offer_ends};
 use crate::stop::Stop;
-use dm_memory::NoMemory;
 use dm_outside::Sink;
 use dm_schedule::{Directive, Step};
 use dm_world::{Cursor, Stop as WorldStop, World};
-use std::alloc::{AllocError, Global};
-
-/// The most groups of a run, 2 ^ 126: as many as a world counts, and more than any run prints.
-const MOST_GROUPS: u128 = 85_070_591_730_234_615_865_843_651_857_942_052_864;
+use std::alloc::Global;
 
 /// Does these directives, and writes the lines of each. Nothing is written of the end.
 pub fn run_directives<K: Sink>(
@@ -36,14 +32,14 @@ pub fn run_directives<K: Sink>(
     ensures came { Came world.old.boot directives.now (all_of []) (K.told out.old) (K.told out.new) world.new result }
     ensures running { OnOk result (IsRunning world.new) }
     ensures boot { OnOk result (world.new.boot ≡ world.old.boot) }
-    ensures groups { OnOk result (world.new.groups ≤ 2 ^ 126) }
+    // A directive has fewer than 2 ^ 90 groups.
+    ensures groups { OnOk result (world.new.groups ≤ length directives.now * 2 ^ 90) }
     ensures blames { Blames (K.faults out.old) (K.faults out.new) result }
     ensures writes { K.faults out.old ≤ K.faults out.new }
 {
     let mut page = Vec::new(alloc);
-    let mut groups = 0;
     'directives: for directive in directives {
-        run_directive(directive, world, &mut page, out, &mut groups)?;
+        run_directive(directive, world, &mut page, out)?;
     }
     Ok(())
 }
@@ -68,42 +64,41 @@ pub fn run_to_end<K: Sink>(
     say_end(world, &mut page, out)
 }
 
-/// Does the elementary directives of a directive, and writes the lines of each; `groups` counts them. Where the count is at
-/// its end no group more is done, for want of room to count it.
+/// Does the elementary directives of a directive, and writes the lines of each. A settle ends: each of its groups leaves less to
+/// do, by what was printed.
 fn run_directive<K: Sink>(
     directive: &Directive,
     world: &mut World,
     page: &mut Vec<u8>,
     out: &mut K,
-    groups: &mut u128,
 ) -> Result<(), Stop>
     requires world { IsWorld world.old }
     requires running { world.old.stopped ≡ false }
     requires due { IsDue world.old directive.now (K.told out.old) }
-    requires counted { groups.old ≡ world.old.groups }
-    requires within { groups.old ≤ 85070591730234615865843651857942052864 }
+    requires groups { world.old.groups + 2 ^ 90 ≤ 2 ^ 126 }
     ensures came { (ds rest : List TheDirective) (before : Option (List ℕ)) →
         HasCome world.old.boot ds (all_of (directive.now ∷ rest)) before (K.told out.old) (state_of world.old) →
         Came world.old.boot ds (all_of rest) before (K.told out.new) world.new result }
     ensures world { OnOk result (IsWorld world.new) }
     ensures running { OnOk result (world.new.stopped ≡ false) }
     ensures boot { OnOk result (world.new.boot ≡ world.old.boot) }
-    ensures counted { OnOk result (groups.new ≡ world.new.groups) }
-    ensures within { OnOk result (groups.new ≤ 85070591730234615865843651857942052864) }
+    ensures groups { OnOk result (world.new.groups ≤ world.old.groups + 2 ^ 90) }
     ensures blames { Blames (K.faults out.old) (K.faults out.new) result }
     ensures writes { K.faults out.old ≤ K.faults out.new }
 {
     let mut cursor = Cursor::new(directive);
+    rounds_fit(cursor);
     'steps: while let Some((step, next)) = world.next(cursor) {
-        if *groups >= MOST_GROUPS {
-            return Err(Stop::NoMemory(NoMemory::from(AllocError)));
-        }
         one_group(&step, world, page, out)?;
-        *groups += 1;
         cursor = next;
     }
     Ok(())
 }
+
+/// A cursor's number of rounds is within its type.
+fn rounds_fit(cursor: Cursor)
+    ensures { rounds_of cursor < 2 ^ 32 }
+{}
 
 /// Does an elementary directive, and writes its lines.
 fn one_group<K: Sink>(

@@ -2,6 +2,8 @@ pub mod Still
 pub mod Wires
 pub mod Delivers
 pub mod Runs
+pub mod Settles
+pub mod AllOut
 pub mod Through
 pub mod Worked
 pub mod Packets

@@ -1,6 +1,6 @@
 -- From wherever a run stands it comes to its end: rounds within a directive, machines and pairs within a round, and the packets of a pair
 -- that were never delivered, of which a delivery leaves one fewer, since what it puts on wires goes the other way.
-use Rattle.std.proofs.Common.{◌≡◌, ◌⊎◌, inl, inr, ℕ, zero, suc, ◌≤◌, Bool, true, is_some, List, [], ◌∷◌, ◌++◌, length, refl, ap, ◌∙◌, sym, subst, arith}
+use Rattle.std.proofs.Common.{◌≡◌, ℕ, zero, suc, ◌≤◌, Bool, true, is_some, List, [], ◌∷◌, ◌++◌, length, refl, ap, ◌∙◌, sym, subst, arith}
 use Rattle.std.specs.List.{All}
 use Rattle.std.specs.declared.option.Option.{Option}
 use Rattle.std.specs.declared.option.Option.TheVariants.{None, Some}
@@ -29,7 +29,7 @@ use Rattle.dm_mirror.specs.Todo.{IsTwo, IsDirective}
 use Rattle.dm_mirror.proofs.Going.{leads_last}
 use Rattle.dm_mirror.proofs.Machines.{machines_group, some_machine}
 use Rattle.dm_mirror.proofs.Next.{IsBelow, all_below, all_pairs}
-use Rattle.dm_runlaws.specs.Through.{IsNoSettle, HasEnded, Over, Wears}
+use Rattle.dm_runlaws.specs.Through.{HasEnded, Over, Wears}
 use Rattle.dm_runlaws.proofs.Wires.{Counts, lines_count}
 use Rattle.dm_runlaws.proofs.Delivers.{waits, fewer_wait}
 
@@ -48,7 +48,7 @@ pub record Stood (b : Boot) (pt : Point) : Type 0 where
   pub counts : Counts b.numbers pt.view
   pub machines : pt.kernel.machines ≡ length b.machines
 
-abbrev follows : Boot → Point → Todo → Option Next
+abbrev pub follows : Boot → Point → Todo → Option Next
 follows b pt t = following (length b.machines) (undelivered pt.view) (has_mail pt.view) (is_quiet (length b.machines) pt.view) t
 
 abbrev todo : List Two → List ℕ → ℕ → List Directive → Todo
@@ -62,7 +62,7 @@ due : (b : Boot) (pt : Point) (t : Todo) (o : Option Next) → Stood b pt → fo
 due b pt t o s e = ap (λ (k : ℕ). next_step k pt.view t) s.machines ∙ e
 
 -- nothing is left
-over : (b : Boot) (pt : Point) (t : Todo) → Stood b pt → follows b pt t ≡ None → From b pt t
+pub over : (b : Boot) (pt : Point) (t : Todo) → Stood b pt → follows b pt t ≡ None → From b pt t
 over b pt t s e = record { groups = []; end = pt; left = t; run = (refl, refl); ended = Over (due b pt t None s e) }
 
 -- a directive goes on, or wears a pair
@@ -87,7 +87,7 @@ by_group : (b : Boot) (pt : Point) (t : Todo) (n : Next) (o : Option Spelled) �
 by_group b pt t n None valid s next fit is some on = absurd (false≢true some)
 by_group b pt t n (Some w) valid s next fit is some on = wears_or_goes b pt t n w (worn_in b.numbers pt.view w.lines) valid s next fit is refl (on w is)
 
-goes : (b : Boot) (pt : Point) (t : Todo) (n : Next) → IsValid b → Stood b pt → follows b pt t ≡ Some n → IsStep (length b.machines) n.step → ((w : Spelled) → group_of b pt n.step ≡ Some w → Stood b w.point → From b w.point n.left) → From b pt t
+pub goes : (b : Boot) (pt : Point) (t : Todo) (n : Next) → IsValid b → Stood b pt → follows b pt t ≡ Some n → IsStep (length b.machines) n.step → ((w : Spelled) → group_of b pt n.step ≡ Some w → Stood b w.point → From b w.point n.left) → From b pt t
 goes b pt t n valid s next fit on =
     let step_ : IsStep pt.kernel.machines n.step = subst (λ (k : ℕ). IsStep k n.step) (sym s.machines) fit in
     by_group b pt t n (group_of b pt n.step) valid s (due b pt t (Some n) s next) step_ refl (goes_on_always b s.steps pt n.step valid s.leads step_) on
@@ -97,7 +97,7 @@ ended_same : (b : Boot) (pt : Point) (t u : Todo) → next_step pt.kernel.machin
 ended_same b pt t u e (Over x) = Over (e ∙ x)
 ended_same b pt t u e (Wears n from to next worn) = Wears n from to (e ∙ next) worn
 
-same_by : (b : Boot) (pt end : Point) (t u left : Todo) (gs : List (List Line)) → next_step pt.kernel.machines pt.view t ≡ next_step pt.kernel.machines pt.view u → IsRun b pt u gs end left → HasEnded b end left → From b pt t
+pub same_by : (b : Boot) (pt end : Point) (t u left : Todo) (gs : List (List Line)) → next_step pt.kernel.machines pt.view t ≡ next_step pt.kernel.machines pt.view u → IsRun b pt u gs end left → HasEnded b end left → From b pt t
 same_by b pt end t u left [] e (at, is) ended = record {
   groups = [];
   end = pt;
@@ -107,7 +107,7 @@ same_by b pt end t u left [] e (at, is) ended = record {
 }
 same_by b pt end t u left (g ∷ gs) e (n, w, next, is, said, kept, more) ended = record { groups = g ∷ gs; end = end; left = left; run = (n, w, e ∙ next, is, said, kept, more); ended = ended }
 
-same : (b : Boot) (pt : Point) (t u : Todo) → Stood b pt → follows b pt t ≡ follows b pt u → From b pt u → From b pt t
+pub same : (b : Boot) (pt : Point) (t u : Todo) → Stood b pt → follows b pt t ≡ follows b pt u → From b pt u → From b pt t
 same b pt t u s e f = same_by b pt f.end t u f.left f.groups (due b pt t (follows b pt u) s e ∙ sym (due b pt u (follows b pt u) s refl)) f.run f.ended
 
 -- the turns of a round
@@ -183,41 +183,11 @@ round_out b k ds valid rest pt s =
     let e : follows b pt (between (suc k) ds) ≡ follows b pt (todo ps (below n) k ds) = sym (round_goes (has_mail pt.view) ps (below n) m ms k ds (next_delivery (undelivered pt.view) ps) (after b pt k ds) some) in
     same b pt (between (suc k) ds) (todo ps (below n) k ds) s e (packets_out b ps (below n) k ds valid (all_pairs n) (turns_out b (below n) k ds valid (all_below n) rest) pt s)
 
-rounds_out : (b : Boot) (k : ℕ) (ds : List Directive) → IsValid b → ((q : Point) → Stood b q → From b q (between 0 ds)) → (pt : Point) → Stood b pt → From b pt (between k ds)
+pub rounds_out : (b : Boot) (k : ℕ) (ds : List Directive) → IsValid b → ((q : Point) → Stood b q → From b q (between 0 ds)) → (pt : Point) → Stood b pt → From b pt (between k ds)
 rounds_out b zero ds valid rest pt s = rest pt s
 rounds_out b (suc k) ds valid rest pt s = round_out b k ds valid (rounds_out b k ds valid rest) pt s
 
 -- the rounds of a spin
-spin_same : (b : Boot) (pt : Point) (n : ℕ) (ds : List Directive) → after b pt 0 (directive.Spin n ∷ ds) ≡ after b pt n ds
+pub spin_same : (b : Boot) (pt : Point) (n : ℕ) (ds : List Directive) → after b pt 0 (directive.Spin n ∷ ds) ≡ after b pt n ds
 spin_same b pt zero ds = refl
 spin_same b pt (suc n) ds = refl
-
--- a settle comes to its end, wherever a run stands, and what is behind it to its own
-abbrev pub SettlesOut : Boot → Type 0
-SettlesOut b = (ds : List Directive) → ((q : Point) → Stood b q → From b q (between 0 ds)) → (pt : Point) → Stood b pt → From b pt (between 0 (directive.Settle ∷ ds))
-
--- so does each directive, if a settle does, or where there is none
-abbrev pub Settled : Boot → Directive → Type 0
-Settled b d = IsNoSettle d ⊎ SettlesOut b
-
-settle_out : (b : Boot) → Settled b directive.Settle → SettlesOut b
-settle_out b s = elim s [
-  | inl none ↦ absurd none
-  | inr out ↦ out
-]
-
--- all directives
-pub all_out : (b : Boot) (ds : List Directive) → IsValid b → All (IsDirective (length b.machines)) ds → All (Settled b) ds → (pt : Point) → Stood b pt → From b pt (between 0 ds)
-all_out b [] valid fit settled pt s = over b pt (between 0 []) s refl
-all_out b (directive.One e ∷ ds) valid fit settled pt s =
-    goes b pt (between 0 (directive.One e ∷ ds)) (record { step = e; left = between 0 ds }) valid s refl (All-head (IsDirective (length b.machines)) (directive.One e) ds fit)
-    (λ w is next. all_out b ds valid (All-tail (IsDirective (length b.machines)) (directive.One e) ds fit) (All-tail (Settled b) (directive.One e) ds settled) w.point next)
-all_out b (directive.Round ∷ ds) valid fit settled pt s =
-    let rest = all_out b ds valid (All-tail (IsDirective (length b.machines)) directive.Round ds fit) (All-tail (Settled b) directive.Round ds settled) in
-    same b pt (between 0 (directive.Round ∷ ds)) (between 1 ds) s refl (rounds_out b 1 ds valid rest pt s)
-all_out b (directive.Spin n ∷ ds) valid fit settled pt s =
-    let rest = all_out b ds valid (All-tail (IsDirective (length b.machines)) (directive.Spin n) ds fit) (All-tail (Settled b) (directive.Spin n) ds settled) in
-    same b pt (between 0 (directive.Spin n ∷ ds)) (between n ds) s (spin_same b pt n ds) (rounds_out b n ds valid rest pt s)
-all_out b (directive.Settle ∷ ds) valid fit settled pt s =
-    let rest = all_out b ds valid (All-tail (IsDirective (length b.machines)) directive.Settle ds fit) (All-tail (Settled b) directive.Settle ds settled) in
-    settle_out b (All-head (Settled b) directive.Settle ds settled) ds rest pt s

@@ -5,7 +5,6 @@ use Rattle.std.specs.declared.option.Option.TheVariants.{None, Some}
 use Rattle.std.proofs.lemmas.Bool.{cases_Bool}
 use Rattle.std.proofs.lemmas.Bool.Decides.{nat_tests}
 use Rattle.std.proofs.lemmas.List.{append-nil}
-use Rattle.std.proofs.lemmas.List.Elements.{All-weaker}
 use Rattle.dm_onekernel.specs.declared.boot.Boot.{Boot}
 use Rattle.dm_onekernel.specs.Boot.{IsValid}
 use Rattle.dm_onekernel.specs.Step.{replay}
@@ -22,8 +21,9 @@ use Rattle.dm_rulelaws.proofs.Decided.{shorter_begins}
 use Rattle.dm_rulelaws.proofs.RunLabels.{labels-append, replay-append, group_replay}
 use Rattle.dm_movelaws.proofs.After.{group_after}
 use Rattle.dm_mirror.specs.Run.{IsGood, joined}
-use Rattle.dm_runlaws.specs.Through.{IsNoSettle, HasEnded, Over, Wears, RunsThrough, AllBegin}
-use Rattle.dm_runlaws.proofs.Runs.{Stood, Settled, all_out}
+use Rattle.dm_runlaws.specs.Through.{HasEnded, Over, Wears, RunsThrough, AllBegin}
+use Rattle.dm_runlaws.proofs.AllOut.{all_out}
+use Rattle.dm_runlaws.proofs.Runs.{Stood}
 use Rattle.dm_runlaws.proofs.Wires.{lines_wear}
 
 -- a run by the rule replays
@@ -42,8 +42,8 @@ first_stood : (b : Boot) → Stood b (first_point b)
 first_stood b = record { steps = []; leads = refl; counts = λ a c. omega arith; machines = refl }
 
 pub runs_through : RunsThrough
-runs_through b ds valid fit none =
-    let f = all_out b ds valid fit (All-weaker IsNoSettle (Settled b) (λ (d : Directive) h. inl h) ds none) (first_point b) (first_stood b) in
+runs_through b ds valid fit =
+    let f = all_out b ds valid fit (first_point b) (first_stood b) in
     record { groups = f.groups; end = f.end; left = f.left; good = good_of b ds f.groups f.end f.left valid f.run; ended = f.ended }
 
 -- a run that has ended doesn't go on

@@ -1,11 +1,10 @@
 -- Each run comes to an end, and each other run is a beginning of it.
-use Rattle.std.specs.Prelude.{◌≡◌, ⊤, ℕ, List, ◌++◌, length}
+use Rattle.std.specs.Prelude.{◌≡◌, ℕ, List, ◌++◌, length}
 use Rattle.std.specs.List.{All}
 use Rattle.std.specs.declared.option.Option.TheVariants.{None, Some}
 use Rattle.dm_onekernel.specs.declared.boot.Boot.{Boot}
 use Rattle.dm_onekernel.specs.Boot.{IsValid}
 use Rattle.dm_schedule.specs.declared.Directive.{Directive}
-use Rattle.dm_schedule.specs.declared.Directive.TheVariants as directive
 use Rattle.dm_line.specs.declared.line.Line.{Line}
 use Rattle.dm_line.specs.Todo.{Todo, Next}
 use Rattle.dm_rule.specs.Good.{next_step}
@@ -27,16 +26,9 @@ pub record Ending (b : Boot) (ds : List Directive) : Type 0 where
   pub good : IsGood b ds groups end left
   pub ended : HasEnded b end left
 
--- a directive that is no settle; a row a directive
-abbrev pub IsNoSettle : Directive → Type 0
-IsNoSettle (directive.One s) = ⊤
-IsNoSettle directive.Round = ⊤
-IsNoSettle (directive.Spin n) = ⊤
-IsNoSettle directive.Settle = ⊥
-
--- for each boot file that a system may start with, and directives for its machines, none of which is a settle
+-- for each boot file that a system may start with, and directives for its machines
 abbrev pub RunsThrough : Type 0
-RunsThrough = (b : Boot) (ds : List Directive) → IsValid b → All (IsDirective (length b.machines)) ds → All IsNoSettle ds → Ending b ds
+RunsThrough = (b : Boot) (ds : List Directive) → IsValid b → All (IsDirective (length b.machines)) ds → Ending b ds
 
 -- where a good run has ended, each good run for the same directives is a beginning of it
 abbrev pub AllBegin : Type 0

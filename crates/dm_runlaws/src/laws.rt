@@ -3,14 +3,14 @@ ghost use Rattle.dm_runlaws.specs.Order.{GoodInOrder};
 ghost use Rattle.dm_runlaws.specs.Packets.{PacketsAgree, PacketsSpell};
 ghost use Rattle.dm_runlaws.specs.Through.{AllBegin, RunsThrough};
 
-/// For each boot file that a system may start with and directives for its machines, none of which is a settle, there is
-/// a good run that has come to an end: no directive is left, or the group of the next would route a message between two
-/// machines that count as many as they may. So rounds end, whatever is put on wires meanwhile.
+/// For each boot file that a system may start with and directives for its machines there is a good run that has come to
+/// an end: no directive is left, or the group of the next would route a message between two machines that count as many
+/// as they may. So rounds end, whatever is put on wires meanwhile, and settles, whatever was lost or moves.
 pub fn runs_through()
     ensures { RunsThrough }
 {}
 
-/// Each good run for some directives, also with settles, is a beginning of one that has come to an end: no other is
+/// Each good run for some directives is a beginning of one that has come to an end: no other is
 /// longer, and there is only one that has.
 pub fn all_begin()
     ensures { AllBegin }

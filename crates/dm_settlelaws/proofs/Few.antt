@@ -20,7 +20,7 @@ use Rattle.dm_rule.specs.View.{View, is_kernels}
 use Rattle.dm_rule.proofs.Standing.{times-append}
 use Rattle.dm_rulelaws.proofs.RunsAlways.{run_always}
 use Rattle.dm_movelaws.proofs.At.RestPairs.{routed_always}
-use Rattle.dm_settlelaws.specs.Left.{left, numbers_left, one_each, one_let_go, told_lets_go, turns_left, weight, weight_of, weight_to}
+use Rattle.dm_settlelaws.specs.Left.{Left, left, numbers_left, one_each, one_let_go, told_lets_go, turns_left, weight, weight_of, weight_to}
 use Rattle.dm_settlelaws.specs.Laws.{TurnsLeftFew}
 use Rattle.dm_settlelaws.proofs.Covers.{covers_always}
 use Rattle.dm_settlelaws.proofs.Far.{far_always}
@@ -259,16 +259,34 @@ one_most v i = by (told_lets_go (v.told i))
     by true = omega arith
     by false = omega arith
 
-small_turns : (x y z : ℕ) → x ≤ 268435456 → y ≤ z → z ≤ 268435456 → x * 2 ^ 60 + y * 2 ^ 30 + z < 2 ^ 89
+small_turns : (x y z : ℕ) → x ≤ 268435456 → y ≤ 268435456 → z ≤ 268435456 → x * 2 ^ 60 + y * 2 ^ 30 + z < 2 ^ 89
 small_turns x y z a b c = omega (arith, a, b, c)
+
+-- of each of the three there are at most 2 ^ 28
+pub record IsFew (x : Left) : Type 0 where
+  pub numbers : x.numbers ≤ 268435456
+  pub releases : x.releases ≤ 268435456
+  pub messages : x.messages ≤ 268435456
+
+pub few_left : (b : Boot) (es : List Step) (pt : Point) → IsValid b → Leads b (first_point b) es pt → IsKept b pt → IsFew (left b.numbers (length b.machines) pt.view)
+few_left b es pt valid leads kept =
+    let n = length b.machines in
+    let few : n ≤ 16 = let e = valid.few_machines in grind (arith, nat_tests) in
+    let most : b.numbers ≤ 1048576 = let e = valid.most_numbers in grind (arith, nat_tests) in
+    let messages = few_ways b es pt valid leads kept in
+    let routed = few_routes b.numbers n pt.view few most kept.counts in
+    let releases = fewer (one_let_go pt.view) n pt.view (one_most pt.view) in
+    record {
+      numbers = few_numbers b.numbers n pt.view few most;
+      releases = omega (arith, releases, messages, routed);
+      messages = omega (arith, messages, routed);
+    }
 
 pub turns_left_few : TurnsLeftFew
 turns_left_few b es pt valid leads kept =
     let n = length b.machines in
-    let few : n ≤ 16 = let e = valid.few_machines in grind (arith, nat_tests) in
-    let most : b.numbers ≤ 1048576 = let e = valid.most_numbers in grind (arith, nat_tests) in
     let machines : pt.kernel.machines ≡ n = (run_always b es pt valid leads).run.based.machines in
-    let messages = few_ways b es pt valid leads kept in
-    let routed = few_routes b.numbers n pt.view few most kept.counts in
-    let small = small_turns (numbers_left b.numbers n pt.view) (weight_of (one_let_go pt.view) n pt.view) (weight_of one_each n pt.view) (few_numbers b.numbers n pt.view few most) (fewer (one_let_go pt.view) n pt.view (one_most pt.view)) (omega (arith, messages, routed)) in
+    let f = few_left b es pt valid leads kept in
+    let x = left b.numbers n pt.view in
+    let small = small_turns x.numbers x.releases x.messages f.numbers f.releases f.messages in
     subst (λ (k : ℕ). turns_left (left b.numbers k pt.view) < 2 ^ 89) (sym machines) small

@@ -18,3 +18,5 @@ pub mod LeftFalls
 pub mod Far
 pub mod Covers
 pub mod Few
+pub mod TurnsFall
+pub mod Less

@@ -36,7 +36,7 @@ use Rattle.dm_movelaws.proofs.At.RestAlways.{within}
 use Rattle.dm_movelaws.proofs.At.RestPairs.{routed_always}
 use Rattle.dm_movelaws.proofs.Promise.Finds.{leads_append}
 use Rattle.dm_movelaws.proofs.ProtocolMoves.{protocol_moves}
-use Rattle.dm_settlelaws.specs.Left.{IsLess, Messages, Numbers, Releases, left, lets_go, numbers_left, one_each, one_let_go, told_lets_go, weight, weight_of}
+use Rattle.dm_settlelaws.specs.Left.{IsLess, Left, Messages, Numbers, Releases, left, lets_go, numbers_left, one_each, one_let_go, told_lets_go, weight, weight_of}
 use Rattle.dm_settlelaws.proofs.Effects.{Effect, First, Front, Returns, Stays, back_in, effect, line_takes, takes_front}
 use Rattle.dm_settlelaws.proofs.Grows.{Grows, Longer, Lowers, calm_light, grows_on, grows_same, has_route, longer_last, no_back, parts_grow, parts_longer, parts_lower, touches_none}
 use Rattle.dm_settlelaws.proofs.Handles.{AllCalm, comes_row, is_back}
@@ -191,9 +191,20 @@ first_grows pt m i w h = grows_same pt.view.pair h.next.view.pair (ap (λ (v : V
 first_told : (pt : Point) (m : ℕ) (i : MsgId) (w : Point) (h : Begins pt m i w) → h.next.view.told ≡ pt.view.told
 first_told pt m i w h = ap (λ (v : View). v.told) h.view_ ∙ (hushed (behind_head pt m).view h.first (touches_none h.first h.touches_).1).told
 
+-- less is left for turns
+pub data IsFewer (x y : Left) : Type 0 where
+  FewerNumbers : x.numbers < y.numbers → IsFewer x y
+  FewerReleases : x.numbers ≤ y.numbers → x.releases < y.releases → IsFewer x y
+  FewerMessages : x.numbers ≤ y.numbers → x.releases ≤ y.releases → x.messages < y.messages → IsFewer x y
+
+less : (x y : Left) → IsFewer x y → IsLess x y
+less x y (FewerNumbers a) = Numbers a
+less x y (FewerReleases a b) = Releases a b
+less x y (FewerMessages a b c) = Messages a b c
+
 -- without a route fewer are under way, or fewer that let go
 stays_falls : (b : Boot) (es : List Step) (pt : Point) (m : ℕ) (i : MsgId) (is : List MsgId) (w : Point) (h : Begins pt m i w) (n : ℕ) → IsValid b → Leads b (first_point b) es pt → m < n → pt.view.inbox m ≡ i ∷ is
-    → numbers_left b.numbers n w.view ≤ numbers_left b.numbers n pt.view → Lowers h.next.view w.view → IsLess (left b.numbers n w.view) (left b.numbers n pt.view)
+    → numbers_left b.numbers n w.view ≤ numbers_left b.numbers n pt.view → Lowers h.next.view w.view → IsFewer (left b.numbers n w.view) (left b.numbers n pt.view)
 stays_falls b es pt m i is w h n valid leads small front numbers low =
     let f = one_let_go pt.view in
     let told : w.view.told ≡ pt.view.told = low.told ∙ first_told pt m i w h in
@@ -202,17 +213,17 @@ stays_falls b es pt m i is w h n valid leads small front numbers low =
     let l = low.weight_ f n in
     let same : weight_of (one_let_go w.view) n w.view ≡ weight_of f n w.view = same_told n pt.view w.view told in
     elim (cases_Bool (is_back (effect h.first))) [
-      | inl so ↦ let one : f i ≡ 1 = lets_one (pt.view.told i) (h.back so) in Releases numbers (omega (arith, t, none, l, same, one))
+      | inl so ↦ let one : f i ≡ 1 = lets_one (pt.view.told i) (h.back so) in FewerReleases numbers (omega (arith, t, none, l, same, one))
       | inr not_so ↦
           let t_ = first_takes one_each n pt m i is w h front small in
           let empty : weight one_each (back_in (behind_head pt m).view (effect h.first)) ≡ 0 = ap (weight one_each) (no_back (behind_head pt m).view (effect h.first) not_so) in
           let l_ = low.weight_ one_each n in
-          Messages numbers (omega (arith, t, none, l, same)) (omega (arith, t_, empty, l_))
+          FewerMessages numbers (omega (arith, t, none, l, same)) (omega (arith, t_, empty, l_))
     ]
 
-pub turn_falls : (b : Boot) (es : List Step) (pt : Point) (m : ℕ) (w : Spelled) → IsValid b → Leads b (first_point b) es pt → m < pt.kernel.machines → has_mail pt.view m ≡ true → group_of b pt (step.Turn m) ≡ Some w → IsKept b w.point
-    → IsLess (left b.numbers pt.kernel.machines w.point.view) (left b.numbers pt.kernel.machines pt.view)
-turn_falls b es pt m w valid leads small mail e kept =
+pub turn_fewer : (b : Boot) (es : List Step) (pt : Point) (m : ℕ) (w : Spelled) → IsValid b → Leads b (first_point b) es pt → m < pt.kernel.machines → has_mail pt.view m ≡ true → group_of b pt (step.Turn m) ≡ Some w → IsKept b w.point
+    → IsFewer (left b.numbers pt.kernel.machines w.point.view) (left b.numbers pt.kernel.machines pt.view)
+turn_fewer b es pt m w valid leads small mail e kept =
     let n = pt.kernel.machines in
     let (i, is, front) = some_mail (pt.view.inbox m) mail in
     let h = begins b pt m i is w front e in
@@ -228,8 +239,12 @@ turn_falls b es pt m w valid leads small mail e kept =
           let later : Leads b (first_point b) (es ++ step.Turn m ∷ []) w.point = leads_append b es (step.Turn m ∷ []) (first_point b) pt w.point leads (w, small, e, refl) in
           let ends = ends_within b es (es ++ step.Turn m ∷ []) pt w.point valid leads later grows all in
           let machines : w.point.kernel.machines ≡ n = (run_always b (es ++ step.Turn m ∷ []) w.point valid later).run.based.machines ∙ sym (run_always b es pt valid leads).run.based.machines in
-          Numbers (numbers_fall b.numbers n pt.view w.point.view grows all (subst (λ (k : ℕ). all.from < k) machines ends.from) (subst (λ (k : ℕ). all.to < k) machines ends.to) (kept.counts all.from all.to))
+          FewerNumbers (numbers_fall b.numbers n pt.view w.point.view grows all (subst (λ (k : ℕ). all.from < k) machines ends.from) (subst (λ (k : ℕ). all.to < k) machines ends.to) (kept.counts all.from all.to))
       | inr not_so ↦
           let low : Lowers h.next.view w.point.view = subst (λ (q : Point). Lowers h.next.view q.view) end (parts_lower h.rest h.next x h.calm not_so on) in
           stays_falls b es pt m i is w.point h n valid leads small front (numbers_stay b.numbers n pt.view w.point.view grows.ids) low
     ]
+
+pub turn_falls : (b : Boot) (es : List Step) (pt : Point) (m : ℕ) (w : Spelled) → IsValid b → Leads b (first_point b) es pt → m < pt.kernel.machines → has_mail pt.view m ≡ true → group_of b pt (step.Turn m) ≡ Some w → IsKept b w.point
+    → IsLess (left b.numbers pt.kernel.machines w.point.view) (left b.numbers pt.kernel.machines pt.view)
+turn_falls b es pt m w valid leads small mail e kept = less (left b.numbers pt.kernel.machines w.point.view) (left b.numbers pt.kernel.machines pt.view) (turn_fewer b es pt m w valid leads small mail e kept)

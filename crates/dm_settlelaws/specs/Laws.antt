@@ -1,5 +1,5 @@
 -- What holds of a settle wherever the rule leads.
-use Rattle.std.specs.Prelude.{◌≡◌, ◌≢◌, ℕ, ◌^◌, ◌<◌, true, List}
+use Rattle.std.specs.Prelude.{◌≡◌, ◌+◌, ◌≢◌, ℕ, ◌^◌, ◌<◌, true, List}
 use Rattle.std.specs.List.{All}
 use Rattle.std.specs.declared.option.Option.TheVariants.{None, Some}
 use Rattle.dm_onekernel.specs.declared.boot.Boot.{Boot}
@@ -18,7 +18,7 @@ use Rattle.dm_rule.specs.Point.{Point, first_point}
 use Rattle.dm_rule.specs.Quiet.{IsQuiet}
 use Rattle.dm_rule.specs.Rule.{group_of}
 use Rattle.dm_settlelaws.specs.Left.{IsLess, left, turns_left}
-use Rattle.dm_settlelaws.specs.Passes.{IsSettleStep, SettleGoes, ends_settled, is_at_rest}
+use Rattle.dm_settlelaws.specs.Passes.{IsSettleStep, SettleGoes, ends_settled, is_at_rest, turns_in}
 use Rattle.dm_settlelaws.specs.Rests.{PairRests}
 
 -- wherever the rule leads, each machine has done its part on each pair
@@ -53,3 +53,9 @@ LeftFalls =
 -- and what it leaves to turns is never more than this
 abbrev pub TurnsLeftFew : Type 0
 TurnsLeftFew = (b : Boot) (es : List Step) (pt : Point) → IsValid b → Leads b (first_point b) es pt → IsKept b pt → turns_left (left b.numbers pt.kernel.machines pt.view) < 2 ^ 89
+
+-- what it leaves to turns never rises, and each turn takes one of it at least
+abbrev pub TurnsFall : Type 0
+TurnsFall =
+    (b : Boot) (es : List Step) (pt : Point) (e : Step) (w : Spelled) → IsValid b → Leads b (first_point b) es pt → IsStep pt.kernel.machines e → IsSettleStep pt.view e → group_of b pt e ≡ Some w → IsKept b w.point
+    → turns_left (left b.numbers pt.kernel.machines w.point.view) + turns_in e ≤ turns_left (left b.numbers pt.kernel.machines pt.view)

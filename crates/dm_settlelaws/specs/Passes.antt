@@ -22,6 +22,13 @@ IsSettleStep v (step.Deliver a c k) = undelivered v a c ≡ Some k
 IsSettleStep v (step.Tick m) = ⊥
 IsSettleStep v (step.Migrate p m) = ⊥
 
+-- how many turns a step of a settle is
+abbrev pub turns_in : Step → ℕ
+turns_in (step.Turn m) = 1
+turns_in (step.Deliver a c k) = 0
+turns_in (step.Tick m) = 0
+turns_in (step.Migrate p m) = 0
+
 -- a settle goes on with such a step, and what is behind it stays behind it
 pub record SettleGoes (n : ℕ) (v : View) (t : Todo) : Type 0 where
   pub next : Next

@@ -1,5 +1,5 @@
 //! What holds of a settle wherever the rule leads, whoever ran by it.
-ghost use Rattle.dm_settlelaws.specs.Laws.{EndsAtRest, EndsQuiet, LeftFalls, PairsRestAlways, SettlesAlways, TurnsLeftFew};
+ghost use Rattle.dm_settlelaws.specs.Laws.{EndsAtRest, EndsQuiet, LeftFalls, PairsRestAlways, SettlesAlways, TurnsFall, TurnsLeftFew};
 
 /// Wherever the rule leads from a boot file, on each ordered pair of machines what may go out has gone, each number that went out
 /// has a packet, a data packet that came was taken or is kept, the next number isn't kept, the count of what was taken was
@@ -37,4 +37,10 @@ pub fn left_falls()
 /// for turns is below this.
 pub fn turns_left_few()
     ensures { TurnsLeftFew }
+{}
+
+/// Wherever the rule leads from a boot file, a group of a settle leaves no more for turns, and a turn leaves less. So it has fewer
+/// than 2^89 turns.
+pub fn turns_fall()
+    ensures { TurnsFall }
 {}

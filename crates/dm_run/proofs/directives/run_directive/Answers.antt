@@ -1,9 +1,10 @@
-use Rattle.std.proofs.Common.{◌∷◌, length, refl, sym, ◌∙◌, arith}
+use Rattle.std.proofs.Common.{◌∷◌, ◌+◌, ◌^◌, length, refl, sym, ◌∙◌, arith}
 use Rattle.dm_line.specs.Todo.{all_of}
 use Rattle.dm_world.specs.Cursor.{todo_of}
 use Rattle.dm_world.specs.Meets.{state_of}
 use Rattle.dm_world.specs.Next.{has_mail, is_quiet, undelivered}
-use Rattle.dm_run.proofs.Comes.{comes_as, lacks_there}
+use Rattle.dm_run.proofs.Comes.{comes_as}
+use Rattle.dm_run.proofs.Settling.{goes_on_way, on_way_first}
 use Rattle.dm_run.proofs.Stepping.{blames_err, brings_on, came_err, may_on, none_on, one_group_more, stops_on}
 use Rattle.dm_run.proofs.directives.run_directive.Goals as goal
 
@@ -14,8 +15,8 @@ steps-init g c = record {
   boot = refl;
   come = λ ds rest before h. comes_as c.args.world.now.boot ds (all_of (c.args.directive.now ∷ rest)) (todo_of (length c.args.world.now.boot.machines) c.new-cursor.result rest) before (g.K.Sink.told c.args.out.now) (state_of c.args.world.now) h
       (sym (c.new-cursor.ensures (length c.args.world.now.boot.machines) (undelivered (state_of c.args.world.now)) (has_mail (state_of c.args.world.now)) (is_quiet (length c.args.world.now.boot.machines) (state_of c.args.world.now)) rest));
-  counted = c.requires.counted;
-  within = c.requires.within;
+  way = on_way_first c.args.world.now.boot c.args.directive.now c.requires.due.ds c.requires.due.rest c.requires.due.before (g.K.Sink.told c.args.out.now) (state_of c.args.world.now) c.new-cursor.result c.requires.world.valid c.rounds_fit.ensures c.requires.due.come
+      (sym (c.new-cursor.ensures (length c.args.world.now.boot.machines) (undelivered (state_of c.args.world.now)) (has_mail (state_of c.args.world.now)) (is_quiet (length c.args.world.now.boot.machines) (state_of c.args.world.now)) c.requires.due.rest));
   steady = refl;
 }
 
@@ -25,16 +26,14 @@ one_group-requires-clause-may g c =
     c.requires.world.valid c.steps.invariant.boot c.steps.invariant.come c.in-Some.ensures.next c.requires.due.come
 
 pub steps-preserved : goal.steps-preserved
-steps-preserved g c =
-    let more = one_group_more c.steps.world.boot (state_of c.steps.world) (state_of c.one_group.new.world) c.in-Some.step c.in_ok-one_group.ensures.after in
-    record {
+steps-preserved g c = record {
       world = c.in_ok-one_group.ensures.world;
       running = c.in_ok-one_group.ensures.running;
       boot = c.in_ok-one_group.ensures.boot ∙ c.steps.invariant.boot;
       come = brings_on c.steps.world.boot c.args.world.now.boot c.args.directive.now (state_of c.args.world.now) (state_of c.steps.world) (state_of c.one_group.new.world) (g.K.Sink.told c.args.out.now) (g.K.Sink.told c.steps.out) (g.K.Sink.told c.one_group.new.out) c.steps.cursor c.in-Some.next c.in-Some.step
           c.steps.invariant.boot c.steps.invariant.come c.in-Some.ensures.next c.in_ok-one_group.ensures.came;
-      counted = omega (arith, more, c.steps.invariant.counted);
-      within = omega arith;
+      way = goes_on_way c.steps.world.boot c.args.world.now.boot (state_of c.steps.world) (state_of c.one_group.new.world) c.steps.cursor c.in-Some.next c.in-Some.step (c.args.world.now.groups + 2 ^ 90)
+          c.requires.world.valid c.steps.invariant.boot c.in-Some.ensures.next c.in-Some.ensures.falls c.in_ok-one_group.ensures.after c.steps.invariant.way;
       steady = c.in_ok-one_group.ensures.blames ∙ c.steps.invariant.steady;
     }
 
@@ -51,7 +50,15 @@ pub returns-in_err-one_group-clause-blames : goal.returns-in_err-one_group-claus
 returns-in_err-one_group-clause-blames g c =
     blames_err (g.K.Sink.faults c.args.out.now) (g.K.Sink.faults c.steps.out) (g.K.Sink.faults c.one_group.new.out) c.from_residual.result c.in_err-one_group.field-0.0 c.from_residual.ensures c.steps.invariant.steady c.in_err-one_group.ensures.blames
 
--- where no group more can be counted
-pub returns-then-groups-ge-MOST_GROUPS-clause-came : goal.returns-then-groups-ge-MOST_GROUPS-clause-came
-returns-then-groups-ge-MOST_GROUPS-clause-came g c = λ ds rest before h.
-    lacks_there c.args.world.now.boot ds (todo_of (length c.args.world.now.boot.machines) c.steps.cursor rest) before (g.K.Sink.told c.steps.out) (g.K.Sink.told c.steps.out) (state_of c.steps.world) (c.steps.invariant.come ds rest before h) refl
+pub steps-smaller : goal.steps-smaller
+steps-smaller g c =
+    let way = goes_on_way c.steps.world.boot c.args.world.now.boot (state_of c.steps.world) (state_of c.one_group.new.world) c.steps.cursor c.in-Some.next c.in-Some.step (c.args.world.now.groups + 2 ^ 90)
+        c.requires.world.valid c.steps.invariant.boot c.in-Some.ensures.next c.in-Some.ensures.falls c.in_ok-one_group.ensures.after c.steps.invariant.way in
+    let more = one_group_more c.steps.world.boot (state_of c.steps.world) (state_of c.one_group.new.world) c.in-Some.step c.in_ok-one_group.ensures.after in
+    omega (arith, more, way.within)
+
+pub one_group-requires-clause-groups : goal.one_group-requires-clause-groups
+one_group-requires-clause-groups g c = let way = c.steps.invariant.way.within in omega (arith, way, c.requires.groups)
+
+pub returns-clause-groups : goal.returns-clause-groups
+returns-clause-groups g c = let way = c.steps.invariant.way.within in omega (arith, way)

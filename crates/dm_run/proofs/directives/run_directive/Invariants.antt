@@ -1,10 +1,11 @@
-use Rattle.std.proofs.Common.{◌≡◌, ◌≤◌, ◌-◌, ℕ, false, List, ◌∷◌, length}
+use Rattle.std.proofs.Common.{◌≡◌, ◌-◌, ◌+◌, ◌^◌, ℕ, false, List, ◌∷◌, length}
 use Rattle.std.specs.declared.option.Option.{Option}
 use Rattle.dm_schedule.specs.declared.Directive.{Directive}
 use Rattle.dm_line.specs.Todo.{all_of}
 use Rattle.dm_world.specs.Cursor.{todo_of}
 use Rattle.dm_world.specs.Meets.{IsWorld, state_of}
 use Rattle.dm_run.specs.Coming.{HasCome}
+use Rattle.dm_run.proofs.Settling.{IsOnWay}
 use Rattle.dm_run.proofs.directives.run_directive.Given as goal
 
 abbrev pub invariant-steps : goal.invariant-steps
@@ -13,10 +14,9 @@ invariant-steps g l = record {
   running : l.world.stopped ≡ false;
   boot : l.world.boot ≡ l.initial.world.boot;
   come : (ds rest : List Directive) (before : Option (List ℕ)) → HasCome l.initial.world.boot ds (all_of (l.directive ∷ rest)) before (g.K.Sink.told l.initial.out) (state_of l.initial.world) → HasCome l.initial.world.boot ds (todo_of (length l.initial.world.boot.machines) l.cursor rest) before (g.K.Sink.told l.out) (state_of l.world);
-  counted : l.groups ≡ l.world.groups;
-  within : l.groups ≤ 85070591730234615865843651857942052864;
+  way : IsOnWay l.initial.world.boot (state_of l.world) l.cursor (l.initial.world.groups + 2 ^ 90);
   steady : g.K.Sink.faults l.out ≡ g.K.Sink.faults l.initial.out;
 }
 
 abbrev pub decreases-steps : goal.decreases-steps
-decreases-steps g l = 85070591730234615865843651857942052864 - l.groups
+decreases-steps g l = l.initial.world.groups + 2 ^ 90 - l.world.groups

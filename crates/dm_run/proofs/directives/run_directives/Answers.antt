@@ -16,8 +16,7 @@ directives-init g c =
       running = c.requires.fresh.going;
       boot = refl;
       come = comes_first c.args.world.now.boot c.args.directives.now (g.K.Sink.told c.args.out.now) (state_of c.args.world.now) c.requires.fresh.world.valid (are_directives (length c.args.world.now.boot.machines) c.args.directives.now c.requires.each) c.requires.fresh.first;
-      counted = sym none;
-      within = omega arith;
+      groups = omega (arith, none);
       steady = refl;
     }
 
@@ -28,8 +27,7 @@ directives-preserved g c = record {
   boot = c.in_ok-run_directive.ensures.boot ∙ c.directives.invariant.boot;
   come = carries_on c.directives.world.boot c.args.world.now.boot c.args.directives.now c.args.directives.now c.directives.directive-index _ (g.K.Sink.told c.args.out.now) (g.K.Sink.told c.directives.out) (g.K.Sink.told c.run_directive.new.out) (state_of c.directives.world) (state_of c.run_directive.new.world)
       c.directives.invariant.boot c.directives-test.true c.in_ok-run_directive.ensures.came c.directives.invariant.come;
-  counted = c.in_ok-run_directive.ensures.counted;
-  within = c.in_ok-run_directive.ensures.within;
+  groups = omega (arith, c.in_ok-run_directive.ensures.groups, c.directives.invariant.groups);
   steady = c.in_ok-run_directive.ensures.blames ∙ c.directives.invariant.steady;
 }
 

@@ -1,4 +1,4 @@
-use Rattle.std.proofs.Common.{◌≡◌, ◌≤◌, false, drop}
+use Rattle.std.proofs.Common.{◌≡◌, ◌≤◌, ◌*◌, ◌^◌, false, drop}
 use Rattle.dm_line.specs.Todo.{all_of}
 use Rattle.dm_world.specs.Meets.{IsWorld, state_of}
 use Rattle.dm_run.specs.Coming.{HasCome}
@@ -10,7 +10,6 @@ invariant-directives g l = record {
   running : l.world.stopped ≡ false;
   boot : l.world.boot ≡ l.initial.world.boot;
   come : HasCome l.initial.world.boot l.directives (all_of (drop l.directive-index l.directives)) (g.K.Sink.told l.initial.out) (g.K.Sink.told l.out) (state_of l.world);
-  counted : l.groups ≡ l.world.groups;
-  within : l.groups ≤ 85070591730234615865843651857942052864;
+  groups : l.world.groups ≤ l.directive-index * 2 ^ 90;
   steady : g.K.Sink.faults l.out ≡ g.K.Sink.faults l.initial.out;
 }

@@ -1,0 +1,5 @@
+use Rattle.dm_settlelaws.proofs.TurnsFall.{turns_fall}
+use Rattle.dm_settlelaws.proofs.laws.turns_fall.Goals as goal
+
+pub returns : goal.returns
+returns c = turns_fall
