@@ -1,4 +1,4 @@
-use Rattle.std.proofs.Common.{[], ap, length, refl, sym, ◌∙◌, arith}
+use Rattle.std.proofs.Common.{[], ap, length, refl, ◌∙◌, arith}
 use Rattle.dm_line.specs.Todo.{all_of}
 use Rattle.dm_chart.specs.declared.kept.Kept.{Kept}
 use Rattle.dm_world.specs.Meets.{state_of}
@@ -16,8 +16,7 @@ directives-init c =
       running = c.requires.fresh.going;
       boot = refl;
       come = keeps_first c.args.world.now.boot c.args.directives.now c.args.kept.now (state_of c.args.world.now) c.requires.fresh.world.valid (are_directives (length c.args.world.now.boot.machines) c.args.directives.now c.requires.each) c.requires.none c.requires.fresh.first;
-      counted = sym none;
-      within = omega arith;
+      groups = omega (arith, none);
       rows = omega (arith, rows);
     }
 
@@ -28,8 +27,7 @@ directives-preserved c = record {
   boot = c.in_ok-collect_directive.ensures.boot ∙ c.directives.invariant.boot;
   come = carries_on c.directives.world.boot c.args.world.now.boot c.args.directives.now c.args.directives.now c.directives.directive-index _ c.directives.kept c.collect_directive.new.kept (state_of c.directives.world) (state_of c.collect_directive.new.world)
       c.directives.invariant.boot c.directives-test.true c.in_ok-collect_directive.ensures.came c.directives.invariant.come;
-  counted = c.in_ok-collect_directive.ensures.counted;
-  within = c.in_ok-collect_directive.ensures.within;
+  groups = omega (arith, c.in_ok-collect_directive.ensures.groups, c.directives.invariant.groups);
   rows = c.in_ok-collect_directive.ensures.rows;
 }
 

@@ -1,4 +1,4 @@
-use Rattle.std.proofs.Common.{◌≡◌, ◌≤◌, false, drop}
+use Rattle.std.proofs.Common.{◌≡◌, ◌≤◌, ◌*◌, ◌^◌, false, drop}
 use Rattle.dm_line.specs.Todo.{all_of}
 use Rattle.dm_world.specs.Meets.{IsWorld, state_of}
 use Rattle.dm_drawing.specs.Collected.{HasKept}
@@ -10,7 +10,6 @@ invariant-directives l = record {
   running : l.world.stopped ≡ false;
   boot : l.world.boot ≡ l.initial.world.boot;
   come : HasKept l.initial.world.boot l.directives (all_of (drop l.directive-index l.directives)) l.kept (state_of l.world);
-  counted : l.groups ≡ l.world.groups;
-  within : l.groups ≤ 85070591730234615865843651857942052864;
+  groups : l.world.groups ≤ l.directive-index * 2 ^ 90;
   rows : l.kept.rows ≤ 1200;
 }

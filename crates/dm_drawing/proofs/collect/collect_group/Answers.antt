@@ -22,6 +22,8 @@ pub returns-in-Ok-Ok-clause-after : goal.returns-in-Ok-Ok-clause-after
 returns-in-Ok-Ok-clause-after c = record {
   lines = c.in-Ok.lines.items;
   happens = happens (state_of c.step.new.self) c.in-Ok.lines.items (world_step c.args.world.now.boot (state_of c.args.world.now) c.args.step.now) c.in-Ok.ensures.meets.answers;
+  again = c.in-Ok.ensures.meets.again;
+  whole = c.in-Ok.ensures.meets.whole;
 }
 
 pub returns-in-Err-clause-came : goal.returns-in-Err-clause-came
