@@ -137,7 +137,7 @@ pub struct Range {
     ghost ordered: { least ≤ most },
 }
 
-fn range(name: &'static str, least: u32, most: u32) -> Range
+fn within(name: &'static str, least: u32, most: u32) -> Range
     requires { least ≤ most }
     ensures { limit_of result ≡ limit name.now least most }
 {
@@ -149,9 +149,9 @@ pub fn top_ranges() -> [Range; 3]
     ensures { map limit_of result ≡ top_limits }
 {
     [
-        range("numbers", 1, 1_048_576),
-        range("quantum", 1, 1000),
-        range("format", 1, 2),
+        within("numbers", 1, 1_048_576),
+        within("quantum", 1, 1000),
+        within("format", 1, 2),
     ]
 }
 
@@ -160,8 +160,8 @@ pub fn machine_ranges() -> [Range; 2]
     ensures { map limit_of result ≡ machine_limits }
 {
     [
-        range("slots", 0, 64),
-        range("blocks", 0, 4096),
+        within("slots", 0, 64),
+        within("blocks", 0, 4096),
     ]
 }
 
@@ -170,7 +170,7 @@ pub fn image_ranges() -> [Range; 1]
     ensures { map limit_of result ≡ image_limits }
 {
     [
-        range("blocks", 1, 256),
+        within("blocks", 1, 256),
     ]
 }
 
@@ -179,7 +179,7 @@ pub fn channel_ranges() -> [Range; 1]
     ensures { map limit_of result ≡ channel_limits }
 {
     [
-        range("channel", 0, 31),
+        within("channel", 0, 31),
     ]
 }
 
@@ -188,9 +188,9 @@ pub fn link_ranges() -> [Range; 4]
     ensures { map limit_of result ≡ link_limits }
 {
     [
-        range("channel", 0, 31),
-        range("code", 0, 4_294_967_295),
-        range("base", 0, 65_536),
-        range("len", 0, 65_536),
+        within("channel", 0, 31),
+        within("code", 0, 4_294_967_295),
+        within("base", 0, 65_536),
+        within("len", 0, 65_536),
     ]
 }
