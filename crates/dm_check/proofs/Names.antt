@@ -188,11 +188,11 @@ step_stays s (label.NoSpace id slots blocks) = stay_bind s (s.bag id) (λ m. ser
 
 names_after : (s t : OneKernel) (ls : List Label) → step.replay s ls ≡ Some t → Stay s t
 names_after s t [] e = let f : s ≡ t = cc in subst (Stay s) f (λ h. h)
-names_after s t (l ∷ ls) e = by_step (step.step s l) (step_stays s l) e
+names_after s t (l ∷ ls) e = by_step (step.step s l) (step_stays s l) e (λ u is. names_after u t ls is)
   where
-    by_step : (o : Option OneKernel) → StaySome s o → bind o (λ u. step.replay u ls) ≡ Some t → Stay s t
-    by_step None stay is = absurd (cc)
-    by_step (Some u) stay is = λ h. names_after u t ls is (stay h)
+    by_step : (o : Option OneKernel) → StaySome s o → bind o (λ u. step.replay u ls) ≡ Some t → ((u : OneKernel) → step.replay u ls ≡ Some t → Stay u t) → Stay s t
+    by_step None stay is more = absurd (cc)
+    by_step (Some u) stay is more = λ h. more u is (stay h)
 
 -- so it is wherever a run of the kernel leads
 pub names_always : (b : Boot) (ls : List Label) (t : OneKernel) → step.replay (start b) ls ≡ Some t → AreNames t.switchboard.names

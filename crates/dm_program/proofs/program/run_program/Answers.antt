@@ -1,8 +1,7 @@
-use Rattle.std.proofs.Common.{rules, Bor, ◌≡◌, ◌∙◌, List, ℕ, ap, map, refl, sym, subst}
+use Rattle.std.proofs.Common.{rules, ◌≡◌, ◌∙◌, List, ℕ, ap, map, refl, sym, subst}
 use Rattle.std.specs.declared.option.Option.{Option}
 use Rattle.std.specs.declared.option.Option.TheVariants.{None, Some}
 use Rattle.dm_program.specs.declared.words.Request.{Request as TheRequest}
-use Rattle.dm_program.specs.declared.words.Request.TheVariants as the
 use Rattle.dm_program.specs.declared.status.Status.{Status}
 use Rattle.dm_program.specs.Outside.{around}
 use Rattle.dm_program.specs.Program.{ProgramMeets}
@@ -11,26 +10,39 @@ use Rattle.dm_program.specs.Words.{request_of, request_said}
 use Rattle.dm_program.proofs.Lacking.{no_request}
 use Rattle.dm_program.proofs.program.run_program.Goals as goal
 
--- a request to run has two names
-names_of : (r : TheRequest) → (boot : Bor (List ℕ)) × (schedule : Bor (List ℕ)) × (r ≡ the.Run boot schedule)
-names_of (the.Run boot schedule) = (boot, schedule, refl)
-
 pub returns-in-Ok-Run-clause-meets : goal.returns-in-Ok-Run-clause-meets
 returns-in-Ok-Run-clause-meets g c =
-    let (boot, schedule, e) = names_of c.in-Ok-Run.field-0 in
     subst (λ (r : Option Request). ProgramMeets g.F.Shelf.asked g.F.Shelf.faults r
     (around g.F.Shelf.told g.F.Shelf.faults g.K.Sink.told g.K.Sink.faults c.args.shelf.now c.run_files.new.shelf c.args.out.now c.run_files.new.out c.run_files.new.world) c.args.shelf.now c.run_files.new.shelf c.run_files.result)
-    (sym (c.in-Ok-Run.ensures.asks ∙ ap (λ (r : TheRequest). Some (request_said r)) e))
+    (sym (c.in-Ok-Run.ensures.asks ∙ ap (λ (r : TheRequest). Some (request_said r)) c.in-Ok-Run.field-0-is))
     (record {
-      says = rw e at c.run_files.ensures.says;
-      completes = rw e at c.run_files.ensures.completes;
-      wears = rw e at c.run_files.ensures.wears;
-      refuses = rw e at c.run_files.ensures.refuses;
-      asks = rw e at c.run_files.ensures.asks;
-      boot_fault = rw e at c.run_files.ensures.boot_fault;
-      schedule_fault = rw e at c.run_files.ensures.schedule_fault;
+      says = c.run_files.ensures.says;
+      completes = c.run_files.ensures.completes;
+      wears = c.run_files.ensures.wears;
+      refuses = c.run_files.ensures.refuses;
+      asks = c.run_files.ensures.asks;
+      boot_fault = c.run_files.ensures.boot_fault;
+      schedule_fault = c.run_files.ensures.schedule_fault;
       shelf = c.run_files.ensures.shelf;
       sink = c.run_files.ensures.sink;
+    })
+
+pub returns-in-Ok-Check-clause-meets : goal.returns-in-Ok-Check-clause-meets
+returns-in-Ok-Check-clause-meets g c =
+    subst (λ (r : Option Request). ProgramMeets g.F.Shelf.asked g.F.Shelf.faults r
+    (around g.F.Shelf.told g.F.Shelf.faults g.K.Sink.told g.K.Sink.faults c.args.shelf.now c.check_files.new.shelf c.args.out.now c.check_files.new.out None) c.args.shelf.now c.check_files.new.shelf c.check_files.result)
+    (sym (c.in-Ok-Check.ensures.asks ∙ ap (λ (r : TheRequest). Some (request_said r)) c.in-Ok-Check.field-0-is))
+    (record {
+      says = c.check_files.ensures.says;
+      accepts = c.check_files.ensures.accepts;
+      finds = c.check_files.ensures.finds;
+      refuses = c.check_files.ensures.refuses;
+      asks = c.check_files.ensures.asks;
+      boot_fault = c.check_files.ensures.boot_fault;
+      trace_fault = c.check_files.ensures.trace_fault;
+      no_world = refl;
+      shelf = c.check_files.ensures.shelf;
+      sink = c.check_files.ensures.sink;
     })
 
 pub returns-in-Err-clause-meets : goal.returns-in-Err-clause-meets
