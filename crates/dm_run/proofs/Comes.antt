@@ -20,6 +20,9 @@ use Rattle.dm_line.specs.Todo.{Todo, Next, all_of}
 use Rattle.dm_rule.specs.Worn as worn_as
 use Rattle.dm_rule.specs.Laws.{Leads}
 use Rattle.dm_rule.specs.Point.{Point, first_point}
+use Rattle.dm_settlelaws.specs.Passes.{ends_settled, is_at_rest}
+use Rattle.dm_settlelaws.proofs.EndsAtRest.{ends_at_rest}
+use Rattle.dm_settlelaws.proofs.EndsQuiet.{ends_quiet}
 use Rattle.dm_text.specs.Fits.{EndFits, HidesNothing, LineFits}
 use Rattle.dm_text.specs.Text.{text, text_of_ends, text_of_lines}
 use Rattle.dm_world.specs.declared.world.World.{World}
@@ -208,6 +211,11 @@ some_machines b valid = least (length b.machines) valid.some_machines
 pub is_over : (b : Boot) (ds : List Directive) (before now : Option (List ℕ)) (w : WorldState) → IsValid b → (h : HasCome b ds (all_of []) before now w) → IsOver h.end h.left
 is_over b ds before now w valid h = sym (next_is_said b h.stands.steps w h.end h.left valid h.stands.leads h.stands.stands h.stands.todo) ∙ h.follows
 
+-- behind a settle nothing is on its way
+at_rest : (b : Boot) (ds : List Directive) (before now : Option (List ℕ)) (w : WorldState) → IsValid b → (h : HasCome b ds (all_of []) before now w) → ends_settled ds ≡ true → All (λ (l : EndLine). is_at_rest l ≡ true) (rule_ends.end_lines h.end)
+at_rest b ds before now w valid h settled =
+    ends_at_rest b h.stands.steps h.end valid h.stands.leads (ends_quiet b h.stands.steps ds h.groups h.end h.left valid h.stands.leads h.stands.good.run (is_over b ds before now w valid h) settled)
+
 -- no line at the end of a world that stands for what was printed hides a mark
 pub stands_hide : (b : Boot) (es : List Step) (pt : Point) (w : WorldState) → IsValid b → Leads b (first_point b) es pt → Stands b w pt → All HidesNothing (world_ends.end_lines (length b.machines) w)
 stands_hide b es pt w valid leads stands =
@@ -233,6 +241,7 @@ ended_by A b ds before now after w es (Ok x) valid one same h e fit o =
       ends_fit = subst (All EndFits) said fits;
       written = more_written before now after (text_of_lines (joined h.groups)) (text_of_ends es) h.written o ∙ ap (λ (l : List EndLine). appended before (text_of_lines (joined h.groups) ++ text_of_ends l)) said;
       stands = (one, same, h.stands.stands);
+      rests = at_rest b ds before now (state_of w) valid h;
     }
 ended_by A b ds before now after w es (Err (NoMemory lack)) valid one same h e fit o = lacks_there b ds (all_of []) before now after (state_of w) h o
 ended_by A b ds before now after w es (Err WriteFault) valid one same h e fit o =

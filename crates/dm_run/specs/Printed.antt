@@ -1,5 +1,5 @@
 -- What a run has printed: all of it, or as far as it came.
-use Rattle.std.specs.Prelude.{◌≡◌, ℕ, ◌<◌, ◌⊎◌, List, [], ◌++◌, length}
+use Rattle.std.specs.Prelude.{◌≡◌, ℕ, ◌<◌, ◌⊎◌, true, List, [], ◌++◌, length}
 use Rattle.std.specs.List.{All}
 use Rattle.std.specs.declared.option.Option.{Option}
 use Rattle.std.specs.declared.option.Option.TheVariants.{None, Some}
@@ -12,6 +12,7 @@ use Rattle.dm_line.specs.Todo.{Todo, Next}
 use Rattle.dm_rule.specs.Good.{next_step}
 use Rattle.dm_rule.specs.Point.{Point}
 use Rattle.dm_rule.specs.Worn as rule
+use Rattle.dm_settlelaws.specs.Passes.{ends_settled, is_at_rest}
 use Rattle.dm_text.specs.Fits.{EndFits, LineFits}
 use Rattle.dm_text.specs.Text.{text_of_ends, text_of_lines}
 use Rattle.dm_world.specs.declared.world.World.{World}
@@ -41,6 +42,7 @@ pub record IsWhole (b : Boot) (ds : List Directive) (old new : Option (List ℕ)
   pub ends_fit : All EndFits (end_lines end)
   pub written : new ≡ appended old (text_of_lines (joined groups) ++ text_of_ends (end_lines end))
   pub stands : StandsFor b end world
+  pub rests : ends_settled ds ≡ true → All (λ (l : EndLine). is_at_rest l ≡ true) (end_lines end)
 
 -- the text of good lines was appended, one group for each of the first directives
 pub record IsOfFirst (b : Boot) (ds : List Directive) (old new : Option (List ℕ)) : Type 0 where
