@@ -4,7 +4,9 @@ pub mod Reading
 pub mod Schedules
 pub mod Endings
 mod Outcomes
+mod ChartOutcomes
 mod CheckOutcomes
+mod ExplainOutcomes
 mod RunsChecked
 mod Whose
 mod Lacking
