@@ -1,6 +1,9 @@
 -- Loops that look for the first that isn't good, and for a line.
-use Rattle.std.proofs.Common.{◌≡◌, ℕ, ◌+◌, ◌-◌, ◌<◌, ◌≤◌, zero, suc, Bool, true, false, if◌then◌else◌, List, [], ◌∷◌, length, get_or, drop, map, slice_get, refl, ap, ◌∙◌}
+use Rattle.std.proofs.Common.{◌≡◌, ℕ, ◌+◌, ◌-◌, ◌<◌, ◌≤◌, zero, suc, Bool, true, false, if◌then◌else◌, List, [], ◌∷◌, length, get_or, drop, map, slice_get, refl, ap, ◌∙◌, None, arith}
 use Rattle.std.proofs.Math.ListN.{drop_of_length-le}
+use Rattle.toml.specs.declared.value.Value.{Value}
+use Rattle.toml.specs.Data.{get_item}
+use Rattle.toml.specs.View.{items_view}
 use Rattle.dm_explain.specs.Faults.{first_bad}
 use Rattle.dm_explain.specs.LineAt.{line_or_nothing}
 use Rattle.dm_explain.proofs.Pieces.{read_at}
@@ -29,6 +32,16 @@ line-first ls l rest left is none = ap (λ xs. line_or_nothing (slice_get xs lef
 
 pub line-later : (ls : List (List ℕ)) (l : List ℕ) (rest : List (List ℕ)) (left : ℕ) → ls ≡ l ∷ rest → (left ≡ 0 → ⊥) → line_or_nothing (slice_get ls left) ≡ line_or_nothing (slice_get rest (left - 1))
 line-later ls l rest zero is some = absurd (some refl)
-line-later ls l rest (suc left) is some = ap (λ xs. line_or_nothing (slice_get xs (suc left))) is
+line-later ls l rest (suc left) is some =
+    let one : left ≡ suc left - 1 = omega arith in
+    ap (λ xs. line_or_nothing (slice_get xs (suc left))) is ∙ ap (λ n. line_or_nothing (slice_get rest n)) one
 
 pub ruleset line_lemmas = (line-first, line-later)
+
+-- no element stands behind the last
+pub missing-item : (vs : List Value) (k : ℕ) → length vs ≤ k → get_item k (items_view vs) ≡ None
+missing-item [] k past = refl
+missing-item (v ∷ vs) zero past = absurd (omega arith)
+missing-item (v ∷ vs) (suc k) past = missing-item vs k (omega arith)
+
+pub ruleset missing_lemmas = (missing-item)

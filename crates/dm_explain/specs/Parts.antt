@@ -23,7 +23,7 @@ abbrev pub integer_word : ℤ → List ℕ
 integer_word (pos n) = decimal n
 integer_word (negsuc n) = codes "-" ++ decimal (n + 1)
 
-abbrev pub integer_text : Option ℤ → List ℕ
+unfoldable pub integer_text : Option ℤ → List ℕ
 integer_text None = []
 integer_text (Some z) = integer_word z
 

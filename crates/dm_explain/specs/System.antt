@@ -31,13 +31,13 @@ abbrev pub format_word : Format → List ℕ
 format_word One = codes "1"
 format_word Two = codes "2"
 
-abbrev pub settings_told : Boot → List ℕ
+unfoldable pub settings_told : Boot → List ℕ
 settings_told b = concat (codes "format " ∷ format_word b.format ∷ codes ", numbers " ∷ decimal b.numbers ∷ codes ", quantum " ∷ decimal b.quantum ∷ codes "\n" ∷ [])
 
-abbrev pub machine_told : ℕ → BootMachine → List ℕ
+unfoldable pub machine_told : ℕ → BootMachine → List ℕ
 machine_told i m = concat (codes "machine " ∷ decimal i ∷ codes ": " ∷ decimal m.slots ∷ codes " slots, " ∷ decimal m.blocks ∷ codes " blocks\n" ∷ [])
 
-abbrev pub image_told : Items → ℕ → BootImage → List ℕ
+unfoldable pub image_told : Items → ℕ → BootImage → List ℕ
 image_told ts i image =
     concat (codes "image " ∷ decimal i ∷ codes ": " ∷ quoted (text_in (codes "name") (get_item i ts)) ∷ codes ", " ∷ decimal image.blocks ∷ codes " blocks, " ∷ decimal (length image.bytes) ∷ codes " bytes of text\n" ∷ [])
 
@@ -52,13 +52,13 @@ rights_word true false = codes ", to read"
 rights_word false true = codes ", to write"
 rights_word false false = []
 
-abbrev pub link_told : ℕ → Link → List ℕ
+unfoldable pub link_told : ℕ → Link → List ℕ
 link_told k l =
     concat (codes "    link " ∷ decimal k ∷ codes ": " ∷ kind_word l.kind ∷ codes " to " ∷ pid_word l.addr.pid ∷ codes " at " ∷ decimal l.addr.at
     ∷ codes ", code " ∷ decimal l.code ∷ codes ", channel " ∷ decimal l.channel ∷ codes ", area " ∷ decimal l.area.base ∷ codes " " ∷ decimal l.area.len
     ∷ rights_word l.area.read l.area.write ∷ codes "\n" ∷ [])
 
-abbrev pub process_told : Items → ℕ → BootProcess → List ℕ
+unfoldable pub process_told : Items → ℕ → BootProcess → List ℕ
 process_told ts i p =
     concat (codes "process " ∷ pid_word p.pid ∷ codes ": " ∷ quoted (text_in (codes "name") (get_item i ts)) ∷ codes ", image " ∷ quoted (text_in (codes "image") (get_item i ts)) ∷ codes ", links: " ∷ decimal (length p.links) ∷ codes "\n" ∷ [])
     ++ each link_told 0 p.links

@@ -1,5 +1,5 @@
 -- What is said of a boot file that breaks a rule.
-use Rattle.std.specs.Prelude.{ℕ, if◌then◌else◌, codes, List, [], ◌∷◌, ◌++◌, length, Option, None, Some, Result, Ok, Err}
+use Rattle.std.specs.Prelude.{ℕ, Bool, if◌then◌else◌, codes, List, [], ◌∷◌, ◌++◌, length, Option, None, Some, Result, Ok, Err}
 use Rattle.std.specs.List.{concat}
 use Rattle.std.specs.Fmt.{decimal}
 use Rattle.toml.specs.Data.{Data, get_item}
@@ -25,10 +25,10 @@ abbrev pub name_at : Data → List ℕ
 name_at t = text_at (codes "name") t
 
 -- an element by its place, and by its name
-abbrev pub numbered : List ℕ → ℕ → List ℕ
+unfoldable pub numbered : List ℕ → ℕ → List ℕ
 numbered kind place = concat (kind ∷ codes " " ∷ decimal place ∷ codes ": " ∷ [])
 
-abbrev pub titled : List ℕ → Data → List ℕ
+unfoldable pub titled : List ℕ → Data → List ℕ
 titled kind t = concat (kind ∷ codes " " ∷ quoted (name_at t) ∷ codes ": " ∷ [])
 
 -- what is said of an element, where there is one
@@ -37,7 +37,7 @@ of_element None told = []
 of_element (Some t) told = told t
 
 -- so many, which must be within limits
-abbrev pub count_told : ℕ → List ℕ → ℕ → ℕ → List ℕ
+unfoldable pub count_told : ℕ → List ℕ → ℕ → ℕ → List ℕ
 count_told n what least most = concat (decimal n ∷ codes " " ∷ what ∷ codes ", which must be " ∷ decimal least ∷ codes " to " ∷ decimal most ∷ [])
 
 -- rules of the top table

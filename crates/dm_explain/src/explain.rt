@@ -1,5 +1,6 @@
 //! What is said of a boot file and of a schedule, whether they break a rule or not.
 ghost use Rattle.std.specs.Prelude.{◌≡◌, ◌++◌, IfOk, None, OnOk, Some};
+ghost use Rattle.toml.specs.Errors.{IsWithin};
 ghost use Rattle.toml.specs.View.{table_view};
 ghost use Rattle.dm_boot.specs.Boot.{document_of};
 ghost use Rattle.dm_explain.specs.Explained.{ExplainsBoot, ExplainsSchedule, IsLineSaid, IsToldValid, line_behind, unread_told};
@@ -14,6 +15,7 @@ use dm_memory::of_toml::{NoDocument, table_from_slice};
 use dm_onekernel::Boot;
 use dm_schedule::{Directive, LineFault, SchedNo, read_schedule};
 use std::alloc::Global;
+use toml::de::Error;
 use toml::{Table, Value};
 
 /// What is said of a boot file.
@@ -103,10 +105,18 @@ fn unread_line(alloc: Global, bytes: &[u8]) -> Option<u64>
 {
     match toml::table_from_slice(alloc, bytes) {
         Ok(_) => None,
-        Err(why) => match why.span() {
-            Some(range) => Some(line_behind(&bytes[..range.start])),
-            None => None,
-        },
+        Err(why) => line_said(bytes, &why),
+    }
+}
+
+/// The line at which the reader says that it stopped.
+fn line_said(bytes: &[u8], why: &Error) -> Option<u64>
+    requires { IsWithin bytes.now why.now }
+    ensures { IsLineSaid bytes.now result }
+{
+    match why.span() {
+        Some(range) => Some(line_behind(&bytes[..range.start])),
+        None => None,
     }
 }
 

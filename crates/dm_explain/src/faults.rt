@@ -14,6 +14,7 @@ use dm_memory::NoMemory;
 use toml::Value;
 
 /// Writes what is wrong with the keys of a table, which may have these, or something else.
+#[tactic(auto, unfolding(crate::specs::Faults::key_fault))]
 pub fn put_key_fault(
     into: &mut Vec<u8>,
     table: &Value,
@@ -21,7 +22,7 @@ pub fn put_key_fault(
     names: &[&str],
     other: &'static str,
 ) -> Result<(), NoMemory>
-    requires { map (λ n. n.now) names.now ≡ map (λ k. k.name.now) keys.now }
+    requires { map (λ n. n.now) names.now ≡ map (λ w. w.key) (map wish_of keys.now) }
     ensures { OnOk result (into.new.items ≡ into.old.items ++ key_fault (map wish_of keys.now) other.now (view table.now)) }
 {
     if has_only(table, names) {
@@ -33,7 +34,7 @@ pub fn put_key_fault(
 }
 
 /// Writes the first wish that isn't met, or something else.
-#[tactic(auto, using(crate::proofs::Loops::bad_lemmas))]
+#[tactic(auto, unfolding(crate::specs::Faults::wish_fault), using(crate::proofs::Loops::bad_lemmas))]
 fn put_wish_fault(
     into: &mut Vec<u8>,
     table: &Value,
@@ -51,6 +52,7 @@ fn put_wish_fault(
 }
 
 /// Writes what a key must be.
+#[tactic(auto, unfolding(crate::specs::Faults::wish_told))]
 fn put_wish(into: &mut Vec<u8>, key: &Key) -> Result<(), NoMemory>
     ensures { OnOk result (into.new.items ≡ into.old.items ++ wish_told (wish_of key.now)) }
 {
@@ -65,6 +67,7 @@ fn put_wish(into: &mut Vec<u8>, key: &Key) -> Result<(), NoMemory>
 }
 
 /// Whether a key has what it must be.
+#[tactic(auto, unfolding(crate::specs::Faults::is_met))]
 fn is_met(key: &Key, table: &Value) -> bool
     ensures { result ≡ is_met (wish_of key.now) (view table.now) }
 {
@@ -98,7 +101,7 @@ fn put_keys(into: &mut Vec<u8>, keys: &[Key]) -> Result<(), NoMemory>
 }
 
 /// Writes the first number of a table that is outside its limits, or something else.
-#[tactic(auto, using(crate::proofs::Loops::bad_lemmas))]
+#[tactic(auto, unfolding(crate::specs::Faults::number_fault), using(crate::proofs::Loops::bad_lemmas))]
 pub fn put_number_fault(
     into: &mut Vec<u8>,
     table: &Value,
@@ -116,6 +119,7 @@ pub fn put_number_fault(
 }
 
 /// Whether a number lies within its limits, or isn't there.
+#[tactic(auto, unfolding(crate::specs::Faults::is_within))]
 fn is_within(range: &Range, table: &Value) -> bool
     ensures { result ≡ is_within (limit_of range.now) (view table.now) }
 {
@@ -123,6 +127,7 @@ fn is_within(range: &Range, table: &Value) -> bool
 }
 
 /// Writes a number that is outside its limits.
+#[tactic(auto, unfolding(crate::specs::Faults::limit_told))]
 fn put_limit(into: &mut Vec<u8>, range: &Range, table: &Value) -> Result<(), NoMemory>
     ensures { OnOk result (into.new.items ≡ into.old.items ++ limit_told (limit_of range.now) (view table.now)) }
 {
@@ -141,6 +146,7 @@ fn put_limit(into: &mut Vec<u8>, range: &Range, table: &Value) -> Result<(), NoM
 }
 
 /// The integer at a key.
+#[tactic(auto, unfolding(crate::specs::Faults::integer_at))]
 pub fn integer_at(table: &Value, key: &str) -> Option<i64>
     ensures { result ≡ integer_at key.now (view table.now) }
 {

@@ -34,6 +34,7 @@ pub fn put_parts(into: &mut Vec<u8>, parts: &[Part]) -> Result<(), NoMemory>
 }
 
 /// Writes a part.
+#[tactic(auto, unfolding(crate::specs::Parts::integer_text))]
 fn put_part(into: &mut Vec<u8>, part: &Part) -> Result<(), NoMemory>
     ensures { OnOk result (into.new.items ≡ into.old.items ++ part_text part.now) }
 {

@@ -22,6 +22,7 @@ pub fn put_system(into: &mut Vec<u8>, boot: &Boot, top: &Value) -> Result<(), No
 }
 
 /// Writes the settings.
+#[tactic(auto, unfolding(crate::specs::System::settings_told))]
 fn put_settings(into: &mut Vec<u8>, boot: &Boot) -> Result<(), NoMemory>
     ensures { OnOk result (into.new.items ≡ into.old.items ++ settings_told boot.now) }
 {
@@ -59,6 +60,7 @@ fn put_machines(into: &mut Vec<u8>, machines: &[BootMachine]) -> Result<(), NoMe
     Ok(())
 }
 
+#[tactic(auto, unfolding(crate::specs::System::machine_told))]
 fn put_machine(into: &mut Vec<u8>, i: usize, machine: &BootMachine) -> Result<(), NoMemory>
     ensures { OnOk result (into.new.items ≡ into.old.items ++ machine_told i machine.now) }
 {
@@ -91,6 +93,7 @@ fn put_images(
     Ok(())
 }
 
+#[tactic(auto, unfolding(crate::specs::System::image_told))]
 fn put_image(
     into: &mut Vec<u8>,
     i: usize,
@@ -130,6 +133,7 @@ fn put_processes(
     Ok(())
 }
 
+#[tactic(auto, unfolding(crate::specs::System::process_told))]
 fn put_process(
     into: &mut Vec<u8>,
     i: usize,
@@ -166,6 +170,7 @@ fn put_links(into: &mut Vec<u8>, links: &[Link]) -> Result<(), NoMemory>
     Ok(())
 }
 
+#[tactic(auto, unfolding(crate::specs::System::link_told))]
 fn put_link(into: &mut Vec<u8>, k: usize, link: &Link) -> Result<(), NoMemory>
     ensures { OnOk result (into.new.items ≡ into.old.items ++ link_told k link.now) }
 {
@@ -217,7 +222,7 @@ fn rights_word(read: bool, write: bool) -> &'static str
 }
 
 /// The text at a key of the table at a place; empty where there is none.
-#[tactic(auto, using(dm_boot::proofs::Elements::found_lemmas))]
+#[tactic(auto, using(dm_boot::proofs::Elements::found_lemmas, crate::proofs::Loops::missing_lemmas))]
 fn text_in<'a>(tables: &'a [Value], place: usize, key: &str) -> &'a str
     ensures { result.now ≡ text_in key.now (get_item place (items_view tables.now)) }
 {

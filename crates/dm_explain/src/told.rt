@@ -105,7 +105,7 @@ fn put_rule(
 }
 
 /// The element at a place of the array at a key, where there is one.
-#[tactic(auto, using(dm_boot::proofs::Elements::found_lemmas))]
+#[tactic(auto, using(dm_boot::proofs::Elements::found_lemmas, crate::proofs::Loops::missing_lemmas))]
 fn element<'a>(table: &'a Value, key: &str, place: u64) -> Option<&'a Value>
     ensures { option_map (λ v. view v.now) result ≡ get_item place (items_at key.now (view table.now)) }
 {
@@ -113,6 +113,7 @@ fn element<'a>(table: &'a Value, key: &str, place: u64) -> Option<&'a Value>
 }
 
 /// Writes what an element is, by its place.
+#[tactic(auto, unfolding(crate::specs::Told::numbered))]
 fn put_numbered(into: &mut Vec<u8>, kind: &'static str, place: u64) -> Result<(), NoMemory>
     ensures { OnOk result (into.new.items ≡ into.old.items ++ numbered kind.now place) }
 {
@@ -128,6 +129,7 @@ fn put_numbered(into: &mut Vec<u8>, kind: &'static str, place: u64) -> Result<()
 }
 
 /// Writes what an element is, by its name.
+#[tactic(auto, unfolding(crate::specs::Told::titled))]
 fn put_titled(into: &mut Vec<u8>, kind: &'static str, table: &Value) -> Result<(), NoMemory>
     ensures { OnOk result (into.new.items ≡ into.old.items ++ titled kind.now (view table.now)) }
 {
@@ -143,6 +145,7 @@ fn put_titled(into: &mut Vec<u8>, kind: &'static str, table: &Value) -> Result<(
 }
 
 /// Writes how many there are, and how many there may be.
+#[tactic(auto, unfolding(crate::specs::Told::count_told))]
 fn put_count(
     into: &mut Vec<u8>,
     count: usize,
@@ -289,10 +292,10 @@ fn put_text(alloc: Global, into: &mut Vec<u8>, image: &Value) -> Result<(), NoMe
 }
 
 /// Writes that a line of an image's text is refused.
-fn put_line(
+fn put_line<'a>(
     into: &mut Vec<u8>,
-    image: &Value,
-    text: &str,
+    image: &'a Value,
+    text: &'a str,
     line: usize,
     why: Why,
 ) -> Result<(), NoMemory>

@@ -1,5 +1,5 @@
 //! The keys that tables of a boot file may have, and the limits of their numbers.
-ghost use Rattle.std.specs.Prelude.{◌≡◌, ◌≤◌, map};
+ghost use Rattle.std.specs.Prelude.{◌≡◌, map};
 ghost use Rattle.dm_explain.specs.Wanted.{channel_limits, control_wishes, image_limits, image_wishes, limit, limit_of, link_limits, link_wishes, machine_limits, machine_wishes, may, must, process_wishes, sort_words, top_limits, top_wishes, wish_of};
 
 /// What a value must be.
@@ -134,11 +134,10 @@ pub struct Range {
     pub name: &'static str,
     pub least: u32,
     pub most: u32,
-    ghost ordered: { least ≤ most },
 }
 
+/// The bounds of a number.
 fn within(name: &'static str, least: u32, most: u32) -> Range
-    requires { least ≤ most }
     ensures { limit_of result ≡ limit name.now least most }
 {
     Range { name, least, most }

@@ -6,7 +6,12 @@ use Rattle.dm_drawing.proofs.Pictures.{whole_drawn, worn_drawn}
 use Rattle.dm_drawing.proofs.drawing.draw_world.Goals as goal
 
 pub returns-in-Ok : goal.returns-in-Ok
-returns-in-Ok c = ?
+returns-in-Ok c =
+    whole_drawn c.args.world.now.boot c.args.directives.now c.args.machines c.args.starts.now c.collect-ended.new.kept (state_of c.collect-ended.new.world) c.in_ok-text.text.items
+    c.requires.fresh.world.valid c.in-Ok.ensures.came c.requires.machines c.requires.starts c.in_ok-text.ensures
 
 pub returns-in-Err-Worn : goal.returns-in-Err-Worn
-returns-in-Err-Worn c = ?
+returns-in-Err-Worn c =
+    let worn = subst (λ (s : Stop). Stopped c.args.world.now.boot c.args.directives.now c.collect-ended.new.kept s) c.in-Err-Worn.field-0-is c.in-Err-Worn.ensures.came in
+    worn_drawn c.args.world.now.boot c.args.directives.now c.args.machines c.args.starts.now c.collect-ended.new.kept c.in_ok-text.text.items c.in-Err-Worn.from c.in-Err-Worn.to
+    worn c.requires.machines c.requires.starts c.in_ok-text.ensures
