@@ -35,7 +35,7 @@ loop-out-preserved c =
       finite = tt;
       sendable = All-rest IsSendable c.in-Some.out left whole c.in-Some.ensures.steps.0 here.invariant.sendable;
       leads =
-          leads_packet c.args.lines.now.items here.lines.items c.push-in-Sends.new.self.items all (packets_on here.wires) (packets_on c.send.new.wires) c.in-Sends.packet c.in_ok-send-in-Sends.field-0 left
+          leads_packet c.args.lines.now.items here.lines.items c.push-in-Sends.new.list.items all (packets_on here.wires) (packets_on c.send.new.wires) c.in-Sends.packet c.in_ok-send-in-Sends.field-0 left
           whole is c.in_ok-send-in-Sends.ensures.line c.in_ok-push-in-Sends.ensures.items c.in_ok-send-in-Sends.ensures.wires here.invariant.leads;
       back = back_packet c.in-Sends.packet c.args.outs.items left whole is c.in_ok-send-in-Sends.ensures.again here.invariant.back;
     }
