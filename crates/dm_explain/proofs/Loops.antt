@@ -4,6 +4,8 @@ use Rattle.std.proofs.Math.ListN.{drop_of_length-le}
 use Rattle.toml.specs.declared.value.Value.{Value}
 use Rattle.toml.specs.Data.{get_item}
 use Rattle.toml.specs.View.{items_view}
+use Rattle.dm_asm.specs.Lines.{lines as text_lines}
+use Rattle.dm_schedule.specs.Lines.{lines as schedule_lines}
 use Rattle.dm_explain.specs.Faults.{first_bad}
 use Rattle.dm_explain.specs.LineAt.{line_or_nothing}
 use Rattle.dm_explain.proofs.Pieces.{read_at}
@@ -35,6 +37,16 @@ line-later ls l rest zero is some = absurd (some refl)
 line-later ls l rest (suc left) is some =
     let one : left ≡ suc left - 1 = omega arith in
     ap (λ xs. line_or_nothing (slice_get xs (suc left))) is ∙ ap (λ n. line_or_nothing (slice_get rest n)) one
+
+pub no-text-line : (text : List ℕ) (k : ℕ) → length text ≡ 0 → line_or_nothing (slice_get (text_lines text) k) ≡ []
+unfolding text_lines
+no-text-line [] k none = refl
+no-text-line (x ∷ xs) k none = absurd (omega arith)
+
+pub no-schedule-line : (text : List ℕ) (k : ℕ) → length text ≡ 0 → line_or_nothing (slice_get (schedule_lines text) k) ≡ []
+unfolding schedule_lines
+no-schedule-line [] k none = refl
+no-schedule-line (x ∷ xs) k none = absurd (omega arith)
 
 pub ruleset line_lemmas = (line-first, line-later)
 

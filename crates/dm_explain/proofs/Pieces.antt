@@ -1,5 +1,5 @@
 -- A text or a list that grows piece by piece, as a loop goes through what it is made of.
-use Rattle.std.proofs.Common.{◌≡◌, ℕ, ◌+◌, ◌<◌, ◌≤◌, List, [], ◌∷◌, ◌++◌, length, get_or, drop, map, refl, ap, sym, ◌∙◌, append_assoc}
+use Rattle.std.proofs.Common.{◌≡◌, ℕ, zero, suc, ◌+◌, ◌<◌, ◌≤◌, List, [], ◌∷◌, ◌++◌, length, get_or, drop, map, refl, ap, sym, ◌∙◌, append_assoc, arith}
 use Rattle.std.specs.List.{concat, flat_map}
 use Rattle.std.proofs.lemmas.List.{append-nil, drop_more}
 use Rattle.std.proofs.Math.ListN.{drop_of_length-le}
@@ -52,7 +52,18 @@ unfolding each
 each-more told done xs i x within read =
     ap (λ ys. done ++ each told i ys) (read_at xs i x within read) ∙ sym (append_assoc done (told i x) (each told (i + 1) (drop (i + 1) xs)))
 
+get_or_same : {X : Type 0} (xs : List X) (i : ℕ) (d e : X) → i < length xs → get_or xs i d ≡ get_or xs i e
+get_or_same [] i d e within = absurd (omega arith)
+get_or_same (x ∷ xs) zero d e within = refl
+get_or_same (x ∷ xs) (suc i) d e within = get_or_same xs i d e (omega arith)
+
+-- the same of elements that are copied
+pub each-copied : {X : Type 0} (told : ℕ → X → List ℕ) (done : List ℕ) (xs : List X) (i : ℕ) (d : X) → i < length xs → done ++ each told i (drop i xs) ≡ (done ++ told i (get_or xs i d)) ++ each told (i + 1) (drop (i + 1) xs)
+each-copied told done xs i d within = each-more told done xs i (get_or xs i d) within (get_or_same xs i d (get_or xs i d) within)
+
 pub ruleset each_lemmas = (each-end, each-more)
+
+pub ruleset join_lemmas = (append_assoc)
 
 pub ruleset mapped_lemmas = (mapped-end, mapped-more)
 

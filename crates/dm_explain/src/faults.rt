@@ -14,7 +14,7 @@ use dm_memory::NoMemory;
 use toml::Value;
 
 /// Writes what is wrong with the keys of a table, which may have these, or something else.
-#[tactic(auto, unfolding(crate::specs::Faults::key_fault))]
+#[tactic(auto, unfolding(crate::specs::Faults::key_fault), using(crate::proofs::Pieces::join_lemmas))]
 pub fn put_key_fault(
     into: &mut Vec<u8>,
     table: &Value,
@@ -127,7 +127,7 @@ fn is_within(range: &Range, table: &Value) -> bool
 }
 
 /// Writes a number that is outside its limits.
-#[tactic(auto, unfolding(crate::specs::Faults::limit_told))]
+#[tactic(auto, unfolding(crate::specs::Faults::limit_told), using(crate::proofs::Pieces::join_lemmas))]
 fn put_limit(into: &mut Vec<u8>, range: &Range, table: &Value) -> Result<(), NoMemory>
     ensures { OnOk result (into.new.items ≡ into.old.items ++ limit_told (limit_of range.now) (view table.now)) }
 {

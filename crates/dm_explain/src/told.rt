@@ -345,6 +345,7 @@ fn put_bytes(alloc: Global, into: &mut Vec<u8>, image: &Value) -> Result<(), NoM
 }
 
 /// Writes how many bytes were made, and for how many there is room.
+#[tactic(auto, using(crate::proofs::Pieces::join_lemmas))]
 fn put_size(into: &mut Vec<u8>, image: &Value, made: &Image) -> Result<(), NoMemory>
     ensures { OnOk result (into.new.items ≡ into.old.items ++ bytes_told (view image.now) (Ok made.now)) }
 {
@@ -361,7 +362,7 @@ fn put_size(into: &mut Vec<u8>, image: &Value, made: &Image) -> Result<(), NoMem
 }
 
 /// Writes what is wrong with a process.
-#[tactic(auto, using(dm_boot::proofs::Elements::count_lemmas))]
+#[tactic(auto, using(crate::proofs::Pieces::join_lemmas, dm_boot::proofs::Elements::count_lemmas))]
 fn put_process(
     into: &mut Vec<u8>,
     document: &Document<'_>,
@@ -475,6 +476,7 @@ fn put_no_room(into: &mut Vec<u8>, top: &Value, process: &Value) -> Result<(), N
 }
 
 /// Writes the room of a machine.
+#[tactic(auto, using(crate::proofs::Pieces::join_lemmas))]
 fn put_room(into: &mut Vec<u8>, machine: &Value) -> Result<(), NoMemory>
     ensures { OnOk result (into.new.items ≡ into.old.items ++ room_told (view machine.now)) }
 {

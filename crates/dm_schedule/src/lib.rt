@@ -3,7 +3,7 @@
 
 mod directives;
 mod keywords;
-pub mod lines;
+mod lines;
 mod numbers;
 mod operands;
 
