@@ -1,14 +1,16 @@
 -- Loops that look for the first that isn't good, and for a line.
-use Rattle.std.proofs.Common.{◌≡◌, ℕ, ◌+◌, ◌-◌, ◌<◌, ◌≤◌, zero, suc, Bool, true, false, if◌then◌else◌, List, [], ◌∷◌, length, get_or, drop, map, slice_get, refl, ap, ◌∙◌, None, arith}
+use Rattle.std.proofs.Common.{◌≡◌, ℕ, ◌+◌, ◌-◌, ◌<◌, ◌≤◌, zero, suc, Bool, true, false, if◌then◌else◌, List, [], ◌∷◌, ◌++◌, codes, length, get_or, drop, map, slice_get, refl, ap, ◌∙◌, None, arith}
 use Rattle.std.proofs.Math.ListN.{drop_of_length-le}
 use Rattle.toml.specs.declared.value.Value.{Value}
-use Rattle.toml.specs.Data.{get_item}
+use Rattle.toml.specs.Data.{Data, get_item}
 use Rattle.toml.specs.View.{items_view}
 use Rattle.dm_asm.specs.Lines.{lines as text_lines}
 use Rattle.dm_schedule.specs.Lines.{lines as schedule_lines}
-use Rattle.dm_explain.specs.Faults.{first_bad}
+use Rattle.dm_boot.specs.Tables.{has_only}
+use Rattle.dm_explain.specs.Faults.{first_bad, key_fault, keys_text, wish_fault}
+use Rattle.dm_explain.specs.Wanted.{Wish}
 use Rattle.dm_explain.specs.LineAt.{line_or_nothing}
-use Rattle.dm_explain.proofs.Pieces.{read_at}
+use Rattle.dm_explain.proofs.Pieces.{get_or_same, read_at}
 
 pub bad-end : {K W : Type 0} (f : K → W) (good : W → Bool) (told : W → List ℕ) (other : List ℕ) (ks : List K) (i : ℕ) → length ks ≤ i → first_bad good told other (map f (drop i ks)) ≡ other
 unfolding first_bad
@@ -26,7 +28,19 @@ bad-here f good told other ks i k within read fails =
     ap (λ ys. first_bad good told other (map f ys)) (read_at ks i k within read)
     ∙ ap (λ t. if t then first_bad good told other (map f (drop (i + 1) ks)) else told (f k)) fails
 
+-- the same of elements that are copied
+pub bad-more-copied : {K W : Type 0} (f : K → W) (good : W → Bool) (told : W → List ℕ) (other : List ℕ) (ks : List K) (i : ℕ) (d : K) → i < length ks → good (f (get_or ks i d)) ≡ true → first_bad good told other (map f (drop i ks)) ≡ first_bad good told other (map f (drop (i + 1) ks))
+bad-more-copied f good told other ks i d within passes = bad-more f good told other ks i (get_or ks i d) within (get_or_same ks i d (get_or ks i d) within) passes
+
+pub bad-here-copied : {K W : Type 0} (f : K → W) (good : W → Bool) (told : W → List ℕ) (other : List ℕ) (ks : List K) (i : ℕ) (d : K) → i < length ks → good (f (get_or ks i d)) ≡ false → first_bad good told other (map f (drop i ks)) ≡ told (f (get_or ks i d))
+bad-here-copied f good told other ks i d within fails = bad-here f good told other ks i (get_or ks i d) within (get_or_same ks i d (get_or ks i d) within) fails
+
 pub ruleset bad_lemmas = (bad-end, bad-more, bad-here)
+
+-- keys that aren't those that a table may have
+pub other-keys : (ws : List Wish) (other : List ℕ) (d : Data) → has_only (map (λ w. w.key) ws) d ≡ false → key_fault ws other d ≡ codes "its keys may be" ++ keys_text ws
+unfolding key_fault
+other-keys ws other d fails = ap (λ b. if b then wish_fault ws other d else codes "its keys may be" ++ keys_text ws) fails
 
 -- the first of some lines, and a later one
 pub line-first : (ls : List (List ℕ)) (l : List ℕ) (rest : List (List ℕ)) (left : ℕ) → ls ≡ l ∷ rest → left ≡ 0 → line_or_nothing (slice_get ls left) ≡ l

@@ -52,7 +52,8 @@ unfolding each
 each-more told done xs i x within read =
     ap (λ ys. done ++ each told i ys) (read_at xs i x within read) ∙ sym (append_assoc done (told i x) (each told (i + 1) (drop (i + 1) xs)))
 
-get_or_same : {X : Type 0} (xs : List X) (i : ℕ) (d e : X) → i < length xs → get_or xs i d ≡ get_or xs i e
+-- what an element is read as behind its list's end doesn't matter before it
+pub get_or_same : {X : Type 0} (xs : List X) (i : ℕ) (d e : X) → i < length xs → get_or xs i d ≡ get_or xs i e
 get_or_same [] i d e within = absurd (omega arith)
 get_or_same (x ∷ xs) zero d e within = refl
 get_or_same (x ∷ xs) (suc i) d e within = get_or_same xs i d e (omega arith)
