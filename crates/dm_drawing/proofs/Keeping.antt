@@ -20,6 +20,7 @@ use Rattle.dm_rule.specs.Worn as worn_as
 use Rattle.dm_chart.specs.declared.kept.Kept.{Kept}
 use Rattle.dm_chart.specs.Kept.{keep, kept_of, none_kept}
 use Rattle.dm_node.specs.declared.stop.Stop.{Stop}
+use Rattle.dm_node.specs.declared.stop.Stop.TheVariants.{NoMemory, Worn}
 use Rattle.dm_world.specs.declared.cursor.Cursor.{Cursor}
 use Rattle.dm_node.specs.Meets.{OrNoMemory}
 use Rattle.dm_world.specs.Cursor.{NextIs, todo_of}

@@ -84,7 +84,8 @@ fn tell_files<F: Shelf>(
     ensures schedule_fault { IfErr result (λ s. s ≡ Status.ReadFault input_.Schedule →
         FailsNamed F.asked F.faults (F.told shelf.old) boot.now (option_map (λ s. s.now) schedule) shelf.old shelf.new) }
 {
-    match tell_boot(alloc, boot, shelf)? {
+    let told = tell_boot(alloc, boot, shelf)?;
+    match told {
         BootTold::Refused { rule, place, text } => Ok(Told {
             due: Status::BootRefused {
                 number: rule.number(),

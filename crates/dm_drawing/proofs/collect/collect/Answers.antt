@@ -32,10 +32,13 @@ directives-preserved c = record {
 }
 
 pub returns-in_err-collect_directive : goal.returns-in_err-collect_directive
-returns-in_err-collect_directive c =
-    came_err c.args.world.now.boot c.args.directives.now (all_of []) c.collect_directive.new.kept (state_of c.collect_directive.new.world) c.from_residual.result c.in_err-collect_directive.field-0.0 c.from_residual.ensures
-    (halts_on c.directives.world.boot c.args.world.now.boot c.args.directives.now c.args.directives.now c.directives.directive-index _ c.directives.kept c.collect_directive.new.kept (state_of c.directives.world) c.in_err-collect_directive.field-0.0
-    c.directives.invariant.boot c.directives-test.true c.in_err-collect_directive.ensures.came c.directives.invariant.come)
+returns-in_err-collect_directive c = record {
+  came = came_err c.args.world.now.boot c.args.directives.now (all_of []) c.collect_directive.new.kept (state_of c.collect_directive.new.world) c.from_residual.result c.in_err-collect_directive.field-0.0 c.from_residual.ensures
+      (halts_on c.directives.world.boot c.args.world.now.boot c.args.directives.now c.args.directives.now c.directives.directive-index _ c.directives.kept c.collect_directive.new.kept (state_of c.directives.world) c.in_err-collect_directive.field-0.0
+      c.directives.invariant.boot c.directives-test.true c.in_err-collect_directive.ensures.came c.directives.invariant.come);
+}
 
 pub returns : goal.returns
-returns c = all_done c.args.world.now.boot c.args.directives.now c.args.directives.now c.directives.directive-index c.directives.kept (state_of c.directives.world) c.directives-test.false c.directives.invariant.come
+returns c = record {
+  came = all_done c.args.world.now.boot c.args.directives.now c.args.directives.now c.directives.directive-index c.directives.kept (state_of c.directives.world) c.directives-test.false c.directives.invariant.come;
+}
