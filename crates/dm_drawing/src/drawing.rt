@@ -66,11 +66,15 @@ fn draw_world(
     ensures { IfOk result (λ d. IsDrawn world.old.boot directives.now d) }
 {
     let mut kept = Kept::new(alloc);
-    let ended = collect(directives, world, &mut kept);
-    let text = picture(alloc, machines, starts, &kept)?;
-    match ended {
-        Ok(()) => Ok(Drawn::Whole(text)),
-        Err(Stop::Worn { from, to }) => Ok(Drawn::Worn { text, from, to }),
+    match collect(directives, world, &mut kept) {
+        Ok(()) => {
+            let whole = picture(alloc, machines, starts, &kept)?;
+            Ok(Drawn::Whole(whole))
+        }
+        Err(Stop::Worn { from, to }) => {
+            let text = picture(alloc, machines, starts, &kept)?;
+            Ok(Drawn::Worn { text, from, to })
+        }
         Err(Stop::NoMemory(no)) => Err(no),
     }
 }
