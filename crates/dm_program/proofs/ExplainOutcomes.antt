@@ -4,12 +4,20 @@ use Rattle.std.specs.declared.option.Option.{Option}
 use Rattle.std.specs.declared.option.Option.TheVariants.{None, Some}
 use Rattle.dm_memory.specs.declared.NoMemory.{NoMemory as TheNoMemory}
 use Rattle.dm_onekernel.specs.declared.boot.Boot.{Boot}
+use Rattle.std.specs.Prelude.{Vec}
+use Rattle.std.specs.declared.alloc.Global.{Global}
+use Rattle.dm_onekernel.specs.Boot.{IsValid}
+use Rattle.dm_boot.specs.declared.rules.BootRule.{BootRule}
+use Rattle.dm_boot.specs.Rules.{rule_number}
+use Rattle.dm_explain.specs.declared.explain.BootTold.{BootTold}
+use Rattle.dm_explain.specs.declared.explain.BootTold.TheVariants as told_as
+use Rattle.dm_explain.specs.Explained.{IsToldValid}
 use Rattle.dm_outside.specs.Outside.{RoseOrFull}
 use Rattle.dm_program.specs.declared.status.Status.{Status}
 use Rattle.dm_program.specs.declared.status.Status.TheVariants.{Done, Usage, ReadFault, NoMemory, WriteFault, BootRefused, ScheduleRefused, TooLong, Worn, TraceRefused}
 use Rattle.dm_program.specs.declared.status.Input.TheVariants as input
 use Rattle.dm_program.specs.Asked.{AsksFiles}
-use Rattle.dm_program.specs.Explains.{AsksNamed, BeforeRun, NoInputs, SaysInputs, TellsFiles, TellsSchedule, TellsSystem, Wrote}
+use Rattle.dm_program.specs.Explains.{AsksNamed, BeforeRun, NoInputs, SaysInputs, TellsFiles, TellsRead, TellsSchedule, TellsSystem, Wrote}
 use Rattle.dm_program.specs.Inputs.{NoBoot, NoDirectives, NoFiles, SaysBoot}
 use Rattle.dm_program.specs.Status.{BlamesShelf, BlamesSink, IsWant}
 use Rattle.dm_program.proofs.Outcomes.{Files, boot_part, long_boot, never_sink, no_files, outcome, refused_boot, said_boot, said_files, want_or_not}
@@ -162,6 +170,46 @@ no_sink files boot None old new k (ScheduleRefused line why) h = refl
 no_sink files boot None old new k (TooLong i) h = refl
 no_sink files boot None old new k (Worn from to) h = refl
 no_sink files boot None old new k (TraceRefused line why) h = refl
+
+-- what is said of a boot file that breaks a rule, and of one that breaks none
+pub refused_told : (files : Option Files) (boot : List ℕ) (schedule : Option (List ℕ)) (rule : BootRule) (number place : ℕ) (text : Vec ℕ Global) (told : BootTold) → told ≡ told_as.Refused rule place text → number ≡ rule_number rule → TellsRead files boot told → TellsFiles files boot schedule (BootRefused number place) text.items
+refused_told files boot schedule rule number place text told is e h =
+    let k : TellsRead files boot (told_as.Refused rule place text) = subst (TellsRead files boot) is h in
+    record { bytes = k.bytes; file = k.file; rule = rule; told = k.explains; number_is = e }
+
+pub system_told : (files : Option Files) (boot : List ℕ) (b : Boot) (text : Vec ℕ Global) (told : BootTold) → told ≡ told_as.System b text → TellsRead files boot told → TellsSystem files boot b text.items
+system_told files boot b text told is h =
+    let k : TellsRead files boot (told_as.System b text) = subst (TellsRead files boot) is h in
+    record { bytes = k.bytes; file = k.file; told = k.explains }
+
+pub system_says : (files : Option Files) (boot : List ℕ) (b : Boot) (text : Vec ℕ Global) (told : BootTold) → told ≡ told_as.System b text → TellsRead files boot told → SaysBoot files boot b
+system_says files boot b text told is h = says_boot files boot b text.items (system_told files boot b text told is h)
+
+pub system_valid : (b : Boot) (text : Vec ℕ Global) (told : BootTold) → told ≡ told_as.System b text → IsToldValid told → IsValid b
+system_valid b text told is h = let k : IsToldValid (told_as.System b text) = subst IsToldValid is h in k
+
+-- no file was asked for but the boot file
+pub asks_boot : {S : Type 0} (asked : S → List ℕ → S → Type 0) (files : Option Files) (boot : List ℕ) (schedule : Option (List ℕ)) (old new : S) → asked old boot new → AsksNamed asked files boot schedule old new
+asks_boot asked files boot None old new h = h
+asks_boot asked files boot (Some schedule) old new h = inl h
+
+-- where there is no system nothing is said
+pub no_system : (files : Option Files) (boot : List ℕ) (schedule : Option (List ℕ)) (old new : ℕ) (s : Status) → NoBoot files boot old new s → NoInputs files boot schedule old new s
+no_system files boot None old new s h = h
+no_system files boot (Some schedule) old new Done h = absurd h
+no_system files boot (Some schedule) old new Usage h = absurd h
+no_system files boot (Some schedule) old new (ReadFault input.Boot) h = h
+no_system files boot (Some schedule) old new (ReadFault input.Schedule) h = absurd h
+no_system files boot (Some schedule) old new (ReadFault input.Trace) h = absurd h
+no_system files boot (Some schedule) old new (NoMemory lack) h = tt
+no_system files boot (Some schedule) old new WriteFault h = absurd h
+no_system files boot (Some schedule) old new (BootRefused number place) h = h
+no_system files boot (Some schedule) old new (ScheduleRefused line why) h = absurd h
+no_system files boot (Some schedule) old new (TooLong input.Boot) h = h
+no_system files boot (Some schedule) old new (TooLong input.Schedule) h = absurd h
+no_system files boot (Some schedule) old new (TooLong input.Trace) h = absurd h
+no_system files boot (Some schedule) old new (Worn from to) h = absurd h
+no_system files boot (Some schedule) old new (TraceRefused line why) h = absurd h
 
 -- a schedule is said behind a system
 pub both_told : (files : Option Files) (boot schedule : List ℕ) (b : Boot) (first : List ℕ) (due : Status) (text : List ℕ) → TellsSystem files boot b first → TellsSchedule files schedule (length b.machines) first due text → TellsFiles files boot (Some schedule) due text

@@ -84,22 +84,22 @@ fn tell_files<F: Shelf>(
     ensures schedule_fault { IfErr result (λ s. s ≡ Status.ReadFault input_.Schedule →
         FailsNamed F.asked F.faults (F.told shelf.old) boot.now (option_map (λ s. s.now) schedule) shelf.old shelf.new) }
 {
-    let told = tell_boot(alloc, boot, shelf)?;
-    match told {
-        BootTold::Refused { rule, place, text } => Ok(Told {
+    match tell_boot(alloc, boot, shelf) {
+        Ok(BootTold::Refused { rule, place, text }) => Ok(Told {
             due: Status::BootRefused {
                 number: rule.number(),
                 place,
             },
             text,
         }),
-        BootTold::System { boot, text } => match schedule {
-            Some(name) => tell_schedule(alloc, name, boot.machines.len() as u8, text, shelf),
+        Ok(BootTold::System { boot: system, text }) => match schedule {
+            Some(name) => tell_schedule(alloc, name, system.machines.len() as u8, text, shelf),
             None => Ok(Told {
                 due: Status::Done,
                 text,
             }),
         },
+        Err(status) => Err(status),
     }
 }
 
