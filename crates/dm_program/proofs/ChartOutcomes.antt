@@ -25,7 +25,7 @@ whole_says b ds text before after (Err e) is all cut = record { text = text; is 
 -- one of what comes before a worn pair
 pub worn_says : {A : Type 0} (b : Boot) (ds : List Directive) (text : List ℕ) (from to : ℕ) (before after : Option (List ℕ)) (r : Result A Failed) → IsBeforeWorn b ds text from to → OnOk r (after ≡ appended before text) → OnErr r (IsCutShort before text after) → ChartSays b ds before after (unless_failed r (Worn from to))
 worn_says b ds text from to before after (Ok x) is all cut = record { text = text; is = is; written = all }
-worn_says b ds text from to before after (Err e) is all cut = record { text = text; is = inr (from, (to, is)); begun = cut }
+worn_says b ds text from to before after (Err e) is all cut = record { text = text; is = inr (from, to, is); begun = cut }
 
 -- and whom it blames
 pub whole_blames : {A : Type 0} (old new : ℕ) (r : Result A Failed) → OnOk r (new ≡ old) → OnErr r (RoseOrFull old new) → BlamesSink old new (unless_failed r Done)

@@ -137,12 +137,12 @@ end_of files boot (Some schedule) = outcome files boot schedule
 
 is_end : (files : Files) (boot : List ℕ) (schedule : Option (List ℕ)) (old new : ℕ) (s : Status) → (RoseOrFull old new → ⊥) → (IsWant s → ⊥) → BeforeRun (Some files) boot schedule old new s → end_of files boot schedule ≡ s
 is_end files boot None old new s quiet some h = elim h [
-  | inl done ↦ said_boot files boot done.1.system (λ b. Done) done.1.says ∙ sym done.0
-  | inr no ↦ no_boot files boot old new s quiet some no
+  | inl said ↦ said_boot files boot said.1.system (λ b. Done) said.1.says ∙ sym said.0
+  | inr why ↦ no_boot files boot old new s quiet some why
 ]
 is_end files boot (Some schedule) old new s quiet some h = elim h [
-  | inl done ↦ said_files files boot schedule done.1.system done.1.directives done.1.says.says ∙ sym done.0
-  | inr no ↦ no_files files boot schedule old new s quiet some no
+  | inl said ↦ said_files files boot schedule said.1.system said.1.directives said.1.says.says ∙ sym said.0
+  | inr why ↦ no_files files boot schedule old new s quiet some why
 ]
 
 -- so there is one end, unless it is want of memory or the sink failed

@@ -33,16 +33,16 @@ pub fn explain_files<F: Shelf, K: Sink>(
     shelf: &mut F,
     out: &mut K,
 ) -> Status
-    ensures says { SaysExplain boot.now (option_map (λ s. s.now) schedule)
+    ensures says { SaysExplain boot.now (option_map (λ s. s.now) schedule.entry)
         (around F.told F.faults K.told K.faults shelf.old shelf.new out.old out.new None) result }
-    ensures as_run { AsRun boot.now (option_map (λ s. s.now) schedule)
+    ensures as_run { AsRun boot.now (option_map (λ s. s.now) schedule.entry)
         (around F.told F.faults K.told K.faults shelf.old shelf.new out.old out.new None) result }
-    ensures decides { Decides boot.now (option_map (λ s. s.now) schedule)
+    ensures decides { Decides boot.now (option_map (λ s. s.now) schedule.entry)
         (around F.told F.faults K.told K.faults shelf.old shelf.new out.old out.new None) result }
-    ensures asks { AsksNamed F.asked (F.told shelf.old) boot.now (option_map (λ s. s.now) schedule) shelf.old shelf.new }
+    ensures asks { AsksNamed F.asked (F.told shelf.old) boot.now (option_map (λ s. s.now) schedule.entry) shelf.old shelf.new }
     ensures boot_fault { result ≡ Status.ReadFault input_.Boot → FailsAlone F.asked F.faults boot.now shelf.old shelf.new }
     ensures schedule_fault { result ≡ Status.ReadFault input_.Schedule →
-        FailsNamed F.asked F.faults (F.told shelf.old) boot.now (option_map (λ s. s.now) schedule) shelf.old shelf.new }
+        FailsNamed F.asked F.faults (F.told shelf.old) boot.now (option_map (λ s. s.now) schedule.entry) shelf.old shelf.new }
     ensures same { F.told shelf.new ≡ F.told shelf.old }
     ensures shelf { BlamesShelf (F.faults shelf.old) (F.faults shelf.new) result }
     ensures sink { BlamesSink (K.faults out.old) (K.faults out.new) result }
@@ -73,16 +73,16 @@ fn tell_files<F: Shelf>(
     schedule: Option<&str>,
     shelf: &mut F,
 ) -> Result<Told, Status>
-    ensures tells { IfOk result (λ t. TellsFiles (F.told shelf.old) boot.now (option_map (λ s. s.now) schedule) t.due t.text.items) }
-    ensures none { IfErr result (λ s. NoInputs (F.told shelf.old) boot.now (option_map (λ s. s.now) schedule) (F.faults shelf.old) (F.faults shelf.new) s) }
+    ensures tells { IfOk result (λ t. TellsFiles (F.told shelf.old) boot.now (option_map (λ s. s.now) schedule.entry) t.due t.text.items) }
+    ensures none { IfErr result (λ s. NoInputs (F.told shelf.old) boot.now (option_map (λ s. s.now) schedule.entry) (F.faults shelf.old) (F.faults shelf.new) s) }
     ensures same { F.told shelf.new ≡ F.told shelf.old }
     ensures steady { IfOk result (λ _. F.faults shelf.new ≡ F.faults shelf.old) }
     ensures blames { IfErr result (λ s. BlamesShelf (F.faults shelf.old) (F.faults shelf.new) s) }
     ensures reads { F.faults shelf.old ≤ F.faults shelf.new }
-    ensures asks { AsksNamed F.asked (F.told shelf.old) boot.now (option_map (λ s. s.now) schedule) shelf.old shelf.new }
+    ensures asks { AsksNamed F.asked (F.told shelf.old) boot.now (option_map (λ s. s.now) schedule.entry) shelf.old shelf.new }
     ensures boot_fault { IfErr result (λ s. s ≡ Status.ReadFault input_.Boot → FailsAlone F.asked F.faults boot.now shelf.old shelf.new) }
     ensures schedule_fault { IfErr result (λ s. s ≡ Status.ReadFault input_.Schedule →
-        FailsNamed F.asked F.faults (F.told shelf.old) boot.now (option_map (λ s. s.now) schedule) shelf.old shelf.new) }
+        FailsNamed F.asked F.faults (F.told shelf.old) boot.now (option_map (λ s. s.now) schedule.entry) shelf.old shelf.new) }
 {
     match tell_boot(alloc, boot, shelf) {
         Ok(BootTold::Refused { rule, place, text }) => Ok(Told {
