@@ -1,5 +1,5 @@
 -- How far a text has been checked, group by group.
-use Rattle.std.proofs.Common.{◌≡◌, ◌≤◌, ℕ, suc, ◌+◌, Bool, true, false, if◌then◌else◌, List, [], ◌∷◌, ◌++◌, length, map, refl, ap, sym, ◌∙◌, subst, append_assoc, append-nil, length-append, arith, Some, None}
+use Rattle.std.proofs.Common.{◌≡◌, ◌≤◌, ◌<◌, ℕ, suc, ◌+◌, Bool, true, false, if◌then◌else◌, List, [], ◌∷◌, ◌++◌, length, map, refl, ap, sym, ◌∙◌, subst, append_assoc, append-nil, length-append, arith, Some, None}
 use Rattle.std.specs.List.{All}
 use Rattle.std.proofs.lemmas.List.Elements.{All-nil, All-cons, All-append}
 use Rattle.dm_onekernel.specs.declared.boot.Boot.{Boot}
@@ -20,24 +20,20 @@ use Rattle.dm_text.specs.Text.{text, text_of_lines}
 use Rattle.dm_world.specs.World.{WorldState, first_world}
 use Rattle.dm_mirror.specs.Ran.{ones, Ran}
 use Rattle.dm_mirror.specs.Run.{joined}
+use Rattle.dm_node.specs.declared.stop.Stop.{Stop}
 use Rattle.dm_node.specs.declared.stop.Stop.TheVariants as stop
 use Rattle.dm_run.specs.Running.{RanOn, RunsOn, StopsWorn}
 use Rattle.dm_check.specs.declared.fault.TraceFault.{TraceFault}
 use Rattle.dm_check.specs.declared.fault.TraceFault.TheVariants.{NotDue}
 use Rattle.dm_check.specs.declared.stop.CheckNo.{CheckNo}
 use Rattle.dm_check.specs.declared.stop.CheckNo.TheVariants as no
-use Rattle.dm_check.specs.Checking.{HasChecked, NoGroup, RefusedSo, first_line, head_of_line}
+use Rattle.dm_check.specs.Checked.{HasChecked, NoGroup}
+use Rattle.dm_check.specs.Checking.{RefusedSo, first_line, head_of_line}
 use Rattle.dm_check.specs.Good.{AllHeld, AreHeads, EndsFit, IsTrace, good_verdict, text_behind}
 use Rattle.dm_check.specs.Judge as judge
 use Rattle.dm_check.specs.Judge.{Verdict, Refused, Falls, at_head, behind_line, begins_group, can_hold, judged_from, unless_worn, verdict}
 use Rattle.dm_check.proofs.Groups.{fresh_group, group_head, kept_last}
-use Rattle.dm_check.proofs.Judging.{due_group, no_group}
-
--- lines behind lines
-pub lines_append : (a b : List Line) → text_of_lines (a ++ b) ≡ text_of_lines a ++ text_of_lines b
-unfolding text_of_lines
-lines_append [] b = refl
-lines_append (l ∷ ls) b = ap (λ t. text l ++ t) (lines_append ls b) ∙ sym (append_assoc (text l) (text_of_lines ls) (text_of_lines b))
+use Rattle.dm_check.proofs.Judging.{due_group, lines_append, no_group}
 
 pub joined_last : (gs : List (List Line)) (g : List Line) → joined (gs ++ g ∷ []) ≡ joined gs ++ g
 joined_last [] g = append-nil g
@@ -172,3 +168,24 @@ none_worn b w e number from to x is held worn =
         ap (λ (t : Bool). if t then begins_group b pt n bytes (group_of b pt e) else Falls NotDue) held
         ∙ ap (begins_group b pt n bytes) h.due
         ∙ ap (λ o. unless_worn o (judge.begins b.quantum h.group.lines h.group.point (n + 1) bytes)) h.first
+
+-- where its stop is that
+pub none_stopped : (b : Boot) (w : WorldState) (e : Step) (number from to : ℕ) (s : Stop) (x : CheckNo) → s ≡ stop.Worn from to → x ≡ no.Refused number NotDue → can_hold (length b.machines) e ≡ true → StopsWorn b w e s → NoGroup b w e number x
+none_stopped b w e number from to s x stopped is held worn = none_worn b w e number from to x is held (subst (StopsWorn b w e) stopped worn)
+
+-- a group has a line
+pub some_lines : (b c : Boot) (bytes rest : List ℕ) (number groups : ℕ) (w v : WorldState) (e : Step) (lines : List Line) → c ≡ b → HasChecked b bytes rest number groups w → RunsOn w c e lines v → 0 < length lines
+some_lines b c bytes rest number groups w v e lines same h runs =
+    let on : RunsOn w b e lines v = subst (λ (d : Boot). RunsOn w d e lines v) same runs in
+    let r : RanOn b h.steps h.lines h.point e lines v = on h.steps h.lines h.point h.ran in
+    let (behind, begins) = group_head b h.point e r.spelled r.due in
+    let size : length lines ≡ length (line.Head e ∷ behind) = ap (λ (ls : List Line). length ls) (r.said ∙ begins) in
+    omega (arith, size)
+
+-- no head is left, and what is left is refused
+pub checks_refused : (b c : Boot) (bytes rest : List ℕ) (number groups : ℕ) (w : WorldState) (x : CheckNo) → c ≡ b → HasChecked b bytes rest number groups w
+    → ((es : List Step) (gs : List (List Line)) (pt : Point) (n : ℕ) → Ran c es gs pt w → RefusedSo (judged_from c (judge.Head pt n) number (pieces 10 rest)) x) → RefusedSo (verdict b bytes) x
+checks_refused b c bytes rest number groups w x same h refused =
+    let here : (es : List Step) (gs : List (List Line)) (pt : Point) (n : ℕ) → Ran b es gs pt w → RefusedSo (judged_from b (judge.Head pt n) number (pieces 10 rest)) x =
+    subst (λ (d : Boot). (es : List Step) (gs : List (List Line)) (pt : Point) (n : ℕ) → Ran d es gs pt w → RefusedSo (judged_from d (judge.Head pt n) number (pieces 10 rest)) x) same refused in
+    refused_on (verdict b bytes) (judged_from b (judge.Head h.point groups) number (pieces 10 rest)) x h.goes (here h.steps h.lines h.point groups h.ran)

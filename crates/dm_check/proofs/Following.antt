@@ -17,8 +17,7 @@ use Rattle.dm_check.specs.declared.stop.CheckNo.{CheckNo}
 use Rattle.dm_check.specs.Checking.{RefusedSo}
 use Rattle.dm_check.specs.Judge as judge
 use Rattle.dm_check.specs.Judge.{Verdict, Ended, behind_line, judged_from}
-use Rattle.dm_check.proofs.Checks.{lines_append}
-use Rattle.dm_check.proofs.Judging.{at_text_end, end_stands}
+use Rattle.dm_check.proofs.Judging.{at_text_end, end_stands, lines_append}
 
 -- from a place on
 from_here : {X : Type 0} (xs : List X) (i : ℕ) (d : X) → i < length xs → drop i xs ≡ get_or xs i d ∷ drop (i + 1) xs
@@ -27,7 +26,7 @@ from_here xs i d h = let next : suc i ≡ i + 1 = omega arith in drop-cons xs i 
 -- a line of the group stands: what was due goes on
 pub line_on : (b : Boot) (lines : List Line) (i : ℕ) (d : Line) (pt : Point) (n first number : ℕ) (all bytes rest : List ℕ) → i < length lines
     → judged_from b (behind_line lines pt n) first (pieces 10 all) ≡ judged_from b (behind_line (drop i lines) pt n) number (pieces 10 bytes)
-    → judged_from b (judge.Line (get_or lines i d) (drop (i + 1) lines) pt n) number (pieces 10 bytes) ≡ judged_from b (behind_line (drop (i + 1) lines) pt n) (number + 1) (pieces 10 rest)
+    → judged_from b (judge.InGroup (get_or lines i d) (drop (i + 1) lines) pt n) number (pieces 10 bytes) ≡ judged_from b (behind_line (drop (i + 1) lines) pt n) (number + 1) (pieces 10 rest)
     → judged_from b (behind_line lines pt n) first (pieces 10 all) ≡ judged_from b (behind_line (drop (i + 1) lines) pt n) (number + 1) (pieces 10 rest)
 line_on b lines i d pt n first number all bytes rest h so_far on =
     so_far ∙ ap (λ ls. judged_from b (behind_line ls pt n) number (pieces 10 bytes)) (from_here lines i d h) ∙ on
@@ -35,7 +34,7 @@ line_on b lines i d pt n first number all bytes rest h so_far on =
 -- it doesn't
 pub line_off : (b : Boot) (lines : List Line) (i : ℕ) (d : Line) (pt : Point) (n first number : ℕ) (all bytes : List ℕ) (x : CheckNo) → i < length lines
     → judged_from b (behind_line lines pt n) first (pieces 10 all) ≡ judged_from b (behind_line (drop i lines) pt n) number (pieces 10 bytes)
-    → RefusedSo (judged_from b (judge.Line (get_or lines i d) (drop (i + 1) lines) pt n) number (pieces 10 bytes)) x
+    → RefusedSo (judged_from b (judge.InGroup (get_or lines i d) (drop (i + 1) lines) pt n) number (pieces 10 bytes)) x
     → RefusedSo (judged_from b (behind_line lines pt n) first (pieces 10 all)) x
 line_off b lines i d pt n first number all bytes x h so_far off =
     subst (λ v. RefusedSo v x) (sym (so_far ∙ ap (λ ls. judged_from b (behind_line ls pt n) number (pieces 10 bytes)) (from_here lines i d h))) off

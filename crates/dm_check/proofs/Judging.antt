@@ -1,8 +1,13 @@
 -- What becomes of the verdict at each line of a text.
-use Rattle.std.proofs.Common.{◌≡◌, ℕ, suc, ◌+◌, ◌==◌, Bool, true, false, ◌&&◌, nat_lt, not, if◌then◌else◌, List, [], ◌∷◌, ◌++◌, length, refl, ap, sym, ◌∙◌, subst, append_assoc, append-nil, arith, Some, None}
+use Rattle.std.proofs.Common.{◌≡◌, ◌<◌, ℕ, suc, ◌+◌, ◌==◌, Bool, true, false, ◌&&◌, nat_lt, not, if◌then◌else◌, List, [], ◌∷◌, ◌++◌, length, refl, ap, sym, ◌∙◌, subst, append_assoc, append-nil, arith, Some, None}
 use Rattle.std.specs.Prelude.{codes}
 use Rattle.std.specs.List.{All}
 use Rattle.std.specs.Str.{bytes_eq}
+use Rattle.std.specs.Result.{IfErr, IsErr, IsErrAnd}
+use Rattle.std.specs.declared.result.Result.{Result}
+use Rattle.std.specs.declared.result.Result.TheVariants.{Ok, Err}
+use Rattle.std.proofs.lemmas.Bool.{false≢true}
+use Rattle.std.proofs.lemmas.Bool.Decides.{nat_tests}
 use Rattle.std.specs.declared.option.Option.{Option}
 use Rattle.std.proofs.lemmas.Slice.Eq.{bytes_eq-Decides}
 use Rattle.dm_link.specs.declared.Pid.{Pid}
@@ -31,9 +36,39 @@ use Rattle.dm_shape.proofs.NamesRead.{some_piece, cut_is, first_is}
 use Rattle.dm_shape.proofs.ShapeLaws.{lines_have, ends_have, heads_have}
 use Rattle.dm_check.specs.declared.fault.TraceFault.{TraceFault}
 use Rattle.dm_check.specs.declared.fault.TraceFault.TheVariants.{NotALine, NotDue, NotTheEnd}
-use Rattle.dm_check.specs.Checking.{FallsBy, first_line, head_of_line, is_final}
+use Rattle.dm_check.specs.declared.stop.CheckNo.{CheckNo}
+use Rattle.dm_check.specs.declared.stop.CheckNo.TheVariants as stop
+use Rattle.dm_check.specs.Checking.{FallsBy, RefusedSo, first_line, head_of_line, is_final}
 use Rattle.dm_check.specs.Judge as judge
 use Rattle.dm_check.specs.Judge.{Verdict, Ended, Refused, Due, Nothing, Taken, Stands, Falls, is_text, behind_line, told, at_end, at_head, begins_group, unless_worn, can_hold, taken, ended, judged_from}
+
+-- what holds of the one error holds of the error there is
+pub if_err : {A E : Type 0} (r : Result A E) (e : E) (P : E → Type 0) → IsErr r × IsErrAnd r (λ y. y ≡ e) → P e → IfErr r P
+if_err (Ok x) e P h p = absurd (false≢true h.0)
+if_err (Err y) e P h p = subst P (sym h.1) p
+
+-- a refusal is the verdict
+pub refused_as : (v : Verdict) (x : CheckNo) (line : ℕ) (f : TraceFault) → x ≡ stop.Refused line f → v ≡ Refused line f → RefusedSo v x
+refused_as v x line f e h = subst (RefusedSo v) (sym e) h
+
+-- nothing is left
+pub none_left : (xs : List ℕ) → (length xs == 0) ≡ true → xs ≡ []
+none_left [] h = refl
+none_left (x ∷ xs) h = absurd (some (length (x ∷ xs)) (omega arith) h)
+  where
+    some : (k : ℕ) → 0 < k → (k == 0) ≡ true → ⊥
+    some k m e = let f : k ≡ 0 = grind (arith, nat_tests, e) in omega arith
+
+-- the first line of a text, where more pieces follow
+pub first_of : (w : List ℕ) (ps : List (List ℕ)) → (ps ≡ [] → ⊥) → first_line (w ∷ ps) ≡ Some w
+first_of w [] some = absurd (some refl)
+first_of w (p ∷ ps) some = refl
+
+-- lines behind lines
+pub lines_append : (a b : List Line) → text_of_lines (a ++ b) ≡ text_of_lines a ++ text_of_lines b
+unfolding text_of_lines
+lines_append [] b = refl
+lines_append (l ∷ ls) b = ap (λ t. text l ++ t) (lines_append ls b) ∙ sym (append_assoc (text l) (text_of_lines ls) (text_of_lines b))
 
 -- the text is over
 pub at_text_end : (b : Boot) (due : Due) (number : ℕ) → judged_from b due number (pieces 10 []) ≡ ended due number
@@ -74,13 +109,13 @@ text_other bytes printed h = by_test (is_text bytes printed) refl
 
 -- the line that is due stands
 pub line_stands : (b : Boot) (l : Line) (ls : List Line) (pt : Point) (n number : ℕ) (bytes rest : List ℕ) → LineFits l → bytes ≡ text l ++ rest
-    → judged_from b (judge.Line l ls pt n) number (pieces 10 bytes) ≡ judged_from b (behind_line ls pt n) (number + 1) (pieces 10 rest)
+    → judged_from b (judge.InGroup l ls pt n) number (pieces 10 bytes) ≡ judged_from b (behind_line ls pt n) (number + 1) (pieces 10 rest)
 line_stands b l ls pt n number bytes rest h e =
     let w : List ℕ = line_bytes (words l) in
     let is : w ++ codes "\n" ≡ text l = sym (spelled_bytes (words l)) in
-    ap (λ t. judged_from b (judge.Line l ls pt n) number (pieces 10 t)) e
-    ∙ ap (judged_from b (judge.Line l ls pt n) number) (pieces_of_line (words l) rest (words-are l h))
-    ∙ goes_from b (judge.Line l ls pt n) (behind_line ls pt n) number w (pieces 10 rest) (some_piece 10 rest) (lines_have l w h is)
+    ap (λ t. judged_from b (judge.InGroup l ls pt n) number (pieces 10 t)) e
+    ∙ ap (judged_from b (judge.InGroup l ls pt n) number) (pieces_of_line (words l) rest (words-are l h))
+    ∙ goes_from b (judge.InGroup l ls pt n) (behind_line ls pt n) number w (pieces 10 rest) (some_piece 10 rest) (lines_have l w h is)
     (ap (λ (t : Bool). if t then Stands (behind_line ls pt n) else told b.quantum l (pieces 32 w)) (text_same w (text l) is))
 
 pub end_stands : (b : Boot) (l : EndLine) (ls : List EndLine) (n number : ℕ) (bytes rest : List ℕ) → EndFits l → IsFull l → bytes ≡ end_text l ++ rest
@@ -117,15 +152,15 @@ ends_stand b (l ∷ ls) n number h f =
 
 -- where a text doesn't begin with the line that is due, its first line is told as another one
 pub told_other : (b : Boot) (l : Line) (ls : List Line) (pt : Point) (n : ℕ) (bytes w rest : List ℕ) → ((others : List ℕ) → bytes ≡ text l ++ others → ⊥) → pieces 10 bytes ≡ w ∷ pieces 10 rest
-    → taken b (judge.Line l ls pt n) w ≡ told b.quantum l (pieces 32 w)
-told_other b l ls pt n bytes w rest no cut =
+    → taken b (judge.InGroup l ls pt n) w ≡ told b.quantum l (pieces 32 w)
+told_other b l ls pt n bytes w rest other cut =
     let is : bytes ≡ w ++ 10 ∷ rest = cut_is 10 bytes w rest cut in
-    let other = text_other w (text l) (λ e. no rest (is ∙ sym (append_assoc w (codes "\n") rest) ∙ ap (λ t. t ++ rest) e)) in
-    ap (λ (t : Bool). if t then Stands (behind_line ls pt n) else told b.quantum l (pieces 32 w)) other
+    let apart = text_other w (text l) (λ e. other rest (is ∙ sym (append_assoc w (codes "\n") rest) ∙ ap (λ t. t ++ rest) e)) in
+    ap (λ (t : Bool). if t then Stands (behind_line ls pt n) else told b.quantum l (pieces 32 w)) apart
 
 -- so it falls at the end
 pub falls_at_end : (b : Boot) (l : EndLine) (ls : List EndLine) (n number : ℕ) (bytes : List ℕ) → ((others : List ℕ) → bytes ≡ end_text l ++ others → ⊥) → FallsBy b (judge.End (l ∷ ls) n) number bytes NotTheEnd
-falls_at_end b l ls n number bytes no = record { ends = λ e. refl; lines = λ w is. by_pieces w (pieces 10 bytes) refl is }
+falls_at_end b l ls n number bytes other = record { ends = λ e. refl; lines = λ w is. by_pieces w (pieces 10 bytes) refl is }
   where
     by_pieces : (w : List ℕ) (ps : List (List ℕ)) → pieces 10 bytes ≡ ps → first_line ps ≡ Some w → taken b (judge.End (l ∷ ls) n) w ≡ Falls NotTheEnd
     by_pieces w [] cut is = absurd (cc)
@@ -134,8 +169,8 @@ falls_at_end b l ls n number bytes no = record { ends = λ e. refl; lines = λ w
         let f : p ≡ w = cc in
         let (rest, e) = first_is 10 bytes p q ps cut in
         let g : bytes ≡ w ++ 10 ∷ rest = e ∙ ap (λ t. t ++ 10 ∷ rest) f in
-        let other = text_other w (end_text l) (λ k. no rest (g ∙ sym (append_assoc w (codes "\n") rest) ∙ ap (λ t. t ++ rest) k)) in
-        ap (λ (t : Bool). if t then Stands (judge.End ls n) else Falls NotTheEnd) other
+        let apart = text_other w (end_text l) (λ k. other rest (g ∙ sym (append_assoc w (codes "\n") rest) ∙ ap (λ t. t ++ rest) k)) in
+        ap (λ (t : Bool). if t then Stands (judge.End ls n) else Falls NotTheEnd) apart
 
 -- behind the lines at the end nothing stands
 pub falls_behind : (b : Boot) (n number : ℕ) (bytes : List ℕ) → (bytes ≡ [] → ⊥) → FallsBy b (judge.End [] n) number bytes NotTheEnd

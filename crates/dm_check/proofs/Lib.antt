@@ -5,4 +5,4 @@ pub mod Fulls
 pub mod Checks
 pub mod Following
 pub mod Runs
-mod Worked
+pub mod Ending

@@ -45,16 +45,10 @@ use Rattle.dm_check.specs.Good.{AllHeld, EndsFit, IsTrace, good_verdict, text_be
 use Rattle.dm_check.specs.Judge as judge
 use Rattle.dm_check.specs.Judge.{Open, Ended, can_hold, behind_line, judged_from, verdict}
 use Rattle.dm_check.specs.Laws.{IsHome, HasHome, TracesAreGood, BeginningsAreOpen, RunsAreEnded}
-use Rattle.dm_check.proofs.Checks.{lines_append}
 use Rattle.dm_check.proofs.Fulls.{ends_full}
 use Rattle.dm_check.proofs.Groups.{fresh_group, group_head}
-use Rattle.dm_check.proofs.Judging.{at_text_end, due_ends, due_group, ends_stand, group_stands}
+use Rattle.dm_check.proofs.Judging.{at_text_end, due_ends, due_group, ends_stand, first_of, group_stands, lines_append}
 use Rattle.dm_check.proofs.Names.{AreNames, names_always}
-
--- the first line of a text, where more pieces follow
-first_of : (w : List ℕ) (ps : List (List ℕ)) → (ps ≡ [] → ⊥) → first_line (w ∷ ps) ≡ Some w
-first_of w [] some = absurd (some refl)
-first_of w (p ∷ ps) some = refl
 
 first_is_head : (e : Step) (others : List Line) (rest : List ℕ) → LineFits (line.Head e) → head_of_line (first_line (pieces 10 (text_of_lines (line.Head e ∷ others) ++ rest))) ≡ Some e
 unfolding text_of_lines

@@ -1,31 +1,22 @@
 -- What the parts of the checker say of the verdict on a text.
-use Rattle.std.specs.Prelude.{◌≡◌, ⊤, ℕ, Bool, false, List, [], ◌∷◌, ◌++◌, length, codes}
-use Rattle.std.specs.List.{All}
+use Rattle.std.specs.Prelude.{◌≡◌, ⊤, ℕ, Bool, true, false, List, [], ◌∷◌, codes}
 use Rattle.std.specs.Str.{bytes_eq}
 use Rattle.std.specs.declared.option.Option.{Option}
 use Rattle.std.specs.declared.option.Option.TheVariants.{None, Some}
 use Rattle.dm_onekernel.specs.declared.boot.Boot.{Boot}
 use Rattle.dm_schedule.specs.declared.Step.{Step}
-use Rattle.dm_line.specs.declared.line.Line.{Line}
-use Rattle.dm_rule.specs.Point.{Point}
-use Rattle.dm_text.specs.Fits.{LineFits}
 use Rattle.dm_text.specs.Reading.{pieces}
-use Rattle.dm_text.specs.Text.{text_of_lines}
 use Rattle.dm_shape.specs.Heads.{head_of}
 use Rattle.dm_shape.specs.Shapes.{has_shape}
-use Rattle.dm_world.specs.World.{WorldState}
-use Rattle.dm_mirror.specs.Ran.{Ran}
-use Rattle.dm_mirror.specs.Run.{joined}
 use Rattle.dm_check.specs.declared.fault.TraceFault.{TraceFault}
-use Rattle.dm_check.specs.declared.fault.TraceFault.TheVariants.{NotALine, NotDue}
+use Rattle.dm_check.specs.declared.fault.TraceFault.TheVariants.{NotALine}
 use Rattle.dm_check.specs.declared.stop.CheckNo.{CheckNo}
 use Rattle.dm_check.specs.declared.stop.CheckNo.TheVariants as no
 use Rattle.dm_check.specs.declared.told.Other.{Other}
 use Rattle.dm_check.specs.declared.told.Other.TheVariants as other
 use Rattle.dm_check.specs.declared.follow.Standing.{Standing}
 use Rattle.dm_check.specs.declared.follow.Standing.TheVariants as standing
-use Rattle.dm_check.specs.Good.{AllHeld, AreHeads}
-use Rattle.dm_check.specs.Judge.{Verdict, Refused, Due, Head, Nothing, Taken, Stands, Falls, at_head, ended, judged_from, taken, verdict}
+use Rattle.dm_check.specs.Judge.{Verdict, Refused, Due, Nothing, Taken, Stands, Falls, ended, judged_from, taken}
 
 -- what the code says of a line
 abbrev pub fault_of : TraceFault → Taken
@@ -64,23 +55,3 @@ pub record FallsBy (b : Boot) (due : Due) (number : ℕ) (text : List ℕ) (faul
 abbrev pub RefusedSo : Verdict → CheckNo → Type 0
 RefusedSo v (no.Refused line fault) = v ≡ Refused line fault
 RefusedSo v (no.NoMemory lack) = ⊤
-
--- the text begins with that of good groups, the world stands for them, and the verdict is that on what is left, from a head on
-pub record HasChecked (b : Boot) (bytes rest : List ℕ) (line groups : ℕ) (w : WorldState) : Type 0 where
-  pub steps : List Step
-  pub lines : List (List Line)
-  pub point : Point
-  pub ran : Ran b steps lines point w
-  pub held : AllHeld (length b.machines) steps
-  pub heads : AreHeads steps lines
-  pub fits : All LineFits (joined lines)
-  pub count : length lines ≡ groups
-  pub read : bytes ≡ text_of_lines (joined lines) ++ rest
-  pub goes : verdict b bytes ≡ judged_from b (Head point groups) line (pieces 10 rest)
-
--- no group is due behind this head
-abbrev pub NoGroup : Boot → WorldState → Step → ℕ → CheckNo → Type 0
-NoGroup b old e number (no.Refused line fault) =
-    (line ≡ number) × (fault ≡ NotDue)
-    × ((es : List Step) (gs : List (List Line)) (pt : Point) (n : ℕ) (bytes : List ℕ) → Ran b es gs pt old → at_head b pt n bytes (Some e) ≡ Falls NotDue)
-NoGroup b old e number (no.NoMemory lack) = ⊤

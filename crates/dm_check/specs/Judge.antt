@@ -38,7 +38,7 @@ pub data Due : Type 0 where
   -- the head of a group, or the lines at the end: so many groups are whole, and the run stands here
   Head : (point : Point) → (groups : ℕ) → Due
   -- this line of a group and these; then the run stands here, and so many groups are whole
-  Line : (due : Line) → (others : List Line) → (point : Point) → (groups : ℕ) → Due
+  InGroup : (due : Line) → (others : List Line) → (point : Point) → (groups : ℕ) → Due
   -- nothing: the process is said to have run fewer instructions than it runs, which is a step, but no line can follow
   Nothing : (pid : Pid) → Due
   -- these of the lines at the end
@@ -63,7 +63,7 @@ is_text bytes printed = bytes_eq (bytes ++ codes "\n") printed
 -- what is due behind lines of a group
 abbrev pub behind_line : List Line → Point → ℕ → Due
 behind_line [] pt n = Head pt n
-behind_line (l ∷ ls) pt n = Line l ls pt n
+behind_line (l ∷ ls) pt n = InGroup l ls pt n
 
 abbrev pub falls_as_step : Bool → Taken
 falls_as_step true = Falls NotAStep
@@ -149,14 +149,14 @@ at_head b pt n bytes None = if bytes_eq bytes (codes "final") then at_end (end_l
 -- what becomes of a line of the format
 abbrev pub taken : Boot → Due → List ℕ → Taken
 taken b (Head pt n) bytes = at_head b pt n bytes (head_of bytes)
-taken b (Line l ls pt n) bytes = at_line b.quantum l ls pt n bytes
+taken b (InGroup l ls pt n) bytes = at_line b.quantum l ls pt n bytes
 taken b (Nothing p) bytes = falls_as_step (tells_call p (pieces 32 bytes))
 taken b (End es n) bytes = at_end es n bytes
 
 -- the text ends, at the line behind its last
 abbrev pub ended : Due → ℕ → Verdict
 ended (Head pt n) number = Open n
-ended (Line l ls pt n) number = Refused number NotDue
+ended (InGroup l ls pt n) number = Refused number NotDue
 ended (Nothing p) number = Refused number NotDue
 ended (End [] n) number = Ended n
 ended (End (e ∷ es) n) number = Refused number NotTheEnd

@@ -3,4 +3,5 @@ pub mod Classes
 pub mod Judge
 pub mod Good
 pub mod Checking
+pub mod Checked
 pub mod Laws

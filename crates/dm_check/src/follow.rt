@@ -62,9 +62,9 @@ fn follow_line<'a>(
     requires { number + length text.now < 2 ^ 62 }
     ensures read { IfOk result (λ rest. text.now ≡ line_text due.now ++ rest.now) }
     ensures goes { (b : TheBoot) (ls : List TheLine) (pt : Point) (n : ℕ) → LineFits due.now → IfOk result (λ rest.
-        judged_from b (judge.Line due.now ls pt n) number (pieces 10 text.now) ≡ judged_from b (behind_line ls pt n) (number + 1) (pieces 10 rest.now)) }
+        judged_from b (judge.InGroup due.now ls pt n) number (pieces 10 text.now) ≡ judged_from b (behind_line ls pt n) (number + 1) (pieces 10 rest.now)) }
     ensures refused { (b : TheBoot) (ls : List TheLine) (pt : Point) (n : ℕ) → b.quantum ≡ quantum →
-        IfErr result (RefusedSo (judged_from b (judge.Line due.now ls pt n) number (pieces 10 text.now))) }
+        IfErr result (RefusedSo (judged_from b (judge.InGroup due.now ls pt n) number (pieces 10 text.now))) }
 {
     page.clear();
     if let Err(no) = write_line(due, page) {
@@ -191,7 +191,7 @@ fn otherwise(quantum: u32, due: &Line, text: &[u8], number: u64) -> CheckNo
     requires other { (rest : List ℕ) → text.now ≡ line_text due.now ++ rest → ⊥ }
     requires room { number < 2 ^ 62 }
     ensures { (b : TheBoot) (ls : List TheLine) (pt : Point) (n : ℕ) → b.quantum ≡ quantum →
-        RefusedSo (judged_from b (judge.Line due.now ls pt n) number (pieces 10 text.now)) result }
+        RefusedSo (judged_from b (judge.InGroup due.now ls pt n) number (pieces 10 text.now)) result }
 {
     match stands(text) {
         Standing::Nothing => refused(number, TraceFault::NotDue),

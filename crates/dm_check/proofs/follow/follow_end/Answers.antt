@@ -1,0 +1,15 @@
+use Rattle.std.proofs.Common.{◌≡◌, ◌∷◌, ◌++◌, List, ℕ, ap, sym, ◌∙◌}
+use Rattle.dm_text.specs.Reading.{pieces}
+use Rattle.dm_text.specs.Text.{end_text}
+use Rattle.dm_check.specs.Judge as judge
+use Rattle.dm_check.specs.Judge.{judged_from}
+use Rattle.dm_check.proofs.Judging.{falls_at_end, refused_as}
+use Rattle.dm_check.proofs.follow.follow_end.Goals as goal
+
+pub returns-in-None-clause-refused : goal.returns-in-None-clause-refused
+returns-in-None-clause-refused c = λ b es n.
+    let due = judge.End (c.args.due.now ∷ es) n in
+    let said : c.as_slice.result.now ≡ end_text c.args.due.now = c.as_slice.ensures.value ∙ c.in_default.ensures.written ∙ ap (λ (xs : List ℕ). xs ++ end_text c.args.due.now) c.clear.ensures.items in
+    refused_as (judged_from b due c.args.number (pieces 10 c.args.text.now)) c.refused.result c.args.number c.unless_none.result c.refused.ensures
+    (c.unless_none.ensures b due c.args.number
+    (falls_at_end b c.args.due.now es n c.args.number c.args.text.now (λ others e. c.in-None.ensures.none others (e ∙ ap (λ (t : List ℕ). t ++ others) (sym said)))))

@@ -1,0 +1,13 @@
+use Rattle.std.proofs.Common.{[], sym, subst}
+use Rattle.dm_rule.specs.Point.{first_point}
+use Rattle.dm_world.specs.Meets.{state_of}
+use Rattle.dm_mirror.specs.Ran.{Ran}
+use Rattle.dm_run.proofs.Laws.{ran_begins}
+use Rattle.dm_check.proofs.Checks.{checks_begin}
+use Rattle.dm_check.proofs.trace.check_trace.Goals as goal
+
+pub check_on-requires-clause-begun : goal.check_on-requires-clause-begun
+check_on-requires-clause-begun c =
+    let w = c.in-Ok.world in
+    let h = c.in-Ok.ensures.fresh in
+    checks_begin w.boot c.args.trace.now (state_of w) (subst (Ran w.boot [] [] (first_point w.boot)) (sym h.first) (ran_begins w.boot h.world.valid))

@@ -1,0 +1,39 @@
+-- How far a text has been checked.
+use Rattle.std.specs.Prelude.{◌≡◌, ⊤, ℕ, List, ◌++◌, length}
+use Rattle.std.specs.List.{All}
+use Rattle.std.specs.declared.option.Option.TheVariants.{Some}
+use Rattle.dm_onekernel.specs.declared.boot.Boot.{Boot}
+use Rattle.dm_schedule.specs.declared.Step.{Step}
+use Rattle.dm_line.specs.declared.line.Line.{Line}
+use Rattle.dm_rule.specs.Point.{Point}
+use Rattle.dm_text.specs.Fits.{LineFits}
+use Rattle.dm_text.specs.Reading.{pieces}
+use Rattle.dm_text.specs.Text.{text_of_lines}
+use Rattle.dm_world.specs.World.{WorldState}
+use Rattle.dm_mirror.specs.Ran.{Ran}
+use Rattle.dm_mirror.specs.Run.{joined}
+use Rattle.dm_check.specs.declared.fault.TraceFault.TheVariants.{NotDue}
+use Rattle.dm_check.specs.declared.stop.CheckNo.{CheckNo}
+use Rattle.dm_check.specs.declared.stop.CheckNo.TheVariants as no
+use Rattle.dm_check.specs.Good.{AllHeld, AreHeads}
+use Rattle.dm_check.specs.Judge.{Head, Falls, at_head, judged_from, verdict}
+
+-- the text begins with that of good groups, the world stands for them, and the verdict is that on what is left, from a head on
+pub record HasChecked (b : Boot) (bytes rest : List ℕ) (line groups : ℕ) (w : WorldState) : Type 0 where
+  pub steps : List Step
+  pub lines : List (List Line)
+  pub point : Point
+  pub ran : Ran b steps lines point w
+  pub held : AllHeld (length b.machines) steps
+  pub heads : AreHeads steps lines
+  pub fits : All LineFits (joined lines)
+  pub count : length lines ≡ groups
+  pub read : bytes ≡ text_of_lines (joined lines) ++ rest
+  pub goes : verdict b bytes ≡ judged_from b (Head point groups) line (pieces 10 rest)
+
+-- no group is due behind this head
+abbrev pub NoGroup : Boot → WorldState → Step → ℕ → CheckNo → Type 0
+NoGroup b old e number (no.Refused line fault) =
+    (line ≡ number) × (fault ≡ NotDue)
+    × ((es : List Step) (gs : List (List Line)) (pt : Point) (n : ℕ) (bytes : List ℕ) → Ran b es gs pt old → at_head b pt n bytes (Some e) ≡ Falls NotDue)
+NoGroup b old e number (no.NoMemory lack) = ⊤
