@@ -6,19 +6,19 @@ ghost use Rattle.dm_onekernel.specs.Boot.{IsValid};
 ghost use Rattle.dm_boot.specs.Boot.{Answers, boot_of};
 
 mod checks;
-mod document;
+pub mod document;
 mod images;
-mod limits;
+pub mod limits;
 mod links;
 mod machines;
-mod names;
+pub mod names;
 mod processes;
 mod rules;
-mod shapes;
+pub mod shapes;
 mod starts;
 mod system;
-mod tables;
-mod targets;
+pub mod tables;
+pub mod targets;
 
 use dm_memory::of_toml::{NoDocument, table_from_slice};
 use dm_onekernel::boot::Boot;

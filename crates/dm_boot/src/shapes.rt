@@ -96,7 +96,7 @@ fn are_links(items: &[Value]) -> bool
 
 /// Whether a link has its keys, with the right types: `control` alone, or `to` and others.
 #[tactic(auto, unfolding(crate::specs::Rules::is_link))]
-fn is_link(value: &Value) -> bool
+pub fn is_link(value: &Value) -> bool
     ensures { result ≡ is_link (view value.now) }
 {
     is_link_to(value) || is_control_link(value)

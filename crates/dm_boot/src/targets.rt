@@ -22,7 +22,7 @@ pub fn is_control(link: &Value) -> bool
 
 /// Whether a link leads to a process or a server, and a control link to a process.
 #[tactic(auto, unfolding(crate::specs::Rules::has_target))]
-fn has_target(document: &Document<'_>, link: &Value) -> bool
+pub fn has_target(document: &Document<'_>, link: &Value) -> bool
     ensures { result ≡ has_target (view document.now.top.now) (view link.now) }
 {
     if is_control(link) {
@@ -123,7 +123,7 @@ fn blocks_of_process(document: &Document<'_>, process: Option<&Value>) -> u32
 
 /// The bytes of the memory of the process with a name.
 #[tactic(auto, unfolding(crate::specs::Rules::memory_of))]
-fn memory_of(document: &Document<'_>, name: &str) -> u32
+pub fn memory_of(document: &Document<'_>, name: &str) -> u32
     ensures { result ≡ memory_of (view document.now.top.now) name.now }
 {
     BLOCK as u32 * blocks_of_process(document, document.process(name))
@@ -131,7 +131,7 @@ fn memory_of(document: &Document<'_>, name: &str) -> u32
 
 /// Whether a link's numbers are within their limits.
 #[tactic(auto, unfolding(crate::specs::Rules::is_limited))]
-fn is_limited(document: &Document<'_>, link: &Value) -> bool
+pub fn is_limited(document: &Document<'_>, link: &Value) -> bool
     ensures { result ≡ is_limited (view document.now.top.now) (view link.now) }
 {
     if channel_in(link).is_none() {

@@ -32,9 +32,13 @@ beside f m = axis f m + 12 + 22 * few (length f.processes)
 unfoldable pub height : ℕ → ℕ
 height row = 190 + 16 * (if nat_lt row most_rows then row else most_rows)
 
+-- as much as the legend needs
+abbrev pub at_least_legend : ℕ → ℕ
+at_least_legend n = if nat_lt n 620 then 620 else n
+
 -- the breadth of the picture
 unfoldable pub breadth : Frame → ℕ
-breadth f = axis f f.machines + 90
+breadth f = at_least_legend (axis f f.machines + 90)
 
 abbrev pub point : ℕ → ℕ → Point
 point x y = record { x = x; y = y }

@@ -1,12 +1,15 @@
 //! Where things stand in a picture, in units of the picture.
 ghost use Rattle.std.specs.Prelude.{◌≡◌, ◌≤◌, IfSome, position};
 ghost use Rattle.dm_link.specs.Names.{pid_eq};
-ghost use Rattle.dm_chart.specs.Measures.{axis, beside, breadth, column, few, height, lane_at, lane_of, number_of, on_axis, on_lane, towards};
+ghost use Rattle.dm_chart.specs.Measures.{at_least_legend, axis, beside, breadth, column, few, height, lane_at, lane_of, number_of, on_axis, on_lane, towards};
 
 use crate::scan::same_pid;
 use crate::spot::MOST_ROWS;
 use dm_link::Pid;
 use dm_lists::Items;
+
+/// The breadth of the legend.
+const LEGEND: u32 = 620;
 
 /// The most processes that have a lane.
 pub const MOST_LANES: usize = 12;
@@ -124,7 +127,14 @@ pub fn towards(frame: &Frame, from: u8, to: u8, row: u32, far: u32, down: u32) -
 pub fn breadth(frame: &Frame) -> u32
     ensures { result ≡ breadth frame.now }
 {
-    axis(frame, frame.machines) + 90
+    at_least_legend(axis(frame, frame.machines) + 90)
+}
+
+/// As much as the legend needs.
+fn at_least_legend(n: u32) -> u32
+    ensures { result ≡ at_least_legend n }
+{
+    if n < LEGEND { LEGEND } else { n }
 }
 
 /// The lane of a process, if it has one.

@@ -17,8 +17,9 @@ use Rattle.clap.specs.declared.parser.matches.ValueSource.{ValueSource}
 use Rattle.clap.specs.declared.parser.matches.ValueSource.TheVariants.{DefaultValue, CommandLine}
 use Rattle.clap.specs.declared.builder.value_parser.Reading.{Reading}
 use Rattle.dm_program.specs.DrillWords.{drawn_by, lines_of, machines_of, seed_of, trace_of}
+use Rattle.dm_program.specs.ExplainWords.{explaining}
 use Rattle.dm_program.specs.FileWords.{both}
-use Rattle.dm_program.specs.Request.{Request, Check, Drill, Run}
+use Rattle.dm_program.specs.Request.{Request, Chart, Check, Drill, Explain, Run}
 use Rattle.dm_program.specs.RunWords.{run_command}
 use Rattle.dm_program.specs.Words.{AreTaken, IsTaken, demosmp, request_at, request_of}
 
@@ -289,6 +290,12 @@ run_built = in_place 0 (built demosmp).subs
 abbrev check_built : Shape
 check_built = in_place 1 (built demosmp).subs
 
+abbrev chart_built : Shape
+chart_built = in_place 2 (built demosmp).subs
+
+abbrev explain_built : Shape
+explain_built = in_place 3 (built demosmp).subs
+
 each_of_run : Each run_built.rules
 each_of_run = (inl (refl, refl), (inl (refl, refl), (inr refl, tt)))
 
@@ -297,6 +304,16 @@ drill_built = in_place 2 (built demosmp).subs
 
 each_of_check : Each check_built.rules
 each_of_check = (inl (refl, refl), (inl (refl, refl), (inr refl, tt)))
+
+each_of_chart : Each chart_built.rules
+each_of_chart = (inl (refl, refl), (inl (refl, refl), (inr refl, tt)))
+
+each_of_explain : Each explain_built.rules
+each_of_explain = (inl (refl, refl), (inl (refl, refl), (inr refl, tt)))
+
+one_given : (x : Bool) → check_kinds false false (not x || false) ≡ [] → x ≡ true
+one_given true e = refl
+one_given false e = cc
 
 both_given : (x y : Bool) → check_kinds false false (not x || (not y || false)) ≡ [] → (x ≡ true) × (y ≡ true)
 both_given true true e = (refl, refl)
@@ -323,6 +340,17 @@ names_both s one other words each checks e =
     let given = both_given (is_given one (matched s words)) (is_given other (matched s words)) (sym (checks (matched s words)) ∙ passes.checks) in
     record { first = given_first one (matched s words) full given.0; second = given_first other (matched s words) full given.1 }
 
+-- and one that has to name one file names it
+names_first : (s : Shape) (one : Text) (words : List Text) → Each s.rules
+    → ((rows : List Row) → check_fault s rows false ≡ check_kinds false false (not (is_given one rows) || false))
+    → level_fault s [] nothing_held words false [] ≡ [] → (v : Text) × (first_of one (matched s words) ≡ Some v)
+names_first s one words each checks e =
+    let end : Held = (walk s.rules [] nothing_held words).held in
+    let passes = level_passes s [] nothing_held words false [] e in
+    let ends : Full end.rows = full_walk s [] each words (walk_from nothing_held) passes.walks tt in
+    let full : Full (matched s words) = full_defaults s.rules (settled s.rules end).rows (full_settled s.rules each s.args_override_self end passes.settles ends) in
+    given_first one (matched s words) full (one_given (is_given one (matched s words)) (sym (checks (matched s words)) ∙ passes.checks))
+
 run_asks : Asks run_built
 run_asks words e values =
     let names = names_both run_built (codes "boot") (codes "schedule") words each_of_run (λ rows. refl) e in
@@ -332,6 +360,17 @@ check_asks : Asks check_built
 check_asks words e values =
     let names = names_both check_built (codes "boot") (codes "trace") words each_of_check (λ rows. refl) e in
     (Check names.first.0 names.second.0, ap₂ (both (λ boot trace. Check boot trace)) names.first.1 names.second.1)
+
+chart_asks : Asks chart_built
+chart_asks words e values =
+    let names = names_both chart_built (codes "boot") (codes "schedule") words each_of_chart (λ rows. refl) e in
+    (Chart names.first.0 names.second.0, ap₂ (both (λ boot schedule. Chart boot schedule)) names.first.1 names.second.1)
+
+explain_asks : Asks explain_built
+explain_asks words e values =
+    let named = names_first explain_built (codes "boot") words each_of_explain (λ rows. refl) e in
+    let other : Option Text = first_of (codes "schedule") (matched explain_built words) in
+    (Explain named.0 other, ap (λ (o : Option Text). explaining o other) named.1)
 
 -- a command that takes three numbers draws a drill of them
 all_there : (trace : Bool) (seed machines lines : Option ℕ) → is_some seed && (is_some machines && is_some lines) ≡ true → (r : Request) × (drawn_by trace seed machines lines ≡ Some r)
@@ -353,7 +392,7 @@ AllAsk (s ∷ ss) = Asks s × AllAsk ss
 
 -- a row a command
 all_ask : AllAsk (built demosmp).subs
-all_ask = (run_asks, (check_asks, (drill_asks, tt)))
+all_ask = (run_asks, (check_asks, (chart_asks, (explain_asks, (drill_asks, tt)))))
 
 abbrev AsksIf : Option Shape → Type 0
 AsksIf None = ⊤

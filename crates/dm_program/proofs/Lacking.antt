@@ -12,8 +12,9 @@ use Rattle.dm_program.specs.declared.words.WordsNo.TheVariants as why
 use Rattle.dm_program.specs.Drills.{directives_of}
 use Rattle.dm_program.specs.Outside.{Outside}
 use Rattle.dm_program.specs.Program.{ProgramMeets}
-use Rattle.dm_program.specs.Request.{Request, Check, Drill, Run}
-use Rattle.dm_program.specs.Status.{status_of_no}
+use Rattle.dm_program.specs.Request.{Request, Chart, Check, Drill, Explain, Run}
+use Rattle.dm_program.specs.Status.{IsWant, status_of_no}
+use Rattle.dm_program.proofs.ExplainOutcomes.{asks_nothing, wants_memory}
 
 -- nothing was done
 pub record Untouched (o : Outside) : Type 0 where
@@ -44,6 +45,29 @@ lacks_meets asked faults (Some (Check boot trace)) o shelf lack h nothing = reco
   asks = inl (nothing boot);
   boot_fault = λ e. absurd cc;
   trace_fault = λ e. absurd cc;
+  no_world = h.no_world;
+  shelf = h.reads;
+  sink = h.writes;
+}
+lacks_meets asked faults (Some (Chart boot schedule)) o shelf lack h nothing = record {
+  says = inr (record { why = tt; nothing = h.told });
+  completes = λ files b ds told accepts lasts never. inr (lack, refl);
+  wears = λ files b ds from to told accepts wears never. inr (lack, refl);
+  refuses = λ files due told why some quiet. inr (lack, refl);
+  asks = inl (nothing boot);
+  boot_fault = λ e. absurd cc;
+  schedule_fault = λ e. absurd cc;
+  no_world = h.no_world;
+  shelf = h.reads;
+  sink = h.writes;
+}
+lacks_meets asked faults (Some (Explain boot schedule)) o shelf lack h nothing = record {
+  says = inr (record { why = wants_memory o.files boot schedule o.reads_before o.reads_after lack; nothing = h.told });
+  as_run = inr (inr (wants_memory o.files boot schedule o.reads_before o.reads_after lack));
+  decides = λ files due told before some never. inr (lack, refl);
+  asks = asks_nothing asked o.files boot schedule shelf nothing;
+  boot_fault = λ e. absurd cc;
+  schedule_fault = λ e. absurd cc;
   no_world = h.no_world;
   shelf = h.reads;
   sink = h.writes;

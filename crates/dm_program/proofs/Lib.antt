@@ -5,7 +5,9 @@ pub mod Schedules
 pub mod Endings
 pub mod Drills
 mod Outcomes
+mod ChartOutcomes
 mod CheckOutcomes
+mod ExplainOutcomes
 mod RunsChecked
 mod Whose
 mod Lacking

@@ -9,6 +9,7 @@ use Rattle.clap.specs.declared.parser.matches.ArgMatches.{ArgMatches}
 use Rattle.clap.specs.declared.parser.matches.Found.{Found}
 use Rattle.clap.proofs.OnLiterals.{clap_on_literals}
 use Rattle.clap.proofs.WalkLemmas.{first_value-rows}
+use Rattle.dm_program.specs.ExplainWords.{explain_request, explaining}
 use Rattle.dm_program.specs.FileWords.{both, two_files}
 use Rattle.dm_program.specs.Request.{Request}
 use Rattle.dm_program.specs.Words.{demosmp, request_at, request_of}
@@ -58,6 +59,12 @@ no_first asked one other f first is none = ap (λ o. both asked o (first_of othe
 
 pub both_found : (asked : Text → Text → Request) (one other : Text) (f : Found) (first second : Option Text) → first ≡ first_value f one → second ≡ first_value f other → two_files asked one other (rows_of f) ≡ both asked first second
 both_found asked one other f first second is also = sym (ap₂ (both asked) (is ∙ first_value-rows f one) (also ∙ first_value-rows f other))
+
+pub no_explain : (f : Found) (first : Option Text) → first ≡ first_value f (codes "boot") → first ≡ None → explain_request (rows_of f) ≡ None
+no_explain f first is none = ap (λ o. explaining o (first_of (codes "schedule") (rows_of f))) (sym (first_value-rows f (codes "boot")) ∙ sym is ∙ none)
+
+pub explain_found : (f : Found) (first second : Option Text) → first ≡ first_value f (codes "boot") → second ≡ first_value f (codes "schedule") → explain_request (rows_of f) ≡ explaining first second
+explain_found f first second is also = sym (ap₂ explaining (is ∙ first_value-rows f (codes "boot")) (also ∙ first_value-rows f (codes "schedule")))
 
 -- what is asked for by the name and the matches of the subcommand that was used
 pub used_rows : {B : Type 0} (name : B → Text) (rows : B → List Row) (o : Option B) (n : Text) (rs : List Row) → Some n ≡ option_map name o → Some rs ≡ option_map (λ (p : Text × List Row). p.1) (option_map (λ b. (name b, rows b)) o) → option_and_then request_at (option_map (λ b. (name b, rows b)) o) ≡ request_at (n, rs)

@@ -32,20 +32,20 @@ boot_part None k = Usage
 boot_part (Some bytes) k = cond (nat_lt most_boot (length bytes)) (TooLong input.Boot) (boot_read (boot_of bytes) k)
 
 -- what a schedule's bytes come to, and what is done with its directives
-abbrev schedule_read : Schedule → (List Directive → Status) → Status
+abbrev pub schedule_read : Schedule → (List Directive → Status) → Status
 schedule_read (Accepted ds) k = k ds
 schedule_read (Refused line fault) k = ScheduleRefused line (number_of_fault fault)
 
-abbrev schedule_part : Option (List ℕ) → ℕ → (List Directive → Status) → Status
+abbrev pub schedule_part : Option (List ℕ) → ℕ → (List Directive → Status) → Status
 schedule_part None machines k = Usage
 schedule_part (Some bytes) machines k = cond (nat_lt most_schedule (length bytes)) (TooLong input.Schedule) (schedule_read (directives_of bytes machines) k)
 
 -- directives that are read make a run
-abbrev last_part : List Directive → Status
+abbrev pub last_part : List Directive → Status
 last_part ds = Done
 
 -- why two files give no run
-abbrev outcome : Files → List ℕ → List ℕ → Status
+abbrev pub outcome : Files → List ℕ → List ℕ → Status
 outcome files boot schedule = boot_part (files boot) (λ b. schedule_part (files schedule) (length b.machines) last_part)
 
 pub above : (a b : ℕ) → a < b → nat_lt a b ≡ true
@@ -89,7 +89,7 @@ said_directives : (files : Files) (schedule : List ℕ) (machines : ℕ) (ds : L
 said_directives files schedule machines ds k h = read_schedule_file files schedule h.bytes machines (Accepted ds) k h.file h.says
 
 -- files that say a system and directives
-said_files : (files : Files) (boot schedule : List ℕ) (b : Boot) (ds : List Directive) → SaysFiles (Some files) boot schedule b ds → outcome files boot schedule ≡ Done
+pub said_files : (files : Files) (boot schedule : List ℕ) (b : Boot) (ds : List Directive) → SaysFiles (Some files) boot schedule b ds → outcome files boot schedule ≡ Done
 said_files files boot schedule b ds h =
     said_boot files boot b (λ x. schedule_part (files schedule) (length x.machines) last_part) h.says_boot
     ∙ said_directives files schedule (length b.machines) ds last_part h.says_directives
@@ -105,7 +105,7 @@ late_schedule files boot schedule h =
     ∙ long_schedule files schedule (length h.b.machines) last_part h.holds
 
 -- why files give no run is their outcome
-no_files : (files : Files) (boot schedule : List ℕ) (old new : ℕ) (s : Status) → (RoseOrFull old new → ⊥) → (IsWant s → ⊥) → NoFiles (Some files) boot schedule old new s → outcome files boot schedule ≡ s
+pub no_files : (files : Files) (boot schedule : List ℕ) (old new : ℕ) (s : Status) → (RoseOrFull old new → ⊥) → (IsWant s → ⊥) → NoFiles (Some files) boot schedule old new s → outcome files boot schedule ≡ s
 no_files files boot schedule old new Done quiet some h = absurd h
 no_files files boot schedule old new Usage quiet some h = absurd h
 no_files files boot schedule old new (ReadFault input.Boot) quiet some h = absurd (quiet h)

@@ -35,3 +35,9 @@ pub trace_fault_told : {S A : Type 0} (asked : S → List ℕ → S → Type 0) 
     → IsErr r × IsErrAnd r (λ y. y ≡ e) → NoBytes told trace (faults a.between) (faults new) e → IfErr r (λ s. s ≡ status.ReadFault input.Trace → FailsSecond asked faults files boot trace old new)
 trace_fault_told asked faults files told boot trace old new a r e is why =
     second_fails asked faults files boot trace old new a input.Trace (λ s. NoBytes told trace (faults a.between) (faults new) s) (λ h. h) r e is why
+
+-- the same where the schedule's read is the last of the call
+pub late_fault : {S A : Type 0} (asked : S → List ℕ → S → Type 0) (faults : S → ℕ) (files told : Option (List ℕ → Option (List ℕ))) (boot schedule : List ℕ) (machines : ℕ) (old new : S) (a : AsksBoth asked files boot schedule old new) (r : Result A Status)
+    → IfErr r (λ s. NoDirectives told schedule machines (faults a.between) (faults new) s) → IfErr r (λ s. s ≡ status.ReadFault input.Schedule → FailsSecond asked faults files boot schedule old new)
+late_fault asked faults files told boot schedule machines old new a (Ok x) h = h
+late_fault asked faults files told boot schedule machines old new a (Err s) h = λ e. (a, subst (λ (t : Status). NoDirectives told schedule machines (faults a.between) (faults new) t) e h)

@@ -10,6 +10,10 @@ use Rattle.dm_program.specs.Request.{Request}
 abbrev pub file_option : List ℕ → Rule
 file_option name = record (new_rule name) { long = Some name; required = true }
 
+-- the option `--name FILE`, which may be there
+abbrev pub free_option : List ℕ → Rule
+free_option name = record (new_rule name) { long = Some name }
+
 -- what two files are named for, where both are there
 abbrev pub both : (List ℕ → List ℕ → Request) → Option (List ℕ) → Option (List ℕ) → Option Request
 both asked (Some one) (Some other) = Some (asked one other)

@@ -4,6 +4,8 @@ pub mod FileWords
 pub mod RunWords
 pub mod CheckWords
 pub mod DrillWords
+pub mod ChartWords
+pub mod ExplainWords
 pub mod Words
 pub mod Files
 pub mod Inputs
@@ -12,5 +14,7 @@ pub mod Outside
 pub mod Runs
 pub mod Checks
 pub mod Drills
+pub mod Charts
+pub mod Explains
 pub mod Program
 pub mod Laws

@@ -12,10 +12,12 @@ use Rattle.dm_run.specs.Appended.{Written}
 use Rattle.dm_program.specs.declared.status.Status.{Status}
 use Rattle.dm_program.specs.declared.status.Status.TheVariants.{Usage}
 use Rattle.dm_program.specs.declared.words.WordsNo.{WordsNo}
+use Rattle.dm_program.specs.Charts.{ChartMeets}
 use Rattle.dm_program.specs.Checks.{CheckMeets}
 use Rattle.dm_program.specs.Drills.{DrillMeets}
+use Rattle.dm_program.specs.Explains.{ExplainMeets}
 use Rattle.dm_program.specs.Outside.{Outside, around}
-use Rattle.dm_program.specs.Request.{Request, Check, Drill, Run}
+use Rattle.dm_program.specs.Request.{Request, Chart, Check, Drill, Explain, Run}
 use Rattle.dm_program.specs.Runs.{RunMeets}
 use Rattle.dm_program.specs.Status.{IsWant, code_of, line_of, status_of_no}
 use Rattle.dm_program.specs.Words.{request_of}
@@ -34,6 +36,8 @@ abbrev pub ProgramMeets : {F : Type 0} → (F → List ℕ → F → Type 0) →
 ProgramMeets asked faults None o old new s = RefusesWords o old new s
 ProgramMeets asked faults (Some (Run boot schedule)) o old new s = RunMeets asked faults boot schedule o old new s
 ProgramMeets asked faults (Some (Check boot trace)) o old new s = CheckMeets asked faults boot trace o old new s
+ProgramMeets asked faults (Some (Chart boot schedule)) o old new s = ChartMeets asked faults boot schedule o old new s
+ProgramMeets asked faults (Some (Explain boot schedule)) o old new s = ExplainMeets asked faults boot schedule o old new s
 ProgramMeets asked faults (Some (Drill drill)) o old new s = DrillMeets drill o old new s
 
 -- there are no words: nothing is read or written, and there is no world

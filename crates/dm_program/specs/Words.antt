@@ -1,5 +1,5 @@
 -- The words of the command line, as `clap` takes them, and what they ask for.
-use Rattle.std.specs.Prelude.{◌≡◌, ⊤, ℕ, Bool, true, List, [], ◌∷◌, codes, option_and_then, if◌then◌else◌}
+use Rattle.std.specs.Prelude.{◌≡◌, ⊤, ℕ, Bool, true, List, [], ◌∷◌, codes, option_and_then, option_map, if◌then◌else◌}
 use Rattle.std.specs.Str.{bytes_eq}
 use Rattle.std.specs.declared.option.Option.{Option}
 use Rattle.std.specs.declared.option.Option.TheVariants.{None, Some}
@@ -8,9 +8,11 @@ use Rattle.clap.specs.Simple.{App, Shape, new_shape, subcommand_of, with_subcomm
 use Rattle.clap.specs.Faults.{fault_of}
 use Rattle.dm_program.specs.declared.words.Request.{Request as TheRequest}
 use Rattle.dm_program.specs.declared.words.Request.TheVariants as the
-use Rattle.dm_program.specs.Request.{Request, Check, Drill, Run}
+use Rattle.dm_program.specs.Request.{Request, Chart, Check, Drill, Explain, Run}
+use Rattle.dm_program.specs.ChartWords.{chart_command, chart_request}
 use Rattle.dm_program.specs.CheckWords.{check_command, check_request}
 use Rattle.dm_program.specs.DrillWords.{IsWithin, drill_command, drill_request, has_numbers}
+use Rattle.dm_program.specs.ExplainWords.{explain_command, explain_request}
 use Rattle.dm_program.specs.RunWords.{run_command, run_request}
 
 -- a command: its name and its options, which of their values it takes, and what its matches ask for
@@ -28,6 +30,8 @@ abbrev pub commands : List Command
 commands =
     record { shape = run_command; takes = any; request = run_request } ∷
     record { shape = check_command; takes = any; request = check_request } ∷
+    record { shape = chart_command; takes = any; request = chart_request } ∷
+    record { shape = explain_command; takes = any; request = explain_request } ∷
     record { shape = drill_command; takes = has_numbers; request = drill_request } ∷ []
 
 abbrev pub with_commands : App → List Command → App
@@ -69,10 +73,14 @@ request_of words = if is_empty (fault_of demosmp words) then option_and_then req
 abbrev pub request_said : TheRequest → Request
 request_said (the.Run boot schedule) = Run boot.now schedule.now
 request_said (the.Check boot trace) = Check boot.now trace.now
+request_said (the.Chart boot schedule) = Chart boot.now schedule.now
+request_said (the.Explain boot schedule) = Explain boot.now (option_map (λ s. s.now) schedule)
 request_said (the.Drill drill) = Drill drill
 
 -- the numbers of a drill are in their ranges
 abbrev pub IsInRange : TheRequest → Type 0
 IsInRange (the.Run boot schedule) = ⊤
 IsInRange (the.Check boot trace) = ⊤
+IsInRange (the.Chart boot schedule) = ⊤
+IsInRange (the.Explain boot schedule) = ⊤
 IsInRange (the.Drill drill) = IsWithin drill

@@ -17,10 +17,10 @@ use dm_schedule::{Directive, SchedNo, read_schedule};
 use std::alloc::Global;
 
 /// The most bytes of a boot file.
-const MOST_BOOT: u32 = 1_048_576;
+pub const MOST_BOOT: u32 = 1_048_576;
 
 /// The most bytes of a schedule.
-const MOST_SCHEDULE: u32 = 16_777_216;
+pub const MOST_SCHEDULE: u32 = 16_777_216;
 
 /// The most bytes of a trace.
 const MOST_TRACE: u32 = 16_777_216;

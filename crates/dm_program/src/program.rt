@@ -5,8 +5,10 @@ ghost use Rattle.dm_program.specs.Program.{ProgramMeets};
 ghost use Rattle.dm_program.specs.Status.{BlamesShelf, BlamesSink};
 ghost use Rattle.dm_program.specs.Words.{IsTaken, request_of};
 
+use crate::commands::chart::chart_files;
 use crate::commands::check::check_files;
 use crate::commands::drill::drill;
+use crate::commands::explain::explain_files;
 use crate::commands::run::run_files;
 use crate::status::Status;
 use crate::words::{Request, read_words};
@@ -37,6 +39,10 @@ pub fn run_program<F: Shelf, K: Sink>(
             run_files(alloc, boot, schedule, shelf, out, world)
         }
         Ok(Request::Check { boot, trace }) => check_files(alloc, boot, trace, shelf, out),
+        Ok(Request::Chart { boot, schedule }) => chart_files(alloc, boot, schedule, shelf, out),
+        Ok(Request::Explain { boot, schedule }) => {
+            explain_files(alloc, boot, schedule, shelf, out)
+        }
         Ok(Request::Drill(drawn)) => drill(alloc, &drawn, out, world),
         Err(no) => no.status(),
     }

@@ -7,7 +7,9 @@ ghost use Rattle.dm_program.specs.Status.{status_of_no};
 ghost use Rattle.dm_program.specs.CheckWords.{check_command as check_shape, check_request as check_asked};
 ghost use Rattle.clap.specs.Walk.{first_of};
 ghost use Rattle.dm_program.specs.DrillWords.{drill_command as drill_shape, drill_request as drill_asked, flag_option, lines_in, lines_of, machines_in, machines_of, number_option, seed_of, trace_of};
-ghost use Rattle.dm_program.specs.FileWords.{file_option};
+ghost use Rattle.dm_program.specs.ChartWords.{chart_command as chart_shape, chart_request as chart_asked};
+ghost use Rattle.dm_program.specs.ExplainWords.{explain_command as explain_shape, explain_request as explain_asked};
+ghost use Rattle.dm_program.specs.FileWords.{file_option, free_option};
 ghost use Rattle.dm_program.specs.RunWords.{run_command as run_shape, run_request as run_asked};
 ghost use Rattle.dm_program.specs.Words.{IsInRange, IsTaken, demosmp, request_at, request_of, request_said};
 
@@ -47,6 +49,13 @@ pub enum Request<'a> {
     Run { boot: &'a str, schedule: &'a str },
     /// To check that the trace of a file is what the system of a boot file prints.
     Check { boot: &'a str, trace: &'a str },
+    /// To draw the run of the schedule of a file on the system of a boot file.
+    Chart { boot: &'a str, schedule: &'a str },
+    /// To say what a boot file says, and a schedule where there is one, or what is wrong with them.
+    Explain {
+        boot: &'a str,
+        schedule: Option<&'a str>,
+    },
     /// To do a drill: its machines are 2 to 16, its directives 1 to 10,000.
     Drill(Drill),
 }
@@ -81,7 +90,9 @@ fn command<'a>(alloc: Global) -> Result<Command<'a>, NoMemory>
         .subcommand_required(true);
     let one = with_subcommand(top, run_command(alloc)?)?;
     let two = with_subcommand(one, check_command(alloc)?)?;
-    with_subcommand(two, drill_command(alloc)?)
+    let three = with_subcommand(two, chart_command(alloc)?)?;
+    let four = with_subcommand(three, explain_command(alloc)?)?;
+    with_subcommand(four, drill_command(alloc)?)
 }
 
 /// The command `run`: whatever command line takes it in has its shape behind the others.
@@ -102,6 +113,24 @@ fn check_command<'a>(alloc: Global) -> Result<Command<'a>, NoMemory>
     Ok(check)
 }
 
+/// The command `chart`: whatever command line takes it in has its shape behind the others.
+fn chart_command<'a>(alloc: Global) -> Result<Command<'a>, NoMemory>
+    ensures { IfOk result (λ c. (old new : TheCommand) → AddsSubcommand old c new → app_of new ≡ with_shape (app_of old) chart_shape) }
+{
+    let chart = with_arg(Command::new(alloc, "chart"), file(alloc, "boot"))?;
+    let chart = with_arg(chart, file(alloc, "schedule"))?;
+    Ok(chart)
+}
+
+/// The command `explain`: whatever command line takes it in has its shape behind the others.
+fn explain_command<'a>(alloc: Global) -> Result<Command<'a>, NoMemory>
+    ensures { IfOk result (λ c. (old new : TheCommand) → AddsSubcommand old c new → app_of new ≡ with_shape (app_of old) explain_shape) }
+{
+    let explain = with_arg(Command::new(alloc, "explain"), file(alloc, "boot"))?;
+    let explain = with_arg(explain, free(alloc, "schedule"))?;
+    Ok(explain)
+}
+
 /// The command `drill`: whatever command line takes it in has its shape behind the others.
 fn drill_command<'a>(alloc: Global) -> Result<Command<'a>, NoMemory>
     ensures { IfOk result (λ c. (old new : TheCommand) → AddsSubcommand old c new → app_of new ≡ with_shape (app_of old) drill_shape) }
@@ -119,6 +148,14 @@ fn file<'a>(alloc: Global, name: &'a str) -> Arg<'a>
     ensures local { result.global ≡ false }
 {
     Arg::new(alloc, name).long(name).required(true)
+}
+
+/// The option `--name FILE`, which may be there.
+fn free<'a>(alloc: Global, name: &'a str) -> Arg<'a>
+    ensures rule { rule_of result ≡ free_option name.now }
+    ensures local { result.global ≡ false }
+{
+    Arg::new(alloc, name).long(name)
 }
 
 /// The option `--name NUMBER`, which has to be there.
@@ -159,6 +196,12 @@ fn request_of_command<'a>(name: &str, found: &ArgMatches<'a>) -> Option<Request<
     if name == "check" {
         return check_request(found);
     }
+    if name == "chart" {
+        return chart_request(found);
+    }
+    if name == "explain" {
+        return explain_request(found);
+    }
     if name == "drill" {
         return drill_request(found);
     }
@@ -183,6 +226,24 @@ fn check_request<'a>(matches: &ArgMatches<'a>) -> Option<Request<'a>>
     let boot = matches.get_str("boot")?;
     let trace = matches.get_str("trace")?;
     Some(Request::Check { boot, trace })
+}
+
+/// The two files that the matches of `chart` name.
+fn chart_request<'a>(matches: &ArgMatches<'a>) -> Option<Request<'a>>
+    ensures { option_map request_said result ≡ chart_asked (rows_of (found_of matches.now)) }
+{
+    let boot = matches.get_str("boot")?;
+    let schedule = matches.get_str("schedule")?;
+    Some(Request::Chart { boot, schedule })
+}
+
+/// The file that the matches of `explain` name, and the other one where they name it.
+fn explain_request<'a>(matches: &ArgMatches<'a>) -> Option<Request<'a>>
+    ensures { option_map request_said result ≡ explain_asked (rows_of (found_of matches.now)) }
+{
+    let boot = matches.get_str("boot")?;
+    let schedule = matches.get_str("schedule");
+    Some(Request::Explain { boot, schedule })
 }
 
 /// The drill that the matches of `drill` ask for, where its numbers are in their ranges.

@@ -107,25 +107,30 @@ turns_few b (One e) es pt w valid leads stands = omega arith
 turns_few b (Passing (Round k) place) es pt w valid leads stands = omega arith
 turns_few b (Passing Settle place) es pt w valid leads stands = let h = settle_most b es pt w valid leads stands in omega (arith, h)
 
--- before the first group of a directive
-pub on_way_first : (b : Boot) (d : Directive) (ds rest : List Directive) (before now : Option (List ℕ)) (w : WorldState) (c : Cursor) → IsValid b → rounds_of c < 2 ^ 32 → HasCome b ds (all_of (d ∷ rest)) before now w
-    → next_step (length b.machines) w (all_of (d ∷ rest)) ≡ next_step (length b.machines) w (todo_of (length b.machines) c rest) → IsOnWay b w c (w.groups + 2 ^ 90)
-on_way_first b d ds rest before now w c valid rounds h same =
+-- before the first group of a directive, whatever was done with the groups before it
+pub on_way_begins : (b : Boot) (d : Directive) (ds rest : List Directive) (groups : List (List Line)) (end : Point) (todo : Todo) (w : WorldState) (c : Cursor) → IsValid b → rounds_of c < 2 ^ 32 → RunStands b ds groups end todo w
+    → next_step (length b.machines) w todo ≡ next_step (length b.machines) w (all_of (d ∷ rest)) → next_step (length b.machines) w (all_of (d ∷ rest)) ≡ next_step (length b.machines) w (todo_of (length b.machines) c rest) → IsOnWay b w c (w.groups + 2 ^ 90)
+on_way_begins b d ds rest groups end todo w c valid rounds stands follows same =
     let n = length b.machines in
     let few = few_machines b valid in
     let r = room_most n w few in
     let t = turns_most n c few rounds in
-    let l = turns_few b c h.stands.steps h.end w valid h.stands.leads h.stands.stands in
+    let l = turns_few b c stands.steps end w valid stands.leads stands.stands in
     record {
       ds = ds;
       rest = rest;
-      groups = h.groups;
-      end = h.end;
-      todo = h.left;
-      stands = h.stands;
-      follows = h.follows ∙ same;
+      groups = groups;
+      end = end;
+      todo = todo;
+      stands = stands;
+      follows = follows ∙ same;
       within = omega (arith, r, t, l);
     }
+
+-- and where they were printed
+pub on_way_first : (b : Boot) (d : Directive) (ds rest : List Directive) (before now : Option (List ℕ)) (w : WorldState) (c : Cursor) → IsValid b → rounds_of c < 2 ^ 32 → HasCome b ds (all_of (d ∷ rest)) before now w
+    → next_step (length b.machines) w (all_of (d ∷ rest)) ≡ next_step (length b.machines) w (todo_of (length b.machines) c rest) → IsOnWay b w c (w.groups + 2 ^ 90)
+on_way_first b d ds rest before now w c valid rounds h same = on_way_begins b d ds rest h.groups h.end h.left w c valid rounds h.stands h.follows same
 
 -- where the machines do what the rule says, a step of a settle is one by what was printed
 step_said : (b : Boot) (es : List Step) (pt : Point) (w : WorldState) (c next : Cursor) (e : Step) → IsValid b → Leads b (first_point b) es pt → Stands b w pt → SettleGoes (length b.machines) w c e next → IsSettleStep pt.view e

@@ -96,7 +96,7 @@ fn run_directive<K: Sink>(
 }
 
 /// A cursor's number of rounds is within its type.
-fn rounds_fit(cursor: Cursor)
+pub fn rounds_fit(cursor: Cursor)
     ensures { rounds_of cursor < 2 ^ 32 }
 {}
 

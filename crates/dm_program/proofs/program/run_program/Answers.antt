@@ -48,6 +48,41 @@ returns-in-Ok-Check-clause-meets g c =
       sink = c.check_files.ensures.sink;
     })
 
+pub returns-in-Ok-Chart-clause-meets : goal.returns-in-Ok-Chart-clause-meets
+returns-in-Ok-Chart-clause-meets g c =
+    subst (λ (r : Option Request). ProgramMeets g.F.Shelf.asked g.F.Shelf.faults r
+    (around g.F.Shelf.told g.F.Shelf.faults g.K.Sink.told g.K.Sink.faults c.args.shelf.now c.chart_files.new.shelf c.args.out.now c.chart_files.new.out None) c.args.shelf.now c.chart_files.new.shelf c.chart_files.result)
+    (sym (c.in-Ok-Chart.ensures.asks ∙ ap (λ (r : TheRequest). Some (request_said r)) c.in-Ok-Chart.field-0-is))
+    (record {
+      says = c.chart_files.ensures.says;
+      completes = c.chart_files.ensures.completes;
+      wears = c.chart_files.ensures.wears;
+      refuses = c.chart_files.ensures.refuses;
+      asks = c.chart_files.ensures.asks;
+      boot_fault = c.chart_files.ensures.boot_fault;
+      schedule_fault = c.chart_files.ensures.schedule_fault;
+      no_world = refl;
+      shelf = c.chart_files.ensures.shelf;
+      sink = c.chart_files.ensures.sink;
+    })
+
+pub returns-in-Ok-Explain-clause-meets : goal.returns-in-Ok-Explain-clause-meets
+returns-in-Ok-Explain-clause-meets g c =
+    subst (λ (r : Option Request). ProgramMeets g.F.Shelf.asked g.F.Shelf.faults r
+    (around g.F.Shelf.told g.F.Shelf.faults g.K.Sink.told g.K.Sink.faults c.args.shelf.now c.explain_files.new.shelf c.args.out.now c.explain_files.new.out None) c.args.shelf.now c.explain_files.new.shelf c.explain_files.result)
+    (sym (c.in-Ok-Explain.ensures.asks ∙ ap (λ (r : TheRequest). Some (request_said r)) c.in-Ok-Explain.field-0-is))
+    (record {
+      says = c.explain_files.ensures.says;
+      as_run = c.explain_files.ensures.as_run;
+      decides = c.explain_files.ensures.decides;
+      asks = c.explain_files.ensures.asks;
+      boot_fault = c.explain_files.ensures.boot_fault;
+      schedule_fault = c.explain_files.ensures.schedule_fault;
+      no_world = refl;
+      shelf = c.explain_files.ensures.shelf;
+      sink = c.explain_files.ensures.sink;
+    })
+
 pub drill-requires : goal.drill-requires
 drill-requires g c = subst IsInRange c.in-Ok-Drill.field-0-is c.in-Ok-Drill.ensures.within
 

@@ -2,8 +2,10 @@ use Rattle.std.proofs.Common.{◌≡◌, true, ap, ◌∙◌, codes}
 use Rattle.std.proofs.lemmas.Result.{IfOk-weaker}
 use Rattle.clap.specs.Words.{App, app_of, new_app, with_subcommand}
 use Rattle.clap.specs.Simple.{app_of_fields, on_top}
+use Rattle.dm_program.specs.ChartWords.{chart_command}
 use Rattle.dm_program.specs.CheckWords.{check_command}
 use Rattle.dm_program.specs.DrillWords.{drill_command}
+use Rattle.dm_program.specs.ExplainWords.{explain_command}
 use Rattle.dm_program.specs.RunWords.{run_command}
 use Rattle.dm_program.proofs.words.command.Goals as goal
 
@@ -16,4 +18,6 @@ returns c =
     let needs : app_of c.subcommand_required-top.result ≡ first = ap app_of_fields c.subcommand_required-top.ensures ∙ ap (on_top (λ s. record s { subcommand_required = true })) quiet in
     let one : app_of c.in_ok-one.one ≡ with_subcommand first run_command = c.in_ok-run_command.ensures c.subcommand_required-top.result c.in_ok-one.one c.in_ok-one.ensures ∙ ap (λ (a : App). with_subcommand a run_command) needs in
     let two : app_of c.in_ok-two.two ≡ with_subcommand (with_subcommand first run_command) check_command = c.in_ok-check_command.ensures c.in_ok-one.one c.in_ok-two.two c.in_ok-two.ensures ∙ ap (λ (a : App). with_subcommand a check_command) one in
-    IfOk-weaker c.with_subcommand-3.result _ _ (λ r h. c.in_ok-drill_command.ensures c.in_ok-two.two r h ∙ ap (λ (a : App). with_subcommand a drill_command) two) c.with_subcommand-3.ensures
+    let three : app_of c.in_ok-three.three ≡ with_subcommand (with_subcommand (with_subcommand first run_command) check_command) chart_command = c.in_ok-chart_command.ensures c.in_ok-two.two c.in_ok-three.three c.in_ok-three.ensures ∙ ap (λ (a : App). with_subcommand a chart_command) two in
+    let four : app_of c.in_ok-four.four ≡ with_subcommand (with_subcommand (with_subcommand (with_subcommand first run_command) check_command) chart_command) explain_command = c.in_ok-explain_command.ensures c.in_ok-three.three c.in_ok-four.four c.in_ok-four.ensures ∙ ap (λ (a : App). with_subcommand a explain_command) three in
+    IfOk-weaker c.with_subcommand-5.result _ _ (λ r h. c.in_ok-drill_command.ensures c.in_ok-four.four r h ∙ ap (λ (a : App). with_subcommand a drill_command) four) c.with_subcommand-5.ensures

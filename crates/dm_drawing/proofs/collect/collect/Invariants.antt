@@ -1,0 +1,15 @@
+use Rattle.std.proofs.Common.{◌≡◌, ◌≤◌, ◌*◌, ◌^◌, false, drop}
+use Rattle.dm_line.specs.Todo.{all_of}
+use Rattle.dm_world.specs.Meets.{IsWorld, state_of}
+use Rattle.dm_drawing.specs.Collected.{HasKept}
+use Rattle.dm_drawing.proofs.collect.collect.Given as goal
+
+abbrev pub invariant-directives : goal.invariant-directives
+invariant-directives l = record {
+  world : IsWorld l.world;
+  running : l.world.stopped ≡ false;
+  boot : l.world.boot ≡ l.initial.world.boot;
+  come : HasKept l.initial.world.boot l.directives (all_of (drop l.directive-index l.directives)) l.kept (state_of l.world);
+  groups : l.world.groups ≤ l.directive-index * 2 ^ 90;
+  rows : l.kept.rows ≤ 1200;
+}

@@ -1,0 +1,21 @@
+use Rattle.std.proofs.Common.{◌≡◌, ◌≤◌, ◌-◌, ◌+◌, ◌^◌, false, List, ◌∷◌, length}
+use Rattle.dm_schedule.specs.declared.Directive.{Directive}
+use Rattle.dm_line.specs.Todo.{all_of}
+use Rattle.dm_world.specs.Cursor.{todo_of}
+use Rattle.dm_world.specs.Meets.{IsWorld, state_of}
+use Rattle.dm_run.proofs.Settling.{IsOnWay}
+use Rattle.dm_drawing.specs.Collected.{HasKept}
+use Rattle.dm_drawing.proofs.collect.collect_directive.Given as goal
+
+abbrev pub invariant-steps : goal.invariant-steps
+invariant-steps l = record {
+  world : IsWorld l.world;
+  running : l.world.stopped ≡ false;
+  boot : l.world.boot ≡ l.initial.world.boot;
+  come : (ds rest : List Directive) → HasKept l.initial.world.boot ds (all_of (l.directive ∷ rest)) l.initial.kept (state_of l.initial.world) → HasKept l.initial.world.boot ds (todo_of (length l.initial.world.boot.machines) l.cursor rest) l.kept (state_of l.world);
+  way : IsOnWay l.initial.world.boot (state_of l.world) l.cursor (l.initial.world.groups + 2 ^ 90);
+  rows : l.kept.rows ≤ 1200;
+}
+
+abbrev pub decreases-steps : goal.decreases-steps
+decreases-steps l = l.initial.world.groups + 2 ^ 90 - l.world.groups

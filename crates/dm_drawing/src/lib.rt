@@ -1,0 +1,7 @@
+//! A run, and its picture.
+#![tactic(auto)]
+
+mod collect;
+mod drawing;
+
+pub use drawing::{Drawn, draw_run};

@@ -1,0 +1,73 @@
+-- Loops that look for the first that isn't good, and for a line.
+use Rattle.std.proofs.Common.{◌≡◌, ℕ, ◌+◌, ◌-◌, ◌<◌, ◌≤◌, zero, suc, Bool, true, false, if◌then◌else◌, List, [], ◌∷◌, ◌++◌, codes, length, get_or, drop, map, slice_get, refl, ap, ◌∙◌, None, arith}
+use Rattle.std.proofs.Math.ListN.{drop_of_length-le}
+use Rattle.toml.specs.declared.value.Value.{Value}
+use Rattle.toml.specs.Data.{Data, get_item}
+use Rattle.toml.specs.View.{items_view}
+use Rattle.dm_asm.specs.Lines.{lines as text_lines}
+use Rattle.dm_schedule.specs.Lines.{lines as schedule_lines}
+use Rattle.dm_boot.specs.Tables.{has_only}
+use Rattle.dm_explain.specs.Faults.{first_bad, key_fault, keys_text, wish_fault}
+use Rattle.dm_explain.specs.Wanted.{Wish}
+use Rattle.dm_explain.specs.LineAt.{line_or_nothing}
+use Rattle.dm_explain.proofs.Pieces.{get_or_same, read_at}
+
+pub bad-end : {K W : Type 0} (f : K → W) (good : W → Bool) (told : W → List ℕ) (other : List ℕ) (ks : List K) (i : ℕ) → length ks ≤ i → first_bad good told other (map f (drop i ks)) ≡ other
+unfolding first_bad
+bad-end f good told other ks i past = ap (λ ys. first_bad good told other (map f ys)) (drop_of_length-le ks past)
+
+pub bad-more : {K W : Type 0} (f : K → W) (good : W → Bool) (told : W → List ℕ) (other : List ℕ) (ks : List K) (i : ℕ) (k : K) → i < length ks → k ≡ get_or ks i k → good (f k) ≡ true → first_bad good told other (map f (drop i ks)) ≡ first_bad good told other (map f (drop (i + 1) ks))
+unfolding first_bad
+bad-more f good told other ks i k within read passes =
+    ap (λ ys. first_bad good told other (map f ys)) (read_at ks i k within read)
+    ∙ ap (λ t. if t then first_bad good told other (map f (drop (i + 1) ks)) else told (f k)) passes
+
+pub bad-here : {K W : Type 0} (f : K → W) (good : W → Bool) (told : W → List ℕ) (other : List ℕ) (ks : List K) (i : ℕ) (k : K) → i < length ks → k ≡ get_or ks i k → good (f k) ≡ false → first_bad good told other (map f (drop i ks)) ≡ told (f k)
+unfolding first_bad
+bad-here f good told other ks i k within read fails =
+    ap (λ ys. first_bad good told other (map f ys)) (read_at ks i k within read)
+    ∙ ap (λ t. if t then first_bad good told other (map f (drop (i + 1) ks)) else told (f k)) fails
+
+-- the same of elements that are copied
+pub bad-more-copied : {K W : Type 0} (f : K → W) (good : W → Bool) (told : W → List ℕ) (other : List ℕ) (ks : List K) (i : ℕ) (d : K) → i < length ks → good (f (get_or ks i d)) ≡ true → first_bad good told other (map f (drop i ks)) ≡ first_bad good told other (map f (drop (i + 1) ks))
+bad-more-copied f good told other ks i d within passes = bad-more f good told other ks i (get_or ks i d) within (get_or_same ks i d (get_or ks i d) within) passes
+
+pub bad-here-copied : {K W : Type 0} (f : K → W) (good : W → Bool) (told : W → List ℕ) (other : List ℕ) (ks : List K) (i : ℕ) (d : K) → i < length ks → good (f (get_or ks i d)) ≡ false → first_bad good told other (map f (drop i ks)) ≡ told (f (get_or ks i d))
+bad-here-copied f good told other ks i d within fails = bad-here f good told other ks i (get_or ks i d) within (get_or_same ks i d (get_or ks i d) within) fails
+
+pub ruleset bad_lemmas = (bad-end, bad-more, bad-here)
+
+-- keys that aren't those that a table may have
+pub other-keys : (ws : List Wish) (other : List ℕ) (d : Data) → has_only (map (λ w. w.key) ws) d ≡ false → key_fault ws other d ≡ codes "its keys may be" ++ keys_text ws
+unfolding key_fault
+other-keys ws other d fails = ap (λ b. if b then wish_fault ws other d else codes "its keys may be" ++ keys_text ws) fails
+
+-- the first of some lines, and a later one
+pub line-first : (ls : List (List ℕ)) (l : List ℕ) (rest : List (List ℕ)) (left : ℕ) → ls ≡ l ∷ rest → left ≡ 0 → line_or_nothing (slice_get ls left) ≡ l
+line-first ls l rest left is none = ap (λ xs. line_or_nothing (slice_get xs left)) is ∙ ap (λ n. line_or_nothing (slice_get (l ∷ rest) n)) none
+
+pub line-later : (ls : List (List ℕ)) (l : List ℕ) (rest : List (List ℕ)) (left : ℕ) → ls ≡ l ∷ rest → (left ≡ 0 → ⊥) → line_or_nothing (slice_get ls left) ≡ line_or_nothing (slice_get rest (left - 1))
+line-later ls l rest zero is some = absurd (some refl)
+line-later ls l rest (suc left) is some =
+    let one : left ≡ suc left - 1 = omega arith in
+    ap (λ xs. line_or_nothing (slice_get xs (suc left))) is ∙ ap (λ n. line_or_nothing (slice_get rest n)) one
+
+pub no-text-line : (text : List ℕ) (k : ℕ) → length text ≡ 0 → line_or_nothing (slice_get (text_lines text) k) ≡ []
+unfolding text_lines
+no-text-line [] k none = refl
+no-text-line (x ∷ xs) k none = absurd (omega arith)
+
+pub no-schedule-line : (text : List ℕ) (k : ℕ) → length text ≡ 0 → line_or_nothing (slice_get (schedule_lines text) k) ≡ []
+unfolding schedule_lines
+no-schedule-line [] k none = refl
+no-schedule-line (x ∷ xs) k none = absurd (omega arith)
+
+pub ruleset line_lemmas = (line-first, line-later)
+
+-- no element stands behind the last
+pub missing-item : (vs : List Value) (k : ℕ) → length vs ≤ k → get_item k (items_view vs) ≡ None
+missing-item [] k past = refl
+missing-item (v ∷ vs) zero past = absurd (omega arith)
+missing-item (v ∷ vs) (suc k) past = missing-item vs k (omega arith)
+
+pub ruleset missing_lemmas = (missing-item)

@@ -1,0 +1,6 @@
+use Rattle.dm_explain.specs.Faults.{limit_told}
+use Rattle.dm_explain.proofs.faults.put_limit.Goals as goal
+
+pub returns : goal.returns
+unfolding limit_told
+returns c = rw (c.integer_at.ensures, c.from.ensures, c.from-2.ensures) at c.put_parts.ensures

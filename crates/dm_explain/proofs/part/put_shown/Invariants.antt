@@ -1,0 +1,6 @@
+use Rattle.std.proofs.Common.{◌≡◌, ◌++◌, drop, map}
+use Rattle.dm_explain.specs.Parts.{shown_byte}
+use Rattle.dm_explain.proofs.part.put_shown.Given as goal
+
+abbrev pub invariant-loop-byte : goal.invariant-loop-byte
+invariant-loop-byte l = l.into.items ++ map shown_byte (drop l.byte-index l.text) ≡ l.initial.into.items ++ map shown_byte l.text

@@ -1,0 +1,7 @@
+use Rattle.std.proofs.Common.{◌≡◌, ◌≤◌, take}
+use Rattle.std.specs.Prelude.{count_by}
+use Rattle.dm_explain.specs.Schedules.{is_of}
+use Rattle.dm_explain.proofs.schedule.many.Given as goal
+
+abbrev pub invariant-loop-directive : goal.invariant-loop-directive
+invariant-loop-directive l = record { same : l.count ≡ count_by (is_of l.deed) (take l.directive-index l.directives); most : l.count ≤ l.directive-index }

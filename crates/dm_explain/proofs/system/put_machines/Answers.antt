@@ -1,0 +1,9 @@
+use Rattle.std.proofs.Common.{◌+◌, ◌++◌, List, ℕ, ap, drop, sym, ◌∙◌}
+use Rattle.dm_explain.specs.System.{each, machine_told}
+use Rattle.dm_explain.proofs.Pieces.{each-copied}
+use Rattle.dm_explain.proofs.system.put_machines.Goals as goal
+
+pub loop-i-preserved : goal.loop-i-preserved
+loop-i-preserved c =
+    ap (λ (t : List ℕ). t ++ each machine_told (c.loop-i.i + 1) (drop (c.loop-i.i + 1) c.args.machines.now)) c.in_ok-put_machine.ensures
+    ∙ (sym (each-copied machine_told c.loop-i.into.items c.args.machines.now c.loop-i.i _ c.loop-i-test.true) ∙ c.loop-i.invariant)

@@ -1,0 +1,7 @@
+use Rattle.std.proofs.Common.{◌≡◌, ◌++◌, drop}
+use Rattle.toml.specs.View.{items_view}
+use Rattle.dm_explain.specs.System.{each, process_told}
+use Rattle.dm_explain.proofs.system.put_processes.Given as goal
+
+abbrev pub invariant-loop-i : goal.invariant-loop-i
+invariant-loop-i l = l.into.items ++ each (process_told (items_view l.tables)) l.i (drop l.i l.processes) ≡ l.initial.into.items ++ each (process_told (items_view l.tables)) 0 l.processes

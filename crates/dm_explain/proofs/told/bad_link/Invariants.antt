@@ -1,0 +1,8 @@
+use Rattle.std.proofs.Common.{◌≡◌, drop}
+use Rattle.toml.specs.View.{items_view, view}
+use Rattle.dm_boot.specs.Tables.{first_failing}
+use Rattle.dm_explain.specs.Told.{link_keeps}
+use Rattle.dm_explain.proofs.told.bad_link.Given as goal
+
+abbrev pub invariant-loop-k : goal.invariant-loop-k
+invariant-loop-k l = first_failing (λ k x. link_keeps l.rule (view l.document.top.now) x) l.k (items_view (drop l.k l.links)) ≡ first_failing (λ k x. link_keeps l.rule (view l.document.top.now) x) 0 (items_view l.links)

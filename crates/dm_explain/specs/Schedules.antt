@@ -1,0 +1,77 @@
+-- What is said of a schedule.
+use Rattle.std.specs.Prelude.{ℕ, Bool, true, false, codes, List, [], ◌∷◌, length, count_by}
+use Rattle.std.specs.List.{concat}
+use Rattle.std.specs.Fmt.{decimal}
+use Rattle.dm_schedule.specs.declared.Directive.{Directive}
+use Rattle.dm_schedule.specs.declared.Directive.TheVariants as directive
+use Rattle.dm_schedule.specs.declared.Step.TheVariants as step
+use Rattle.dm_schedule.specs.declared.LineFault.{LineFault}
+use Rattle.dm_schedule.specs.declared.LineFault.TheVariants.{UnknownWord, WrongCount, NotANumber, OutOfRange, SameMachine}
+use Rattle.dm_schedule.specs.Lines.{lines}
+use Rattle.dm_schedule.specs.Schedule.{Schedule, Accepted, Refused, number_of_fault}
+use Rattle.dm_explain.specs.declared.schedule.Deed.{Deed}
+use Rattle.dm_explain.specs.declared.schedule.Deed.TheVariants.{Turn, Tick, Deliver, Migrate, Round, Spin, Settle}
+use Rattle.dm_explain.specs.LineAt.{line_at}
+use Rattle.dm_explain.specs.Parts.{quoted}
+
+-- a directive is of a word
+abbrev pub is_turn : Directive → Bool
+is_turn (directive.One (step.Turn m)) = true
+is_turn _ = false
+
+abbrev pub is_tick : Directive → Bool
+is_tick (directive.One (step.Tick m)) = true
+is_tick _ = false
+
+abbrev pub is_deliver : Directive → Bool
+is_deliver (directive.One (step.Deliver a b k)) = true
+is_deliver _ = false
+
+abbrev pub is_migrate : Directive → Bool
+is_migrate (directive.One (step.Migrate p m)) = true
+is_migrate _ = false
+
+abbrev pub is_round : Directive → Bool
+is_round directive.Round = true
+is_round _ = false
+
+abbrev pub is_spin : Directive → Bool
+is_spin (directive.Spin n) = true
+is_spin _ = false
+
+abbrev pub is_settle : Directive → Bool
+is_settle directive.Settle = true
+is_settle _ = false
+
+abbrev pub is_of : Deed → Directive → Bool
+is_of Turn d = is_turn d
+is_of Tick d = is_tick d
+is_of Deliver d = is_deliver d
+is_of Migrate d = is_migrate d
+is_of Round d = is_round d
+is_of Spin d = is_spin d
+is_of Settle d = is_settle d
+
+abbrev pub many : Deed → List Directive → List ℕ
+many w ds = decimal (count_by (is_of w) ds)
+
+abbrev pub directives_told : List Directive → List ℕ
+directives_told ds =
+    concat (codes "schedule: " ∷ decimal (length ds) ∷ codes " directives: turn " ∷ many Turn ds ∷ codes ", tick " ∷ many Tick ds ∷ codes ", deliver " ∷ many Deliver ds
+    ∷ codes ", migrate " ∷ many Migrate ds ∷ codes ", round " ∷ many Round ds ∷ codes ", spin " ∷ many Spin ds ∷ codes ", settle " ∷ many Settle ds ∷ codes "\n" ∷ [])
+
+abbrev pub fault_words : LineFault → List ℕ
+fault_words UnknownWord = codes "no such word"
+fault_words WrongCount = codes "more or fewer operands than the word has"
+fault_words NotANumber = codes "a number or a process's name must stand where none stands"
+fault_words OutOfRange = codes "a number is out of range, or no machine's"
+fault_words SameMachine = codes "the two machines are one"
+
+abbrev pub line_told : List ℕ → ℕ → LineFault → List ℕ
+line_told bytes line fault =
+    concat (codes "schedule, line " ∷ decimal line ∷ codes ": why " ∷ decimal (number_of_fault fault) ∷ codes ": " ∷ fault_words fault ∷ codes ": " ∷ quoted (line_at line (lines bytes)) ∷ codes "\n" ∷ [])
+
+-- a schedule, or its first bad line
+abbrev pub schedule_told : List ℕ → Schedule → List ℕ
+schedule_told bytes (Accepted ds) = directives_told ds
+schedule_told bytes (Refused line fault) = line_told bytes line fault

@@ -1,0 +1,181 @@
+-- What is said of a boot file that breaks a rule.
+use Rattle.std.specs.Prelude.{ℕ, Bool, if◌then◌else◌, codes, List, [], ◌∷◌, ◌++◌, length, Option, None, Some, Result, Ok, Err}
+use Rattle.std.specs.List.{concat}
+use Rattle.std.specs.Fmt.{decimal}
+use Rattle.toml.specs.Data.{Data, get_item}
+use Rattle.dm_asm.specs.declared.refusals.Why.{Why}
+use Rattle.dm_asm.specs.declared.refusals.Why.TheVariants.{UnknownWord, BadRegister, BadNumber, OutOfRange, UnknownLabel, LabelTwice, OperandCount, TooLong}
+use Rattle.dm_asm.specs.Assembled.{assembled}
+use Rattle.dm_asm.specs.Lines.{lines}
+use Rattle.dm_onekernel.specs.Boot.{slots_of}
+use Rattle.dm_boot.specs.declared.rules.BootRule.{BootRule}
+use Rattle.dm_boot.specs.declared.rules.BootRule.TheVariants.{Document, TopKeys, Settings, MachineCount, MachineKeys, MachineRoom, ImageCount, ImageKeys, ImageName, ImageBlocks, ImageText, ImageBytes, ProcessKeys, ProcessName, ProcessMachine, ProcessImage, ProcessRoom, LinkCount, LinkTarget, LinkLimits}
+use Rattle.dm_boot.specs.Build.{format_of, home_of, image_tables, is_control, link_tables, machine_tables, process_tables}
+use Rattle.dm_boot.specs.Rules.{has_target, is_limited, is_link, memory_of, rule_number}
+use Rattle.dm_boot.specs.Tables.{count, first_failing, text_at}
+use Rattle.dm_boot.specs.Text.{is_name, is_server}
+use Rattle.dm_explain.specs.declared.told.LinkRule.{LinkRule}
+use Rattle.dm_explain.specs.declared.told.LinkRule.TheVariants as link
+use Rattle.dm_explain.specs.Faults.{integer_at, key_fault, number_fault}
+use Rattle.dm_explain.specs.LineAt.{line_at}
+use Rattle.dm_explain.specs.Parts.{integer_text, quoted}
+use Rattle.dm_explain.specs.Wanted.{channel_limits, control_wishes, image_limits, image_wishes, link_limits, link_wishes, machine_limits, machine_wishes, process_wishes, top_limits, top_wishes}
+
+abbrev pub name_at : Data → List ℕ
+name_at t = text_at (codes "name") t
+
+-- an element by its place, and by its name
+unfoldable pub numbered : List ℕ → ℕ → List ℕ
+numbered kind place = concat (kind ∷ codes " " ∷ decimal place ∷ codes ": " ∷ [])
+
+unfoldable pub titled : List ℕ → Data → List ℕ
+titled kind t = concat (kind ∷ codes " " ∷ quoted (name_at t) ∷ codes ": " ∷ [])
+
+-- what is said of an element, where there is one
+abbrev pub of_element : Option Data → (Data → List ℕ) → List ℕ
+of_element None told = []
+of_element (Some t) told = told t
+
+-- so many, which must be within limits
+unfoldable pub count_told : ℕ → List ℕ → ℕ → ℕ → List ℕ
+count_told n what least most = concat (decimal n ∷ codes " " ∷ what ∷ codes ", which must be " ∷ decimal least ∷ codes " to " ∷ decimal most ∷ [])
+
+-- rules of the top table
+abbrev pub top_told : BootRule → Data → List ℕ
+top_told TopKeys d = key_fault top_wishes (codes "machine, image and process must be arrays of tables") d
+top_told Settings d = number_fault top_limits [] d
+top_told MachineCount d = count_told (count (machine_tables d)) (codes "machines") 1 16
+top_told ImageCount d = count_told (count (image_tables d)) (codes "images") 0 256
+top_told _ d = []
+
+-- rules of machine i
+abbrev pub machine_told : BootRule → ℕ → Data → List ℕ
+machine_told MachineKeys i t = numbered (codes "machine") i ++ key_fault machine_wishes [] t
+machine_told MachineRoom i t = numbered (codes "machine") i ++ number_fault machine_limits [] t
+machine_told _ i t = []
+
+-- a name that is another's, or none
+abbrev pub no_name : List ℕ
+no_name = codes " is no name, which has 1 to 16 of a to z, 0 to 9 and _"
+
+abbrev pub image_name_words : List ℕ → List ℕ
+image_name_words name = if is_name name then codes " is an earlier image's name" else no_name
+
+abbrev pub process_name_words : List ℕ → List ℕ
+process_name_words name = if is_name name then (if is_server name then codes " is a server's name" else codes " is an earlier process's name") else no_name
+
+-- why a line of an image's text is refused
+abbrev pub why_words : Why → List ℕ
+why_words UnknownWord = codes "no such word"
+why_words BadRegister = codes "a register must stand where none stands"
+why_words BadNumber = codes "a number or label must stand where none stands"
+why_words OutOfRange = codes "a number is out of range"
+why_words UnknownLabel = codes "no line has this label"
+why_words LabelTwice = codes "an earlier line has this label"
+why_words OperandCount = codes "more or fewer operands than the word has"
+why_words TooLong = codes "the image has more than 65536 bytes with this line"
+
+abbrev pub text_told : Data → List ℕ → Result (List ℕ) (ℕ × Why) → List ℕ
+text_told t text (Ok bytes) = []
+text_told t text (Err refused) =
+    concat (codes "image " ∷ quoted (name_at t) ∷ codes ", line " ∷ decimal refused.0 ∷ codes ": " ∷ why_words refused.1 ∷ codes ": " ∷ quoted (line_at refused.0 (lines text)) ∷ [])
+
+abbrev pub bytes_told : Data → Result (List ℕ) (ℕ × Why) → List ℕ
+bytes_told t (Ok bytes) =
+    titled (codes "image") t ++ concat (decimal (length bytes) ∷ codes " bytes, and 256 times blocks = " ∷ integer_text (integer_at (codes "blocks") t) ∷ codes " have room" ∷ [])
+bytes_told t (Err refused) = []
+
+-- rules of image i
+abbrev pub image_told : BootRule → ℕ → Data → List ℕ
+image_told ImageKeys i t = numbered (codes "image") i ++ key_fault image_wishes [] t
+image_told ImageName i t = numbered (codes "image") i ++ concat (quoted (name_at t) ∷ image_name_words (name_at t) ∷ [])
+image_told ImageBlocks i t = titled (codes "image") t ++ number_fault image_limits [] t
+image_told ImageText i t = text_told t (text_at (codes "text") t) (assembled (text_at (codes "text") t))
+image_told ImageBytes i t = bytes_told t (assembled (text_at (codes "text") t))
+image_told _ i t = []
+
+-- what is said of a link by a rule that it breaks
+abbrev pub target_told : Data → List ℕ
+target_told l =
+    if is_control l then concat (codes "no process is named " ∷ quoted (text_at (codes "control") l) ∷ [])
+    else concat (codes "no process or server is named " ∷ quoted (text_at (codes "to") l) ∷ [])
+
+abbrev pub area_told : Data → Data → List ℕ
+area_told d l = concat (codes "base and len are more than " ∷ decimal (memory_of d (text_at (codes "to") l)) ∷ codes " together, the bytes of the memory of " ∷ quoted (text_at (codes "to") l) ∷ [])
+
+abbrev pub limits_told : Data → Data → List ℕ
+limits_told d l =
+    if is_server (text_at (codes "to") l) then number_fault channel_limits (concat (codes "a link to a server has no code, base, len, read or write" ∷ [])) l
+    else number_fault link_limits (area_told d l) l
+
+abbrev pub link_keys_told : Data → List ℕ
+link_keys_told l = if is_control l then key_fault control_wishes [] l else key_fault link_wishes [] l
+
+abbrev pub link_told : LinkRule → Data → Data → List ℕ
+link_told link.Keys d l = link_keys_told l
+link_told link.Target d l = target_told l
+link_told link.Limits d l = limits_told d l
+
+-- a link keeps a rule
+abbrev pub link_keeps : LinkRule → Data → Data → Bool
+link_keeps link.Keys d l = is_link l
+link_keeps link.Target d l = has_target d l
+link_keeps link.Limits d l = is_limited d l
+
+-- the first link that breaks a rule
+abbrev pub bad_link : LinkRule → Data → Data → Option ℕ
+bad_link r d t = first_failing (λ k l. link_keeps r d l) 0 (link_tables t)
+
+abbrev pub at_link : LinkRule → Data → Data → Option ℕ → List ℕ
+at_link r d t None = []
+at_link r d t (Some k) = numbered (codes "link") k ++ of_element (get_item k (link_tables t)) (λ l. link_told r d l)
+
+-- the keys of a process, or of its first bad link
+abbrev pub keys_told : Data → Data → Option ℕ → List ℕ
+keys_told d t None = key_fault process_wishes [] t
+keys_told d t (Some k) = at_link link.Keys d t (Some k)
+
+-- the room of the machine of a process
+abbrev pub room_told : Data → List ℕ
+room_told m = concat (codes ", which has slots = " ∷ integer_text (integer_at (codes "slots") m) ∷ codes " and blocks = " ∷ integer_text (integer_at (codes "blocks") m) ∷ [])
+
+-- rules of process i
+abbrev pub process_told : BootRule → Data → ℕ → Data → List ℕ
+process_told ProcessKeys d i t = numbered (codes "process") i ++ keys_told d t (bad_link link.Keys d t)
+process_told ProcessName d i t = numbered (codes "process") i ++ concat (quoted (name_at t) ∷ process_name_words (name_at t) ∷ [])
+process_told ProcessMachine d i t =
+    titled (codes "process") t ++ concat (codes "machine = " ∷ integer_text (integer_at (codes "machine") t) ∷ codes ", and the machines are " ∷ decimal (count (machine_tables d)) ∷ codes ", from 0 on" ∷ [])
+process_told ProcessImage d i t = titled (codes "process") t ++ concat (codes "no image is named " ∷ quoted (text_at (codes "image") t) ∷ [])
+process_told ProcessRoom d i t =
+    titled (codes "process") t ++ concat (codes "with those before it there is no room for it on machine " ∷ decimal (home_of t) ∷ []) ++ of_element (get_item (home_of t) (machine_tables d)) room_told
+process_told LinkCount d i t = titled (codes "process") t ++ count_told (count (link_tables t)) (codes "links") 0 (slots_of (format_of d))
+process_told LinkTarget d i t = titled (codes "process") t ++ at_link link.Target d t (bad_link link.Target d t)
+process_told LinkLimits d i t = titled (codes "process") t ++ at_link link.Limits d t (bad_link link.Limits d t)
+process_told _ d i t = []
+
+-- what is said of a rule that the element at a place breaks
+abbrev pub rule_told : BootRule → ℕ → Data → List ℕ
+rule_told Document i d = []
+rule_told TopKeys i d = top_told TopKeys d
+rule_told Settings i d = top_told Settings d
+rule_told MachineCount i d = top_told MachineCount d
+rule_told MachineKeys i d = of_element (get_item i (machine_tables d)) (λ t. machine_told MachineKeys i t)
+rule_told MachineRoom i d = of_element (get_item i (machine_tables d)) (λ t. machine_told MachineRoom i t)
+rule_told ImageCount i d = top_told ImageCount d
+rule_told ImageKeys i d = of_element (get_item i (image_tables d)) (λ t. image_told ImageKeys i t)
+rule_told ImageName i d = of_element (get_item i (image_tables d)) (λ t. image_told ImageName i t)
+rule_told ImageBlocks i d = of_element (get_item i (image_tables d)) (λ t. image_told ImageBlocks i t)
+rule_told ImageText i d = of_element (get_item i (image_tables d)) (λ t. image_told ImageText i t)
+rule_told ImageBytes i d = of_element (get_item i (image_tables d)) (λ t. image_told ImageBytes i t)
+rule_told ProcessKeys i d = of_element (get_item i (process_tables d)) (λ t. process_told ProcessKeys d i t)
+rule_told ProcessName i d = of_element (get_item i (process_tables d)) (λ t. process_told ProcessName d i t)
+rule_told ProcessMachine i d = of_element (get_item i (process_tables d)) (λ t. process_told ProcessMachine d i t)
+rule_told ProcessImage i d = of_element (get_item i (process_tables d)) (λ t. process_told ProcessImage d i t)
+rule_told ProcessRoom i d = of_element (get_item i (process_tables d)) (λ t. process_told ProcessRoom d i t)
+rule_told LinkCount i d = of_element (get_item i (process_tables d)) (λ t. process_told LinkCount d i t)
+rule_told LinkTarget i d = of_element (get_item i (process_tables d)) (λ t. process_told LinkTarget d i t)
+rule_told LinkLimits i d = of_element (get_item i (process_tables d)) (λ t. process_told LinkLimits d i t)
+
+-- the whole line
+abbrev pub broken_told : BootRule → ℕ → Data → List ℕ
+broken_told rule i d = concat (codes "rule " ∷ decimal (rule_number rule) ∷ codes ": " ∷ []) ++ rule_told rule i d ++ codes "\n"

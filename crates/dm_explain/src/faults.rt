@@ -1,0 +1,157 @@
+//! What is wrong with the keys and the numbers of a table.
+ghost use Rattle.std.specs.Prelude.{◌≡◌, ◌++◌, OnOk, map};
+ghost use Rattle.std.specs.List.{concat};
+ghost use Rattle.toml.specs.View.{view};
+ghost use Rattle.dm_boot.specs.Tables.{has_only};
+ghost use Rattle.dm_explain.specs.Faults.{integer_at, is_met, is_sort, is_within, key_fault, keys_text, limit_told, number_fault, wish_fault, wish_told};
+ghost use Rattle.dm_explain.specs.Parts.{part_text};
+ghost use Rattle.dm_explain.specs.Wanted.{limit_of, wish_of};
+
+use crate::part::{Part, put, put_parts};
+use crate::wanted::{Key, Range, Sort};
+use dm_boot::tables::{has_only, number_at};
+use dm_memory::NoMemory;
+use toml::Value;
+
+/// Writes what is wrong with the keys of a table, which may have these, or something else.
+#[tactic(auto, unfolding(crate::specs::Faults::key_fault), using(crate::proofs::Pieces::join_lemmas))]
+pub fn put_key_fault(
+    into: &mut Vec<u8>,
+    table: &Value,
+    keys: &[Key],
+    names: &[&str],
+    other: &'static str,
+) -> Result<(), NoMemory>
+    requires { map (λ n. n.now) names.now ≡ map (λ w. w.key) (map wish_of keys.now) }
+    ensures { OnOk result (into.new.items ≡ into.old.items ++ key_fault (map wish_of keys.now) other.now (view table.now)) }
+{
+    if has_only(table, names) {
+        put_wish_fault(into, table, keys, other)
+    } else {
+        put(into, "its keys may be")?;
+        put_keys(into, keys)
+    }
+}
+
+/// Writes the first wish that isn't met, or something else.
+#[tactic(auto, unfolding(crate::specs::Faults::wish_fault), using(crate::proofs::Loops::bad_lemmas))]
+fn put_wish_fault(
+    into: &mut Vec<u8>,
+    table: &Value,
+    keys: &[Key],
+    other: &'static str,
+) -> Result<(), NoMemory>
+    ensures { OnOk result (into.new.items ≡ into.old.items ++ wish_fault (map wish_of keys.now) other.now (view table.now)) }
+{
+    for key in keys {
+        if !is_met(key, table) {
+            return put_wish(into, key);
+        }
+    }
+    put(into, other)
+}
+
+/// Writes what a key must be.
+#[tactic(auto, unfolding(crate::specs::Faults::wish_told))]
+fn put_wish(into: &mut Vec<u8>, key: &Key) -> Result<(), NoMemory>
+    ensures { OnOk result (into.new.items ≡ into.old.items ++ wish_told (wish_of key.now)) }
+{
+    put_parts(
+        into,
+        &[
+            Part::Text(key.name),
+            Part::Text(" must be "),
+            Part::Text(key.sort.words()),
+        ],
+    )
+}
+
+/// Whether a key has what it must be.
+#[tactic(auto, unfolding(crate::specs::Faults::is_met))]
+fn is_met(key: &Key, table: &Value) -> bool
+    ensures { result ≡ is_met (wish_of key.now) (view table.now) }
+{
+    match table.get(key.name) {
+        Some(found) => is_sort(key.sort, found),
+        None => !key.needed,
+    }
+}
+
+fn is_sort(sort: Sort, found: &Value) -> bool
+    ensures { result ≡ is_sort sort (view found.now) }
+{
+    match sort {
+        Sort::Integer => found.is_integer(),
+        Sort::Text => found.is_str(),
+        Sort::Truth => found.is_bool(),
+        Sort::Array => found.is_array(),
+    }
+}
+
+/// Writes keys, each behind a space.
+#[tactic(auto, using(crate::proofs::Pieces::mapped_lemmas))]
+fn put_keys(into: &mut Vec<u8>, keys: &[Key]) -> Result<(), NoMemory>
+    ensures { OnOk result (into.new.items ≡ into.old.items ++ keys_text (map wish_of keys.now)) }
+{
+    for key in keys {
+        put(into, " ")?;
+        put(into, key.name)?;
+    }
+    Ok(())
+}
+
+/// Writes the first number of a table that is outside its limits, or something else.
+#[tactic(auto, unfolding(crate::specs::Faults::number_fault), using(crate::proofs::Loops::bad_lemmas))]
+pub fn put_number_fault(
+    into: &mut Vec<u8>,
+    table: &Value,
+    ranges: &[Range],
+    other: &[Part],
+) -> Result<(), NoMemory>
+    ensures { OnOk result (into.new.items ≡ into.old.items ++ number_fault (map limit_of ranges.now) (concat (map part_text other.now)) (view table.now)) }
+{
+    for range in ranges {
+        if !is_within(range, table) {
+            return put_limit(into, range, table);
+        }
+    }
+    put_parts(into, other)
+}
+
+/// Whether a number lies within its limits, or isn't there.
+#[tactic(auto, unfolding(crate::specs::Faults::is_within))]
+fn is_within(range: &Range, table: &Value) -> bool
+    ensures { result ≡ is_within (limit_of range.now) (view table.now) }
+{
+    number_at(table, range.name, range.most, range.least, range.most).is_some()
+}
+
+/// Writes a number that is outside its limits.
+#[tactic(auto, unfolding(crate::specs::Faults::limit_told), using(crate::proofs::Pieces::join_lemmas))]
+fn put_limit(into: &mut Vec<u8>, range: &Range, table: &Value) -> Result<(), NoMemory>
+    ensures { OnOk result (into.new.items ≡ into.old.items ++ limit_told (limit_of range.now) (view table.now)) }
+{
+    put_parts(
+        into,
+        &[
+            Part::Text(range.name),
+            Part::Text(" = "),
+            Part::Integer(integer_at(table, range.name)),
+            Part::Text(", which must be "),
+            Part::Count(u64::from(range.least)),
+            Part::Text(" to "),
+            Part::Count(u64::from(range.most)),
+        ],
+    )
+}
+
+/// The integer at a key.
+#[tactic(auto, unfolding(crate::specs::Faults::integer_at))]
+pub fn integer_at(table: &Value, key: &str) -> Option<i64>
+    ensures { result ≡ integer_at key.now (view table.now) }
+{
+    match table.get(key) {
+        Some(found) => found.as_integer(),
+        None => None,
+    }
+}

@@ -1,0 +1,13 @@
+//! What is wrong with a boot file or a schedule, or else what they say, in words.
+#![tactic(auto)]
+
+pub mod explain;
+mod faults;
+mod line;
+mod part;
+mod schedule;
+mod system;
+mod told;
+mod wanted;
+
+pub use explain::{BootTold, ScheduleTold, explain_boot, explain_schedule};
