@@ -1,5 +1,5 @@
 //! The receiving side of a stream.
-ghost use Rattle.std.specs.Prelude.{IfOk, OnSome, length, replicate, ◌+◌, ◌<◌, ◌≡◌};
+ghost use Rattle.std.specs.Prelude.{IfOk, OnSome, length, nat_lt, replicate, ◌+◌, ◌<◌, ◌≡◌};
 ghost use Rattle.circular_buffer.specs.Buffer.{buffer};
 ghost use Rattle.dm_stream.specs.Receiving.{kept_once, once};
 
@@ -55,6 +55,13 @@ fn empty_ring<M: Drop>(alloc: Global) -> Result<HeapCircularBuffer<Option<M>>, N
     Ok(ring)
 }
 
+/// Whether the message of this number was taken before, where the next number is `count`.
+fn was_taken(number: u32, count: u32) -> bool
+    ensures { result ≡ nat_lt number count }
+{
+    number < count
+}
+
 /// Keeps a message, unless one is kept already.
 fn put_once<M: Drop>(held: &mut Option<M>, message: M)
     ensures { held.new ≡ once held.old message }
@@ -103,7 +110,7 @@ impl<M: Drop> Receiver<M> {
             let _ = self.advance();
             return Arrived::Taken(message);
         }
-        if number < self.count {
+        if was_taken(number, self.count) {
             return Arrived::Old;
         }
         keep_once(&mut self.early, (number - self.count) as usize, message);

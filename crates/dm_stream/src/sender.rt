@@ -1,5 +1,5 @@
 //! The sending side of a stream.
-ghost use Rattle.std.specs.Prelude.{IfErr, IsSome, OnErr, OnOk, drop, option_map, slice_get, ◌≡◌, ◌↔◌, ◌≤◌, ◌-◌};
+ghost use Rattle.std.specs.Prelude.{IfErr, IsSome, OnErr, OnOk, drop, nat_le, option_map, slice_get, ◌≡◌, ◌↔◌, ◌≤◌, ◌-◌};
 ghost use Rattle.std.specs.Option.{option_copied};
 ghost use Rattle.dm_stream.specs.Returned.{message_in};
 
@@ -115,7 +115,7 @@ impl<M> Sender<M> {
     pub fn due(&self) -> Option<(u32, &M)>
         ensures { option_map (λ p. (p.0, p.1.now)) result ≡ due self.now }
     {
-        if self.gone - self.acked >= WINDOW {
+        if is_full(self.gone - self.acked) {
             return None;
         }
         self.numbered(self.gone - self.acked)
@@ -155,6 +155,13 @@ impl<M> Sender<M> {
             None => None,
         }
     }
+}
+
+/// Whether as many messages are outstanding as may be.
+fn is_full(out: u32) -> bool
+    ensures { result ≡ nat_le 8 out }
+{
+    out >= WINDOW
 }
 
 /// Lets the first `count` messages go.

@@ -13,7 +13,7 @@ use crate::{Bad, Packet};
 use dm_message::{Message, MsgId};
 use fields::{addr_at, byte_at, machine_at, pid_at, u32_at};
 use kinds::what_at;
-use parts::{kind_at, yes_or_no_at};
+use parts::{is_over, kind_at, yes_or_no_at};
 
 fn id_at(bytes: &[u8]) -> Result<(MsgId, &[u8]), Bad>
     ensures { Reads result (id.read bytes.now) }
@@ -129,7 +129,7 @@ pub fn packet_at(bytes: &[u8]) -> Result<Packet, Bad>
 {
     let (opening, rest) = opening_at(bytes)?;
     let (packet, rest) = rest_at(opening, rest)?;
-    if !rest.is_empty() {
+    if !is_over(rest) {
         return Err(Bad::Trailing);
     }
     Ok(packet)

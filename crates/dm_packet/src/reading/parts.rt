@@ -1,5 +1,5 @@
 //! The fields that only some kinds have.
-ghost use Rattle.std.specs.Prelude.{nat_le, ◌&&◌, ◌+◌, ◌≡◌};
+ghost use Rattle.std.specs.Prelude.{length, nat_le, ◌&&◌, ◌+◌, ◌==◌, ◌≡◌};
 ghost use Rattle.dm_packet.specs.Reads.{Reads, ReadsItems};
 ghost use Rattle.dm_packet.specs.Field.{counted, run};
 ghost use Rattle.dm_packet.specs.Whats.{asker, at_most, blocks_of, memory, message_kind, optional, outcome, piece_from, yes_or_no};
@@ -9,6 +9,13 @@ use super::lists::items_at;
 use crate::Bad;
 use dm_link::Pid;
 use dm_message::{Asker, Body, MessageKind, Outcome};
+
+/// Whether nothing follows: a packet, and the state bytes of a process, end with their last field.
+pub fn is_over(rest: &[u8]) -> bool
+    ensures { result ≡ (length rest.now == 0) }
+{
+    rest.is_empty()
+}
 
 /// A yes or no.
 pub fn yes_or_no_at(bytes: &[u8], rule: Bad) -> Result<(bool, &[u8]), Bad>
