@@ -50,6 +50,7 @@ directive_fits n x least = go (nat_lt (drawn 8 x) 3) (drawn 8 x == 3) (drawn 8 x
   where
     some : 0 < n
     some = omega (arith, least)
+
     go : (a b c d : Bool) → IsDrawn n (if a then turn_drawn n (stepped x) else if b then tick_drawn n (stepped x) else if c then migrate_drawn n (stepped x) else if d then deliver_drawn n (stepped x) else round_drawn (stepped x)).directive
     go true b c d = drawn_below n (stepped x) some
     go false true c d = drawn_below n (stepped x) some

@@ -30,11 +30,7 @@ pub fn collect(directives: &[Directive], world: &mut World, kept: &mut Kept) -> 
 }
 
 /// Does the elementary directives of a directive, and keeps what a picture shows of their groups.
-fn collect_directive(
-    directive: &Directive,
-    world: &mut World,
-    kept: &mut Kept,
-) -> Result<(), Stop>
+fn collect_directive(directive: &Directive, world: &mut World, kept: &mut Kept) -> Result<(), Stop>
     requires world { IsWorld world.old }
     requires running { world.old.stopped ≡ false }
     requires due { IsDue world.old directive.now kept.old }

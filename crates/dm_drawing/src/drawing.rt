@@ -26,11 +26,7 @@ pub enum Drawn {
 }
 
 /// Does these directives on the system of a boot file, and draws what happens.
-pub fn draw_run(
-    alloc: Global,
-    boot: Boot,
-    directives: &[Directive],
-) -> Result<Drawn, NoMemory>
+pub fn draw_run(alloc: Global, boot: Boot, directives: &[Directive]) -> Result<Drawn, NoMemory>
     requires valid { IsValid boot }
     requires each { All (IsFor (length boot.machines)) directives.now }
     requires few { length directives.now ≤ 16777216 }

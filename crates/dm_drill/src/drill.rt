@@ -174,7 +174,12 @@ fn sum_up<K: Sink>(
 }
 
 /// Puts the summary alone onto a page.
-fn fill_page(drill: &Drill, counts: &Counts, quiet: bool, page: &mut Vec<u8>) -> Result<(), NoMemory>
+fn fill_page(
+    drill: &Drill,
+    counts: &Counts,
+    quiet: bool,
+    page: &mut Vec<u8>,
+) -> Result<(), NoMemory>
     ensures { OnOk result (page.new.items ≡ summary drill.now.seed drill.now.machines drill.now.lines (shown counts.now) quiet) }
 {
     page.clear();

@@ -22,7 +22,10 @@ use toml::{Table, Value};
 #[derive(Drop)]
 pub enum BootTold {
     /// It gives this system.
-    System { boot: Boot, text: Vec<u8> },
+    System {
+        boot: Boot,
+        text: Vec<u8>,
+    },
     /// It breaks this rule, at the element of this place.
     Refused {
         rule: BootRule,
@@ -151,11 +154,7 @@ fn put_unread(into: &mut Vec<u8>, line: Option<u64>) -> Result<(), NoMemory>
 }
 
 /// Says what a schedule for so many machines says, or which line is refused.
-pub fn explain_schedule(
-    alloc: Global,
-    bytes: &[u8],
-    machines: u8,
-) -> Result<ScheduleTold, NoMemory>
+pub fn explain_schedule(alloc: Global, bytes: &[u8], machines: u8) -> Result<ScheduleTold, NoMemory>
     ensures { IfOk result (λ told. ExplainsSchedule bytes.now machines told) }
 {
     let mut text = Vec::new(alloc);

@@ -80,11 +80,7 @@ fn put_machine(into: &mut Vec<u8>, i: usize, machine: &BootMachine) -> Result<()
 
 /// Writes the images, a line each, with their names in these tables.
 #[tactic(auto, using(crate::proofs::Pieces::each_lemmas))]
-fn put_images(
-    into: &mut Vec<u8>,
-    images: &[BootImage],
-    tables: &[Value],
-) -> Result<(), NoMemory>
+fn put_images(into: &mut Vec<u8>, images: &[BootImage], tables: &[Value]) -> Result<(), NoMemory>
     ensures { OnOk result (into.new.items ≡ into.old.items ++ each (image_told (items_view tables.now)) 0 images.now) }
 {
     for (i, image) in images.iter().enumerate() {
@@ -213,7 +209,11 @@ fn rights_word(read: bool, write: bool) -> &'static str
     ensures { result.now ≡ rights_word read write }
 {
     if read {
-        if write { ", to read and write" } else { ", to read" }
+        if write {
+            ", to read and write"
+        } else {
+            ", to read"
+        }
     } else if write {
         ", to write"
     } else {

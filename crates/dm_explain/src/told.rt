@@ -607,11 +607,7 @@ fn put_target(into: &mut Vec<u8>, link: &Value) -> Result<(), NoMemory>
 }
 
 /// Writes which number of a link is outside its limits.
-fn put_limits(
-    into: &mut Vec<u8>,
-    document: &Document<'_>,
-    link: &Value,
-) -> Result<(), NoMemory>
+fn put_limits(into: &mut Vec<u8>, document: &Document<'_>, link: &Value) -> Result<(), NoMemory>
     ensures { OnOk result (into.new.items ≡ into.old.items ++ limits_told (view document.now.top.now) (view link.now)) }
 {
     let to = text_at(link, "to");

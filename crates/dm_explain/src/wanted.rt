@@ -123,9 +123,7 @@ pub fn link_keys() -> [Key; 8]
 pub fn control_keys() -> [Key; 1]
     ensures { map wish_of result ≡ control_wishes }
 {
-    [
-        needed("control", Sort::Text),
-    ]
+    [needed("control", Sort::Text)]
 }
 
 /// The least and the most that a number may be.
@@ -158,28 +156,21 @@ pub fn top_ranges() -> [Range; 3]
 pub fn machine_ranges() -> [Range; 2]
     ensures { map limit_of result ≡ machine_limits }
 {
-    [
-        within("slots", 0, 64),
-        within("blocks", 0, 4096),
-    ]
+    [within("slots", 0, 64), within("blocks", 0, 4096)]
 }
 
 /// The limits of an image.
 pub fn image_ranges() -> [Range; 1]
     ensures { map limit_of result ≡ image_limits }
 {
-    [
-        within("blocks", 1, 256),
-    ]
+    [within("blocks", 1, 256)]
 }
 
 /// The limits of a link's channel.
 pub fn channel_ranges() -> [Range; 1]
     ensures { map limit_of result ≡ channel_limits }
 {
-    [
-        within("channel", 0, 31),
-    ]
+    [within("channel", 0, 31)]
 }
 
 /// The limits of a link to a process.

@@ -83,14 +83,19 @@ says_boot files boot b text h = record { bytes = h.bytes; file = h.file; says = 
 -- what is due is how a run ends before it runs
 before_run : (files : Option Files) (boot : List ℕ) (schedule : Option (List ℕ)) (text : List ℕ) (old new : ℕ) (s : Status) → TellsFiles files boot schedule s text → BeforeRun files boot schedule old new s
 before_run files boot None text old new Done h = inl (refl, record { system = h.system; says = says_boot files boot h.system text h.told })
-before_run files boot (Some schedule) text old new Done h = inl (refl, record {
-  system = h.system;
-  directives = h.schedule_told.tells.directives;
-  says = record { says = record {
-    says_boot = says_boot files boot h.system h.first h.boot_told;
-    says_directives = record { bytes = h.schedule_told.bytes; file = h.schedule_told.file; says = h.schedule_told.tells.says };
-  } };
-})
+before_run files boot (Some schedule) text old new Done h = inl (
+  refl,
+  record {
+    system = h.system;
+    directives = h.schedule_told.tells.directives;
+    says = record {
+      says = record {
+        says_boot = says_boot files boot h.system h.first h.boot_told;
+        says_directives = record { bytes = h.schedule_told.bytes; file = h.schedule_told.file; says = h.schedule_told.tells.says };
+      };
+    };
+  },
+)
 before_run files boot None text old new (BootRefused number place) h = inr (record { bytes = h.bytes; file = h.file; rule = h.rule; refused = h.told.refused; number_is = h.number_is })
 before_run files boot (Some schedule) text old new (BootRefused number place) h = inr (record { bytes = h.bytes; file = h.file; rule = h.rule; refused = h.told.refused; number_is = h.number_is })
 before_run files boot None text old new (ScheduleRefused line why) h = absurd h
@@ -151,10 +156,10 @@ pub one_end : (told : Option Files) (files : Files) (boot : List ℕ) (schedule 
 one_end told files boot schedule old new k k' due s is runs sink want some quiet steady = elim (want_or_not s) [
   | inl lack ↦ inr lack
   | inr other ↦ elim runs [
-      | inl e ↦ absurd (steady (subst (λ (x : Status). BlamesSink k k' x) e sink))
-      | inr b ↦
-          inl (sym (is_end files boot schedule old new s quiet other (subst (λ (f : Option Files). BeforeRun f boot schedule old new s) is b)) ∙ is_end files boot schedule old new due quiet some want)
-    ]
+    | inl e ↦ absurd (steady (subst (λ (x : Status). BlamesSink k k' x) e sink))
+    | inr b ↦
+        inl (sym (is_end files boot schedule old new s quiet other (subst (λ (f : Option Files). BeforeRun f boot schedule old new s) is b)) ∙ is_end files boot schedule old new due quiet some want)
+  ]
 ]
 
 -- no reason blames the sink

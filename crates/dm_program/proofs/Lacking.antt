@@ -72,7 +72,6 @@ lacks_meets asked faults (Some (Explain boot schedule)) o shelf lack h nothing =
   shelf = h.reads;
   sink = h.writes;
 }
-
 lacks_meets asked faults (Some (Drill d)) o shelf lack h nothing = record {
   says = subst (λ (after : Option (List ℕ)). IsOfFirst d.trace (boot_of d.machines) (directives_of d) o.before after) (sym h.told) (nothing_drilled d.trace (boot_of d.machines) (directives_of d) o.before);
   completes = λ lasts never. inr (lack, refl);

@@ -46,11 +46,20 @@ impl WordsNo {
 #[derive(Clone, Copy)]
 pub enum Request<'a> {
     /// To run the schedule of a file on the system of a boot file.
-    Run { boot: &'a str, schedule: &'a str },
+    Run {
+        boot: &'a str,
+        schedule: &'a str,
+    },
     /// To check that the trace of a file is what the system of a boot file prints.
-    Check { boot: &'a str, trace: &'a str },
+    Check {
+        boot: &'a str,
+        trace: &'a str,
+    },
     /// To draw the run of the schedule of a file on the system of a boot file.
-    Chart { boot: &'a str, schedule: &'a str },
+    Chart {
+        boot: &'a str,
+        schedule: &'a str,
+    },
     /// To say what a boot file says, and a schedule where there is one, or what is wrong with them.
     Explain {
         boot: &'a str,

@@ -44,8 +44,8 @@ settle_on b ds valid rest x smaller pt t s is e =
           let fits = next_fits n (undelivered pt.view) (has_mail pt.view) (is_quiet n pt.view) t g.next is.fits due in
           goes b pt t g.next valid s due fits.step
           (λ w group next.
-              smaller (left b.numbers w.point.kernel.machines w.point.view) (subst (IsLess (left b.numbers w.point.kernel.machines w.point.view)) e (group_less b pt g.next w valid s next fits.step g.step group)) w.point g.next.left next
-              (record { fits = fits.left; pass = g.pass; behind = g.behind ∙ is.behind }) refl)
+          smaller (left b.numbers w.point.kernel.machines w.point.view) (subst (IsLess (left b.numbers w.point.kernel.machines w.point.view)) e (group_less b pt g.next w valid s next fits.step g.step group)) w.point g.next.left next
+          (record { fits = fits.left; pass = g.pass; behind = g.behind ∙ is.behind }) refl)
     ]
 
 -- also where it begins

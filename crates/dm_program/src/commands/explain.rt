@@ -153,12 +153,7 @@ fn tell_schedule<F: Shelf>(
 }
 
 /// What is said of a schedule, for so many machines, behind what is said of the boot file.
-fn tell_lines(
-    alloc: Global,
-    bytes: &[u8],
-    machines: u8,
-    first: Vec<u8>,
-) -> Result<Told, NoMemory>
+fn tell_lines(alloc: Global, bytes: &[u8], machines: u8, first: Vec<u8>) -> Result<Told, NoMemory>
     ensures { IfOk result (λ t. TellsLines bytes.now machines first.items t.due t.text.items) }
 {
     let mut text = first;

@@ -28,15 +28,15 @@ collect_group-requires-clause-may c =
 
 pub steps-preserved : goal.steps-preserved
 steps-preserved c = record {
-      world = c.in_ok-collect_group.ensures.world;
-      running = c.in_ok-collect_group.ensures.running;
-      boot = c.in_ok-collect_group.ensures.boot ∙ c.steps.invariant.boot;
-      come = brings_on c.steps.world.boot c.args.world.now.boot c.args.directive.now (state_of c.args.world.now) (state_of c.steps.world) (state_of c.collect_group.new.world) c.args.kept.now c.steps.kept c.collect_group.new.kept c.steps.cursor c.in-Some.next c.in-Some.step
-          c.steps.invariant.boot c.steps.invariant.come c.in-Some.ensures.next c.in_ok-collect_group.ensures.came;
-      way = goes_on_way c.steps.world.boot c.args.world.now.boot (state_of c.steps.world) (state_of c.collect_group.new.world) c.steps.cursor c.in-Some.next c.in-Some.step (c.args.world.now.groups + 2 ^ 90)
-          c.requires.world.valid c.steps.invariant.boot c.in-Some.ensures.next c.in-Some.ensures.falls c.in_ok-collect_group.ensures.after c.steps.invariant.way;
-      rows = c.in_ok-collect_group.ensures.rows;
-    }
+  world = c.in_ok-collect_group.ensures.world;
+  running = c.in_ok-collect_group.ensures.running;
+  boot = c.in_ok-collect_group.ensures.boot ∙ c.steps.invariant.boot;
+  come = brings_on c.steps.world.boot c.args.world.now.boot c.args.directive.now (state_of c.args.world.now) (state_of c.steps.world) (state_of c.collect_group.new.world) c.args.kept.now c.steps.kept c.collect_group.new.kept c.steps.cursor c.in-Some.next c.in-Some.step
+      c.steps.invariant.boot c.steps.invariant.come c.in-Some.ensures.next c.in_ok-collect_group.ensures.came;
+  way = goes_on_way c.steps.world.boot c.args.world.now.boot (state_of c.steps.world) (state_of c.collect_group.new.world) c.steps.cursor c.in-Some.next c.in-Some.step (c.args.world.now.groups + 2 ^ 90)
+      c.requires.world.valid c.steps.invariant.boot c.in-Some.ensures.next c.in-Some.ensures.falls c.in_ok-collect_group.ensures.after c.steps.invariant.way;
+  rows = c.in_ok-collect_group.ensures.rows;
+}
 
 pub returns-in_err-collect_group-clause-came : goal.returns-in_err-collect_group-clause-came
 returns-in_err-collect_group-clause-came c = λ ds rest h.
@@ -50,7 +50,7 @@ returns-clause-came c = none_on c.steps.world.boot c.args.world.now.boot c.args.
 pub steps-smaller : goal.steps-smaller
 steps-smaller c =
     let way = goes_on_way c.steps.world.boot c.args.world.now.boot (state_of c.steps.world) (state_of c.collect_group.new.world) c.steps.cursor c.in-Some.next c.in-Some.step (c.args.world.now.groups + 2 ^ 90)
-        c.requires.world.valid c.steps.invariant.boot c.in-Some.ensures.next c.in-Some.ensures.falls c.in_ok-collect_group.ensures.after c.steps.invariant.way in
+    c.requires.world.valid c.steps.invariant.boot c.in-Some.ensures.next c.in-Some.ensures.falls c.in_ok-collect_group.ensures.after c.steps.invariant.way in
     let more = one_group_more c.steps.world.boot (state_of c.steps.world) (state_of c.collect_group.new.world) c.in-Some.step c.in_ok-collect_group.ensures.after in
     omega (arith, more, way.within)
 

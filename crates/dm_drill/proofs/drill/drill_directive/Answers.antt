@@ -42,7 +42,7 @@ steps-preserved g c = record {
 pub steps-smaller : goal.steps-smaller
 steps-smaller g c =
     let way = goes_on_way c.steps.world.boot c.args.world.now.boot (state_of c.steps.world) (state_of c.one_group.new.world) c.steps.cursor c.in-Some.next c.in-Some.step (c.args.world.now.groups + 2 ^ 90)
-        c.requires.world.valid c.steps.invariant.boot c.in-Some.ensures.next c.in-Some.ensures.falls c.in_ok-one_group.ensures.after c.steps.invariant.way in
+    c.requires.world.valid c.steps.invariant.boot c.in-Some.ensures.next c.in-Some.ensures.falls c.in_ok-one_group.ensures.after c.steps.invariant.way in
     let more = one_group_more c.steps.world.boot (state_of c.steps.world) (state_of c.one_group.new.world) c.in-Some.step c.in_ok-one_group.ensures.after in
     omega (arith, more, way.within)
 

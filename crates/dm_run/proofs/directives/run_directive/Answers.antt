@@ -27,15 +27,15 @@ one_group-requires-clause-may g c =
 
 pub steps-preserved : goal.steps-preserved
 steps-preserved g c = record {
-      world = c.in_ok-one_group.ensures.world;
-      running = c.in_ok-one_group.ensures.running;
-      boot = c.in_ok-one_group.ensures.boot ∙ c.steps.invariant.boot;
-      come = brings_on c.steps.world.boot c.args.world.now.boot c.args.directive.now (state_of c.args.world.now) (state_of c.steps.world) (state_of c.one_group.new.world) (g.K.Sink.told c.args.out.now) (g.K.Sink.told c.steps.out) (g.K.Sink.told c.one_group.new.out) c.steps.cursor c.in-Some.next c.in-Some.step
-          c.steps.invariant.boot c.steps.invariant.come c.in-Some.ensures.next c.in_ok-one_group.ensures.came;
-      way = goes_on_way c.steps.world.boot c.args.world.now.boot (state_of c.steps.world) (state_of c.one_group.new.world) c.steps.cursor c.in-Some.next c.in-Some.step (c.args.world.now.groups + 2 ^ 90)
-          c.requires.world.valid c.steps.invariant.boot c.in-Some.ensures.next c.in-Some.ensures.falls c.in_ok-one_group.ensures.after c.steps.invariant.way;
-      steady = c.in_ok-one_group.ensures.blames ∙ c.steps.invariant.steady;
-    }
+  world = c.in_ok-one_group.ensures.world;
+  running = c.in_ok-one_group.ensures.running;
+  boot = c.in_ok-one_group.ensures.boot ∙ c.steps.invariant.boot;
+  come = brings_on c.steps.world.boot c.args.world.now.boot c.args.directive.now (state_of c.args.world.now) (state_of c.steps.world) (state_of c.one_group.new.world) (g.K.Sink.told c.args.out.now) (g.K.Sink.told c.steps.out) (g.K.Sink.told c.one_group.new.out) c.steps.cursor c.in-Some.next c.in-Some.step
+      c.steps.invariant.boot c.steps.invariant.come c.in-Some.ensures.next c.in_ok-one_group.ensures.came;
+  way = goes_on_way c.steps.world.boot c.args.world.now.boot (state_of c.steps.world) (state_of c.one_group.new.world) c.steps.cursor c.in-Some.next c.in-Some.step (c.args.world.now.groups + 2 ^ 90)
+      c.requires.world.valid c.steps.invariant.boot c.in-Some.ensures.next c.in-Some.ensures.falls c.in_ok-one_group.ensures.after c.steps.invariant.way;
+  steady = c.in_ok-one_group.ensures.blames ∙ c.steps.invariant.steady;
+}
 
 pub returns-in_err-one_group-clause-came : goal.returns-in_err-one_group-clause-came
 returns-in_err-one_group-clause-came g c = λ ds rest before h.
@@ -53,7 +53,7 @@ returns-in_err-one_group-clause-blames g c =
 pub steps-smaller : goal.steps-smaller
 steps-smaller g c =
     let way = goes_on_way c.steps.world.boot c.args.world.now.boot (state_of c.steps.world) (state_of c.one_group.new.world) c.steps.cursor c.in-Some.next c.in-Some.step (c.args.world.now.groups + 2 ^ 90)
-        c.requires.world.valid c.steps.invariant.boot c.in-Some.ensures.next c.in-Some.ensures.falls c.in_ok-one_group.ensures.after c.steps.invariant.way in
+    c.requires.world.valid c.steps.invariant.boot c.in-Some.ensures.next c.in-Some.ensures.falls c.in_ok-one_group.ensures.after c.steps.invariant.way in
     let more = one_group_more c.steps.world.boot (state_of c.steps.world) (state_of c.one_group.new.world) c.in-Some.step c.in_ok-one_group.ensures.after in
     omega (arith, more, way.within)
 
