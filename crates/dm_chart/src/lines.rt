@@ -70,7 +70,8 @@ fn put_line(
     before: Spot,
     line: &Line,
 ) -> Result<(), NoMemory>
-    ensures { OnOk result (into.new.items ≡ into.old.items ++ all_drawn frame.now (line_shapes frame.now.rows page.now.all.now page.now.before.now before line.now page.now.after.now)) }
+    ensures { OnOk result (into.new.items ≡ into.old.items ++
+        all_drawn frame.now (line_shapes frame.now.rows page.now.all.now page.now.before.now before line.now page.now.after.now)) }
 {
     let spot = next_spot(before, line);
     put_beginning(into, frame, before, spot)?;
@@ -110,7 +111,8 @@ fn put_role(
     spot: Spot,
     role: Role,
 ) -> Result<(), NoMemory>
-    ensures { OnOk result (into.new.items ≡ into.old.items ++ all_drawn frame.now (own_shapes frame.now.rows page.now.all.now own page.now.before.now spot page.now.after.now role)) }
+    ensures { OnOk result (into.new.items ≡ into.old.items ++
+        all_drawn frame.now (own_shapes frame.now.rows page.now.all.now own page.now.before.now spot page.now.after.now role)) }
 {
     match role {
         Role::Put(letter) => put_letter(into, frame, letter, spot, page.before, page.after),
@@ -174,7 +176,8 @@ fn put_sending(
     spot: Spot,
     after: &[Line],
 ) -> Result<(), NoMemory>
-    ensures { OnOk result (into.new.items ≡ into.old.items ++ all_drawn frame.now (sending_shapes sending.from sending.to sending.k sending.row sending.own spot after.now)) }
+    ensures { OnOk result (into.new.items ≡ into.old.items ++
+        all_drawn frame.now (sending_shapes sending.from sending.to sending.k sending.row sending.own spot after.now)) }
 {
     let Sending {
         from,
@@ -199,7 +202,8 @@ fn put_deliveries(
     from: Spot,
     lines: &[Line],
 ) -> Result<(), NoMemory>
-    ensures { OnOk result (into.new.items ≡ into.old.items ++ all_drawn frame.now (deliveries sending.from sending.to sending.k sending.row sending.own false from lines.now)) }
+    ensures { OnOk result (into.new.items ≡ into.old.items ++
+        all_drawn frame.now (deliveries sending.from sending.to sending.k sending.row sending.own false from lines.now)) }
 {
     let mut due = false;
     let mut spot = from;

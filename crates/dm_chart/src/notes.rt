@@ -207,7 +207,8 @@ fn put_sent_on(
     pid: Pid,
     count: u32,
 ) -> Result<(), NoMemory>
-    ensures { OnOk result (into.new.items ≡ into.old.items ++ draw_beside frame.now m row (codes "c3") (codes "6 sends on " ∷ decimal count ∷ codes ": " ∷ pid_word pid ∷ [])) }
+    ensures { OnOk result (into.new.items ≡ into.old.items ++
+        draw_beside frame.now m row (codes "c3") (codes "6 sends on " ∷ decimal count ∷ codes ": " ∷ pid_word pid ∷ [])) }
 {
     put_beside(
         into,
@@ -229,7 +230,9 @@ fn put_lacks(
     slots: u8,
     blocks: u16,
 ) -> Result<(), NoMemory>
-    ensures { OnOk result (into.new.items ≡ into.old.items ++ draw_beside frame.now m row (codes "c3") (codes "no room for " ∷ pid_word pid ∷ codes ": slots " ∷ decimal slots ∷ codes ", blocks " ∷ decimal blocks ∷ [])) }
+    ensures { OnOk result (into.new.items ≡ into.old.items ++
+        draw_beside frame.now m row (codes "c3")
+        (codes "no room for " ∷ pid_word pid ∷ codes ": slots " ∷ decimal slots ∷ codes ", blocks " ∷ decimal blocks ∷ [])) }
 {
     put_beside(
         into,
@@ -333,7 +336,8 @@ fn put_refuse(
     id: MsgId,
     reply: Reply,
 ) -> Result<(), NoMemory>
-    ensures { OnOk result (into.new.items ≡ into.old.items ++ draw_beside frame.now m row (codes "c0") (pid_word pid ∷ codes " is refused " ∷ id_word id ∷ codes ": " ∷ decimal (reply_code reply) ∷ [])) }
+    ensures { OnOk result (into.new.items ≡ into.old.items ++
+        draw_beside frame.now m row (codes "c0") (pid_word pid ∷ codes " is refused " ∷ id_word id ∷ codes ": " ∷ decimal (reply_code reply) ∷ [])) }
 {
     put_beside(
         into,
@@ -360,7 +364,8 @@ fn put_no_space(
     slots: u8,
     blocks: u16,
 ) -> Result<(), NoMemory>
-    ensures { OnOk result (into.new.items ≡ into.old.items ++ draw_beside frame.now m row (codes "c1") (codes "no room: slots " ∷ decimal slots ∷ codes ", blocks " ∷ decimal blocks ∷ [])) }
+    ensures { OnOk result (into.new.items ≡ into.old.items ++
+        draw_beside frame.now m row (codes "c1") (codes "no room: slots " ∷ decimal slots ∷ codes ", blocks " ∷ decimal blocks ∷ [])) }
 {
     put_beside(
         into,

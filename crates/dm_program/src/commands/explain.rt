@@ -74,7 +74,8 @@ fn tell_files<F: Shelf>(
     shelf: &mut F,
 ) -> Result<Told, Status>
     ensures tells { IfOk result (λ t. TellsFiles (F.told shelf.old) boot.now (option_map (λ s. s.now) schedule.entry) t.due t.text.items) }
-    ensures none { IfErr result (λ s. NoInputs (F.told shelf.old) boot.now (option_map (λ s. s.now) schedule.entry) (F.faults shelf.old) (F.faults shelf.new) s) }
+    ensures none { IfErr result
+        (λ s. NoInputs (F.told shelf.old) boot.now (option_map (λ s. s.now) schedule.entry) (F.faults shelf.old) (F.faults shelf.new) s) }
     ensures same { F.told shelf.new ≡ F.told shelf.old }
     ensures steady { IfOk result (λ _. F.faults shelf.new ≡ F.faults shelf.old) }
     ensures blames { IfErr result (λ s. BlamesShelf (F.faults shelf.old) (F.faults shelf.new) s) }
