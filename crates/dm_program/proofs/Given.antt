@@ -296,11 +296,11 @@ chart_built = in_place 2 (built demosmp).subs
 abbrev explain_built : Shape
 explain_built = in_place 3 (built demosmp).subs
 
+abbrev drill_built : Shape
+drill_built = in_place 4 (built demosmp).subs
+
 each_of_run : Each run_built.rules
 each_of_run = (inl (refl, refl), (inl (refl, refl), (inr refl, tt)))
-
-abbrev drill_built : Shape
-drill_built = in_place 2 (built demosmp).subs
 
 each_of_check : Each check_built.rules
 each_of_check = (inl (refl, refl), (inl (refl, refl), (inr refl, tt)))

@@ -1,5 +1,5 @@
 -- The words, as the command takes them.
-use Rattle.std.proofs.Common.{◌≡◌, List, [], ◌∷◌, true, false, arith, refl, ap, sym, subst, ◌∙◌, None, Some, if◌then◌else◌, option_map, ap₂}
+use Rattle.std.proofs.Common.{◌≡◌, List, [], ◌∷◌, codes, true, false, arith, refl, ap, sym, subst, ◌∙◌, None, Some, if◌then◌else◌, option_map, ap₂}
 use Rattle.std.proofs.lemmas.Bool.{ne_eqb}
 use Rattle.std.specs.Prelude.{option_and_then}
 use Rattle.std.specs.declared.option.Option.{Option}
