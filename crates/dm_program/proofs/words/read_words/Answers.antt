@@ -1,9 +1,25 @@
-use Rattle.std.proofs.Common.{◌≡◌, List, ℕ, map, sym, ◌∙◌, None}
-use Rattle.clap.specs.Words.{app_of}
+use Rattle.std.proofs.Common.{◌≡◌, List, ℕ, map, sym, ◌∙◌, subst, None}
+use Rattle.std.specs.declared.result.Result.TheVariants.{Err}
+use Rattle.clap.specs.Words.{app_of, fault_of}
+use Rattle.clap.specs.declared.parser.matches.ArgMatches.{ArgMatches}
+use Rattle.dm_memory.specs.declared.of_clap.NoMatches.{NoMatches}
+use Rattle.dm_memory.specs.Clap.{FailsBy}
 use Rattle.dm_program.specs.Words.{request_of}
-use Rattle.dm_program.proofs.Names.{taken}
+use Rattle.dm_program.proofs.Names.{not_taken, refused, taken}
 use Rattle.dm_program.proofs.Given.{only_refused}
 use Rattle.dm_program.proofs.words.read_words.Goals as goal
+
+pub returns-in-Some-clause-asks : goal.returns-in-Some-clause-asks
+returns-in-Some-clause-asks c =
+    let words : List (List ℕ) = map (λ w. w.now) c.args.words.now in
+    let parse = c.in-Ok-matches_from in
+    taken (app_of c.in-Ok.command) words parse.matches c.in-Ok.ensures parse.ensures.fails parse.ensures.matches ∙ sym c.in-Some.ensures.asked
+
+pub returns-in-Ok-matches_from-clause-usage : goal.returns-in-Ok-matches_from-clause-usage
+returns-in-Ok-matches_from-clause-usage c = λ usage.
+    let words : List (List ℕ) = map (λ w. w.now) c.args.words.now in
+    let parse = c.in-Ok-matches_from in
+    taken (app_of c.in-Ok.command) words parse.matches c.in-Ok.ensures parse.ensures.fails parse.ensures.matches ∙ sym c.in-None.ensures.asked
 
 pub returns-in-Ok-matches_from-clause-refused : goal.returns-in-Ok-matches_from-clause-refused
 returns-in-Ok-matches_from-clause-refused c = λ usage is_taken.
@@ -11,3 +27,15 @@ returns-in-Ok-matches_from-clause-refused c = λ usage is_taken.
     let parse = c.in-Ok-matches_from in
     let none : request_of words ≡ None = taken (app_of c.in-Ok.command) words parse.matches c.in-Ok.ensures parse.ensures.fails parse.ensures.matches ∙ sym c.in-None.ensures.asked in
     only_refused words none is_taken
+
+pub returns-in-Err-Refused-clause-refused : goal.returns-in-Err-Refused-clause-refused
+returns-in-Err-Refused-clause-refused c = λ usage is_taken.
+    let words : List (List ℕ) = map (λ w. w.now) c.args.words.now in
+    not_taken (app_of c.in-Ok.command) words c.in-Ok.ensures
+    (λ simple. subst (λ (n : NoMatches). FailsBy {A = ArgMatches} (fault_of (app_of c.in-Ok.command) words) (Err n)) c.in-Err-Refused.field-0-is (c.in-Err-Refused.ensures.fails simple)) is_taken.passes
+
+pub returns-in-Err-Refused-clause-usage : goal.returns-in-Err-Refused-clause-usage
+returns-in-Err-Refused-clause-usage c = λ usage.
+    let words : List (List ℕ) = map (λ w. w.now) c.args.words.now in
+    refused (app_of c.in-Ok.command) words c.in-Ok.ensures
+    (λ simple. subst (λ (n : NoMatches). FailsBy {A = ArgMatches} (fault_of (app_of c.in-Ok.command) words) (Err n)) c.in-Err-Refused.field-0-is (c.in-Err-Refused.ensures.fails simple))
