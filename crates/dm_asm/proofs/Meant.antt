@@ -4,8 +4,8 @@ use Rattle.std.specs.Prelude.{Result, Ok, Err}
 use Rattle.std.proofs.lemmas.List.{append-nil}
 use Rattle.dm_asm.specs.declared.labels.Labels.{Labels}
 use Rattle.dm_asm.specs.declared.refusals.Why.{Why}
-use Rattle.dm_asm.specs.declared.refusals.AsmNo.{AsmNo}
-use Rattle.dm_asm.specs.declared.refusals.AsmNo.TheVariants.{Fault, NoMemory}
+use Rattle.dm_asm.specs.declared.refusals.AssembleError.{AssembleError}
+use Rattle.dm_asm.specs.declared.refusals.AssembleError.TheVariants.{Fault, NoMemory}
 use Rattle.dm_asm.specs.Assembled.{Answers, assembled, places_of, with_lines}
 use Rattle.dm_asm.specs.Labels.{place_in}
 use Rattle.dm_asm.specs.Lines.{lines}
@@ -23,7 +23,7 @@ meant labels text h =
     ap (λ places. with_lines places 1 [] (lines text)) same
 
 -- a refusal of what is the same
-pub refused_alike : {A B : Type 0} (f : A → List ℕ) (g : B → List ℕ) (no : AsmNo) (m n : Result (List ℕ) (ℕ × Why)) → m ≡ n → Answers f (Err no) m → Answers g (Err no) n
+pub refused_alike : {A B : Type 0} (f : A → List ℕ) (g : B → List ℕ) (no : AssembleError) (m n : Result (List ℕ) (ℕ × Why)) → m ≡ n → Answers f (Err no) m → Answers g (Err no) n
 refused_alike f g (Fault line why) m n e h = sym e ∙ h
 refused_alike f g (NoMemory _) m n e h = tt
 

@@ -3,8 +3,8 @@ use Rattle.std.specs.Prelude.{ℕ, ◌≡◌, nat_le, ◌+◌, ◌-◌, if◌the
 use Rattle.dm_asm.specs.declared.labels.Place.{Place}
 use Rattle.dm_asm.specs.declared.refusals.Why.{Why}
 use Rattle.dm_asm.specs.declared.refusals.Why.TheVariants.{TooLong}
-use Rattle.dm_asm.specs.declared.refusals.AsmNo.{AsmNo}
-use Rattle.dm_asm.specs.declared.refusals.AsmNo.TheVariants.{Fault, NoMemory}
+use Rattle.dm_asm.specs.declared.refusals.AssembleError.{AssembleError}
+use Rattle.dm_asm.specs.declared.refusals.AssembleError.TheVariants.{Fault, NoMemory}
 use Rattle.dm_asm.specs.declared.refusals.Stop.{Stop}
 use Rattle.dm_asm.specs.declared.refusals.Stop.TheVariants as stops
 use Rattle.dm_asm.specs.Lines.{lines}
@@ -42,13 +42,13 @@ unfoldable pub assembled : List ℕ → Result (List ℕ) (ℕ × Why)
 assembled text = with_lines (places_of text) 1 [] (lines text)
 
 -- an answer, seen as an image, is what is meant, unless memory is wanting
-abbrev pub Answers : {A : Type 0} → (A → List ℕ) → Result A AsmNo → Result (List ℕ) (ℕ × Why) → Type 0
+abbrev pub Answers : {A : Type 0} → (A → List ℕ) → Result A AssembleError → Result (List ℕ) (ℕ × Why) → Type 0
 Answers seen (Ok x) meant = meant ≡ Ok (seen x)
 Answers seen (Err (Fault line why)) meant = meant ≡ Err (line, why)
 Answers seen (Err (NoMemory _)) meant = Unit {0}
 
 -- why a line stops all
-abbrev pub at_line : ℕ → Stop → AsmNo
+abbrev pub at_line : ℕ → Stop → AssembleError
 at_line line (stops.Fault why) = Fault line why
 at_line line (stops.NoMemory none) = NoMemory none
 

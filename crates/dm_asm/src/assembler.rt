@@ -10,7 +10,7 @@ ghost use Rattle.dm_asm.specs.Statements.{is_twice, line_bytes};
 use crate::image::Image;
 use crate::labels::{Labels, split_label};
 use crate::lines::{first_line, uncommented};
-use crate::refusals::{AsmNo, Stop, Why};
+use crate::refusals::{AssembleError, Stop, Why};
 use crate::statements::{add_statement, stands_elsewhere};
 use dm_processor::MOST_MEMORY;
 use std::alloc::Global;
@@ -41,17 +41,17 @@ fn add_line(labels: &Labels, image: &mut Vec<u8>, number: usize, line: &[u8]) ->
 }
 
 /// Why a line stops all.
-fn stopped(line: usize, stop: Stop) -> AsmNo
+fn stopped(line: usize, stop: Stop) -> AssembleError
     ensures { result ≡ at_line line stop }
 {
     match stop {
-        Stop::Fault(why) => AsmNo::Fault { line, why },
-        Stop::NoMemory(no) => AsmNo::NoMemory(no),
+        Stop::Fault(why) => AssembleError::Fault { line, why },
+        Stop::NoMemory(no) => AssembleError::NoMemory(no),
     }
 }
 
 /// The bytes of all lines.
-fn all_lines(alloc: Global, labels: &Labels, text: &[u8]) -> Result<Vec<u8>, AsmNo>
+fn all_lines(alloc: Global, labels: &Labels, text: &[u8]) -> Result<Vec<u8>, AssembleError>
     ensures exact { Answers (λ image. image.items) result (with_lines (place_in labels.now) 1 [] (lines text.now)) }
     ensures most { IfOk result (λ image. length image.items ≤ 65536) }
 {
@@ -71,13 +71,13 @@ fn all_lines(alloc: Global, labels: &Labels, text: &[u8]) -> Result<Vec<u8>, Asm
 
 /// Assembles a text: the image that it means, or the first line that is refused. It reads the text
 /// twice, first for the labels.
-pub fn assemble(alloc: Global, text: &str) -> Result<Image, AsmNo>
+pub fn assemble(alloc: Global, text: &str) -> Result<Image, AssembleError>
     ensures exact { Answers (λ image. image) result (assembled text.now) }
 {
     let text = text.as_bytes();
     let labels = match Labels::of(alloc, text) {
         Ok(labels) => labels,
-        Err(no) => return Err(AsmNo::NoMemory(no)),
+        Err(no) => return Err(AssembleError::NoMemory(no)),
     };
     match all_lines(alloc, &labels, text) {
         Ok(bytes) => Ok(Image::new(bytes)),

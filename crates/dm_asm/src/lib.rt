@@ -14,4 +14,4 @@ mod statements;
 
 pub use assembler::assemble;
 pub use image::Image;
-pub use refusals::{AsmNo, Why};
+pub use refusals::{AssembleError, Why};

@@ -46,7 +46,7 @@ impl Why {
 
 /// Why there is no image.
 #[derive(Clone, Copy, Debug, PartialEq, Eq, Drop)]
-pub enum AsmNo {
+pub enum AssembleError {
     /// A line is refused; lines count from 1.
     Fault { line: usize, why: Why },
     /// No memory was left.

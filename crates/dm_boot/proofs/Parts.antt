@@ -6,8 +6,8 @@ use Rattle.dm_onekernel.specs.declared.boot.Boot.{Boot}
 use Rattle.dm_boot.specs.declared.rules.BootRule.{BootRule}
 use Rattle.dm_boot.specs.declared.rules.BootRule.TheVariants.{TopKeys, Settings, MachineCount, MachineKeys, MachineRoom, ImageCount, ImageText, ImageBytes, ProcessKeys, ProcessName, ProcessMachine, ProcessImage, ProcessRoom}
 use Rattle.dm_boot.specs.declared.rules.TableRule.TheVariants as of_tables
-use Rattle.dm_boot.specs.declared.rules.BootNo.{BootNo}
-use Rattle.dm_boot.specs.declared.rules.BootNo.TheVariants.{Refused, NoMemory}
+use Rattle.dm_boot.specs.declared.rules.BootError.{BootError}
+use Rattle.dm_boot.specs.declared.rules.BootError.TheVariants.{Refused, NoMemory}
 use Rattle.dm_boot.specs.Before.{before_images}
 use Rattle.dm_boot.specs.Tables.{count, first_failing, map_items}
 use Rattle.dm_boot.specs.Build.{image_of, images_of, image_tables, process_tables, system_of}
@@ -82,7 +82,7 @@ at-err rule None rest x e h = absurd (cc)
 at-err rule (Some place) rest x e h = cc
 
 -- an answer that says what another said
-pub pass-err : {A B : Type 0} (w : Result A (BootRule × ℕ)) (v : Result B (BootRule × ℕ)) (e : BootNo) → ((x : BootRule × ℕ) → w ≡ Err x → v ≡ Err x) → Answers w (Err e) → Answers v (Err e)
+pub pass-err : {A B : Type 0} (w : Result A (BootRule × ℕ)) (v : Result B (BootRule × ℕ)) (e : BootError) → ((x : BootRule × ℕ) → w ≡ Err x → v ≡ Err x) → Answers w (Err e) → Answers v (Err e)
 pass-err w v (Refused rule place) turn h = turn (rule, place) h
 pass-err w v (NoMemory _) turn h = tt
 

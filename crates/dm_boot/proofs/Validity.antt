@@ -12,7 +12,7 @@ use Rattle.dm_onekernel.specs.declared.boot.BootProcess.{BootProcess}
 use Rattle.dm_onekernel.specs.declared.boot.Boot.{Boot}
 use Rattle.dm_onekernel.specs.Boot.{IsValid, first_number, slots_of, starting_at, blocks_at, links_are_valid, image_is_valid, images_are_valid, process_is_valid, processes_are_valid, machine_is_valid, machines_are_valid}
 use Rattle.dm_boot.specs.declared.rules.BootRule.TheVariants.{TopKeys, Settings, MachineCount, MachineKeys, MachineRoom, ImageCount, ImageKeys, ImageName, ImageBlocks, ImageText, ImageBytes, ProcessKeys, ProcessName, ProcessMachine, ProcessImage, ProcessRoom, LinkCount, LinkTarget, LinkLimits}
-use Rattle.dm_boot.specs.declared.rules.BootNo.{BootNo}
+use Rattle.dm_boot.specs.declared.rules.BootError.{BootError}
 use Rattle.dm_boot.specs.Tables.{count, or_zero, all_items, first_failing, map_items}
 use Rattle.dm_boot.specs.Build.{machine_tables, image_tables, process_tables, link_tables, numbers_of, quantum_of, format_number, format_of, slots_in, blocks_in, machine_of, machines_of, image_blocks, image_of, images_of, machine_number, home_of, image_place, start_of, starts_from, starts_of, links_of, link_of, linked, linked_all, processes_of, is_control, system_of, system_with}
 use Rattle.dm_boot.specs.Rules.{keeps, subjects, broken_at, first_broken, rules, has_good_settings, has_good_machine_count, has_good_room, has_good_image_count, image_fits, is_below, has_machine, has_link_count, has_target, is_limited}
@@ -255,7 +255,7 @@ pub boot-valid : (bytes : List ℕ) (b : Boot) → boot_of bytes ≡ Ok b → Is
 unfolding boot_of
 boot-valid bytes b h = document-valid (document_of bytes) b h
 
-pub answers-valid : (bytes : List ℕ) (r : Result Boot BootNo) → Answers (boot_of bytes) r → IfOk r (λ b. IsValid b)
+pub answers-valid : (bytes : List ℕ) (r : Result Boot BootError) → Answers (boot_of bytes) r → IfOk r (λ b. IsValid b)
 answers-valid bytes (Ok b) h = boot-valid bytes b h
 answers-valid bytes (Err e) h = tt
 

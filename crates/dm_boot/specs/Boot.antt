@@ -9,8 +9,8 @@ use Rattle.toml.specs.Parse.{parse_document}
 use Rattle.dm_onekernel.specs.declared.boot.Boot.{Boot}
 use Rattle.dm_boot.specs.declared.rules.BootRule.{BootRule}
 use Rattle.dm_boot.specs.declared.rules.BootRule.TheVariants.{Document}
-use Rattle.dm_boot.specs.declared.rules.BootNo.{BootNo}
-use Rattle.dm_boot.specs.declared.rules.BootNo.TheVariants.{Refused, NoMemory}
+use Rattle.dm_boot.specs.declared.rules.BootError.{BootError}
+use Rattle.dm_boot.specs.declared.rules.BootError.TheVariants.{Refused, NoMemory}
 use Rattle.dm_boot.specs.Build.{system_of}
 use Rattle.dm_boot.specs.Rules.{rules, first_broken}
 
@@ -42,7 +42,7 @@ unfoldable pub boot_of : List ℕ → Result Boot (BootRule × ℕ)
 boot_of bytes = boot_of_document (document_of bytes)
 
 -- an answer is what was wanted; want of memory says nothing
-abbrev pub Answers : {A : Type 0} → Result A (BootRule × ℕ) → Result A BootNo → Type 0
+abbrev pub Answers : {A : Type 0} → Result A (BootRule × ℕ) → Result A BootError → Type 0
 Answers wanted (Ok x) = wanted ≡ Ok x
 Answers wanted (Err (Refused rule place)) = wanted ≡ Err (rule, place)
 Answers wanted (Err (NoMemory _)) = Unit {0}

@@ -9,9 +9,9 @@ ghost use Rattle.dm_boot.specs.Boot.{Answers, unless_at};
 ghost use Rattle.dm_boot.specs.declared.rules.BootRule.TheVariants as rules;
 
 use crate::limits::image_blocks;
-use crate::rules::{BootNo, BootRule};
+use crate::rules::{BootError, BootRule};
 use crate::tables::text_at;
-use dm_asm::AsmNo;
+use dm_asm::AssembleError;
 use dm_lists::Items;
 use dm_memory::NoMemory;
 use dm_onekernel::boot::BootImage;
@@ -30,7 +30,7 @@ enum Assembled {
 
 /// The images of these tables, unless the assembler refuses a text.
 #[tactic(auto, using(crate::proofs::Texts::image_lemmas))]
-pub fn images_of(alloc: Global, tables: &[Value]) -> Result<Items<BootImage>, BootNo>
+pub fn images_of(alloc: Global, tables: &[Value]) -> Result<Items<BootImage>, BootError>
     ensures { Answers (unless_at rules.ImageText (first_unassembled 0 (items_view tables.now)) (map_items image_of (items_view tables.now))) result }
 {
     let mut images = Items::new(alloc);
@@ -38,15 +38,15 @@ pub fn images_of(alloc: Global, tables: &[Value]) -> Result<Items<BootImage>, Bo
         let image = match image_of(alloc, table) {
             Assembled::Image(image) => image,
             Assembled::Fault => {
-                return Err(BootNo::Refused {
+                return Err(BootError::Refused {
                     rule: BootRule::ImageText,
                     place: i as u64,
                 });
             }
-            Assembled::NoMemory(none) => return Err(BootNo::NoMemory(none)),
+            Assembled::NoMemory(none) => return Err(BootError::NoMemory(none)),
         };
         if let Err(none) = images.push(image) {
-            return Err(BootNo::NoMemory(none));
+            return Err(BootError::NoMemory(none));
         }
     }
     Ok(images)
@@ -63,8 +63,8 @@ fn image_of(alloc: Global, table: &Value) -> Assembled
             bytes: Items::from_vec(image.into_bytes()),
             blocks,
         }),
-        Err(AsmNo::Fault { .. }) => Assembled::Fault,
-        Err(AsmNo::NoMemory(none)) => Assembled::NoMemory(none),
+        Err(AssembleError::Fault { .. }) => Assembled::Fault,
+        Err(AssembleError::NoMemory(none)) => Assembled::NoMemory(none),
     }
 }
 

@@ -20,16 +20,16 @@ mod system;
 pub mod tables;
 pub mod targets;
 
-use dm_memory::of_toml::{NoDocument, table_from_slice};
+use dm_memory::of_toml::{DocumentError, table_from_slice};
 use dm_onekernel::boot::Boot;
-pub use rules::{BootNo, BootRule};
+pub use rules::{BootError, BootRule};
 use std::alloc::Global;
 use system::system_of;
 use toml::Value;
 
 /// Reads the system that a boot file describes, or the first rule that it breaks.
 #[tactic(auto, using(crate::proofs::Validity::valid_lemmas))]
-pub fn read_boot(alloc: Global, bytes: &[u8]) -> Result<Boot, BootNo>
+pub fn read_boot(alloc: Global, bytes: &[u8]) -> Result<Boot, BootError>
     ensures answers { Answers (boot_of bytes.now) result }
     ensures valid { IfOk result (λ b. IsValid b) }
 {
@@ -38,15 +38,15 @@ pub fn read_boot(alloc: Global, bytes: &[u8]) -> Result<Boot, BootNo>
 
 /// Reads the document, and then its top table.
 #[tactic(auto, unfolding(crate::specs::Boot::boot_of), using(crate::proofs::Documents::document_lemmas))]
-fn read(alloc: Global, bytes: &[u8]) -> Result<Boot, BootNo>
+fn read(alloc: Global, bytes: &[u8]) -> Result<Boot, BootError>
     ensures { Answers (boot_of bytes.now) result }
 {
     match table_from_slice(alloc, bytes) {
         Ok(table) => system_of(alloc, &Value::Table(table)),
-        Err(NoDocument::Unread) => Err(BootNo::Refused {
+        Err(DocumentError::Unread) => Err(BootError::Refused {
             rule: BootRule::Document,
             place: 0,
         }),
-        Err(NoDocument::NoMemory(none)) => Err(BootNo::NoMemory(none)),
+        Err(DocumentError::NoMemory(none)) => Err(BootError::NoMemory(none)),
     }
 }

@@ -131,7 +131,7 @@ impl TableRule {
 
 /// Why a boot file gives no system.
 #[derive(Clone, Copy, Debug, PartialEq, Eq, Error)]
-pub enum BootNo {
+pub enum BootError {
     /// The first rule that it breaks, and the place of the element that breaks it: its index in its
     /// array, or 0 for the top table.
     #[error("{rule:?} at {place}")]

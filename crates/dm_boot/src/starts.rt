@@ -11,7 +11,7 @@ ghost use Rattle.dm_boot.specs.declared.rules.BootRule.TheVariants as rules;
 
 use crate::document::Document;
 use crate::limits::{image_place, machine_number};
-use crate::rules::{BootNo, BootRule};
+use crate::rules::{BootError, BootRule};
 use crate::tables::items_at;
 use dm_link::{FIRST_NUMBER, Pid};
 use dm_lists::Items;
@@ -25,7 +25,7 @@ pub fn starts_of(
     document: &Document<'_>,
     machines: &[BootMachine],
     images: &[BootImage],
-) -> Result<Items<BootProcess>, BootNo>
+) -> Result<Items<BootProcess>, BootError>
     requires machines { machines.now ≡ machines_of (view document.now.top.now) }
     requires images { images.now ≡ images_of (view document.now.top.now) }
     requires few { count (image_tables (view document.now.top.now)) ≤ 256 }
@@ -38,13 +38,13 @@ pub fn starts_of(
     for (i, table) in tables.iter().enumerate() {
         let start = start_of(alloc, document, starts.as_slice(), table);
         if !fits_after(machines, images, starts.as_slice(), &start) {
-            return Err(BootNo::Refused {
+            return Err(BootError::Refused {
                 rule: BootRule::ProcessRoom,
                 place: i as u64,
             });
         }
         if let Err(none) = starts.push(start) {
-            return Err(BootNo::NoMemory(none));
+            return Err(BootError::NoMemory(none));
         }
     }
     Ok(starts)

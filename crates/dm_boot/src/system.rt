@@ -13,7 +13,7 @@ use crate::images::{first_long, images_of};
 use crate::limits::{format_of, numbers_of, quantum_of};
 use crate::machines::machines_of;
 use crate::processes::processes_of;
-use crate::rules::{BootNo, BootRule, TableRule};
+use crate::rules::{BootError, BootRule, TableRule};
 use crate::starts::starts_of;
 use crate::tables::items_at;
 use dm_lists::Items;
@@ -22,17 +22,17 @@ use std::alloc::Global;
 use toml::Value;
 
 /// The system of the top table, or the first rule that it breaks.
-pub fn system_of(alloc: Global, top: &Value) -> Result<Boot, BootNo>
+pub fn system_of(alloc: Global, top: &Value) -> Result<Boot, BootError>
     ensures { Answers (boot_of_table (view top.now)) result }
 {
     match Document::new(alloc, top) {
         Ok(document) => read_system(alloc, &document),
-        Err(none) => Err(BootNo::NoMemory(none)),
+        Err(none) => Err(BootError::NoMemory(none)),
     }
 }
 
 /// The system of a document, or the first rule that it breaks.
-fn read_system(alloc: Global, document: &Document<'_>) -> Result<Boot, BootNo>
+fn read_system(alloc: Global, document: &Document<'_>) -> Result<Boot, BootError>
     ensures { Answers (boot_of_table (view document.now.top.now)) result }
 {
     let images = match read_images(alloc, document) {
@@ -41,7 +41,7 @@ fn read_system(alloc: Global, document: &Document<'_>) -> Result<Boot, BootNo>
     };
     let machines = match machines_of(alloc, items_at(document.top, "machine")) {
         Ok(machines) => machines,
-        Err(none) => return Err(BootNo::NoMemory(none)),
+        Err(none) => return Err(BootError::NoMemory(none)),
     };
     let starts = match read_starts(alloc, document, machines.as_slice(), images.as_slice()) {
         Ok(starts) => starts,
@@ -93,20 +93,20 @@ fn before_images() -> [TableRule; 9]
 
 /// The images, where no rule before those of the processes is broken.
 #[tactic(auto, unfolding(crate::specs::Rules::rule_of))]
-fn read_images(alloc: Global, document: &Document<'_>) -> Result<Items<BootImage>, BootNo>
+fn read_images(alloc: Global, document: &Document<'_>) -> Result<Items<BootImage>, BootError>
     ensures images { Answers (unless (first_broken image_rules (view document.now.top.now)) (images_of (view document.now.top.now))) result }
     ensures few { OnOk result (count (image_tables (view document.now.top.now)) ≤ 256) }
 {
     let before = before_images();
     if let Some((rule, place)) = first_broken(document, &before) {
-        return Err(BootNo::Refused { rule, place });
+        return Err(BootError::Refused { rule, place });
     }
     let images = match images_of(alloc, items_at(document.top, "image")) {
         Ok(images) => images,
         Err(e) => return Err(e),
     };
     if let Some(place) = first_long(images.as_slice()) {
-        return Err(BootNo::Refused {
+        return Err(BootError::Refused {
             rule: BootRule::ImageBytes,
             place: place as u64,
         });
@@ -121,7 +121,7 @@ fn read_starts(
     document: &Document<'_>,
     machines: &[BootMachine],
     images: &[BootImage],
-) -> Result<Items<BootProcess>, BootNo>
+) -> Result<Items<BootProcess>, BootError>
     requires machines { machines.now ≡ machines_of (view document.now.top.now) }
     requires images { images.now ≡ images_of (view document.now.top.now) }
     requires few { count (image_tables (view document.now.top.now)) ≤ 256 }
@@ -135,7 +135,7 @@ fn read_starts(
         TableRule::ProcessImage,
     ];
     if let Some((rule, place)) = first_broken(document, &before) {
-        return Err(BootNo::Refused { rule, place });
+        return Err(BootError::Refused { rule, place });
     }
     match starts_of(alloc, document, machines, images) {
         Ok(starts) => Ok(starts),
@@ -149,7 +149,7 @@ fn read_processes(
     alloc: Global,
     document: &Document<'_>,
     starts: &[BootProcess],
-) -> Result<Items<BootProcess>, BootNo>
+) -> Result<Items<BootProcess>, BootError>
     requires starts { starts.now ≡ starts_of (view document.now.top.now) }
     requires few { count (process_tables (view document.now.top.now)) ≤ 4080 }
     ensures { Answers (unless (first_broken link_rules (view document.now.top.now)) (processes_of (view document.now.top.now))) result }
@@ -160,10 +160,10 @@ fn read_processes(
         TableRule::LinkLimits,
     ];
     if let Some((rule, place)) = first_broken(document, &rules) {
-        return Err(BootNo::Refused { rule, place });
+        return Err(BootError::Refused { rule, place });
     }
     match processes_of(alloc, document, starts) {
         Ok(processes) => Ok(processes),
-        Err(none) => Err(BootNo::NoMemory(none)),
+        Err(none) => Err(BootError::NoMemory(none)),
     }
 }

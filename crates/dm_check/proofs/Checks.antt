@@ -25,8 +25,8 @@ use Rattle.dm_node.specs.declared.stop.Stop.TheVariants as stop
 use Rattle.dm_run.specs.Running.{RanOn, RunsOn, StopsWorn}
 use Rattle.dm_check.specs.declared.fault.TraceFault.{TraceFault}
 use Rattle.dm_check.specs.declared.fault.TraceFault.TheVariants.{NotDue}
-use Rattle.dm_check.specs.declared.stop.CheckNo.{CheckNo}
-use Rattle.dm_check.specs.declared.stop.CheckNo.TheVariants as no
+use Rattle.dm_check.specs.declared.stop.CheckError.{CheckError}
+use Rattle.dm_check.specs.declared.stop.CheckError.TheVariants as no
 use Rattle.dm_check.specs.Checked.{HasChecked, NoGroup}
 use Rattle.dm_check.specs.Checking.{RefusedSo, first_line, head_of_line}
 use Rattle.dm_check.specs.Good.{AllHeld, AreHeads, EndsFit, IsTrace, good_verdict, text_behind}
@@ -95,11 +95,11 @@ checks_on b bytes rest others number groups w v e lines h head held runs fits re
     }
 
 -- a refusal on what is left is that of the whole text
-pub refused_on : (v u : Verdict) (x : CheckNo) → v ≡ u → RefusedSo u x → RefusedSo v x
+pub refused_on : (v u : Verdict) (x : CheckError) → v ≡ u → RefusedSo u x → RefusedSo v x
 refused_on v u x e h = subst (λ t. RefusedSo t x) (sym e) h
 
 -- its lines don't stand
-pub checks_fall : (b : Boot) (bytes rest : List ℕ) (number groups : ℕ) (w v : WorldState) (e : Step) (lines : List Line) (x : CheckNo) → HasChecked b bytes rest number groups w
+pub checks_fall : (b : Boot) (bytes rest : List ℕ) (number groups : ℕ) (w v : WorldState) (e : Step) (lines : List Line) (x : CheckError) → HasChecked b bytes rest number groups w
     → head_of_line (first_line (pieces 10 rest)) ≡ Some e → can_hold (length b.machines) e ≡ true → RunsOn w b e lines v
     → ((pt : Point) (n : ℕ) → RefusedSo (judged_from b (behind_line lines pt n) number (pieces 10 rest)) x) → RefusedSo (verdict b bytes) x
 checks_fall b bytes rest number groups w v e lines x h head held runs falls =
@@ -114,7 +114,7 @@ checks_fall b bytes rest number groups w v e lines x h head held runs falls =
     (falls r.spelled.point (groups + 1))
 
 -- no group is due
-pub checks_stop : (b : Boot) (bytes rest : List ℕ) (number groups : ℕ) (w : WorldState) (e : Step) (x : CheckNo) → HasChecked b bytes rest number groups w
+pub checks_stop : (b : Boot) (bytes rest : List ℕ) (number groups : ℕ) (w : WorldState) (e : Step) (x : CheckError) → HasChecked b bytes rest number groups w
     → head_of_line (first_line (pieces 10 rest)) ≡ Some e → NoGroup b w e number x → RefusedSo (verdict b bytes) x
 checks_stop b bytes rest number groups w e (no.NoMemory lack) h head none = tt
 checks_stop b bytes rest number groups w e (no.Refused line fault) h head (at, is, falls) =
@@ -146,7 +146,7 @@ checks_more b c bytes rest others number groups w v e lines slice same is h head
     (subst (λ (ls : List Line). rest ≡ text_of_lines ls ++ others) is read)
     (subst (λ (ls : List Line). (pt : Point) (n : ℕ) → judged_from b (behind_line ls pt n) number (pieces 10 rest) ≡ judged_from b (judge.Head pt n) (number + length ls) (pieces 10 others)) is (goes b))
 
-pub checks_less : (b c : Boot) (quantum : ℕ) (bytes rest : List ℕ) (number groups : ℕ) (w v : WorldState) (e : Step) (lines slice : List Line) (x : CheckNo) → c ≡ b → b.quantum ≡ quantum → slice ≡ lines → HasChecked b bytes rest number groups w
+pub checks_less : (b c : Boot) (quantum : ℕ) (bytes rest : List ℕ) (number groups : ℕ) (w v : WorldState) (e : Step) (lines slice : List Line) (x : CheckError) → c ≡ b → b.quantum ≡ quantum → slice ≡ lines → HasChecked b bytes rest number groups w
     → head_of_line (first_line (pieces 10 rest)) ≡ Some e → can_hold (length c.machines) e ≡ true → RunsOn w c e lines v
     → ((d : Boot) (pt : Point) (n : ℕ) → d.quantum ≡ quantum → RefusedSo (judged_from d (behind_line slice pt n) number (pieces 10 rest)) x) → RefusedSo (verdict b bytes) x
 checks_less b c quantum bytes rest number groups w v e lines slice x same equal is h head held runs falls =
@@ -154,12 +154,12 @@ checks_less b c quantum bytes rest number groups w v e lines slice x same equal 
     (subst (λ (ls : List Line). (pt : Point) (n : ℕ) → RefusedSo (judged_from b (behind_line ls pt n) number (pieces 10 rest)) x) is (λ pt n. falls b pt n equal))
 
 -- a head that no schedule can hold has no group that is due
-pub none_unheld : (b : Boot) (w : WorldState) (e : Step) (number : ℕ) (x : CheckNo) → x ≡ no.Refused number NotDue → can_hold (length b.machines) e ≡ false → NoGroup b w e number x
+pub none_unheld : (b : Boot) (w : WorldState) (e : Step) (number : ℕ) (x : CheckError) → x ≡ no.Refused number NotDue → can_hold (length b.machines) e ≡ false → NoGroup b w e number x
 none_unheld b w e number x is held =
     subst (NoGroup b w e number) (sym is) (refl, refl, λ es gs pt n bytes r. ap (λ (t : Bool). if t then begins_group b pt n bytes (group_of b pt e) else Falls NotDue) held)
 
 -- nor has one whose group would route a message between two machines that count as many as they may
-pub none_worn : (b : Boot) (w : WorldState) (e : Step) (number from to : ℕ) (x : CheckNo) → x ≡ no.Refused number NotDue → can_hold (length b.machines) e ≡ true → StopsWorn b w e (stop.Worn from to) → NoGroup b w e number x
+pub none_worn : (b : Boot) (w : WorldState) (e : Step) (number from to : ℕ) (x : CheckError) → x ≡ no.Refused number NotDue → can_hold (length b.machines) e ≡ true → StopsWorn b w e (stop.Worn from to) → NoGroup b w e number x
 none_worn b w e number from to x is held worn =
     subst (NoGroup b w e number) (sym is) (refl, refl, λ es gs pt n bytes r. falls pt n bytes (worn es gs pt r))
   where
@@ -170,7 +170,7 @@ none_worn b w e number from to x is held worn =
         ∙ ap (λ o. unless_worn o (judge.begins b.quantum h.group.lines h.group.point (n + 1) bytes)) h.first
 
 -- where its stop is that
-pub none_stopped : (b : Boot) (w : WorldState) (e : Step) (number from to : ℕ) (s : Stop) (x : CheckNo) → s ≡ stop.Worn from to → x ≡ no.Refused number NotDue → can_hold (length b.machines) e ≡ true → StopsWorn b w e s → NoGroup b w e number x
+pub none_stopped : (b : Boot) (w : WorldState) (e : Step) (number from to : ℕ) (s : Stop) (x : CheckError) → s ≡ stop.Worn from to → x ≡ no.Refused number NotDue → can_hold (length b.machines) e ≡ true → StopsWorn b w e s → NoGroup b w e number x
 none_stopped b w e number from to s x stopped is held worn = none_worn b w e number from to x is held (subst (StopsWorn b w e) stopped worn)
 
 -- a group has a line
@@ -183,7 +183,7 @@ some_lines b c bytes rest number groups w v e lines same h runs =
     omega (arith, size)
 
 -- no head is left, and what is left is refused
-pub checks_refused : (b c : Boot) (bytes rest : List ℕ) (number groups : ℕ) (w : WorldState) (x : CheckNo) → c ≡ b → HasChecked b bytes rest number groups w
+pub checks_refused : (b c : Boot) (bytes rest : List ℕ) (number groups : ℕ) (w : WorldState) (x : CheckError) → c ≡ b → HasChecked b bytes rest number groups w
     → ((es : List Step) (gs : List (List Line)) (pt : Point) (n : ℕ) → Ran c es gs pt w → RefusedSo (judged_from c (judge.Head pt n) number (pieces 10 rest)) x) → RefusedSo (verdict b bytes) x
 checks_refused b c bytes rest number groups w x same h refused =
     let here : (es : List Step) (gs : List (List Line)) (pt : Point) (n : ℕ) → Ran b es gs pt w → RefusedSo (judged_from b (judge.Head pt n) number (pieces 10 rest)) x =

@@ -13,7 +13,7 @@ use Rattle.dm_text.specs.Fits.{EndFits, LineFits}
 use Rattle.dm_text.specs.Reading.{pieces}
 use Rattle.dm_text.specs.Text.{words, spaced, spelled, text, end_text, text_of_ends, text_of_lines}
 use Rattle.dm_shape.specs.Full.{IsFull}
-use Rattle.dm_check.specs.declared.stop.CheckNo.{CheckNo}
+use Rattle.dm_check.specs.declared.stop.CheckError.{CheckError}
 use Rattle.dm_check.specs.Checking.{RefusedSo}
 use Rattle.dm_check.specs.Judge as judge
 use Rattle.dm_check.specs.Judge.{Verdict, Ended, behind_line, judged_from}
@@ -32,7 +32,7 @@ line_on b lines i d pt n first number all bytes rest h so_far on =
     so_far ∙ ap (λ ls. judged_from b (behind_line ls pt n) number (pieces 10 bytes)) (from_here lines i d h) ∙ on
 
 -- it doesn't
-pub line_off : (b : Boot) (lines : List Line) (i : ℕ) (d : Line) (pt : Point) (n first number : ℕ) (all bytes : List ℕ) (x : CheckNo) → i < length lines
+pub line_off : (b : Boot) (lines : List Line) (i : ℕ) (d : Line) (pt : Point) (n first number : ℕ) (all bytes : List ℕ) (x : CheckError) → i < length lines
     → judged_from b (behind_line lines pt n) first (pieces 10 all) ≡ judged_from b (behind_line (drop i lines) pt n) number (pieces 10 bytes)
     → RefusedSo (judged_from b (judge.InGroup (get_or lines i d) (drop (i + 1) lines) pt n) number (pieces 10 bytes)) x
     → RefusedSo (judged_from b (behind_line lines pt n) first (pieces 10 all)) x
@@ -106,7 +106,7 @@ pub end_on : (b : Boot) (ends : List EndLine) (i : ℕ) (d : EndLine) (n first n
 end_on b ends i d n first number all bytes rest h fits full so_far on =
     so_far ∙ ap (λ es. judged_from b (judge.End es n) number (pieces 10 bytes)) (from_here ends i d h) ∙ end_stands b (get_or ends i d) (drop (i + 1) ends) n number bytes rest (fits i d h) (full i d h) on
 
-pub end_off : (b : Boot) (ends : List EndLine) (i : ℕ) (d : EndLine) (n first number : ℕ) (all bytes : List ℕ) (x : CheckNo) → i < length ends
+pub end_off : (b : Boot) (ends : List EndLine) (i : ℕ) (d : EndLine) (n first number : ℕ) (all bytes : List ℕ) (x : CheckError) → i < length ends
     → judged_from b (judge.End ends n) first (pieces 10 all) ≡ judged_from b (judge.End (drop i ends) n) number (pieces 10 bytes)
     → RefusedSo (judged_from b (judge.End (get_or ends i d ∷ drop (i + 1) ends) n) number (pieces 10 bytes)) x → RefusedSo (judged_from b (judge.End ends n) first (pieces 10 all)) x
 end_off b ends i d n first number all bytes x h so_far off =

@@ -36,8 +36,8 @@ use Rattle.dm_shape.proofs.NamesRead.{some_piece, cut_is, first_is}
 use Rattle.dm_shape.proofs.ShapeLaws.{lines_have, ends_have, heads_have}
 use Rattle.dm_check.specs.declared.fault.TraceFault.{TraceFault}
 use Rattle.dm_check.specs.declared.fault.TraceFault.TheVariants.{NotALine, NotDue, NotTheEnd}
-use Rattle.dm_check.specs.declared.stop.CheckNo.{CheckNo}
-use Rattle.dm_check.specs.declared.stop.CheckNo.TheVariants as stop
+use Rattle.dm_check.specs.declared.stop.CheckError.{CheckError}
+use Rattle.dm_check.specs.declared.stop.CheckError.TheVariants as stop
 use Rattle.dm_check.specs.Checking.{FallsBy, RefusedSo, first_line, head_of_line, is_final}
 use Rattle.dm_check.specs.Judge as judge
 use Rattle.dm_check.specs.Judge.{Verdict, Ended, Refused, Due, Nothing, Taken, Stands, Falls, is_text, behind_line, told, at_end, at_head, begins_group, unless_worn, can_hold, taken, ended, judged_from}
@@ -48,7 +48,7 @@ if_err (Ok x) e P h p = absurd (false≢true h.0)
 if_err (Err y) e P h p = subst P (sym h.1) p
 
 -- a refusal is the verdict
-pub refused_as : (v : Verdict) (x : CheckNo) (line : ℕ) (f : TraceFault) → x ≡ stop.Refused line f → v ≡ Refused line f → RefusedSo v x
+pub refused_as : (v : Verdict) (x : CheckError) (line : ℕ) (f : TraceFault) → x ≡ stop.Refused line f → v ≡ Refused line f → RefusedSo v x
 refused_as v x line f e h = subst (RefusedSo v) (sym e) h
 
 -- nothing is left

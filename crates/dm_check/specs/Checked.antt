@@ -13,8 +13,8 @@ use Rattle.dm_world.specs.World.{WorldState}
 use Rattle.dm_mirror.specs.Ran.{Ran}
 use Rattle.dm_mirror.specs.Run.{joined}
 use Rattle.dm_check.specs.declared.fault.TraceFault.TheVariants.{NotDue}
-use Rattle.dm_check.specs.declared.stop.CheckNo.{CheckNo}
-use Rattle.dm_check.specs.declared.stop.CheckNo.TheVariants as no
+use Rattle.dm_check.specs.declared.stop.CheckError.{CheckError}
+use Rattle.dm_check.specs.declared.stop.CheckError.TheVariants as no
 use Rattle.dm_check.specs.Good.{AllHeld, AreHeads}
 use Rattle.dm_check.specs.Judge.{Head, Falls, at_head, judged_from, verdict}
 
@@ -32,7 +32,7 @@ pub record HasChecked (b : Boot) (bytes rest : List ℕ) (line groups : ℕ) (w 
   pub goes : verdict b bytes ≡ judged_from b (Head point groups) line (pieces 10 rest)
 
 -- no group is due behind this head
-abbrev pub NoGroup : Boot → WorldState → Step → ℕ → CheckNo → Type 0
+abbrev pub NoGroup : Boot → WorldState → Step → ℕ → CheckError → Type 0
 NoGroup b old e number (no.Refused line fault) =
     (line ≡ number) × (fault ≡ NotDue)
     × ((es : List Step) (gs : List (List Line)) (pt : Point) (n : ℕ) (bytes : List ℕ) → Ran b es gs pt old → at_head b pt n bytes (Some e) ≡ Falls NotDue)

@@ -10,8 +10,8 @@ use Rattle.dm_shape.specs.Heads.{head_of}
 use Rattle.dm_shape.specs.Shapes.{has_shape}
 use Rattle.dm_check.specs.declared.fault.TraceFault.{TraceFault}
 use Rattle.dm_check.specs.declared.fault.TraceFault.TheVariants.{NotALine}
-use Rattle.dm_check.specs.declared.stop.CheckNo.{CheckNo}
-use Rattle.dm_check.specs.declared.stop.CheckNo.TheVariants as no
+use Rattle.dm_check.specs.declared.stop.CheckError.{CheckError}
+use Rattle.dm_check.specs.declared.stop.CheckError.TheVariants as no
 use Rattle.dm_check.specs.declared.told.Other.{Other}
 use Rattle.dm_check.specs.declared.told.Other.TheVariants as other
 use Rattle.dm_check.specs.declared.follow.Standing.{Standing}
@@ -52,6 +52,6 @@ pub record FallsBy (b : Boot) (due : Due) (number : ℕ) (text : List ℕ) (faul
   pub lines : (l : List ℕ) → first_line (pieces 10 text) ≡ Some l → taken b due l ≡ Falls fault
 
 -- a refusal is the verdict; want of memory says nothing
-abbrev pub RefusedSo : Verdict → CheckNo → Type 0
+abbrev pub RefusedSo : Verdict → CheckError → Type 0
 RefusedSo v (no.Refused line fault) = v ≡ Refused line fault
 RefusedSo v (no.NoMemory lack) = ⊤

@@ -15,7 +15,7 @@ ghost use Rattle.dm_check.specs.Judge.{Due, Ended, Refused, behind_line, judged_
 
 use crate::classes::tells_call;
 use crate::fault::TraceFault;
-use crate::stop::CheckNo;
+use crate::stop::CheckError;
 use crate::told::{Other, step_fault, told};
 use dm_line::end_line::EndLine;
 use dm_line::line::Line;
@@ -32,7 +32,7 @@ pub(crate) fn follow_lines<'a>(
     text: &'a [u8],
     number: u64,
     page: &mut Vec<u8>,
-) -> Result<&'a [u8], CheckNo>
+) -> Result<&'a [u8], CheckError>
     requires fits { All LineFits lines.now }
     requires room { number + length text.now < 2 ^ 62 }
     ensures read { IfOk result (λ rest. text.now ≡ text_of_lines lines.now ++ rest.now) }
@@ -58,7 +58,7 @@ fn follow_line<'a>(
     text: &'a [u8],
     number: u64,
     page: &mut Vec<u8>,
-) -> Result<&'a [u8], CheckNo>
+) -> Result<&'a [u8], CheckError>
     requires { number + length text.now < 2 ^ 62 }
     ensures read { IfOk result (λ rest. text.now ≡ line_text due.now ++ rest.now) }
     ensures goes { (b : TheBoot) (ls : List TheLine) (pt : Point) (n : ℕ) → LineFits due.now → IfOk result (λ rest.
@@ -68,7 +68,7 @@ fn follow_line<'a>(
 {
     page.clear();
     if let Err(no) = write_line(due, page) {
-        return Err(CheckNo::NoMemory(no));
+        return Err(CheckError::NoMemory(no));
     }
     match behind(text, page.as_slice()) {
         Some(rest) => Ok(rest),
@@ -82,7 +82,7 @@ pub(crate) fn follow_ends(
     text: &[u8],
     number: u64,
     page: &mut Vec<u8>,
-) -> Result<(), CheckNo>
+) -> Result<(), CheckError>
     requires fits { All EndFits ends.now }
     requires full { All IsFull ends.now }
     requires room { number + length text.now < 2 ^ 62 }
@@ -109,14 +109,14 @@ fn follow_end<'a>(
     text: &'a [u8],
     number: u64,
     page: &mut Vec<u8>,
-) -> Result<&'a [u8], CheckNo>
+) -> Result<&'a [u8], CheckError>
     ensures read { IfOk result (λ rest. text.now ≡ end_text due.now ++ rest.now) }
     ensures refused { (b : TheBoot) (es : List TheEndLine) (n : ℕ) →
         IfErr result (RefusedSo (judged_from b (judge.End (due.now ∷ es) n) number (pieces 10 text.now))) }
 {
     page.clear();
     if let Err(no) = write_end(due, page) {
-        return Err(CheckNo::NoMemory(no));
+        return Err(CheckError::NoMemory(no));
     }
     match behind(text, page.as_slice()) {
         Some(rest) => Ok(rest),
@@ -137,10 +137,10 @@ fn behind<'a>(text: &'a [u8], begin: &[u8]) -> Option<&'a [u8]>
 }
 
 /// A refusal.
-pub(crate) fn refused(line: u64, fault: TraceFault) -> CheckNo
-    ensures { result ≡ CheckNo.Refused line fault }
+pub(crate) fn refused(line: u64, fault: TraceFault) -> CheckError
+    ensures { result ≡ CheckError.Refused line fault }
 {
-    CheckNo::Refused { line, fault }
+    CheckError::Refused { line, fault }
 }
 
 /// What is wrong at the beginning of a text where this is wrong with each line of the format, and with the end of the text.
@@ -187,7 +187,7 @@ fn stands(text: &[u8]) -> Standing<'_>
 }
 
 /// What a text is refused for that doesn't begin with the line that is due.
-fn otherwise(quantum: u32, due: &Line, text: &[u8], number: u64) -> CheckNo
+fn otherwise(quantum: u32, due: &Line, text: &[u8], number: u64) -> CheckError
     requires other { (rest : List ℕ) → text.now ≡ line_text due.now ++ rest → ⊥ }
     requires room { number < 2 ^ 62 }
     ensures { (b : TheBoot) (ls : List TheLine) (pt : Point) (n : ℕ) → b.quantum ≡ quantum →

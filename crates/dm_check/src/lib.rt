@@ -13,5 +13,5 @@ mod told;
 pub mod trace;
 
 pub use fault::TraceFault;
-pub use stop::CheckNo;
+pub use stop::CheckError;
 pub use trace::{Good, check_trace};

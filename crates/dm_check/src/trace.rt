@@ -18,7 +18,7 @@ ghost use Rattle.dm_check.specs.Judge.{can_hold, judged_from, verdict};
 
 use crate::fault::TraceFault;
 use crate::follow::{follow_ends, follow_lines, refused, unless_none};
-use crate::stop::CheckNo;
+use crate::stop::CheckError;
 use dm_line::line::Line;
 use dm_onekernel::Boot;
 use dm_run::{begin, end_lines, step_on};
@@ -38,7 +38,7 @@ pub struct Good {
 }
 
 /// Checks that a text is what the system of a boot file prints, for the directives that its heads are.
-pub fn check_trace(alloc: Global, boot: Boot, trace: &[u8]) -> Result<Good, CheckNo>
+pub fn check_trace(alloc: Global, boot: Boot, trace: &[u8]) -> Result<Good, CheckError>
     requires valid { IsValid boot }
     requires short { length trace.now ≤ 16777216 }
     ensures verdict { IfOk result (λ g. verdict boot trace.now ≡ good_verdict g.groups g.ended) }
@@ -49,7 +49,7 @@ pub fn check_trace(alloc: Global, boot: Boot, trace: &[u8]) -> Result<Good, Chec
     let machines = boot.machines.len() as u8;
     match begin(alloc, boot) {
         Ok(mut world) => check_on(alloc, quantum, machines, &mut world, trace),
-        Err(no) => Err(CheckNo::NoMemory(no)),
+        Err(no) => Err(CheckError::NoMemory(no)),
     }
 }
 
@@ -60,7 +60,7 @@ fn check_on(
     machines: u8,
     world: &mut World,
     trace: &[u8],
-) -> Result<Good, CheckNo>
+) -> Result<Good, CheckError>
     requires running { IsRunning world.old }
     requires begun { HasChecked world.old.boot trace.now trace.now 1 0 (state_of world.old) }
     requires groups { world.old.groups ≡ 0 }
@@ -97,7 +97,7 @@ fn first_head(text: &[u8]) -> Option<Step>
 }
 
 /// The group of a head that stands in the line of this number, if one is due.
-fn group(machines: u8, step: &Step, number: u64, world: &mut World) -> Result<Vec<Line>, CheckNo>
+fn group(machines: u8, step: &Step, number: u64, world: &mut World) -> Result<Vec<Line>, CheckError>
     requires running { IsRunning world.old }
     requires groups { world.old.groups < 2 ^ 127 }
     requires machines { length world.old.boot.machines ≡ machines }
@@ -114,7 +114,7 @@ fn group(machines: u8, step: &Step, number: u64, world: &mut World) -> Result<Ve
     }
     match step_on(world, step) {
         Ok(lines) => Ok(lines),
-        Err(Stop::NoMemory(no)) => Err(CheckNo::NoMemory(no)),
+        Err(Stop::NoMemory(no)) => Err(CheckError::NoMemory(no)),
         Err(Stop::Worn { .. }) => Err(refused(number, TraceFault::NotDue)),
     }
 }
@@ -132,7 +132,7 @@ fn can_hold(machines: u8, step: &Step) -> bool
 }
 
 /// Whether the lines at the end stand behind whole groups, where a text isn't over. No head begins it.
-fn is_ended(world: &World, text: &[u8], number: u64, page: &mut Vec<u8>) -> Result<bool, CheckNo>
+fn is_ended(world: &World, text: &[u8], number: u64, page: &mut Vec<u8>) -> Result<bool, CheckError>
     requires running { IsRunning world.now }
     requires no_head { head_of_line (first_line (pieces 10 text.now)) ≡ None }
     requires room { number + length text.now < 2 ^ 62 }
@@ -156,7 +156,7 @@ fn is_ended(world: &World, text: &[u8], number: u64, page: &mut Vec<u8>) -> Resu
             Ok(()) => Ok(true),
             Err(no) => Err(no),
         },
-        Err(no) => Err(CheckNo::NoMemory(no)),
+        Err(no) => Err(CheckError::NoMemory(no)),
     }
 }
 

@@ -9,11 +9,11 @@ use crate::part::{Part, put, put_parts};
 use crate::schedule::{put_directives, put_line};
 use crate::system::put_system;
 use crate::told::put_broken;
-use dm_boot::{BootNo, BootRule, read_boot};
+use dm_boot::{BootError, BootRule, read_boot};
 use dm_memory::NoMemory;
-use dm_memory::of_toml::{NoDocument, table_from_slice};
+use dm_memory::of_toml::{DocumentError, table_from_slice};
 use dm_onekernel::Boot;
-use dm_schedule::{Directive, LineFault, SchedNo, read_schedule};
+use dm_schedule::{Directive, LineFault, ScheduleError, read_schedule};
 use std::alloc::Global;
 use toml::de::Error;
 use toml::{Table, Value};
@@ -58,8 +58,8 @@ pub fn explain_boot(alloc: Global, bytes: &[u8]) -> Result<BootTold, NoMemory>
 {
     match table_from_slice(alloc, bytes) {
         Ok(table) => explain_table(alloc, bytes, table),
-        Err(NoDocument::Unread) => explain_unread(alloc, bytes),
-        Err(NoDocument::NoMemory(no)) => Err(no),
+        Err(DocumentError::Unread) => explain_unread(alloc, bytes),
+        Err(DocumentError::NoMemory(no)) => Err(no),
     }
 }
 
@@ -77,11 +77,11 @@ fn explain_table(alloc: Global, bytes: &[u8], table: Table) -> Result<BootTold, 
             put_system(&mut text, &boot, &top)?;
             Ok(BootTold::System { boot, text })
         }
-        Err(BootNo::Refused { rule, place }) => {
+        Err(BootError::Refused { rule, place }) => {
             put_broken(alloc, &mut text, &top, rule, place)?;
             Ok(BootTold::Refused { rule, place, text })
         }
-        Err(BootNo::NoMemory(no)) => Err(no),
+        Err(BootError::NoMemory(no)) => Err(no),
     }
 }
 
@@ -163,10 +163,10 @@ pub fn explain_schedule(alloc: Global, bytes: &[u8], machines: u8) -> Result<Sch
             put_directives(&mut text, directives.as_slice())?;
             Ok(ScheduleTold::Directives { directives, text })
         }
-        Err(SchedNo::Refused { line, fault }) => {
+        Err(ScheduleError::Refused { line, fault }) => {
             put_line(&mut text, bytes, line, fault)?;
             Ok(ScheduleTold::Refused { line, fault, text })
         }
-        Err(SchedNo::NoMemory(no)) => Err(no),
+        Err(ScheduleError::NoMemory(no)) => Err(no),
     }
 }

@@ -18,7 +18,7 @@ use crate::wanted::{
     channel_ranges, control_keys, image_keys, image_ranges, link_keys, link_ranges, machine_keys,
     machine_ranges, process_keys, top_keys, top_ranges,
 };
-use dm_asm::{AsmNo, Image, Why, assemble};
+use dm_asm::{AssembleError, Image, Why, assemble};
 use dm_boot::BootRule;
 use dm_boot::document::Document;
 use dm_boot::limits::{format_of, machine_number};
@@ -286,8 +286,8 @@ fn put_text(alloc: Global, into: &mut Vec<u8>, image: &Value) -> Result<(), NoMe
     let text = text_at(image, "text");
     match assemble(alloc, text) {
         Ok(_) => Ok(()),
-        Err(AsmNo::Fault { line, why }) => put_line(into, image, text, line, why),
-        Err(AsmNo::NoMemory(no)) => Err(no),
+        Err(AssembleError::Fault { line, why }) => put_line(into, image, text, line, why),
+        Err(AssembleError::NoMemory(no)) => Err(no),
     }
 }
 
@@ -339,8 +339,8 @@ fn put_bytes(alloc: Global, into: &mut Vec<u8>, image: &Value) -> Result<(), NoM
 {
     match assemble(alloc, text_at(image, "text")) {
         Ok(made) => put_size(into, image, &made),
-        Err(AsmNo::Fault { .. }) => Ok(()),
-        Err(AsmNo::NoMemory(no)) => Err(no),
+        Err(AssembleError::Fault { .. }) => Ok(()),
+        Err(AssembleError::NoMemory(no)) => Err(no),
     }
 }
 

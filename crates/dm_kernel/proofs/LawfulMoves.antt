@@ -33,8 +33,8 @@ use Rattle.dm_migrate.specs.Pieces.{HasChunk, chunk_bytes, chunk_of, state_of}
 use Rattle.dm_migrate.proofs.Messages.{lawful_all}
 use Rattle.dm_onekernel.specs.declared.boot.Boot.{Boot}
 use Rattle.dm_onekernel.specs.Boot.{manager, slots_of, switchboard}
-use Rattle.dm_procman.specs.declared.moving.MoveNo.{MoveNo}
-use Rattle.dm_procman.specs.declared.moving.MoveNo.TheVariants as no
+use Rattle.dm_procman.specs.declared.moving.MoveError.{MoveError}
+use Rattle.dm_procman.specs.declared.moving.MoveError.TheVariants as no
 use Rattle.dm_procman.specs.Moving.{moves_child}
 use Rattle.dm_procman.proofs.Lawful.{moves_lawful}
 use Rattle.dm_procman.proofs.Lawful as manage
@@ -301,7 +301,7 @@ restarts_lawfully s p a h lawful may =
     subst (λ (o : Option Process). Lawfully (restarts_as s p a o)) (sym may.restarts) (restarts_as_lawfully s p a may.process h lawful may.lawful)
 
 -- a process is told to move
-told_lawfully : (s : KernelState) (p : Pid) (r : Result Message MoveNo) → IsLawfulState s → IfOk r IsLawfulMessage → Lawfully (told_to_move s p r)
+told_lawfully : (s : KernelState) (p : Pid) (r : Result Message MoveError) → IsLawfulState s → IfOk r IsLawfulMessage → Lawfully (told_to_move s p r)
 told_lawfully s p (Ok m) h lawful =
     record { state = record { records = h.records; room = h.room; inbox = h.inbox; servers = h.servers }; parts = routed m lawful }
 told_lawfully s p (Err no.Unknown) h lawful = record { state = h; parts = said none_said }

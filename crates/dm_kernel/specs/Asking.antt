@@ -6,8 +6,8 @@ use Rattle.std.specs.declared.result.Result.{Result}
 use Rattle.std.specs.declared.result.Result.TheVariants.{Ok, Err}
 use Rattle.dm_link.specs.declared.Pid.{Pid}
 use Rattle.dm_message.specs.declared.Message.{Message}
-use Rattle.dm_procman.specs.declared.moving.MoveNo.{MoveNo}
-use Rattle.dm_procman.specs.declared.moving.MoveNo.TheVariants as no
+use Rattle.dm_procman.specs.declared.moving.MoveError.{MoveError}
+use Rattle.dm_procman.specs.declared.moving.MoveError.TheVariants as no
 use Rattle.dm_procman.specs.Moving.{moves_child}
 use Rattle.dm_line.specs.declared.line.Line.TheVariants as line
 use Rattle.dm_kernel.specs.declared.kernel.Servers.{Servers}
@@ -15,7 +15,7 @@ use Rattle.dm_kernel.specs.declared.part.Part.TheVariants.{Says, Routes}
 use Rattle.dm_kernel.specs.State.{KernelState, Turned, own_id, turned, with_sent}
 
 -- the manager's message to it goes out under a name of the kernel's; servers don't move, and others aren't known
-abbrev pub told_to_move : KernelState → Pid → Result Message MoveNo → Option Turned
+abbrev pub told_to_move : KernelState → Pid → Result Message MoveError → Option Turned
 told_to_move s p (Ok m) = turned (with_sent s) (Routes m ∷ [])
 told_to_move s p (Err no.Unknown) = turned s (Says (line.NoChild p) ∷ [])
 told_to_move s p (Err no.Pinned) = turned s (Says (line.Pinned p) ∷ [])

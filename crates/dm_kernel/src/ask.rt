@@ -9,7 +9,7 @@ use crate::part::Part;
 use dm_line::line::Line;
 use dm_link::Pid;
 use dm_memory::{NoMemory, list_of};
-use dm_procman::MoveNo;
+use dm_procman::MoveError;
 
 impl Kernel {
     /// Has the manager tell a process to move to a machine, where it is one of its children. Answers what the machine
@@ -25,8 +25,8 @@ impl Kernel {
                 self.sent += 1;
                 list_of(self.alloc, [Part::Routes(message)])
             }
-            Err(MoveNo::Unknown) => self.say(Line::NoChild(pid)),
-            Err(MoveNo::Pinned) => self.say(Line::Pinned(pid)),
+            Err(MoveError::Unknown) => self.say(Line::NoChild(pid)),
+            Err(MoveError::Pinned) => self.say(Line::Pinned(pid)),
         }
     }
 }

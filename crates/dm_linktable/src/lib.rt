@@ -41,7 +41,7 @@ impl Model for Table {
 
 /// Why a link isn't copied.
 #[derive(Clone, Copy, Debug, PartialEq, Eq)]
-pub enum NoCopy {
+pub enum CopyError {
     /// There is no link in that slot, or no such slot.
     Empty,
     /// A reply link serves for one message, and is never copied (1977).
@@ -126,20 +126,20 @@ impl Table {
     }
 
     /// Copies a general link into the lowest empty slot.
-    pub fn copy(&mut self, slot: u8) -> Result<u8, NoCopy>
+    pub fn copy(&mut self, slot: u8) -> Result<u8, CopyError>
         ensures answer { result ≡ copy_of self.old slot }
         ensures after { MatchResult result (λ new. self.new ≡ slice_set self.old new (link_at self.old slot)) (λ _. self.new ≡ self.old) }
     {
         let link = match self.get(slot) {
             Some(link) => *link,
-            None => return Err(NoCopy::Empty),
+            None => return Err(CopyError::Empty),
         };
         if link.kind == Kind::Reply {
-            return Err(NoCopy::ReplyLink);
+            return Err(CopyError::ReplyLink);
         }
         match self.put(link) {
             Ok(new) => Ok(new),
-            Err(_) => Err(NoCopy::Full),
+            Err(_) => Err(CopyError::Full),
         }
     }
 

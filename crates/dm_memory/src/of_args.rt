@@ -13,7 +13,7 @@ use std::io::ErrorKind;
 
 /// Why there are no words.
 #[derive(Clone, Copy, Debug, PartialEq, Eq)]
-pub enum NoArgs {
+pub enum ArgsError {
     /// One isn't Unicode.
     Unread,
     /// No memory was left.
@@ -21,7 +21,7 @@ pub enum NoArgs {
 }
 
 /// The words that the program was given, its own name first.
-pub fn args(rt: &HostRuntime) -> Result<Args, NoArgs> {
+pub fn args(rt: &HostRuntime) -> Result<Args, ArgsError> {
     match env::args(rt) {
         Ok(args) => Ok(args),
         Err(error) => Err(no_args(error.kind())),
@@ -29,12 +29,12 @@ pub fn args(rt: &HostRuntime) -> Result<Args, NoArgs> {
 }
 
 /// Why there are no words: only one kind of error is want of memory.
-fn no_args(kind: ErrorKind) -> NoArgs
+fn no_args(kind: ErrorKind) -> ArgsError
     ensures { IsWant result ↔ (kind ≡ ErrorKind.OutOfMemory) }
 {
     match kind {
-        ErrorKind::OutOfMemory => NoArgs::NoMemory(NoMemory(())),
-        _ => NoArgs::Unread,
+        ErrorKind::OutOfMemory => ArgsError::NoMemory(NoMemory(())),
+        _ => ArgsError::Unread,
     }
 }
 

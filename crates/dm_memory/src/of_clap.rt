@@ -11,7 +11,7 @@ use clap::{Arg, ArgMatches, Command};
 
 /// Why there are no matches.
 #[derive(Clone, Copy, Debug, PartialEq, Eq)]
-pub enum NoMatches {
+pub enum MatchesError {
     /// The words are refused.
     Refused,
     /// No memory was left.
@@ -45,7 +45,7 @@ pub fn with_subcommand<'a>(
 pub fn matches_from<'a>(
     command: Command<'a>,
     words: &'a [&'a str],
-) -> Result<ArgMatches<'a>, NoMatches>
+) -> Result<ArgMatches<'a>, MatchesError>
     ensures matches { IfOk result (HasMatchesOf (app_of command.entry) (map (λ w. w.now) words.now)) }
     ensures fails { is_simple_and_free (app_of command.entry) ≡ true → FailsBy (fault_of (app_of command.entry) (map (λ w. w.now) words.now)) result }
 {
@@ -56,11 +56,11 @@ pub fn matches_from<'a>(
 }
 
 /// Why there are no matches: only one kind of error is want of memory.
-fn no_matches(kind: ErrorKind) -> NoMatches
+fn no_matches(kind: ErrorKind) -> MatchesError
     ensures { IsWant result ↔ (kind ≡ ErrorKind.OutOfMemory) }
 {
     match kind {
-        ErrorKind::OutOfMemory => NoMatches::NoMemory(NoMemory(())),
-        _ => NoMatches::Refused,
+        ErrorKind::OutOfMemory => MatchesError::NoMemory(NoMemory(())),
+        _ => MatchesError::Refused,
     }
 }

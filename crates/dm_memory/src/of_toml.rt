@@ -13,7 +13,7 @@ use toml::de::Error;
 
 /// Why there is no document.
 #[derive(Clone, Copy, Debug, PartialEq, Eq)]
-pub enum NoDocument {
+pub enum DocumentError {
     /// The bytes are none.
     Unread,
     /// No memory was left.
@@ -21,9 +21,9 @@ pub enum NoDocument {
 }
 
 /// The top table of a document.
-pub fn table_from_slice(alloc: Global, bytes: &[u8]) -> Result<Table, NoDocument>
+pub fn table_from_slice(alloc: Global, bytes: &[u8]) -> Result<Table, DocumentError>
     ensures ok { IfOk result (λ table. IsUtf8 bytes.now × (parse_document bytes.now ≡ Some (table_view table))) }
-    ensures unread { IfErr result (λ no. no ≡ NoDocument.Unread → IsUtf8 bytes.now → parse_document bytes.now ≡ None) }
+    ensures unread { IfErr result (λ no. no ≡ DocumentError.Unread → IsUtf8 bytes.now → parse_document bytes.now ≡ None) }
     ensures want { IfErr result (λ no. IsWant no → ¬ (IsBlank bytes.now)) }
 {
     match toml::table_from_slice(alloc, bytes) {
@@ -33,12 +33,12 @@ pub fn table_from_slice(alloc: Global, bytes: &[u8]) -> Result<Table, NoDocument
 }
 
 /// Why there is no document: only one kind of error is want of memory.
-fn no_document(error: &Error) -> NoDocument
+fn no_document(error: &Error) -> DocumentError
     ensures { IsWant result ↔ IsMemory error.now }
 {
     if error.is_memory() {
-        NoDocument::NoMemory(NoMemory(()))
+        DocumentError::NoMemory(NoMemory(()))
     } else {
-        NoDocument::Unread
+        DocumentError::Unread
     }
 }

@@ -8,7 +8,7 @@ use Rattle.dm_migrate.specs.Arrival.{IsNextChunk, IsStateFor, after_chunk, reviv
 use Rattle.std.specs.declared.result.Result.{Result}
 use Rattle.std.specs.declared.result.Result.TheVariants.{Ok, Err}
 use Rattle.std.specs.Prelude.{IfOk}
-use Rattle.dm_statebytes.specs.declared.CarryBad.{CarryBad}
+use Rattle.dm_statebytes.specs.declared.StateBytesError.{StateBytesError}
 use Rattle.dm_migrate.specs.declared.arriving.Wanted.{Wanted}
 use Rattle.dm_migrate.specs.declared.arriving.Wanted.TheVariants.{Nothing}
 use Rattle.dm_migrate.specs.Coming.{IsComing, IsStage, Parts, come_of, memory_come, state_come}
@@ -80,7 +80,7 @@ lawful_after a s h e l =
       queue = λ k d i. absurd (omega (arith, i));
     }
 
-abbrev blocks_read : Result Shell CarryBad → ℕ
+abbrev blocks_read : Result Shell StateBytesError → ℕ
 blocks_read (Ok s) = s.blocks
 blocks_read (Err bad) = 0
 

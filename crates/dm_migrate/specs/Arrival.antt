@@ -10,7 +10,7 @@ use Rattle.dm_message.specs.declared.Message.{Message}
 use Rattle.dm_message.specs.declared.What.{What}
 use Rattle.dm_message.specs.declared.What.TheVariants as what
 use Rattle.dm_process.specs.declared.process.Process.{Process}
-use Rattle.dm_statebytes.specs.declared.CarryBad.{CarryBad}
+use Rattle.dm_statebytes.specs.declared.StateBytesError.{StateBytesError}
 use Rattle.dm_statebytes.specs.declared.Shell.{Shell}
 use Rattle.dm_statebytes.specs.Shell.{shell_of_bytes}
 use Rattle.dm_migrate.specs.declared.arriving.Wanted.{Wanted}
@@ -118,7 +118,7 @@ revived s memory =
       queue = [];
     }
 
-abbrev pub revived_from : Result Shell CarryBad → List ℕ → Option Process
+abbrev pub revived_from : Result Shell StateBytesError → List ℕ → Option Process
 revived_from (Ok s) memory = Some (revived s memory)
 revived_from (Err bad) memory = None
 

@@ -1,6 +1,6 @@
 -- A directive acts on one machine.
 use Rattle.dm_mirror.proofs.Names.{◌≡◌, ℕ, zero, suc, ◌+◌, ◌==◌, ◌&&◌, Bool, true, false, List, [], ◌∷◌, map, refl, ap, ◌∙◌, sym, subst, arith, ⊤, if◌then◌else◌, Option, None, Some, Result, Err, nat_tests, append-nil, All-nil, Message}
-use Rattle.dm_mirror.proofs.Names.{Packet, Line, Bad, packet_of, Sent, bytes_at, after_mark, Data, Ack, Boot, Step, KernelState, Turned, Pid, NodeState, here, Acted, Acts, Goes, Worn, StaysAt, asks_move_stays, WorldState, Said, acted}
+use Rattle.dm_mirror.proofs.Names.{Packet, Line, PacketError, packet_of, Sent, bytes_at, after_mark, Data, Ack, Boot, Step, KernelState, Turned, Pid, NodeState, here, Acted, Acts, Goes, Worn, StaysAt, asks_move_stays, WorldState, Said, acted}
 use Rattle.dm_mirror.proofs.Names.{arrives, reads, delivers, world_step, IsFresh, PutsFrom, marked_by, ActsLocally, SamePacket, unnumbered, DoesSame, ReadsLocally, NothingComes}
 use Rattle.std.specs.declared.result.Result.TheVariants.{Ok}
 use Rattle.dm_wire.specs.Sent.{marked}
@@ -67,12 +67,12 @@ asks_is w p m s is happens =
     (turns_from (w.nodes 0) 0 (asking.asks_move k p m) is (asks_here (asking.asks_move k p m) k.here (asks_move_stays k p m))) happens
 
 -- a delivery: what comes of the packet that some bytes spell
-record Comes (w : WorldState) (e : Step) (a c : ℕ) (r : Result Packet Bad) (s : Said) : Type 0 where
+record Comes (w : WorldState) (e : Step) (a c : ℕ) (r : Result Packet PacketError) (s : Said) : Type 0 where
   load : Load Message
   is : (u : WorldState) → reads u e a c r ≡ arrives u e a c load
   said : s ≡ acted w e c (machine.arrives (w.nodes c) a load)
 
-comes : (w : WorldState) (e : Step) (a c : ℕ) (r : Result Packet Bad) (s : Said) → reads w e a c r ≡ Some (Says s) → Comes w e a c r s
+comes : (w : WorldState) (e : Step) (a c : ℕ) (r : Result Packet PacketError) (s : Said) → reads w e a c r ≡ Some (Says s) → Comes w e a c r s
 comes w e a c (Ok (Packet.Data from to k m)) s is = record { load = Data k m; is = λ u. refl; said = says_same s (acted w e c (machine.arrives (w.nodes c) a (Data k m))) (sym is) }
 comes w e a c (Ok (Packet.Ack from to k)) s is = record { load = Ack k; is = λ u. refl; said = says_same s (acted w e c (machine.arrives (w.nodes c) a (Ack k))) (sym is) }
 comes w e a c (Err bad) s is = cc

@@ -7,8 +7,8 @@ pub mod OwnKernel
 pub mod OwnRows
 pub mod Turns
 use Rattle.dm_mirror.proofs.Names.{◌≡◌, ℕ, ◌+◌, ◌^◌, ◌<◌, ◌≤◌, ◌==◌, Bool, true, false, List, [], ◌∷◌, length, refl, ap, sym, subst, arith, if◌then◌else◌, IsSome, All, Option, None, Some, Result, Err, nat_tests, All-nil, Message}
-use Rattle.dm_mirror.proofs.Names.{IsLawfulMessage, Packet, Line, Bad, packet_of, Data, Ack, bytes_at, after_mark, Boot, IsValid, Step, Leads, Point, first_point, OwnTold, Run, Placed, IsLawfulState, KernelState, Turned, asks_manager}
-use Rattle.dm_mirror.proofs.Names.{asks_move, told_to_move, Servers, MoveNo, moves_child, Pid, opened_may, asked_lawful, turn_lawful, Acted, Acts, Goes, Worn, NodeState, MayAct, MayArrive, MayAskMove, MayAfter, arrives_may, turn_may, Said}
+use Rattle.dm_mirror.proofs.Names.{IsLawfulMessage, Packet, Line, PacketError, packet_of, Data, Ack, bytes_at, after_mark, Boot, IsValid, Step, Leads, Point, first_point, OwnTold, Run, Placed, IsLawfulState, KernelState, Turned, asks_manager}
+use Rattle.dm_mirror.proofs.Names.{asks_move, told_to_move, Servers, MoveError, moves_child, Pid, opened_may, asked_lawful, turn_lawful, Acted, Acts, Goes, Worn, NodeState, MayAct, MayArrive, MayAskMove, MayAfter, arrives_may, turn_may, Said}
 use Rattle.dm_mirror.proofs.Names.{WorldState, acted, arrives, delivers, first_world, reads, world_step, MayDeliver, MayRead, MayStep, AllMayAct, MadeStands, CountsStand, History, Stands, StandsWith, servers_at}
 use Rattle.std.specs.declared.result.Result.TheVariants.{Ok}
 use Rattle.dm_stream.specs.Packets.{Load}
@@ -126,10 +126,10 @@ turn_stays b w m (Some t) s stays valid e is may lawful acts =
     turned_may b w (Step.Turn m) m (node.acts (record (w.nodes m) { kernel = t.state }) t.parts) s is (turn_may (w.nodes m) t (stays b (w.nodes m).kernel t e) fit.parts.each may.acts) acts
 
 -- and where it asks a process to move
-told_here : (s : KernelState) (p : Pid) (r : Result Message MoveNo) (t : Turned) → told_to_move s p r ≡ Some t → t.state.here ≡ s.here
+told_here : (s : KernelState) (p : Pid) (r : Result Message MoveError) (t : Turned) → told_to_move s p r ≡ Some t → t.state.here ≡ s.here
 told_here s p (Ok m) t e = sym (ap (λ (o : Option Turned). here_in s.here o) e)
-told_here s p (Err MoveNo.Unknown) t e = sym (ap (λ (o : Option Turned). here_in s.here o) e)
-told_here s p (Err MoveNo.Pinned) t e = sym (ap (λ (o : Option Turned). here_in s.here o) e)
+told_here s p (Err MoveError.Unknown) t e = sym (ap (λ (o : Option Turned). here_in s.here o) e)
+told_here s p (Err MoveError.Pinned) t e = sym (ap (λ (o : Option Turned). here_in s.here o) e)
 
 manager_here : (s : KernelState) (p : Pid) (m : ℕ) (o : Option Servers) (t : Turned) → asks_manager s p m o ≡ Some t → t.state.here ≡ s.here
 manager_here s p m None t e = cc
@@ -148,7 +148,7 @@ arrived_may b w u e a c l s same is may acts =
     acted_may b u e c (node.arrives (u.nodes c) a l) s f (arrives_may (u.nodes c) a l here_)
     (record { each = λ i lt. subst (λ (ns : ℕ → NodeState). MayAct (ns i)) (sym same) (acts.each i lt) })
 
-read_may : (b : Boot) (w u : WorldState) (e : Step) (a c : ℕ) (r : Result Packet Bad) (s : Said) → u.nodes ≡ w.nodes → reads u e a c r ≡ Some (Says s) → MayRead w a c r → AllMayAct b w → AllMayAct b s.state
+read_may : (b : Boot) (w u : WorldState) (e : Step) (a c : ℕ) (r : Result Packet PacketError) (s : Said) → u.nodes ≡ w.nodes → reads u e a c r ≡ Some (Says s) → MayRead w a c r → AllMayAct b w → AllMayAct b s.state
 read_may b w u e a c (Ok (Packet.Data from to k m)) s same is may acts = arrived_may b w u e a c (Data k m) s same is (subst (λ f. MayArrive (w.nodes c) f (Data k m)) may.0 may.1.0) acts
 read_may b w u e a c (Ok (Packet.Ack from to k)) s same is may acts = arrived_may b w u e a c (Ack k) s same is (subst (λ f. MayArrive (w.nodes c) f (Ack k)) may.0 may.1.0) acts
 read_may b w u e a c (Err bad) s same is may acts = absurd may

@@ -41,7 +41,7 @@ pub use Rattle.dm_packet.specs.Fields.{machine}
 pub use Rattle.dm_packet.specs.Lawful.{IsRoute}
 pub use Rattle.dm_packet.specs.Packets.{ended, message, numbered_message, opening, other_machine, packet_kind, spell_message, version}
 unfoldable pub use Rattle.dm_packet.specs.Packets.{packet_of, read_rest, spelling}
-pub use Rattle.dm_packet.specs.declared.Bad.{Bad}
+pub use Rattle.dm_packet.specs.declared.PacketError.{PacketError}
 pub use Rattle.dm_packet.specs.declared.Packet.{Packet}
 pub use Rattle.dm_packet.specs.declared.front.Opening.{Opening}
 pub use Rattle.dm_packet.specs.declared.front.PacketKind.{PacketKind}
@@ -72,7 +72,7 @@ pub use Rattle.dm_procman.proofs.Plain.{plain_created, plain_no_room, plain_user
 pub use Rattle.dm_link.specs.Places.{kernel_at as kernel_of}
 pub use Rattle.dm_procman.specs.Moving.{moves_child, tells_to_move}
 pub use Rattle.dm_procman.specs.Taking.{IsForManager}
-pub use Rattle.dm_procman.specs.declared.moving.MoveNo.{MoveNo}
+pub use Rattle.dm_procman.specs.declared.moving.MoveError.{MoveError}
 pub use Rattle.dm_laws.proofs.Names.{Alive, Bool, Boot, BootImage, BootProcess, Called, Direction, IsValid, Label, Life, List, Manager, Moving, MsgId, None, OneKernel, Option, Pid, PlainLink, PlainMessage, PlainProcess, PlainStatus}
 pub use Rattle.dm_laws.proofs.Names.{PlainWhat, Ready, Reply, Row, Some, Switchboard, Waiting, Why, [], answer_id, answer_to, ap, arith, bind, cases_Bool, drop, entry, false, false≢true, first_failed, first_life, first_number, id_eq, id_of}
 pub use Rattle.dm_laws.proofs.Names.{if◌then◌else◌, inl, inr, instruction, is_of_memory, is_some, length, life_at, link_at, manager, map, nat_le, nat_lt, nat_tests, option_map, pid_eq, pid_of, plain_link, processes_are_valid, reception}

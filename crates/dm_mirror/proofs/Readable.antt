@@ -1,5 +1,5 @@
 -- Packets are read again, from the start on and after each directive.
-use Rattle.dm_mirror.proofs.Names.{◌≡◌, ℕ, ◌+◌, List, [], ◌∷◌, refl, subst, Option, None, Some, Result, Err, Packet, Line, Bad, packet_of, Data, Ack, bytes_at, after_mark, Boot, Step, Turned, Acts, Goes, Worn, StaysAt, asks_move_stays}
+use Rattle.dm_mirror.proofs.Names.{◌≡◌, ℕ, ◌+◌, List, [], ◌∷◌, refl, subst, Option, None, Some, Result, Err, Packet, Line, PacketError, packet_of, Data, Ack, bytes_at, after_mark, Boot, Step, Turned, Acts, Goes, Worn, StaysAt, asks_move_stays}
 use Rattle.dm_mirror.proofs.Names.{turn_stays, WorldState, Said, acted, delivers, reads, world_step, MayDeliver, MayRead, MayStep, AreReadBack, IsReadable, gave, gave_bytes, gave_read, gave_some}
 use Rattle.std.specs.declared.result.Result.TheVariants.{Ok}
 use Rattle.dm_kernel.specs.Asking as asking
@@ -21,7 +21,7 @@ turn_is_readable w e m None s stays is again h = cc
 turn_is_readable w e m (Some t) s stays is again h = acts_readable w e m t (node.acts (record (w.nodes m) { kernel = t.state }) t.parts) s stays refl is again h
 
 -- a delivery
-read_readable : (w : WorldState) (a c k : ℕ) (r : Result Packet Bad) (s : Said) → MayRead w a c r → reads (record w { wires = after_mark w.wires a c k }) (Step.Deliver a c k) a c r ≡ Some (Says s) → AreReadBack (gave_read w a c r) → IsReadable w → IsReadable s.state
+read_readable : (w : WorldState) (a c k : ℕ) (r : Result Packet PacketError) (s : Said) → MayRead w a c r → reads (record w { wires = after_mark w.wires a c k }) (Step.Deliver a c k) a c r ≡ Some (Says s) → AreReadBack (gave_read w a c r) → IsReadable w → IsReadable s.state
 read_readable w a c k (Ok (Packet.Data from to n m)) s may e again h =
     let same : acted (record w { wires = after_mark w.wires a c k }) (Step.Deliver a c k) c (node.arrives (w.nodes c) a (Data n m)) ≡ s = cc in
     let fits = subst (λ (i : ℕ). node_may.MayArrive (w.nodes c) i (Data n m)) may.0 may.1.0 in

@@ -33,8 +33,8 @@ use Rattle.dm_onekernel.specs.declared.boot.Boot.{Boot}
 use Rattle.dm_onekernel.specs.declared.boot.BootImage.{BootImage}
 use Rattle.dm_onekernel.specs.declared.boot.BootProcess.{BootProcess}
 use Rattle.dm_onekernel.specs.Boot.{manager, switchboard}
-use Rattle.dm_procman.specs.declared.moving.MoveNo.{MoveNo}
-use Rattle.dm_procman.specs.declared.moving.MoveNo.TheVariants as no
+use Rattle.dm_procman.specs.declared.moving.MoveError.{MoveError}
+use Rattle.dm_procman.specs.declared.moving.MoveError.TheVariants as no
 use Rattle.dm_procman.specs.Moving.{moves_child}
 use Rattle.dm_procman.specs.Taking as manage
 use Rattle.dm_line.specs.Sets.{moved_back}
@@ -245,7 +245,7 @@ pub turn_stays : (b : Boot) (s : KernelState) → StaysAt s.here (turn b s)
 turn_stays b s = turns_stays b s s.inbox
 
 -- asking for a move
-told_stays : (s : KernelState) (p : Pid) (r : Result Message MoveNo) → StaysAt s.here (told_to_move s p r)
+told_stays : (s : KernelState) (p : Pid) (r : Result Message MoveError) → StaysAt s.here (told_to_move s p r)
 told_stays s p (Ok m) = refl
 told_stays s p (Err no.Unknown) = refl
 told_stays s p (Err no.Pinned) = refl

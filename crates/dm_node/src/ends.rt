@@ -12,7 +12,7 @@ use crate::stop::Stop;
 use crate::streams;
 use dm_message::Message;
 use dm_packet::Packet;
-use dm_stream::{Arrived, GiveNo};
+use dm_stream::{Arrived, GiveError};
 
 impl Node {
     /// Whether all messages to machine `to` have gone out.
@@ -32,11 +32,11 @@ impl Node {
     {
         match streams::give(&mut self.senders, to, message) {
             Ok(()) => Ok(()),
-            Err(GiveNo::Worn(_)) => Err(Stop::Worn {
+            Err(GiveError::Worn(_)) => Err(Stop::Worn {
                 from: self.kernel.here(),
                 to,
             }),
-            Err(GiveNo::NoMemory(_, e)) => Err(Stop::NoMemory(e)),
+            Err(GiveError::NoMemory(_, e)) => Err(Stop::NoMemory(e)),
         }
     }
 

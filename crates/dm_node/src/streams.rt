@@ -3,7 +3,7 @@ ghost use Rattle.std.specs.Prelude.{◌≡◌, ◌<◌, ◌≤◌, ◌+◌, ◌-
 ghost use Rattle.dm_stream.specs.Sending.{due, given_count, outstanding, with_acked, with_given, with_sent};
 ghost use Rattle.dm_stream.specs.Receiving.{after_arrival, after_next, arrival, next};
 ghost use Rattle.dm_stream.specs.Returned.{message_in};
-ghost use Rattle.dm_stream.specs.declared.sender.GiveNo.TheVariants as no;
+ghost use Rattle.dm_stream.specs.declared.sender.GiveError.TheVariants as no;
 ghost use Rattle.dm_node.specs.Acts.{count_out, none_waits};
 ghost use Rattle.dm_node.specs.Out.{numbered};
 ghost use Rattle.dm_node.specs.Meets.{receiver_of, sender_of};
@@ -11,7 +11,7 @@ ghost use Rattle.dm_line.specs.Sets.{at_machine};
 
 use dm_message::Message;
 use dm_packet::Packet;
-use dm_stream::{Arrived, GiveNo, Receiver, Sender};
+use dm_stream::{Arrived, GiveError, Receiver, Sender};
 
 /// Whether all messages to machine `to` have gone out.
 pub fn none_waits(senders: &[Sender<Message>], to: u8) -> bool
@@ -27,7 +27,7 @@ pub fn give(
     senders: &mut [Sender<Message>],
     to: u8,
     message: Message,
-) -> Result<(), GiveNo<Message>>
+) -> Result<(), GiveError<Message>>
     requires { to < length senders.old }
     ensures ok { OnOk result ((c : ℕ) → sender_of senders.new c ≡ at_machine (sender_of senders.old) to (with_given (sender_of senders.old to) message) c) }
     ensures worn { (result ≡ Err (no.Worn message)) ↔ (given_count (sender_of senders.old to) ≡ (sender_of senders.old to).numbers) }

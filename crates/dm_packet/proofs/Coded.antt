@@ -9,8 +9,8 @@ use Rattle.dm_message.specs.declared.Outcome.TheVariants as ends
 use Rattle.dm_message.specs.declared.kind.MessageKind.{MessageKind}
 use Rattle.dm_message.specs.declared.kind.MessageKind.TheVariants as kind
 use Rattle.dm_message.specs.Kinds.{all_kinds, kind_numbered, number_of}
-use Rattle.dm_packet.specs.declared.Bad.{Bad}
-use Rattle.dm_packet.specs.declared.Bad.TheVariants as bad
+use Rattle.dm_packet.specs.declared.PacketError.{PacketError}
+use Rattle.dm_packet.specs.declared.PacketError.TheVariants as bad
 use Rattle.dm_packet.specs.declared.front.PacketKind.{PacketKind}
 use Rattle.dm_packet.specs.declared.front.PacketKind.TheVariants as packets
 use Rattle.dm_packet.specs.Field.{◌>>=◌, Field, number}
@@ -20,12 +20,12 @@ use Rattle.dm_packet.specs.Whats.{bool_coded, code_of_outcome, coded, if_coded, 
 use Rattle.dm_packet.proofs.Numbers.{IsBytes}
 use Rattle.dm_packet.proofs.Field.{IsField, IsField-number, Took, bind_ok, ok_is, took_same}
 
-coded_ok : {X : Type 0} (found : Option X) (n : List ℕ) (rule : Bad) (x : X) (rest : List ℕ) → if_coded found n rule ≡ Ok (x, rest) → (found ≡ Some x) × (n ≡ rest)
+coded_ok : {X : Type 0} (found : Option X) (n : List ℕ) (rule : PacketError) (x : X) (rest : List ℕ) → if_coded found n rule ≡ Ok (x, rest) → (found ≡ Some x) × (n ≡ rest)
 coded_ok None n rule x rest e = absurd cc
 coded_ok {X} (Some y) n rule x rest e = let same = ok_is (y, n) (x, rest) e in (ap (λ (p : X × List ℕ). Some p.0) same, ap (λ (p : X × List ℕ). p.1) same)
 
 -- a byte that stands for a value, where each value has one
-pub coded_is : {X : Type 0} (value : ℕ → Option X) (code : X → ℕ) (rule : Bad) → ((x : X) → code x < 256) → ((x : X) → value (code x) ≡ Some x) → ((n : ℕ) (x : X) → value n ≡ Some x → code x ≡ n) → IsField (coded value code rule) (λ _. Unit {0})
+pub coded_is : {X : Type 0} (value : ℕ → Option X) (code : X → ℕ) (rule : PacketError) → ((x : X) → code x < 256) → ((x : X) → value (code x) ≡ Some x) → ((n : ℕ) (x : X) → value n ≡ Some x → code x ≡ n) → IsField (coded value code rule) (λ _. Unit {0})
 coded_is {X} value code rule small there back = record {
   takes = λ bytes x rest h e.
       let a = bind_ok ((number 1).read bytes) (λ n. if_coded (value n.0) n.1 rule) (x, rest) e in
@@ -66,7 +66,7 @@ bool_there : (b : Bool) → bool_coded (bit_of b) ≡ Some b
 bool_there true = refl
 bool_there false = refl
 
-pub yes_or_no_is : (rule : Bad) → IsField (yes_or_no rule) (λ _. Unit {0})
+pub yes_or_no_is : (rule : PacketError) → IsField (yes_or_no rule) (λ _. Unit {0})
 yes_or_no_is rule = coded_is bool_coded bit_of rule bool_small bool_there bool_back
 
 outcome_small : (o : Outcome) → code_of_outcome o < 256
@@ -185,8 +185,8 @@ optional_takes {X} f Fits is bytes true after o rest parts h e =
     (record { parts = parts ∙ ap (λ (r : List ℕ). 1 ∷ r) t.parts; rest_fits = t.rest_fits; fits = t.fits })
 
 optional_again : {X : Type 0} (f : Field X) (Fits : X → Type 0) → IsField f Fits → (o : Option X) (rest : List ℕ) → IfSome o Fits → (optional f).read (optional_spell f o ++ rest) ≡ Ok (o, rest)
-optional_again f Fits is None rest fits = ap (λ (r : Result (Bool × List ℕ) Bad). r >>= λ b. optional_read f b.0 b.1) ((yes_or_no_is bad.Flags).again false rest tt)
-optional_again f Fits is (Some x) rest fits = ap (λ (r : Result (Bool × List ℕ) Bad). r >>= λ b. optional_read f b.0 b.1) ((yes_or_no_is bad.Flags).again true (f.spell x ++ rest) tt) ∙ rw (is.again x rest fits) refl
+optional_again f Fits is None rest fits = ap (λ (r : Result (Bool × List ℕ) PacketError). r >>= λ b. optional_read f b.0 b.1) ((yes_or_no_is bad.Flags).again false rest tt)
+optional_again f Fits is (Some x) rest fits = ap (λ (r : Result (Bool × List ℕ) PacketError). r >>= λ b. optional_read f b.0 b.1) ((yes_or_no_is bad.Flags).again true (f.spell x ++ rest) tt) ∙ rw (is.again x rest fits) refl
 
 pub optional_is : {X : Type 0} (f : Field X) (Fits : X → Type 0) → IsField f Fits → IsField (optional f) (λ o. IfSome o Fits)
 optional_is f Fits is = record {

@@ -7,8 +7,8 @@ use Rattle.std.proofs.lemmas.List.Concat.{flat_map-cons}
 use Rattle.byteorder.specs.Endian.{big_bytes, big_number}
 use Rattle.byteorder.specs.Numbers.{big_from-lt, big_number-reads_back, length-bytes_high_first}
 use Rattle.dm_packet.proofs.Numbers.{IsBytes, IsBytes-drop, bytes_of_number}
-use Rattle.dm_packet.specs.declared.Bad.{Bad}
-use Rattle.dm_packet.specs.declared.Bad.TheVariants.{Missing}
+use Rattle.dm_packet.specs.declared.PacketError.{PacketError}
+use Rattle.dm_packet.specs.declared.PacketError.TheVariants.{Missing}
 use Rattle.dm_packet.specs.Field.{◌>>=◌, Field, both, counted, made, number, read_times, run, tested, times}
 
 -- what a field took from the front of some bytes
@@ -23,16 +23,16 @@ pub record IsField {X : Type 0} (f : Field X) (Fits : X → Type 0) : Type 0 whe
   pub again : (x : X) (rest : List ℕ) → Fits x → f.read (f.spell x ++ rest) ≡ Ok (x, rest)
 
 -- the value of a step that did not fail
-pub bind_ok : {A B : Type 0} (r : Result A Bad) (f : A → Result B Bad) (y : B) → (r >>= f) ≡ Ok y → (x : A) × (r ≡ Ok x) × (f x ≡ Ok y)
+pub bind_ok : {A B : Type 0} (r : Result A PacketError) (f : A → Result B PacketError) (y : B) → (r >>= f) ≡ Ok y → (x : A) × (r ≡ Ok x) × (f x ≡ Ok y)
 bind_ok (Ok x) f y e = (x, refl, e)
 bind_ok (Err d) f y e = absurd cc
 
 -- a test that did not fail
-pub guard_ok : {A : Type 0} (b : Bool) (d : Bad) (x y : A) → cond b (Ok x) (Err d) ≡ Ok y → (b ≡ true) × (x ≡ y)
+pub guard_ok : {A : Type 0} (b : Bool) (d : PacketError) (x y : A) → cond b (Ok x) (Err d) ≡ Ok y → (b ≡ true) × (x ≡ y)
 guard_ok true d x y e = (refl, cc)
 guard_ok false d x y e = absurd cc
 
-abbrev done : {A : Type 0} → A → Result A Bad
+abbrev done : {A : Type 0} → A → Result A PacketError
 done x = Ok x
 
 pub ok_is : {A : Type 0} (x y : A) → done x ≡ done y → x ≡ y
@@ -42,7 +42,7 @@ ok_is x y e = cc
 pub took_same : {X : Type 0} (f : Field X) (Fits : X → Type 0) (bytes : List ℕ) (p q : X × List ℕ) → done p ≡ done q → Took f Fits bytes p.0 p.1 → Took f Fits bytes q.0 q.1
 took_same {X} f Fits bytes p q e took = subst (λ (r : X × List ℕ). Took f Fits bytes r.0 r.1) (ok_is p q e) took
 
-pub IsField-tested : {X : Type 0} (f : Field X) (Fits : X → Type 0) (is : IsField f Fits) (test : X → Bool) (rule : Bad) → IsField (tested f test rule) (λ x. Fits x × (test x ≡ true))
+pub IsField-tested : {X : Type 0} (f : Field X) (Fits : X → Type 0) (is : IsField f Fits) (test : X → Bool) (rule : PacketError) → IsField (tested f test rule) (λ x. Fits x × (test x ≡ true))
 IsField-tested {X} f Fits is test rule = record {
   takes = λ bytes x rest h e.
       let a = bind_ok (f.read bytes) (λ y. cond (test y.0) (Ok y) (Err rule)) (x, rest) e in

@@ -10,15 +10,15 @@ use Rattle.dm_link.specs.declared.Kind.{Kind}
 use Rattle.dm_link.specs.declared.Kind.TheVariants.{General, Reply}
 use Rattle.dm_link.specs.declared.Link.{Link}
 use Rattle.dm_link.specs.Lawful.{IsMachine, IsLawfulAddr, IsLawfulEnclosed}
-use Rattle.dm_packet.specs.declared.Bad.{Bad}
-use Rattle.dm_packet.specs.declared.Bad.TheVariants as bad
+use Rattle.dm_packet.specs.declared.PacketError.{PacketError}
+use Rattle.dm_packet.specs.declared.PacketError.TheVariants as bad
 use Rattle.dm_packet.specs.Field.{both, number, run, tested, times}
 use Rattle.dm_packet.specs.Fields.{addr, are_flags, bytes_within, channel, flags, flags_of, len_from, length_within, link, link_of, links, machine, number_of_flags, parts_of_link, pid}
 use Rattle.dm_packet.specs.Widths.{Fits, FitsPid, FitsAddr, FitsLink}
 use Rattle.dm_packet.proofs.Field.{IsField, IsField-both, IsField-counted, IsField-for, IsField-made, IsField-number, IsField-run, IsField-tested, IsField-times}
 
 -- a number at most so great
-pub at_most_is : (size most : ℕ) (rule : Bad) → most < 256 ^ size → IsField (tested (number size) (λ n. nat_le n most) rule) (λ n. n ≤ most)
+pub at_most_is : (size most : ℕ) (rule : PacketError) → most < 256 ^ size → IsField (tested (number size) (λ n. nat_le n most) rule) (λ n. n ≤ most)
 at_most_is size most rule room =
     IsField-for (tested (number size) (λ n. nat_le n most) rule) (λ n. (n < 256 ^ size) × (nat_le n most ≡ true)) (λ n. n ≤ most)
     (IsField-tested (number size) (λ n. n < 256 ^ size) (IsField-number size) (λ n. nat_le n most) rule)

@@ -4,16 +4,16 @@ use Rattle.std.specs.Prelude.{◌==◌, if◌then◌else◌}
 use Rattle.dm_message.specs.declared.What.{What}
 use Rattle.dm_message.specs.declared.kind.MessageKind.{MessageKind}
 use Rattle.dm_message.specs.declared.kind.MessageKind.TheVariants as kind
-use Rattle.dm_packet.specs.declared.Bad.{Bad}
-use Rattle.dm_packet.specs.declared.Bad.TheVariants as bad
+use Rattle.dm_packet.specs.declared.PacketError.{PacketError}
+use Rattle.dm_packet.specs.declared.PacketError.TheVariants as bad
 use Rattle.dm_packet.specs.Whats.{read_what}
 
-abbrev rule_of : Result (What × List ℕ) Bad → Option Bad
+abbrev rule_of : Result (What × List ℕ) PacketError → Option PacketError
 rule_of (Ok x) = if length x.1 == 0 then None else Some bad.Trailing
 rule_of (Err d) = Some d
 
 -- the rule that the fields of a kind, and so many bytes 0 behind them, break
-abbrev broken : MessageKind → List ℕ → ℕ → Option Bad
+abbrev broken : MessageKind → List ℕ → ℕ → Option PacketError
 broken k fields zeros = rule_of (read_what k (fields ++ replicate zeros 0))
 
 pub limits_of_user :

@@ -10,8 +10,8 @@ use Rattle.dm_message.specs.declared.Message.{Message}
 use Rattle.dm_message.specs.declared.What.{What}
 use Rattle.dm_message.specs.Kinds.{kind_of}
 use Rattle.dm_message.specs.Lawful.{IsLawfulMessage, is_answer}
-use Rattle.dm_packet.specs.declared.Bad.{Bad}
-use Rattle.dm_packet.specs.declared.Bad.TheVariants as bad
+use Rattle.dm_packet.specs.declared.PacketError.{PacketError}
+use Rattle.dm_packet.specs.declared.PacketError.TheVariants as bad
 use Rattle.dm_packet.specs.declared.Packet.{Packet}
 use Rattle.dm_packet.specs.declared.Packet.TheVariants.{Data, Ack}
 use Rattle.dm_packet.specs.Field.{◌>>=◌, both, number}
@@ -60,7 +60,7 @@ IsSpelledMessage m = IsLawfulMessage m × FitsMessage m
 same_head : (h : Head) (w : What) → kind_of w ≡ h.kind → h ≡ head_of (with_head h w)
 same_head h w e i = record { id = h.id; to = h.to; sender = h.sender; kind = sym e i }
 
-abbrev finish : Head → What × List ℕ → Result (Message × List ℕ) Bad
+abbrev finish : Head → What × List ℕ → Result (Message × List ℕ) PacketError
 finish h w = Ok (with_head h w.0, w.1)
 
 message_takes : (bytes : List ℕ) (m : Message) (rest : List ℕ) → IsBytes bytes → read_message bytes ≡ Ok (m, rest) → Took message IsSpelledMessage bytes m rest
@@ -92,8 +92,8 @@ message_again m rest fits =
     let first = head_is.again (head_of m) (spell_what m.what ++ rest) (((lawful.from, widths.id), ((lawful.to, widths.to), ((lawful.sender, widths.sender), tt))), named) in
     let regrouped = append_assoc (head.spell (head_of m)) (spell_what m.what) rest in
     ap (λ (bytes : List ℕ). head.read bytes >>= λ h. read_what h.0.kind h.1 >>= λ w. finish h.0 w) regrouped
-    ∙ ap (λ (r : Result (Head × List ℕ) Bad). r >>= λ h. read_what h.0.kind h.1 >>= λ w. finish h.0 w) first
-    ∙ ap (λ (r : Result (What × List ℕ) Bad). r >>= finish (head_of m)) (what_again m.what rest lawful.what widths.what)
+    ∙ ap (λ (r : Result (Head × List ℕ) PacketError). r >>= λ h. read_what h.0.kind h.1 >>= λ w. finish h.0 w) first
+    ∙ ap (λ (r : Result (What × List ℕ) PacketError). r >>= finish (head_of m)) (what_again m.what rest lawful.what widths.what)
 
 pub message_is : IsField message IsSpelledMessage
 message_is = record { takes = message_takes; again = message_again }
@@ -176,16 +176,16 @@ packet_again (Data a b seq m) lawful fits =
     let first = opening_is.again (record { kind = kinds.Data; from = a; to = b }) (numbered_message.spell (seq, m)) lawful.0 in
     let second = numbered_message_is.again (seq, m) [] (fits.0, (lawful.1, fits.1)) in
     let no_more = append-nil (numbered_message.spell (seq, m)) in
-    ap (λ (r : Result (Opening × List ℕ) Bad). r >>= λ o. read_rest o.0.kind o.0.from o.0.to o.1 >>= ended) first
-    ∙ ap (λ (r : Result ((ℕ × Message) × List ℕ) Bad). (r >>= λ x. Ok (Data a b x.0.0 x.0.1, x.1)) >>= ended) (ap numbered_message.read (sym no_more) ∙ second)
+    ap (λ (r : Result (Opening × List ℕ) PacketError). r >>= λ o. read_rest o.0.kind o.0.from o.0.to o.1 >>= ended) first
+    ∙ ap (λ (r : Result ((ℕ × Message) × List ℕ) PacketError). (r >>= λ x. Ok (Data a b x.0.0 x.0.1, x.1)) >>= ended) (ap numbered_message.read (sym no_more) ∙ second)
 packet_again (Ack a b count) lawful fits =
     let first = opening_is.again (record { kind = kinds.Ack; from = a; to = b }) ((number 4).spell count) lawful in
     let second = (IsField-number 4).again count [] fits in
     let no_more = append-nil ((number 4).spell count) in
-    ap (λ (r : Result (Opening × List ℕ) Bad). r >>= λ o. read_rest o.0.kind o.0.from o.0.to o.1 >>= ended) first
-    ∙ ap (λ (r : Result (ℕ × List ℕ) Bad). (r >>= λ x. Ok (Ack a b x.0, x.1)) >>= ended) (ap (number 4).read (sym no_more) ∙ second)
+    ap (λ (r : Result (Opening × List ℕ) PacketError). r >>= λ o. read_rest o.0.kind o.0.from o.0.to o.1 >>= ended) first
+    ∙ ap (λ (r : Result (ℕ × List ℕ) PacketError). (r >>= λ x. Ok (Ack a b x.0, x.1)) >>= ended) (ap (number 4).read (sym no_more) ∙ second)
 
 -- what a result that the bytes gave says of them
-pub is_found : (bytes : List ℕ) (r : Result Packet Bad) → IsBytes bytes → r ≡ packet_of bytes → IfOk r (λ p. IsLawfulPacket p × FitsPacket p × (bytes ≡ spelling p))
+pub is_found : (bytes : List ℕ) (r : Result Packet PacketError) → IsBytes bytes → r ≡ packet_of bytes → IfOk r (λ p. IsLawfulPacket p × FitsPacket p × (bytes ≡ spelling p))
 is_found bytes (Ok p) h e = let t = packet_takes bytes p h (sym e) in (t.1, t.2, t.0)
 is_found bytes (Err d) h e = tt

@@ -9,7 +9,7 @@ use Rattle.dm_message.specs.declared.What.{What}
 use Rattle.dm_message.specs.declared.What.TheVariants as what
 use Rattle.dm_message.specs.declared.Message.{Message}
 use Rattle.dm_message.specs.Lawful.{IsLawfulWhat}
-use Rattle.dm_packet.specs.declared.Bad.{Bad}
+use Rattle.dm_packet.specs.declared.PacketError.{PacketError}
 use Rattle.dm_packet.specs.declared.Packet.{Packet}
 use Rattle.dm_packet.specs.declared.Packet.TheVariants.{Data, Ack}
 use Rattle.dm_packet.specs.Fields.{link, links}
@@ -66,6 +66,6 @@ unfolding spelling
 packet_size (Data a b seq m) lawful fits = omega (arith, message_size m (what_size m.what lawful.1.what fits.1.what))
 packet_size (Ack a b count) lawful fits = omega arith
 
-pub is_short : (bytes : List ℕ) (r : Result Packet Bad) → IsBytes bytes → r ≡ packet_of bytes → OnOk r (length bytes ≤ 1024)
+pub is_short : (bytes : List ℕ) (r : Result Packet PacketError) → IsBytes bytes → r ≡ packet_of bytes → OnOk r (length bytes ≤ 1024)
 is_short bytes (Ok p) h e = let t = packet_takes bytes p h (sym e) in subst (λ (spelled : List ℕ). length spelled ≤ 1024) (sym t.0) (packet_size p t.1 t.2)
 is_short bytes (Err d) h e = tt

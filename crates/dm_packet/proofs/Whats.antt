@@ -17,8 +17,8 @@ use Rattle.dm_message.specs.declared.kind.MessageKind.TheVariants as kind
 use Rattle.dm_message.specs.Ids.{bool_eq}
 use Rattle.dm_message.specs.Kinds.{kind_of}
 use Rattle.dm_message.specs.Lawful.{IsLawfulWhat, IsPiece, IsServer, IsSize}
-use Rattle.dm_packet.specs.declared.Bad.{Bad}
-use Rattle.dm_packet.specs.declared.Bad.TheVariants as bad
+use Rattle.dm_packet.specs.declared.PacketError.{PacketError}
+use Rattle.dm_packet.specs.declared.PacketError.TheVariants as bad
 use Rattle.dm_packet.specs.Field.{◌>>=◌, Field, both, counted, number, run}
 use Rattle.dm_packet.specs.Fields.{addr, bytes_within, channel, links, machine, pid}
 use Rattle.dm_packet.specs.Whats.{are_blocks_of, ask, asker, at_most, blocks_of, create, is_server, memory, optional, outcome, piece_from, pull_block, pull_state, read, read_as, read_what, refuse, spell_what, state, user, write, yes_or_no}
@@ -196,7 +196,7 @@ as_takes {X} k f IsSpelled is make spelled kinds means bytes w rest h e =
     subst (λ (p : What × List ℕ). TookWhat k bytes p.0 p.1) (ok_is (make a.0.0, a.0.1) (w, rest) a.2)
     (record { parts = t.parts ∙ ap (λ (front : List ℕ). front ++ a.0.1) (sym (spelled a.0.0)); rest_fits = t.rest_fits; kind = kinds a.0.0; lawful = good.0; fits = good.1 })
 
-abbrev pub OkWhat : What × List ℕ → Result (What × List ℕ) Bad
+abbrev pub OkWhat : What × List ℕ → Result (What × List ℕ) PacketError
 OkWhat p = Ok p
 
 none_takes : (k : MessageKind) (w0 : What) → spell_what w0 ≡ [] → kind_of w0 ≡ k → IsLawfulWhat w0 → FitsWhat w0 → (bytes : List ℕ) (w : What) (rest : List ℕ) → IsBytes bytes → OkWhat (w0, bytes) ≡ OkWhat (w, rest) → TookWhat k bytes w rest

@@ -6,7 +6,7 @@ use Rattle.dm_link.specs.declared.Link.{Link}
 use Rattle.dm_message.specs.declared.What.{What}
 use Rattle.dm_message.specs.declared.What.TheVariants.{Ask, User}
 use Rattle.dm_message.specs.declared.kind.MessageKind.TheVariants as kind
-use Rattle.dm_packet.specs.declared.Bad.TheVariants.{Answer, Version}
+use Rattle.dm_packet.specs.declared.PacketError.TheVariants.{Answer, Version}
 use Rattle.dm_packet.specs.declared.Packet.{Packet}
 use Rattle.dm_packet.specs.declared.Packet.TheVariants.{Data, Ack}
 use Rattle.dm_packet.specs.Fields.{link}

@@ -3,18 +3,18 @@ use Rattle.std.specs.Prelude.{ℕ, zero, suc, Bool, List, [], ◌∷◌, ◌++�
 use Rattle.std.specs.declared.result.Result.{Result}
 use Rattle.std.specs.List.{flat_map}
 use Rattle.byteorder.specs.Endian.{big_bytes, big_number}
-use Rattle.dm_packet.specs.declared.Bad.{Bad}
-use Rattle.dm_packet.specs.declared.Bad.TheVariants.{Missing}
+use Rattle.dm_packet.specs.declared.PacketError.{PacketError}
+use Rattle.dm_packet.specs.declared.PacketError.TheVariants.{Missing}
 
 infixl 10 ◌>>=◌
-abbrev pub ◌>>=◌ : {A B : Type 0} → Result A Bad → (A → Result B Bad) → Result B Bad
+abbrev pub ◌>>=◌ : {A B : Type 0} → Result A PacketError → (A → Result B PacketError) → Result B PacketError
 (Ok x) >>= f = f x
 (Err e) >>= f = Err e
 
 -- how a field's values are spelled, and how a value and the bytes behind it are read, or the first rule that is broken
 pub record Field (X : Type 0) : Type 0 where
   pub spell : X → List ℕ
-  pub read : List ℕ → Result (X × List ℕ) Bad
+  pub read : List ℕ → Result (X × List ℕ) PacketError
 
 -- a number of n bytes, the highest first
 abbrev pub number : ℕ → Field ℕ
@@ -31,7 +31,7 @@ run n = record {
 }
 
 -- a field whose values pass a test, or break a rule
-abbrev pub tested : {X : Type 0} → Field X → (X → Bool) → Bad → Field X
+abbrev pub tested : {X : Type 0} → Field X → (X → Bool) → PacketError → Field X
 tested f test rule = record {
   spell = f.spell;
   read = λ bytes. f.read bytes >>= λ x. if test x.0 then Ok x else Err rule;
@@ -51,7 +51,7 @@ made f make parts = record {
   read = λ bytes. f.read bytes >>= λ x. Ok (make x.0, x.1);
 }
 
-abbrev pub read_times : {X : Type 0} → (List ℕ → Result (X × List ℕ) Bad) → ℕ → List ℕ → Result (List X × List ℕ) Bad
+abbrev pub read_times : {X : Type 0} → (List ℕ → Result (X × List ℕ) PacketError) → ℕ → List ℕ → Result (List X × List ℕ) PacketError
 read_times read zero bytes = Ok ([], bytes)
 read_times read (suc n) bytes = read bytes >>= λ first. read_times read n first.1 >>= λ others. Ok (first.0 ∷ others.0, others.1)
 

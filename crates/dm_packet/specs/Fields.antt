@@ -5,7 +5,7 @@ use Rattle.dm_link.specs.declared.Addr.{Addr}
 use Rattle.dm_link.specs.declared.Kind.{Kind}
 use Rattle.dm_link.specs.declared.Kind.TheVariants.{General, Reply}
 use Rattle.dm_link.specs.declared.Link.{Link}
-use Rattle.dm_packet.specs.declared.Bad.TheVariants as bad
+use Rattle.dm_packet.specs.declared.PacketError.TheVariants as bad
 use Rattle.dm_packet.specs.Field.{Field, number, run, tested, both, made, times, counted}
 
 -- a machine, 0 to 15

@@ -7,8 +7,8 @@ use Rattle.dm_message.specs.declared.What.{What}
 use Rattle.dm_message.specs.Ids.{bool_eq}
 use Rattle.dm_message.specs.Kinds.{kind_of}
 use Rattle.dm_message.specs.Lawful.{is_answer}
-use Rattle.dm_packet.specs.declared.Bad.{Bad}
-use Rattle.dm_packet.specs.declared.Bad.TheVariants as bad
+use Rattle.dm_packet.specs.declared.PacketError.{PacketError}
+use Rattle.dm_packet.specs.declared.PacketError.TheVariants as bad
 use Rattle.dm_packet.specs.declared.Packet.{Packet}
 use Rattle.dm_packet.specs.declared.Packet.TheVariants.{Data, Ack}
 use Rattle.dm_packet.specs.declared.front.Head.{Head}
@@ -43,7 +43,7 @@ with_head h w = record { id = h.id; to = h.to; sender = h.sender; what = w }
 unfoldable pub spell_message : Message → List ℕ
 spell_message m = head.spell (head_of m) ++ spell_what m.what
 
-unfoldable pub read_message : List ℕ → Result (Message × List ℕ) Bad
+unfoldable pub read_message : List ℕ → Result (Message × List ℕ) PacketError
 read_message bytes = head.read bytes >>= λ h. read_what h.0.kind h.1 >>= λ w. Ok (with_head h.0 w.0, w.1)
 
 abbrev pub message : Field Message
@@ -85,20 +85,20 @@ spell_rest (Ack from to count) = (number 4).spell count
 unfoldable pub spelling : Packet → List ℕ
 spelling p = opening.spell (opening_of p) ++ spell_rest p
 
-abbrev pub read_data : ℕ → ℕ → List ℕ → Result (Packet × List ℕ) Bad
+abbrev pub read_data : ℕ → ℕ → List ℕ → Result (Packet × List ℕ) PacketError
 read_data from to bytes = numbered_message.read bytes >>= λ x. Ok (Data from to x.0.0 x.0.1, x.1)
 
-abbrev pub read_ack : ℕ → ℕ → List ℕ → Result (Packet × List ℕ) Bad
+abbrev pub read_ack : ℕ → ℕ → List ℕ → Result (Packet × List ℕ) PacketError
 read_ack from to bytes = (number 4).read bytes >>= λ x. Ok (Ack from to x.0, x.1)
 
-unfoldable pub read_rest : PacketKind → ℕ → ℕ → List ℕ → Result (Packet × List ℕ) Bad
+unfoldable pub read_rest : PacketKind → ℕ → ℕ → List ℕ → Result (Packet × List ℕ) PacketError
 read_rest kinds.Data from to bytes = read_data from to bytes
 read_rest kinds.Ack from to bytes = read_ack from to bytes
 
 -- nothing follows a packet
-abbrev pub ended : Packet × List ℕ → Result Packet Bad
+abbrev pub ended : Packet × List ℕ → Result Packet PacketError
 ended p = if length p.1 == 0 then Ok p.0 else Err bad.Trailing
 
 -- what the bytes spell, all of them, or the first rule that they break
-unfoldable pub packet_of : List ℕ → Result Packet Bad
+unfoldable pub packet_of : List ℕ → Result Packet PacketError
 packet_of bytes = opening.read bytes >>= λ o. read_rest o.0.kind o.0.from o.0.to o.1 >>= ended

@@ -1,9 +1,9 @@
 -- The numbers of the rules that bytes may break.
 use Rattle.std.specs.Prelude.{ℕ}
-use Rattle.dm_packet.specs.declared.Bad.{Bad}
-use Rattle.dm_packet.specs.declared.Bad.TheVariants as bad
+use Rattle.dm_packet.specs.declared.PacketError.{PacketError}
+use Rattle.dm_packet.specs.declared.PacketError.TheVariants as bad
 
-abbrev pub number_of_rule : Bad → ℕ
+abbrev pub number_of_rule : PacketError → ℕ
 number_of_rule bad.Missing = 1
 number_of_rule bad.Version = 2
 number_of_rule bad.PacketKind = 3

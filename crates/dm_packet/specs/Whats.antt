@@ -12,17 +12,17 @@ use Rattle.dm_message.specs.declared.kind.MessageKind.{MessageKind}
 use Rattle.dm_message.specs.declared.kind.MessageKind.TheVariants as kind
 use Rattle.dm_message.specs.Ids.{bool_eq}
 use Rattle.dm_message.specs.Kinds.{kind_numbered, number_of}
-use Rattle.dm_packet.specs.declared.Bad.{Bad}
-use Rattle.dm_packet.specs.declared.Bad.TheVariants as bad
+use Rattle.dm_packet.specs.declared.PacketError.{PacketError}
+use Rattle.dm_packet.specs.declared.PacketError.TheVariants as bad
 use Rattle.dm_packet.specs.Field.{Field, ◌>>=◌, number, run, tested, both, made, counted}
 use Rattle.dm_packet.specs.Fields.{addr, bit_of, bytes_within, channel, links, machine, pid}
 
-abbrev pub if_coded : {X : Type 0} → Option X → List ℕ → Bad → Result (X × List ℕ) Bad
+abbrev pub if_coded : {X : Type 0} → Option X → List ℕ → PacketError → Result (X × List ℕ) PacketError
 if_coded None rest rule = Err rule
 if_coded (Some x) rest rule = Ok (x, rest)
 
 -- a value that a byte stands for, or a rule that is broken
-abbrev pub coded : {X : Type 0} → (ℕ → Option X) → (X → ℕ) → Bad → Field X
+abbrev pub coded : {X : Type 0} → (ℕ → Option X) → (X → ℕ) → PacketError → Field X
 coded value code rule = record {
   spell = λ x. (number 1).spell (code x);
   read = λ bytes. (number 1).read bytes >>= λ n. if_coded (value n.0) n.1 rule;
@@ -32,7 +32,7 @@ abbrev pub bool_coded : ℕ → Option Bool
 bool_coded n = if n == 0 then Some false else if n == 1 then Some true else None
 
 -- a yes or no, or a rule that is broken
-abbrev pub yes_or_no : Bad → Field Bool
+abbrev pub yes_or_no : PacketError → Field Bool
 yes_or_no rule = coded bool_coded bit_of rule
 
 abbrev pub outcome_coded : ℕ → Option Outcome
@@ -51,7 +51,7 @@ abbrev pub optional_spell : {X : Type 0} → Field X → Option X → List ℕ
 optional_spell f None = 0 ∷ []
 optional_spell f (Some x) = 1 ∷ f.spell x
 
-abbrev pub optional_read : {X : Type 0} → Field X → Bool → List ℕ → Result (Option X × List ℕ) Bad
+abbrev pub optional_read : {X : Type 0} → Field X → Bool → List ℕ → Result (Option X × List ℕ) PacketError
 optional_read f false bytes = Ok (None, bytes)
 optional_read f true bytes = f.read bytes >>= λ x. Ok (Some x.0, x.1)
 
@@ -145,11 +145,11 @@ spell_what (what.CallOff p) = pid.spell p
 spell_what (what.Bury p) = pid.spell p
 
 -- what is read, put into a message
-abbrev pub read_as : {X : Type 0} → Field X → (X → What) → List ℕ → Result (What × List ℕ) Bad
+abbrev pub read_as : {X : Type 0} → Field X → (X → What) → List ℕ → Result (What × List ℕ) PacketError
 read_as f make bytes = f.read bytes >>= λ x. Ok (make x.0, x.1)
 
 -- what a message of this kind carries, or the first rule that is broken
-unfoldable pub read_what : MessageKind → List ℕ → Result (What × List ℕ) Bad
+unfoldable pub read_what : MessageKind → List ℕ → Result (What × List ℕ) PacketError
 read_what kind.User bytes = read_as user (λ x. what.User x.0 x.1.0 (record { items = x.1.1.0 }) (record { items = x.1.1.1 })) bytes
 read_what kind.Stop bytes = Ok (what.Stop, bytes)
 read_what kind.Resume bytes = Ok (what.Resume, bytes)

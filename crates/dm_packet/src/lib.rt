@@ -36,7 +36,7 @@ pub enum Packet {
 
 /// Why some bytes are no packet: the first rule that they break, from the left.
 #[derive(Clone, Copy, Debug, PartialEq, Eq, Error)]
-pub enum Bad {
+pub enum PacketError {
     /// A field's bytes are not all there.
     #[error("bytes are missing")]
     Missing,
@@ -66,27 +66,27 @@ pub enum Bad {
     Trailing,
 }
 
-impl Bad {
+impl PacketError {
     /// The rule's number, 1 to 9.
     pub fn number(self) -> u8
         ensures { result ≡ number_of_rule self }
     {
         match self {
-            Bad::Missing => 1,
-            Bad::Version => 2,
-            Bad::PacketKind => 3,
-            Bad::Machine => 4,
-            Bad::MessageKind => 5,
-            Bad::Answer => 6,
-            Bad::Flags => 7,
-            Bad::Limit => 8,
-            Bad::Trailing => 9,
+            PacketError::Missing => 1,
+            PacketError::Version => 2,
+            PacketError::PacketKind => 3,
+            PacketError::Machine => 4,
+            PacketError::MessageKind => 5,
+            PacketError::Answer => 6,
+            PacketError::Flags => 7,
+            PacketError::Limit => 8,
+            PacketError::Trailing => 9,
         }
     }
 }
 
 /// The packet that the bytes spell, all of them, or the first rule from the left that they break. It takes no memory.
-pub fn decode(bytes: &[u8]) -> Result<Packet, Bad>
+pub fn decode(bytes: &[u8]) -> Result<Packet, PacketError>
     // Which packet, and which rule.
     ensures exact { result ≡ packet_of bytes.now }
     // What is read is lawful, its numbers fit their fields, and it is spelled so and in no other way.

@@ -25,7 +25,7 @@ use Rattle.dm_message.specs.Lawful.{IsLawfulMessage, IsLawfulWhat, is_answer}
 use Rattle.dm_onekernel.specs.declared.boot.Boot.{Boot}
 use Rattle.dm_onekernel.specs.declared.boot.BootProcess.{BootProcess}
 use Rattle.dm_onekernel.specs.Boot.{IsValid, manager, process_is_valid, processes_are_valid, starting_at, switchboard}
-use Rattle.dm_procman.specs.declared.moving.MoveNo.TheVariants as no
+use Rattle.dm_procman.specs.declared.moving.MoveError.TheVariants as no
 use Rattle.dm_procman.specs.declared.pending.Pending.{Pending}
 use Rattle.dm_procman.specs.Lawful.{IsLawfulManager, IsLawfulPending}
 use Rattle.dm_procman.specs.Managing.{Managing, at_home, child_of, retargeted_manager, retargeted_pending, starting}

@@ -26,7 +26,7 @@ use dm_memory::NoMemory;
 use dm_message::{Message, MsgId, What};
 use dm_onekernel::Boot;
 use making::{answer_over, control_link};
-pub use moving::MoveNo;
+pub use moving::MoveError;
 use moving::{move_child, retarget_pending};
 pub use pending::Pending;
 use pending::take_pending;
@@ -185,7 +185,7 @@ impl ProcMan {
     }
 
     /// The message that tells a child to move to machine `to`, under the name `id`.
-    pub fn ask_move(&self, pid: Pid, to: u8, id: MsgId) -> Result<Message, MoveNo>
+    pub fn ask_move(&self, pid: Pid, to: u8, id: MsgId) -> Result<Message, MoveError>
         ensures exact { result ≡ moves_child self.now.children pid to id }
         ensures lawful { IsLawfulManager self.now → IsMachine to → IsMachine id.from.home → id.answer ≡ false → IfOk result IsLawfulMessage }
     {

@@ -13,7 +13,7 @@ use thiserror::Error;
 
 /// Why no process is told to move.
 #[derive(Clone, Copy, Debug, PartialEq, Eq, Error)]
-pub enum MoveNo {
+pub enum MoveError {
     #[error("it is no child of the manager")]
     Unknown,
     #[error("servers don't move")]
@@ -21,11 +21,11 @@ pub enum MoveNo {
 }
 
 /// The message that tells a child to move to machine `to`, under the name `id`.
-pub fn move_child(children: &Children, pid: Pid, to: u8, id: MsgId) -> Result<Message, MoveNo>
+pub fn move_child(children: &Children, pid: Pid, to: u8, id: MsgId) -> Result<Message, MoveError>
     ensures { result ≡ moves_child children.now pid to id }
 {
     if pid == SWITCHBOARD || pid == MANAGER {
-        return Err(MoveNo::Pinned);
+        return Err(MoveError::Pinned);
     }
     match children.named(pid) {
         Some(child) => Ok(Message {
@@ -34,7 +34,7 @@ pub fn move_child(children: &Children, pid: Pid, to: u8, id: MsgId) -> Result<Me
             sender: ADDRESS,
             what: What::Migrate { machine: to },
         }),
-        None => Err(MoveNo::Unknown),
+        None => Err(MoveError::Unknown),
     }
 }
 

@@ -7,8 +7,8 @@ use Rattle.dm_draw.specs.Boot.{boot_of}
 use Rattle.dm_drill.specs.Drilled.{IsOfFirst}
 use Rattle.dm_drill.proofs.Going.{nothing_drilled}
 use Rattle.dm_program.specs.declared.status.Status.TheVariants.{Usage, NoMemory}
-use Rattle.dm_program.specs.declared.words.WordsNo.{WordsNo}
-use Rattle.dm_program.specs.declared.words.WordsNo.TheVariants as why
+use Rattle.dm_program.specs.declared.words.WordsError.{WordsError}
+use Rattle.dm_program.specs.declared.words.WordsError.TheVariants as why
 use Rattle.dm_program.specs.Drills.{directives_of}
 use Rattle.dm_program.specs.Outside.{Outside}
 use Rattle.dm_program.specs.Program.{ProgramMeets}
@@ -82,7 +82,7 @@ lacks_meets asked faults (Some (Drill d)) o shelf lack h nothing = record {
 }
 
 -- no words of a command
-pub no_request : {F : Type 0} (asked : F → List ℕ → F → Type 0) (faults : F → ℕ) (r : Option Request) (o : Outside) (shelf : F) (reason : WordsNo) → Untouched o → ((name : List ℕ) → asked shelf name shelf) → (reason ≡ why.Usage → r ≡ None) → ProgramMeets asked faults r o shelf shelf (status_of_no reason)
+pub no_request : {F : Type 0} (asked : F → List ℕ → F → Type 0) (faults : F → ℕ) (r : Option Request) (o : Outside) (shelf : F) (reason : WordsError) → Untouched o → ((name : List ℕ) → asked shelf name shelf) → (reason ≡ why.Usage → r ≡ None) → ProgramMeets asked faults r o shelf shelf (status_of_no reason)
 no_request asked faults r o shelf why.Usage h nothing usage =
     subst (λ (x : Option Request). ProgramMeets asked faults x o shelf shelf Usage) (sym (usage refl)) (record { why = inl refl; unread = refl; nothing = h.told; unfailed = h.writes; no_world = h.no_world })
 no_request asked faults r o shelf (why.NoMemory lack) h nothing usage = lacks_meets asked faults r o shelf lack h nothing

@@ -3,8 +3,8 @@ use Rattle.std.specs.Prelude.{◌≡◌, ℕ, ◌<◌, ⊤, List, [], ◌++◌, 
 use Rattle.std.specs.declared.option.Option.{Option}
 use Rattle.std.specs.declared.option.Option.TheVariants.{None, Some}
 use Rattle.dm_outside.specs.Outside.{RoseOrFull}
-use Rattle.dm_program.specs.declared.read.ReadNo.{ReadNo}
-use Rattle.dm_program.specs.declared.read.ReadNo.TheVariants as no
+use Rattle.dm_program.specs.declared.read.ReadError.{ReadError}
+use Rattle.dm_program.specs.declared.read.ReadError.TheVariants as no
 
 -- the file of this name has these bytes, where the shelf tells
 abbrev pub IsFile : Option (List ℕ → Option (List ℕ)) → List ℕ → List ℕ → Type 0
@@ -27,7 +27,7 @@ SoFar None name bytes = ⊤
 SoFar (Some files) name bytes = StartsSo (files name) bytes
 
 -- the count of faults is as it was, unless a read is blamed: then it rose
-abbrev pub BlamesRead : ℕ → ℕ → ReadNo → Type 0
+abbrev pub BlamesRead : ℕ → ℕ → ReadError → Type 0
 BlamesRead old new no.Fault = RoseOrFull old new
 BlamesRead old new (no.NoMemory lack) = new ≡ old
 BlamesRead old new no.TooLong = new ≡ old

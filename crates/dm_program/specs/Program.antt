@@ -11,7 +11,7 @@ use Rattle.dm_world.specs.declared.world.World.{World}
 use Rattle.dm_run.specs.Appended.{Written}
 use Rattle.dm_program.specs.declared.status.Status.{Status}
 use Rattle.dm_program.specs.declared.status.Status.TheVariants.{Usage}
-use Rattle.dm_program.specs.declared.words.WordsNo.{WordsNo}
+use Rattle.dm_program.specs.declared.words.WordsError.{WordsError}
 use Rattle.dm_program.specs.Charts.{ChartMeets}
 use Rattle.dm_program.specs.Checks.{CheckMeets}
 use Rattle.dm_program.specs.Drills.{DrillMeets}
@@ -41,21 +41,21 @@ ProgramMeets asked faults (Some (Explain boot schedule)) o old new s = ExplainMe
 ProgramMeets asked faults (Some (Drill drill)) o old new s = DrillMeets drill o old new s
 
 -- there are no words: nothing is read or written, and there is no world
-pub record HasNoWords {F K : Type 0} (reason : WordsNo) (shelf shelf' : F) (sink sink' : K) (world : Option World) (s : Status) : Type 0 where
+pub record HasNoWords {F K : Type 0} (reason : WordsError) (shelf shelf' : F) (sink sink' : K) (world : Option World) (s : Status) : Type 0 where
   pub why : s ≡ status_of_no reason
   pub unread : shelf' ≡ shelf
   pub unwritten : sink' ≡ sink
   pub no_world : world ≡ None
 
 -- with the words that were given, each of them and no other, in order, or with none
-abbrev pub GivenMeets : {F K : Type 0} → (F → List ℕ → F → Type 0) → (F → Option (List ℕ → Option (List ℕ))) → (F → ℕ) → (K → Option (List ℕ)) → (K → ℕ) → Result (Vec (String Global) Global) WordsNo → F → F → K → K → Option World → Status → Type 0
+abbrev pub GivenMeets : {F K : Type 0} → (F → List ℕ → F → Type 0) → (F → Option (List ℕ → Option (List ℕ))) → (F → ℕ) → (K → Option (List ℕ)) → (K → ℕ) → Result (Vec (String Global) Global) WordsError → F → F → K → K → Option World → Status → Type 0
 GivenMeets asked files reads told writes (Ok words) shelf shelf' sink sink' world s =
     ProgramMeets asked reads (request_of (map string_bytes words.items)) (around files reads told writes shelf shelf' sink sink' world) shelf shelf' s
 GivenMeets asked files reads told writes (Err reason) shelf shelf' sink sink' world s = HasNoWords reason shelf shelf' sink sink' world s
 
 -- the program has ended with a status: its line was offered to standard error, and its number is the program's
 pub record Finishes {F K E : Type 0} (asked : F → List ℕ → F → Type 0) (files : F → Option (List ℕ → Option (List ℕ))) (reads : F → ℕ) (told : K → Option (List ℕ)) (writes : K → ℕ) (said : E → Option (List ℕ)) (failed : E → ℕ)
-    (given : Result (Vec (String Global) Global) WordsNo) (shelf shelf' : F) (sink sink' : K) (errors errors' : E) (code : ExitCode) : Type 0 where
+    (given : Result (Vec (String Global) Global) WordsError) (shelf shelf' : F) (sink sink' : K) (errors errors' : E) (code : ExitCode) : Type 0 where
   pub status : Status
   pub world : Option World
   pub meets : GivenMeets asked files reads told writes given shelf shelf' sink sink' world status

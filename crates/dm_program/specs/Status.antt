@@ -9,8 +9,8 @@ use Rattle.dm_run.specs.declared.stop.Stop.TheVariants as stop
 use Rattle.dm_memory.specs.declared.NoMemory.{NoMemory as TheNoMemory}
 use Rattle.dm_program.specs.declared.status.Input.{Input}
 use Rattle.dm_program.specs.declared.status.Input.TheVariants.{Boot, Schedule, Trace}
-use Rattle.dm_program.specs.declared.words.WordsNo.{WordsNo}
-use Rattle.dm_program.specs.declared.words.WordsNo.TheVariants as why
+use Rattle.dm_program.specs.declared.words.WordsError.{WordsError}
+use Rattle.dm_program.specs.declared.words.WordsError.TheVariants as why
 use Rattle.dm_program.specs.declared.status.Status.{Status}
 use Rattle.dm_program.specs.declared.status.Status.TheVariants.{Done, Usage, ReadFault, NoMemory, WriteFault, BootRefused, ScheduleRefused, TooLong, Worn, TraceRefused}
 
@@ -56,7 +56,7 @@ abbrev pub line_of : Status → List ℕ
 line_of s = as_line (text_of s)
 
 -- the status of words that name no files
-abbrev pub status_of_no : WordsNo → Status
+abbrev pub status_of_no : WordsError → Status
 status_of_no why.Usage = Usage
 status_of_no (why.NoMemory lack) = NoMemory lack
 

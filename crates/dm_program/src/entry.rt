@@ -10,8 +10,8 @@ ghost use Rattle.dm_program.specs.Words.{IsTaken};
 use crate::ending::end;
 use crate::program::run_program;
 use crate::status::Status;
-use crate::words::WordsNo;
-use dm_memory::of_args::{NoArgs, collect};
+use crate::words::WordsError;
+use dm_memory::of_args::{ArgsError, collect};
 use dm_memory::{NoMemory, push};
 use dm_outside::{Shelf, Sink};
 use dm_world::World;
@@ -20,27 +20,27 @@ use std::env::Args;
 use std::process::ExitCode;
 
 /// The words of the command line, each of them, or why there are none: a word that isn't Unicode is none of a command.
-pub fn words_of(alloc: Global, args: Result<Args, NoArgs>) -> Result<Vec<String>, WordsNo>
+pub fn words_of(alloc: Global, args: Result<Args, ArgsError>) -> Result<Vec<String>, WordsError>
     ensures words { IfOk args (λ a. IfOk result (λ words. WholeRun into_iter_steps a (λ run. words.items ≡ run.items))) }
-    ensures lacks { IfOk args (λ _. IfErr result (λ no. no ≡ WordsNo.Usage → ⊥)) }
+    ensures lacks { IfOk args (λ _. IfErr result (λ no. no ≡ WordsError.Usage → ⊥)) }
     ensures none { IfErr args (λ _. IfOk result (λ _. ⊥)) }
-    ensures want { IfErr args (λ e. IfErr result (λ no. no ≡ WordsNo.Usage → IsWant e → ⊥)) }
-    ensures usage { IfErr args (λ e. IfErr result (λ no. e ≡ NoArgs.Unread → no ≡ WordsNo.Usage)) }
+    ensures want { IfErr args (λ e. IfErr result (λ no. no ≡ WordsError.Usage → IsWant e → ⊥)) }
+    ensures usage { IfErr args (λ e. IfErr result (λ no. e ≡ ArgsError.Unread → no ≡ WordsError.Usage)) }
 {
     match args {
         Ok(args) => match collect(alloc, args) {
             Ok(words) => Ok(words),
-            Err(no) => Err(WordsNo::NoMemory(no)),
+            Err(no) => Err(WordsError::NoMemory(no)),
         },
-        Err(NoArgs::Unread) => Err(WordsNo::Usage),
-        Err(NoArgs::NoMemory(no)) => Err(WordsNo::NoMemory(no)),
+        Err(ArgsError::Unread) => Err(WordsError::Usage),
+        Err(ArgsError::NoMemory(no)) => Err(WordsError::NoMemory(no)),
     }
 }
 
 /// Runs the program on the words that it was given, says its status on standard error, and gives its number.
 pub fn finish<F: Shelf, K: Sink, E: Sink>(
     alloc: Global,
-    given: Result<Vec<String>, WordsNo>,
+    given: Result<Vec<String>, WordsError>,
     shelf: &mut F,
     out: &mut K,
     errors: &mut E,
@@ -57,7 +57,7 @@ pub fn finish<F: Shelf, K: Sink, E: Sink>(
 /// and then nothing is read or written, and no world is left.
 pub fn run_given<F: Shelf, K: Sink>(
     alloc: Global,
-    given: Result<Vec<String>, WordsNo>,
+    given: Result<Vec<String>, WordsError>,
     shelf: &mut F,
     out: &mut K,
     world: &mut Option<World>,

@@ -8,12 +8,12 @@ ghost use Rattle.dm_program.specs.Inputs.{AcceptsFiles, HasFile, NoBoot, NoDirec
 ghost use Rattle.dm_program.specs.Status.{BlamesShelf};
 ghost use Rattle.dm_run.specs.Coming.{IsFor};
 
-use crate::read::{ReadNo, read_file};
+use crate::read::{ReadError, read_file};
 use crate::status::{Input, Status};
-use dm_boot::{BootNo, read_boot};
+use dm_boot::{BootError, read_boot};
 use dm_onekernel::Boot;
 use dm_outside::Shelf;
-use dm_schedule::{Directive, SchedNo, read_schedule};
+use dm_schedule::{Directive, ScheduleError, read_schedule};
 use std::alloc::Global;
 
 /// The most bytes of a boot file.
@@ -103,9 +103,9 @@ fn read_trace<F: Shelf>(alloc: Global, name: &str, shelf: &mut F) -> Result<Vec<
 {
     match read_file(alloc, shelf, name, MOST_TRACE) {
         Ok(bytes) => Ok(bytes),
-        Err(ReadNo::Fault) => Err(Status::ReadFault(Input::Trace)),
-        Err(ReadNo::NoMemory(no)) => Err(Status::NoMemory(no)),
-        Err(ReadNo::TooLong) => Err(Status::TooLong(Input::Trace)),
+        Err(ReadError::Fault) => Err(Status::ReadFault(Input::Trace)),
+        Err(ReadError::NoMemory(no)) => Err(Status::NoMemory(no)),
+        Err(ReadError::TooLong) => Err(Status::TooLong(Input::Trace)),
     }
 }
 
@@ -123,15 +123,15 @@ fn read_system<F: Shelf>(alloc: Global, name: &str, shelf: &mut F) -> Result<Boo
     match read_file(alloc, shelf, name, MOST_BOOT) {
         Ok(bytes) => match read_boot(alloc, bytes.as_slice()) {
             Ok(boot) => Ok(boot),
-            Err(BootNo::Refused { rule, place }) => Err(Status::BootRefused {
+            Err(BootError::Refused { rule, place }) => Err(Status::BootRefused {
                 number: rule.number(),
                 place,
             }),
-            Err(BootNo::NoMemory(no)) => Err(Status::NoMemory(no)),
+            Err(BootError::NoMemory(no)) => Err(Status::NoMemory(no)),
         },
-        Err(ReadNo::Fault) => Err(Status::ReadFault(Input::Boot)),
-        Err(ReadNo::NoMemory(no)) => Err(Status::NoMemory(no)),
-        Err(ReadNo::TooLong) => Err(Status::TooLong(Input::Boot)),
+        Err(ReadError::Fault) => Err(Status::ReadFault(Input::Boot)),
+        Err(ReadError::NoMemory(no)) => Err(Status::NoMemory(no)),
+        Err(ReadError::TooLong) => Err(Status::TooLong(Input::Boot)),
     }
 }
 
@@ -155,14 +155,14 @@ fn read_directives<F: Shelf>(
     match read_file(alloc, shelf, name, MOST_SCHEDULE) {
         Ok(bytes) => match read_schedule(alloc, bytes.as_slice(), machines) {
             Ok(directives) => Ok(directives),
-            Err(SchedNo::Refused { line, fault }) => Err(Status::ScheduleRefused {
+            Err(ScheduleError::Refused { line, fault }) => Err(Status::ScheduleRefused {
                 line,
                 why: fault.number(),
             }),
-            Err(SchedNo::NoMemory(no)) => Err(Status::NoMemory(no)),
+            Err(ScheduleError::NoMemory(no)) => Err(Status::NoMemory(no)),
         },
-        Err(ReadNo::Fault) => Err(Status::ReadFault(Input::Schedule)),
-        Err(ReadNo::NoMemory(no)) => Err(Status::NoMemory(no)),
-        Err(ReadNo::TooLong) => Err(Status::TooLong(Input::Schedule)),
+        Err(ReadError::Fault) => Err(Status::ReadFault(Input::Schedule)),
+        Err(ReadError::NoMemory(no)) => Err(Status::NoMemory(no)),
+        Err(ReadError::TooLong) => Err(Status::TooLong(Input::Schedule)),
     }
 }

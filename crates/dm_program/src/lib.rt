@@ -15,4 +15,4 @@ pub use dm_memory::of_args::args;
 pub use entry::{finish, run_given, words_of};
 pub use program::run_program;
 pub use status::{Input, Status, status_line, status_text};
-pub use words::WordsNo;
+pub use words::WordsError;

@@ -8,7 +8,7 @@ use std::alloc::Global;
 
 /// Why a file was not read.
 #[derive(Clone, Copy, Debug, PartialEq, Eq)]
-pub enum ReadNo {
+pub enum ReadError {
     /// The shelf failed.
     Fault,
     /// No memory was left.
@@ -23,11 +23,11 @@ pub fn read_file<F: Shelf>(
     shelf: &mut F,
     name: &str,
     most: u32,
-) -> Result<Vec<u8>, ReadNo>
+) -> Result<Vec<u8>, ReadError>
     ensures same { F.told shelf.new ≡ F.told shelf.old }
     ensures whole { IfOk result (λ bytes. IsFile (F.told shelf.old) name.now bytes.items) }
     ensures within { IfOk result (λ bytes. length bytes.items ≤ most) }
-    ensures long { IfErr result (λ e. e ≡ ReadNo.TooLong → IsLonger (F.told shelf.old) name.now most) }
+    ensures long { IfErr result (λ e. e ≡ ReadError.TooLong → IsLonger (F.told shelf.old) name.now most) }
     ensures steady { IfOk result (λ _. F.faults shelf.new ≡ F.faults shelf.old) }
     ensures blames { IfErr result (λ e. BlamesRead (F.faults shelf.old) (F.faults shelf.new) e) }
     ensures counts { F.faults shelf.old ≤ F.faults shelf.new }
@@ -39,17 +39,17 @@ pub fn read_file<F: Shelf>(
             return Ok(bytes);
         }
     }
-    Err(ReadNo::TooLong)
+    Err(ReadError::TooLong)
 }
 
 /// Reads the next piece of a file, of which these bytes were read, and says how many bytes it has:
 /// none at the end.
-fn read_piece<F: Shelf>(shelf: &mut F, name: &str, bytes: &mut Vec<u8>) -> Result<usize, ReadNo>
+fn read_piece<F: Shelf>(shelf: &mut F, name: &str, bytes: &mut Vec<u8>) -> Result<usize, ReadError>
     ensures same { F.told shelf.new ≡ F.told shelf.old }
     ensures grows { IfOk result (λ n. vec_len bytes.new ≡ vec_len bytes.old + n) }
     ensures so_far { IfOk result (λ n. SoFar (F.told shelf.old) name.now bytes.old.items → SoFar (F.told shelf.old) name.now bytes.new.items) }
     ensures ended { IfOk result (λ n. n ≡ 0 → SoFar (F.told shelf.old) name.now bytes.old.items → IsFile (F.told shelf.old) name.now bytes.new.items) }
-    ensures never_long { IfErr result (λ e. e ≡ ReadNo.TooLong → ⊥) }
+    ensures never_long { IfErr result (λ e. e ≡ ReadError.TooLong → ⊥) }
     ensures steady { IfOk result (λ _. F.faults shelf.new ≡ F.faults shelf.old) }
     ensures blames { IfErr result (λ e. BlamesRead (F.faults shelf.old) (F.faults shelf.new) e) }
     ensures counts { F.faults shelf.old ≤ F.faults shelf.new }
@@ -60,8 +60,8 @@ fn read_piece<F: Shelf>(shelf: &mut F, name: &str, bytes: &mut Vec<u8>) -> Resul
     match shelf.read(name, from, &mut buffer) {
         Ok(n) => match extend_from_slice(bytes, &buffer[..n]) {
             Ok(()) => Ok(n),
-            Err(no) => Err(ReadNo::NoMemory(no)),
+            Err(no) => Err(ReadError::NoMemory(no)),
         },
-        Err(_) => Err(ReadNo::Fault),
+        Err(_) => Err(ReadError::Fault),
     }
 }

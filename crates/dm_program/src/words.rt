@@ -17,27 +17,27 @@ use crate::status::Status;
 use clap::{Arg, ArgAction, ArgMatches, Command};
 use dm_drill::drill::Drill;
 use dm_memory::NoMemory;
-use dm_memory::of_clap::{NoMatches, matches_from, with_arg, with_subcommand};
+use dm_memory::of_clap::{MatchesError, matches_from, with_arg, with_subcommand};
 use dm_shape::names::{byte, count};
 use std::alloc::Global;
 
 /// Why the words ask for nothing.
 #[derive(Clone, Copy, Debug, PartialEq, Eq)]
-pub enum WordsNo {
+pub enum WordsError {
     /// The words aren't those of a command.
     Usage,
     /// No memory was left.
     NoMemory(NoMemory),
 }
 
-impl WordsNo {
+impl WordsError {
     /// How the program ends then.
     pub fn status(self) -> Status
         ensures { result ≡ status_of_no self }
     {
         match self {
-            WordsNo::Usage => Status::Usage,
-            WordsNo::NoMemory(no) => Status::NoMemory(no),
+            WordsError::Usage => Status::Usage,
+            WordsError::NoMemory(no) => Status::NoMemory(no),
         }
     }
 }
@@ -70,23 +70,23 @@ pub enum Request<'a> {
 }
 
 /// What the words ask for, where they are those of a command.
-pub fn read_words<'a>(alloc: Global, words: &'a [&'a str]) -> Result<Request<'a>, WordsNo>
+pub fn read_words<'a>(alloc: Global, words: &'a [&'a str]) -> Result<Request<'a>, WordsError>
     ensures asks { IfOk result (λ r. request_of (map (λ w. w.now) words.now) ≡ Some (request_said r)) }
     ensures within { IfOk result IsInRange }
-    ensures refused { IfErr result (λ e. e ≡ WordsNo.Usage → IsTaken (map (λ w. w.now) words.now) → ⊥) }
-    ensures usage { IfErr result (λ e. e ≡ WordsNo.Usage → request_of (map (λ w. w.now) words.now) ≡ None) }
+    ensures refused { IfErr result (λ e. e ≡ WordsError.Usage → IsTaken (map (λ w. w.now) words.now) → ⊥) }
+    ensures usage { IfErr result (λ e. e ≡ WordsError.Usage → request_of (map (λ w. w.now) words.now) ≡ None) }
 {
     let command = match command(alloc) {
         Ok(command) => command,
-        Err(no) => return Err(WordsNo::NoMemory(no)),
+        Err(no) => return Err(WordsError::NoMemory(no)),
     };
     match matches_from(command, words) {
         Ok(matches) => match request_in(&matches) {
             Some(request) => Ok(request),
-            None => Err(WordsNo::Usage),
+            None => Err(WordsError::Usage),
         },
-        Err(NoMatches::Refused) => Err(WordsNo::Usage),
-        Err(NoMatches::NoMemory(no)) => Err(WordsNo::NoMemory(no)),
+        Err(MatchesError::Refused) => Err(WordsError::Usage),
+        Err(MatchesError::NoMemory(no)) => Err(WordsError::NoMemory(no)),
     }
 }
 

@@ -1,15 +1,15 @@
 //! What no run of the table shows: the real shelf and sink by themselves, a flat memory, and what errors say of themselves.
 
 use anyhow::Result;
-use dm_boot::{BootNo, BootRule};
-use dm_check::{CheckNo, TraceFault};
+use dm_boot::{BootError, BootRule};
+use dm_check::{CheckError, TraceFault};
 use dm_outside::{Failed, RealShelf, RealSink, Shelf, Sink};
-use dm_packet::Bad;
+use dm_packet::PacketError;
 use dm_processor::{Flat, Regs, step};
-use dm_procman::MoveNo;
+use dm_procman::MoveError;
 use dm_room::Lacks;
-use dm_schedule::{LineFault, SchedNo};
-use dm_statebytes::CarryBad;
+use dm_schedule::{LineFault, ScheduleError};
+use dm_statebytes::StateBytesError;
 use std::io;
 
 /// Reads of real files: on in one, from the start of another, and those that don't go on where the last one ended.
@@ -69,25 +69,25 @@ pub fn step_flat(rt: &HostRuntime) -> Result<()> {
 /// What errors say of themselves.
 pub fn say_errors(rt: &HostRuntime) -> Result<()> {
     for bad in [
-        Bad::Missing,
-        Bad::Version,
-        Bad::PacketKind,
-        Bad::Machine,
-        Bad::MessageKind,
-        Bad::Answer,
-        Bad::Flags,
-        Bad::Limit,
-        Bad::Trailing,
+        PacketError::Missing,
+        PacketError::Version,
+        PacketError::PacketKind,
+        PacketError::Machine,
+        PacketError::MessageKind,
+        PacketError::Answer,
+        PacketError::Flags,
+        PacketError::Limit,
+        PacketError::Trailing,
     ] {
         println!(rt; "packet, {}: {bad}", bad.number())?;
     }
     for bad in [
-        CarryBad::Missing,
-        CarryBad::Version,
-        CarryBad::Machine,
-        CarryBad::Flags,
-        CarryBad::Limit,
-        CarryBad::Trailing,
+        StateBytesError::Missing,
+        StateBytesError::Version,
+        StateBytesError::Machine,
+        StateBytesError::Flags,
+        StateBytesError::Limit,
+        StateBytesError::Trailing,
     ] {
         println!(rt; "state bytes, {}: {bad}", bad.number())?;
     }
@@ -101,7 +101,7 @@ pub fn say_errors(rt: &HostRuntime) -> Result<()> {
         println!(rt;
             "schedule, {}: {}",
             fault.number(),
-            SchedNo::Refused { line: 7, fault }
+            ScheduleError::Refused { line: 7, fault }
         )?;
     }
     for fault in [
@@ -113,21 +113,21 @@ pub fn say_errors(rt: &HostRuntime) -> Result<()> {
         println!(rt;
             "trace, {}: {}",
             fault.number(),
-            CheckNo::Refused { line: 7, fault }
+            CheckError::Refused { line: 7, fault }
         )?;
     }
     let rule = BootRule::ProcessRoom;
     println!(rt;
         "boot file, {}: {}",
         rule.number(),
-        BootNo::Refused { rule, place: 2 }
+        BootError::Refused { rule, place: 2 }
     )?;
     let lacks = Lacks {
         free_slots: 1,
         free_blocks: 20,
     };
     println!(rt; "room: {lacks}")?;
-    for no in [MoveNo::Unknown, MoveNo::Pinned] {
+    for no in [MoveError::Unknown, MoveError::Pinned] {
         println!(rt; "move: {no}")?;
     }
     Ok(())

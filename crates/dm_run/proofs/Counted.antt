@@ -6,7 +6,7 @@ use Rattle.std.specs.declared.result.Result.{Result}
 use Rattle.std.specs.declared.result.Result.TheVariants.{Ok, Err}
 use Rattle.dm_packet.specs.declared.Packet.{Packet}
 use Rattle.dm_packet.specs.declared.Packet.TheVariants as packet
-use Rattle.dm_packet.specs.declared.Bad.{Bad}
+use Rattle.dm_packet.specs.declared.PacketError.{PacketError}
 use Rattle.dm_packet.specs.Packets.{packet_of}
 use Rattle.dm_wire.specs.Sent.{bytes_at}
 use Rattle.dm_wire.specs.Wire.{after_mark}
@@ -29,7 +29,7 @@ turned_counts w e m None s is = cc
 turned_counts w e m (Some (Goes d)) s is = let f : acted w e m d ≡ s = cc in sym (ap (λ (x : Said). x.state.groups) f)
 turned_counts w e m (Some (Worn from to)) s is = let bad : WornOut from to ≡ Says s = cc in cc
 
-reads_counts : (w : WorldState) (e : Step) (a c : ℕ) (r : Result Packet Bad) (s : Said) → reads w e a c r ≡ Some (Says s) → s.state.groups ≡ w.groups + 1
+reads_counts : (w : WorldState) (e : Step) (a c : ℕ) (r : Result Packet PacketError) (s : Said) → reads w e a c r ≡ Some (Says s) → s.state.groups ≡ w.groups + 1
 reads_counts w e a c (Ok (packet.Data from to k m)) s is = let f : acted w e c (node.arrives (w.nodes c) a (Data k m)) ≡ s = cc in sym (ap (λ (x : Said). x.state.groups) f)
 reads_counts w e a c (Ok (packet.Ack from to k)) s is = let f : acted w e c (node.arrives (w.nodes c) a (Ack k)) ≡ s = cc in sym (ap (λ (x : Said). x.state.groups) f)
 reads_counts w e a c (Err bad) s is = cc

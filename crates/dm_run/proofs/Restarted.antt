@@ -9,13 +9,13 @@ use Rattle.std.specs.declared.result.Result.{Result}
 use Rattle.std.specs.declared.result.Result.TheVariants.{Ok, Err}
 use Rattle.dm_link.specs.declared.Link.{Link}
 use Rattle.dm_process.specs.declared.process.Process.{Process}
-use Rattle.dm_packet.specs.declared.Bad.{Bad}
-use Rattle.dm_packet.specs.declared.Bad.TheVariants as bad
+use Rattle.dm_packet.specs.declared.PacketError.{PacketError}
+use Rattle.dm_packet.specs.declared.PacketError.TheVariants as bad
 use Rattle.dm_packet.specs.Field.{Field, ◌>>=◌, both, number}
 use Rattle.dm_packet.specs.Fields.{LinkParts, addr, channel, flags, len_from, link, link_of}
 use Rattle.dm_packet.specs.Whats.{optional_read}
 use Rattle.dm_packet.proofs.Field.{bind_ok, ok_is}
-use Rattle.dm_statebytes.specs.declared.CarryBad.{CarryBad}
+use Rattle.dm_statebytes.specs.declared.StateBytesError.{StateBytesError}
 use Rattle.dm_statebytes.specs.declared.Shell.{Shell}
 use Rattle.dm_statebytes.specs.Shell.{Front, by_rule, ended, front, read_shell, shell, shell_of_bytes, shell_with}
 use Rattle.dm_statebytes.specs.Table.{mask, read_slots, slots, table}
@@ -96,10 +96,10 @@ read_hides cap bytes s e =
     let f : a.0.0 ≡ s = ended_same a.0 s (length a.0.1 == 0) a.2 in
     subst (λ (x : Shell). TableHides x.table) f (shell_hides cap bytes a.0 a.1)
 
-abbrev fine : Shell → Result Shell CarryBad
+abbrev fine : Shell → Result Shell StateBytesError
 fine s = Ok s
 
-by_rule_same : (r : Result Shell Bad) (s : Shell) → by_rule r ≡ fine s → r ≡ Ok s
+by_rule_same : (r : Result Shell PacketError) (s : Shell) → by_rule r ≡ fine s → r ≡ Ok s
 by_rule_same (Ok t) s e = cc
 by_rule_same (Err d) s e = absurd cc
 
@@ -107,7 +107,7 @@ bytes_hide : (bytes : List ℕ) (cap : ℕ) (s : Shell) → shell_of_bytes bytes
 unfolding shell_of_bytes
 bytes_hide bytes cap s e = read_hides cap bytes s (by_rule_same (read_shell bytes cap) s e)
 
-revived_hides : (r : Result Shell CarryBad) (memory : List ℕ) (x : Process) → ((s : Shell) → r ≡ Ok s → TableHides s.table) → revived_from r memory ≡ Some x → TableHides x.table
+revived_hides : (r : Result Shell StateBytesError) (memory : List ℕ) (x : Process) → ((s : Shell) → r ≡ Ok s → TableHides s.table) → revived_from r memory ≡ Some x → TableHides x.table
 revived_hides (Ok s) memory x h e = let f : revived s memory ≡ x = cc in subst (λ (y : Process). TableHides y.table) f (h s refl)
 revived_hides (Err d) memory x h e = cc
 

@@ -5,8 +5,8 @@ use Rattle.dm_schedule.specs.declared.Directive.{Directive}
 use Rattle.dm_schedule.specs.declared.Directive.TheVariants as directive
 use Rattle.dm_schedule.specs.declared.LineFault.{LineFault}
 use Rattle.dm_schedule.specs.declared.LineFault.TheVariants.{UnknownWord, WrongCount, NotANumber, OutOfRange, SameMachine}
-use Rattle.dm_schedule.specs.declared.SchedNo.{SchedNo}
-use Rattle.dm_schedule.specs.declared.SchedNo.TheVariants as no
+use Rattle.dm_schedule.specs.declared.ScheduleError.{ScheduleError}
+use Rattle.dm_schedule.specs.declared.ScheduleError.TheVariants as no
 use Rattle.dm_schedule.specs.declared.keywords.Keyword.{Keyword}
 use Rattle.dm_schedule.specs.declared.keywords.Keyword.TheVariants.{Turn, Tick, Deliver, Migrate, Round, Spin, Settle}
 use Rattle.dm_schedule.specs.Keywords.{keyword_of, operands}
@@ -75,6 +75,6 @@ unfoldable pub directives_of : List ℕ → ℕ → Schedule
 directives_of text machines = lines_from machines 1 (lines text)
 
 -- a text is refused so; want of memory says nothing of it
-abbrev pub RefusedSo : List ℕ → ℕ → SchedNo → Type 0
+abbrev pub RefusedSo : List ℕ → ℕ → ScheduleError → Type 0
 RefusedSo text machines (no.Refused line fault) = directives_of text machines ≡ Refused line fault
 RefusedSo text machines (no.NoMemory _) = ⊤

@@ -8,7 +8,7 @@ mod numbers;
 mod operands;
 
 ghost use Rattle.std.specs.Prelude.{◌++◌, IfErr, IfOk, OnOk, option_to_list, ◌≡◌};
-ghost use Rattle.dm_schedule.specs.declared.SchedNo.TheVariants as no;
+ghost use Rattle.dm_schedule.specs.declared.ScheduleError.TheVariants as no;
 ghost use Rattle.dm_schedule.specs.Schedule.{Accepted, RefusedSo, directives_of, number_of_fault};
 
 use crate::directives::line_directive;
@@ -75,7 +75,7 @@ impl LineFault {
 
 /// Why a schedule was not read.
 #[derive(Clone, Copy, Debug, PartialEq, Eq, Error)]
-pub enum SchedNo {
+pub enum ScheduleError {
     /// The first bad line, counted from 1, and what is wrong with it.
     #[error("line {line}: {fault}")]
     Refused { line: u64, fault: LineFault },
@@ -83,17 +83,21 @@ pub enum SchedNo {
     NoMemory(NoMemory),
 }
 
-impl From<NoMemory> for SchedNo {
+impl From<NoMemory> for ScheduleError {
     ghost from_gives = { λ none e. e ≡ no.NoMemory none };
 
-    fn from(none: NoMemory) -> SchedNo {
-        SchedNo::NoMemory(none)
+    fn from(none: NoMemory) -> ScheduleError {
+        ScheduleError::NoMemory(none)
     }
 }
 
 /// Reads the directives of a schedule for so many machines, 1 to 16 in use: one a line, in order.
 #[tactic(auto, unfolding(crate::specs::Schedule::directives_of))]
-pub fn read_schedule(alloc: Global, bytes: &[u8], machines: u8) -> Result<Vec<Directive>, SchedNo>
+pub fn read_schedule(
+    alloc: Global,
+    bytes: &[u8],
+    machines: u8,
+) -> Result<Vec<Directive>, ScheduleError>
     ensures ok { IfOk result (λ directives. directives_of bytes.now machines ≡ Accepted directives.items) }
     ensures refused { IfErr result (λ e. RefusedSo bytes.now machines e) }
 {
@@ -105,7 +109,7 @@ pub fn read_schedule(alloc: Global, bytes: &[u8], machines: u8) -> Result<Vec<Di
         match line_directive(machines, line) {
             Ok(found) => add(&mut directives, found)?,
             Err(fault) => {
-                return Err(SchedNo::Refused {
+                return Err(ScheduleError::Refused {
                     line: number,
                     fault,
                 });

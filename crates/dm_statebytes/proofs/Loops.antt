@@ -9,7 +9,7 @@ use Rattle.std.proofs.lemmas.Grind.{common_steps, take_at_read}
 use Rattle.std.proofs.lemmas.List.{append-nil, length-drop, take_all, take_more_set}
 use Rattle.dm_link.specs.declared.Link.{Link}
 use Rattle.dm_linktable.specs.Slots.{link_at}
-use Rattle.dm_packet.specs.declared.Bad.{Bad}
+use Rattle.dm_packet.specs.declared.PacketError.{PacketError}
 use Rattle.dm_packet.specs.Field.{◌>>=◌}
 use Rattle.dm_packet.specs.Fields.{link}
 use Rattle.dm_packet.proofs.Loop.{with_front}
@@ -18,26 +18,26 @@ use Rattle.dm_statebytes.specs.Table.{mask_of, read_slots, slot, spell_slot}
 use Rattle.dm_statebytes.specs.Widths.{FitsSlot}
 use Rattle.dm_statebytes.proofs.Tables.{mask_of-lt}
 
-pub front_none : {X : Type 0} (read : Result (List X × List ℕ) Bad) → with_front [] read ≡ read
+pub front_none : {X : Type 0} (read : Result (List X × List ℕ) PacketError) → with_front [] read ≡ read
 front_none (Ok x) = refl
 front_none (Err d) = refl
 
-regroup : {X : Type 0} (front : List X) (x : X) (read : Result (List X × List ℕ) Bad) → with_front front (read >>= λ y. Ok (x ∷ y.0, y.1)) ≡ with_front (front ++ x ∷ []) read
+regroup : {X : Type 0} (front : List X) (x : X) (read : Result (List X × List ℕ) PacketError) → with_front front (read >>= λ y. Ok (x ∷ y.0, y.1)) ≡ with_front (front ++ x ∷ []) read
 regroup front x (Ok y) = ap (λ xs. Ok (xs, y.1)) (simp append_assoc)
 regroup front x (Err d) = refl
 
 -- a table of which the slots up to a place are read, and the others are empty
-abbrev pub ReadUpTo : ℕ → Result (List (Option Link) × List ℕ) Bad → List (Option Link) → ℕ → ℕ → List ℕ → Type 0
+abbrev pub ReadUpTo : ℕ → Result (List (Option Link) × List ℕ) PacketError → List (Option Link) → ℕ → ℕ → List ℕ → Type 0
 ReadUpTo cap total table place left rest = (with_front (take place table) (read_slots (cap - place) left rest) ≡ total) × (length table ≡ cap) × ((s : ℕ) → place ≤ s → link_at table s ≡ None)
 
-slots_next : (front : List (Option Link)) (cap i left : ℕ) (rest : List ℕ) (o : Option Link) (after : List ℕ) (total : Result (List (Option Link) × List ℕ) Bad) → i < cap → (slot (left % 2 == 1)).read rest ≡ Ok (o, after) → with_front front (read_slots (cap - i) left rest) ≡ total
+slots_next : (front : List (Option Link)) (cap i left : ℕ) (rest : List ℕ) (o : Option Link) (after : List ℕ) (total : Result (List (Option Link) × List ℕ) PacketError) → i < cap → (slot (left % 2 == 1)).read rest ≡ Ok (o, after) → with_front front (read_slots (cap - i) left rest) ≡ total
     → with_front (front ++ o ∷ []) (read_slots (cap - (i + 1)) (left / 2) after) ≡ total
 slots_next front cap i left rest o after total lt h so_far =
     let k : cap - i ≡ suc (cap - (i + 1)) = omega arith in
     let one : with_front front (read_slots (cap - i) left rest) ≡ with_front (front ++ o ∷ []) (read_slots (cap - (i + 1)) (left / 2) after) = rw (k, h) (regroup front o (read_slots (cap - (i + 1)) (left / 2) after)) in
     sym one ∙ so_far
 
-pub slots_fail : (front : List (Option Link)) (cap i left : ℕ) (rest : List ℕ) (d : Bad) (total : Result (List (Option Link) × List ℕ) Bad) → i < cap → left % 2 ≡ 1 → link.read rest ≡ Err d → with_front front (read_slots (cap - i) left rest) ≡ total → total ≡ Err d
+pub slots_fail : (front : List (Option Link)) (cap i left : ℕ) (rest : List ℕ) (d : PacketError) (total : Result (List (Option Link) × List ℕ) PacketError) → i < cap → left % 2 ≡ 1 → link.read rest ≡ Err d → with_front front (read_slots (cap - i) left rest) ≡ total → total ≡ Err d
 slots_fail front cap i left rest d total lt odd h so_far =
     let holds : eqb (left % 2) 1 ≡ true = eq-eqb (left % 2) 1 odd in
     let k : cap - i ≡ suc (cap - (i + 1)) = omega arith in
@@ -45,7 +45,7 @@ slots_fail front cap i left rest d total lt odd h so_far =
     let one : with_front front (read_slots (cap - i) left rest) ≡ Err d = rw (k, failed) refl in
     sym so_far ∙ one
 
-pub slot_held : (cap place left : ℕ) (table : List (Option Link)) (rest : List ℕ) (l : Link) (after : List ℕ) (total : Result (List (Option Link) × List ℕ) Bad) → place < cap → left % 2 ≡ 1 → link.read rest ≡ Ok (l, after) → ReadUpTo cap total table place left rest
+pub slot_held : (cap place left : ℕ) (table : List (Option Link)) (rest : List ℕ) (l : Link) (after : List ℕ) (total : Result (List (Option Link) × List ℕ) PacketError) → place < cap → left % 2 ≡ 1 → link.read rest ≡ Ok (l, after) → ReadUpTo cap total table place left rest
     → ReadUpTo cap total (set table place (Some l)) (place + 1) (left / 2) after
 slot_held cap place left table rest l after total lt odd h so_far =
     let holds : eqb (left % 2) 1 ≡ true = eq-eqb (left % 2) 1 odd in
@@ -54,7 +54,7 @@ slot_held cap place left table rest l after total lt odd h so_far =
     let grown : take (place + 1) (set table place (Some l)) ≡ take place table ++ Some l ∷ [] = take_more_set table place (Some l) (omega (arith, so_far.1)) in
     (rw grown next, grind (arith, common_steps, so_far.1), λ s le. grind (arith, common_steps, so_far.2 s))
 
-pub slot_empty : (cap place left : ℕ) (table : List (Option Link)) (rest : List ℕ) (total : Result (List (Option Link) × List ℕ) Bad) → place < cap → (left % 2 ≡ 1 → ⊥) → ReadUpTo cap total table place left rest → ReadUpTo cap total table (place + 1) (left / 2) rest
+pub slot_empty : (cap place left : ℕ) (table : List (Option Link)) (rest : List ℕ) (total : Result (List (Option Link) × List ℕ) PacketError) → place < cap → (left % 2 ≡ 1 → ⊥) → ReadUpTo cap total table place left rest → ReadUpTo cap total table (place + 1) (left / 2) rest
 slot_empty cap place left table rest total lt even so_far =
     let holds : eqb (left % 2) 1 ≡ false = grind (arith, nat_tests) in
     let found : (slot (left % 2 == 1)).read rest ≡ Ok (None, rest) = rw holds refl in
@@ -62,7 +62,7 @@ slot_empty cap place left table rest total lt even so_far =
     let grown : take (place + 1) table ≡ take place table ++ None ∷ [] = (take_at_read table place None (omega (arith, so_far.1))).1 ∙ ap (λ o. take place table ++ o ∷ []) (so_far.2 place (omega arith)) in
     (rw grown next, so_far.1, λ s le. so_far.2 s (omega arith))
 
-pub slots_done : (cap place left : ℕ) (table : List (Option Link)) (rest : List ℕ) (total : Result (List (Option Link) × List ℕ) Bad) → cap ≤ place → ReadUpTo cap total table place left rest → total ≡ Ok (table, rest)
+pub slots_done : (cap place left : ℕ) (table : List (Option Link)) (rest : List ℕ) (total : Result (List (Option Link) × List ℕ) PacketError) → cap ≤ place → ReadUpTo cap total table place left rest → total ≡ Ok (table, rest)
 slots_done cap place left table rest total le so_far =
     let none : cap - place ≡ 0 = omega arith in
     let all : take place table ≡ table = take_all place table (omega (arith, so_far.1)) in

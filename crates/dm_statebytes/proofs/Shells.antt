@@ -8,8 +8,8 @@ use Rattle.std.proofs.lemmas.List.Elements.{All-from_recursion, recursion_from_A
 use Rattle.dm_link.specs.declared.Link.{Link}
 use Rattle.dm_processor.specs.declared.registers.Regs.{Regs}
 use Rattle.dm_process.specs.Lawful.{SlotIsLawful}
-use Rattle.dm_packet.specs.declared.Bad.{Bad}
-use Rattle.dm_packet.specs.declared.Bad.TheVariants as bad
+use Rattle.dm_packet.specs.declared.PacketError.{PacketError}
+use Rattle.dm_packet.specs.declared.PacketError.TheVariants as bad
 use Rattle.dm_packet.specs.Field.{◌>>=◌, both, number}
 use Rattle.dm_packet.specs.Fields.{pid}
 use Rattle.dm_packet.specs.Whats.{yes_or_no}
@@ -18,7 +18,7 @@ use Rattle.dm_packet.proofs.Numbers.{IsBytes}
 use Rattle.dm_packet.proofs.Field.{IsField, IsField-both, IsField-for, IsField-made, IsField-number, IsField-tested, IsField-times, bind_ok, guard_ok}
 use Rattle.dm_packet.proofs.Fields.{IsSpelledPid, length_within_is, pid_is}
 use Rattle.dm_packet.proofs.Coded.{yes_or_no_is}
-use Rattle.dm_statebytes.specs.declared.CarryBad.{CarryBad}
+use Rattle.dm_statebytes.specs.declared.StateBytesError.{StateBytesError}
 use Rattle.dm_statebytes.specs.declared.Shell.{Shell}
 use Rattle.dm_statebytes.specs.Lawful.{IsLawfulShell}
 use Rattle.dm_statebytes.specs.Shell.{Front, blocks, by_rule, ended, front, front_of, registers, regs, shell, shell_of_bytes, shell_with, spelling, version}
@@ -134,10 +134,10 @@ shell_is cap known =
     (λ s fits. (same_version s fits.0.0, made_of cap s fits))
     (λ s fits. (parts_of cap s fits, refl))
 
-abbrev fine : Shell → Result Shell CarryBad
+abbrev fine : Shell → Result Shell StateBytesError
 fine s = Ok s
 
-by_rule_ok : (r : Result Shell Bad) (s : Shell) → by_rule r ≡ fine s → r ≡ Ok s
+by_rule_ok : (r : Result Shell PacketError) (s : Shell) → by_rule r ≡ fine s → r ≡ Ok s
 by_rule_ok (Ok t) s e = cc
 by_rule_ok (Err d) s e = absurd cc
 
@@ -160,9 +160,9 @@ pub shell_again : (cap : ℕ) (s : Shell) → (cap ≡ 32) ⊎ (cap ≡ 128) →
 unfolding shell_of_bytes spelling
 shell_again cap s known lawful fits =
     let no_more = append-nil ((shell cap).spell s) in
-    ap (λ (r : Result (Shell × List ℕ) Bad). by_rule (r >>= ended)) (ap (shell cap).read (sym no_more) ∙ (shell_is cap known).again s [] (lawful, fits))
+    ap (λ (r : Result (Shell × List ℕ) PacketError). by_rule (r >>= ended)) (ap (shell cap).read (sym no_more) ∙ (shell_is cap known).again s [] (lawful, fits))
 
 -- what a result that the bytes gave says of them
-pub is_found : (bytes : List ℕ) (cap : ℕ) (r : Result Shell CarryBad) → (cap ≡ 32) ⊎ (cap ≡ 128) → IsBytes bytes → r ≡ shell_of_bytes bytes cap → IfOk r (λ s. IsLawfulShell cap s × (bytes ≡ spelling s))
+pub is_found : (bytes : List ℕ) (cap : ℕ) (r : Result Shell StateBytesError) → (cap ≡ 32) ⊎ (cap ≡ 128) → IsBytes bytes → r ≡ shell_of_bytes bytes cap → IfOk r (λ s. IsLawfulShell cap s × (bytes ≡ spelling s))
 is_found bytes cap (Ok s) known h e = let t = shell_takes bytes cap s known h (sym e) in (t.1, t.0)
 is_found bytes cap (Err d) known h e = tt

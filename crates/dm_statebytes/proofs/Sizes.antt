@@ -9,7 +9,7 @@ use Rattle.dm_process.specs.declared.process.Status.{Status}
 use Rattle.dm_process.specs.declared.process.Status.TheVariants.{Ready, Waiting, Moving}
 use Rattle.dm_packet.specs.Field.{number}
 use Rattle.dm_packet.proofs.Numbers.{IsBytes}
-use Rattle.dm_statebytes.specs.declared.CarryBad.{CarryBad}
+use Rattle.dm_statebytes.specs.declared.StateBytesError.{StateBytesError}
 use Rattle.dm_statebytes.specs.declared.Shell.{Shell}
 use Rattle.dm_statebytes.specs.Lawful.{IsLawfulShell}
 use Rattle.dm_statebytes.specs.Shell.{front, front_of, registers, shell_of_bytes, spelling}
@@ -74,7 +74,7 @@ few_slots cap (inr e) = omega (arith, e)
 pub lawful_size : (cap : ℕ) (s : Shell) → (cap ≡ 32) ⊎ (cap ≡ 128) → IsLawfulShell cap s → IsSize (length (spelling s))
 lawful_size cap s known lawful = shell_size s lawful.registers (omega (arith, lawful.slots, few_slots cap known))
 
-pub is_short : (bytes : List ℕ) (cap : ℕ) (r : Result Shell CarryBad) → (cap ≡ 32) ⊎ (cap ≡ 128) → IsBytes bytes → r ≡ shell_of_bytes bytes cap → OnOk r (length bytes ≤ 3201)
+pub is_short : (bytes : List ℕ) (cap : ℕ) (r : Result Shell StateBytesError) → (cap ≡ 32) ⊎ (cap ≡ 128) → IsBytes bytes → r ≡ shell_of_bytes bytes cap → OnOk r (length bytes ≤ 3201)
 is_short bytes cap (Ok s) known h e =
     let t = shell_takes bytes cap s known h (sym e) in
     subst (λ (spelled : List ℕ). length spelled ≤ 3201) (sym t.0) (lawful_size cap s known t.1).1

@@ -9,8 +9,8 @@ use Rattle.dm_process.specs.declared.process.Direction.{Direction}
 use Rattle.dm_process.specs.declared.process.Direction.TheVariants.{FromArea, IntoArea}
 use Rattle.dm_process.specs.declared.process.Status.{Status}
 use Rattle.dm_process.specs.declared.process.Status.TheVariants.{Ready, Waiting, Moving}
-use Rattle.dm_packet.specs.declared.Bad.{Bad}
-use Rattle.dm_packet.specs.declared.Bad.TheVariants as bad
+use Rattle.dm_packet.specs.declared.PacketError.{PacketError}
+use Rattle.dm_packet.specs.declared.PacketError.TheVariants as bad
 use Rattle.dm_packet.specs.Field.{◌>>=◌, both, number}
 use Rattle.dm_packet.specs.Fields.{addr}
 use Rattle.dm_packet.specs.Widths.{Fits}
@@ -121,7 +121,7 @@ rest_takes size kinds.Moving front bytes s rest parts h e =
       fits = ((t.fits.1.0.0, left.1.0, left.1.1, left.1.2, left.1.3), (t.fits.1.0.1, t.fits.1.1.0, t.fits.1.1.1.0, left.0, t.fits.1.1.1.1.1));
     })
 
-abbrev with_kind : ℕ → Result (StatusKind × List ℕ) Bad → Result (Status × List ℕ) Bad
+abbrev with_kind : ℕ → Result (StatusKind × List ℕ) PacketError → Result (Status × List ℕ) PacketError
 with_kind size r = r >>= λ k. read_status size k.0 k.1
 
 status_again : (size : ℕ) (s : Status) (rest : List ℕ) → IsSpelledStatus size s → (status size).read (spell_status size s ++ rest) ≡ Ok (s, rest)

@@ -8,7 +8,7 @@ use Rattle.std.proofs.lemmas.Bool.{ltb-true, lt-ltb}
 use Rattle.std.proofs.lemmas.List.Concat.{flat_map-cons}
 use Rattle.std.proofs.lemmas.Nat.{mod-pow-add, mod_below}
 use Rattle.dm_link.specs.declared.Link.{Link}
-use Rattle.dm_packet.specs.declared.Bad.TheVariants as bad
+use Rattle.dm_packet.specs.declared.PacketError.TheVariants as bad
 use Rattle.dm_packet.specs.Field.{◌>>=◌, both, number}
 use Rattle.dm_packet.specs.Fields.{bit_of, link}
 use Rattle.dm_packet.proofs.Numbers.{IsBytes}

@@ -3,8 +3,8 @@ use Rattle.std.proofs.Common.{◌≡◌, ℕ, true, false, List, [], ◌∷◌, 
 use Rattle.dm_link.specs.declared.Kind.TheVariants.{General, Reply}
 use Rattle.dm_process.specs.declared.process.Direction.TheVariants.{IntoArea}
 use Rattle.dm_process.specs.declared.process.Status.TheVariants.{Ready, Waiting, Moving}
-use Rattle.dm_statebytes.specs.declared.CarryBad.{CarryBad}
-use Rattle.dm_statebytes.specs.declared.CarryBad.TheVariants as carry
+use Rattle.dm_statebytes.specs.declared.StateBytesError.{StateBytesError}
+use Rattle.dm_statebytes.specs.declared.StateBytesError.TheVariants as carry
 use Rattle.dm_statebytes.specs.declared.Shell.{Shell}
 use Rattle.dm_statebytes.specs.Shell.{registers, shell_of_bytes, spelling}
 
@@ -64,11 +64,11 @@ unfolding registers shell_of_bytes
 moving_is_read = refl
 
 -- the rule that the bytes break with another byte at a place
-abbrev rule_in : Result Shell CarryBad → Option CarryBad
+abbrev rule_in : Result Shell StateBytesError → Option StateBytesError
 rule_in (Ok s) = None
 rule_in (Err d) = Some d
 
-abbrev broken_with : List ℕ → ℕ → ℕ → Option CarryBad
+abbrev broken_with : List ℕ → ℕ → ℕ → Option StateBytesError
 broken_with bytes at_ byte = rule_in (shell_of_bytes (slice_set bytes at_ byte) 32)
 
 -- the version, the name, the blocks, whether it is stopped, the status, and the mask

@@ -6,12 +6,12 @@ use Rattle.dm_link.specs.declared.Link.{Link}
 use Rattle.dm_processor.specs.declared.registers.Regs.{Regs}
 use Rattle.dm_process.specs.declared.process.Process.{Process}
 use Rattle.dm_process.specs.declared.process.Status.{Status}
-use Rattle.dm_packet.specs.declared.Bad.{Bad}
-use Rattle.dm_packet.specs.declared.Bad.TheVariants as bad
+use Rattle.dm_packet.specs.declared.PacketError.{PacketError}
+use Rattle.dm_packet.specs.declared.PacketError.TheVariants as bad
 use Rattle.dm_packet.specs.Field.{Field, ◌>>=◌, number, tested, both, made, times}
 use Rattle.dm_packet.specs.Fields.{length_within, pid}
 use Rattle.dm_packet.specs.Whats.{yes_or_no}
-use Rattle.dm_statebytes.specs.declared.CarryBad.{CarryBad}
+use Rattle.dm_statebytes.specs.declared.StateBytesError.{StateBytesError}
 use Rattle.dm_statebytes.specs.declared.Shell.{Shell}
 use Rattle.dm_statebytes.specs.Rules.{rule_of}
 use Rattle.dm_statebytes.specs.Statuses.{status}
@@ -75,16 +75,16 @@ unfoldable pub spelling : Shell → List ℕ
 spelling s = (shell (length s.table)).spell s
 
 -- nothing follows a process
-abbrev pub ended : Shell × List ℕ → Result Shell Bad
+abbrev pub ended : Shell × List ℕ → Result Shell PacketError
 ended s = if length s.1 == 0 then Ok s.0 else Err bad.Trailing
 
-abbrev pub read_shell : List ℕ → ℕ → Result Shell Bad
+abbrev pub read_shell : List ℕ → ℕ → Result Shell PacketError
 read_shell bytes cap = (shell cap).read bytes >>= ended
 
-abbrev pub by_rule : Result Shell Bad → Result Shell CarryBad
+abbrev pub by_rule : Result Shell PacketError → Result Shell StateBytesError
 by_rule (Ok s) = Ok s
 by_rule (Err rule) = Err (rule_of rule)
 
 -- what the bytes spell, all of them, with a table of so many slots, or the first rule that they break
-unfoldable pub shell_of_bytes : List ℕ → ℕ → Result Shell CarryBad
+unfoldable pub shell_of_bytes : List ℕ → ℕ → Result Shell StateBytesError
 shell_of_bytes bytes cap = by_rule (read_shell bytes cap)

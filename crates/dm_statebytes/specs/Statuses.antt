@@ -6,8 +6,8 @@ use Rattle.dm_process.specs.Directions.{direction_numbered, number_of_direction}
 use Rattle.dm_process.specs.declared.process.Direction.{Direction}
 use Rattle.dm_process.specs.declared.process.Status.{Status}
 use Rattle.dm_process.specs.declared.process.Status.TheVariants.{Ready, Waiting, Moving}
-use Rattle.dm_packet.specs.declared.Bad.{Bad}
-use Rattle.dm_packet.specs.declared.Bad.TheVariants as bad
+use Rattle.dm_packet.specs.declared.PacketError.{PacketError}
+use Rattle.dm_packet.specs.declared.PacketError.TheVariants as bad
 use Rattle.dm_packet.specs.Field.{Field, ◌>>=◌, number, tested, both}
 use Rattle.dm_packet.specs.Fields.{addr}
 use Rattle.dm_packet.specs.Whats.{coded}
@@ -52,7 +52,7 @@ spell_status size Ready = status_kind.spell kinds.Ready
 spell_status size (Waiting mask base cap) = status_kind.spell kinds.Waiting ++ (waiting size).spell (mask, (base, cap))
 spell_status size (Moving dir owner base own left pending) = status_kind.spell kinds.Moving ++ (moving size).spell (dir, (owner, (base, (own, (left, pending)))))
 
-abbrev pub read_status : ℕ → StatusKind → List ℕ → Result (Status × List ℕ) Bad
+abbrev pub read_status : ℕ → StatusKind → List ℕ → Result (Status × List ℕ) PacketError
 read_status size kinds.Ready bytes = Ok (Ready, bytes)
 read_status size kinds.Waiting bytes = (waiting size).read bytes >>= λ w. Ok (Waiting w.0.0 w.0.1.0 w.0.1.1, w.1)
 read_status size kinds.Moving bytes = (moving size).read bytes >>= λ m. Ok (Moving m.0.0 m.0.1.0 m.0.1.1.0 m.0.1.1.1.0 m.0.1.1.1.1.0 m.0.1.1.1.1.1, m.1)

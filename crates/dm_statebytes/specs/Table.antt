@@ -3,8 +3,8 @@ use Rattle.std.specs.Prelude.{ℕ, zero, suc, ◌+◌, ◌*◌, ◌/◌, ◌%◌
 use Rattle.std.specs.declared.result.Result.{Result}
 use Rattle.std.specs.List.{flat_map}
 use Rattle.dm_link.specs.declared.Link.{Link}
-use Rattle.dm_packet.specs.declared.Bad.{Bad}
-use Rattle.dm_packet.specs.declared.Bad.TheVariants as bad
+use Rattle.dm_packet.specs.declared.PacketError.{PacketError}
+use Rattle.dm_packet.specs.declared.PacketError.TheVariants as bad
 use Rattle.dm_packet.specs.Field.{Field, ◌>>=◌, number, tested, both, made}
 use Rattle.dm_packet.specs.Fields.{link}
 use Rattle.dm_packet.specs.Whats.{optional_read}
@@ -31,7 +31,7 @@ slot holds = record {
 }
 
 -- so many slots, with a link where the mask has a bit, the lowest for the first
-abbrev pub read_slots : ℕ → ℕ → List ℕ → Result (List (Option Link) × List ℕ) Bad
+abbrev pub read_slots : ℕ → ℕ → List ℕ → Result (List (Option Link) × List ℕ) PacketError
 read_slots zero mask bytes = Ok ([], bytes)
 read_slots (suc n) mask bytes = (slot (mask % 2 == 1)).read bytes >>= λ first. read_slots n (mask / 2) first.1 >>= λ others. Ok (first.0 ∷ others.0, others.1)
 

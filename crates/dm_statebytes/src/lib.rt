@@ -16,7 +16,7 @@ use dm_link::Pid;
 use dm_linktable::Table;
 pub use dm_memory::NoMemory;
 use dm_memory::from_slice;
-use dm_packet::Bad;
+use dm_packet::PacketError;
 use dm_packet::writing::Buffer;
 use dm_process::{Process, Status};
 use dm_processor::Regs;
@@ -44,7 +44,7 @@ pub struct Shell {
 
 /// Why some bytes are no process: the first rule that they break, from the left.
 #[derive(Clone, Copy, Debug, PartialEq, Eq, Error)]
-pub enum CarryBad {
+pub enum StateBytesError {
     /// A field's bytes are not all there.
     #[error("bytes are missing")]
     Missing,
@@ -65,33 +65,36 @@ pub enum CarryBad {
     Trailing,
 }
 
-impl CarryBad {
+impl StateBytesError {
     /// The rule's number, 1 to 6.
     pub fn number(self) -> u8
         ensures { result ≡ number_of_rule self }
     {
         match self {
-            CarryBad::Missing => 1,
-            CarryBad::Version => 2,
-            CarryBad::Machine => 3,
-            CarryBad::Flags => 4,
-            CarryBad::Limit => 5,
-            CarryBad::Trailing => 6,
+            StateBytesError::Missing => 1,
+            StateBytesError::Version => 2,
+            StateBytesError::Machine => 3,
+            StateBytesError::Flags => 4,
+            StateBytesError::Limit => 5,
+            StateBytesError::Trailing => 6,
         }
     }
 }
 
 /// The rule that a field breaks.
-fn rule_of(bad: Bad) -> CarryBad
+fn rule_of(bad: PacketError) -> StateBytesError
     ensures { result ≡ rule_of bad }
 {
     match bad {
-        Bad::Missing => CarryBad::Missing,
-        Bad::Version => CarryBad::Version,
-        Bad::Machine => CarryBad::Machine,
-        Bad::Flags | Bad::PacketKind | Bad::MessageKind | Bad::Answer => CarryBad::Flags,
-        Bad::Limit => CarryBad::Limit,
-        Bad::Trailing => CarryBad::Trailing,
+        PacketError::Missing => StateBytesError::Missing,
+        PacketError::Version => StateBytesError::Version,
+        PacketError::Machine => StateBytesError::Machine,
+        PacketError::Flags
+        | PacketError::PacketKind
+        | PacketError::MessageKind
+        | PacketError::Answer => StateBytesError::Flags,
+        PacketError::Limit => StateBytesError::Limit,
+        PacketError::Trailing => StateBytesError::Trailing,
     }
 }
 
@@ -114,7 +117,7 @@ pub fn pack(alloc: Global, process: &Process) -> Result<Vec<u8>, NoMemory>
 
 /// The process that the bytes spell, all of them, with a table of 32 or 128 slots, or the first rule from the left that
 /// they break. It takes no memory.
-pub fn unpack(bytes: &[u8], cap: u8) -> Result<Shell, CarryBad>
+pub fn unpack(bytes: &[u8], cap: u8) -> Result<Shell, StateBytesError>
     requires { (cap ≡ 32) ⊎ (cap ≡ 128) }
     // Which process, and which rule.
     ensures exact { result ≡ shell_of_bytes bytes.now cap }

@@ -7,16 +7,16 @@ ghost use Rattle.dm_statebytes.specs.Statuses.{cap_from, direction, left_from, m
 ghost use Rattle.dm_statebytes.specs.Table.{mask, read_slots, table};
 
 use crate::status::StatusKind;
-use crate::{CarryBad, Shell, rule_of};
+use crate::{Shell, StateBytesError, rule_of};
 use byteorder::{BigEndian, ByteOrder};
 use dm_linktable::Table;
-use dm_packet::Bad;
+use dm_packet::PacketError;
 use dm_packet::reading::fields::{addr_at, byte_at, link_at, pid_at, u16_at, u32_at};
 use dm_packet::reading::parts::yes_or_no_at;
 use dm_process::{Direction, Status};
 use dm_processor::Regs;
 
-fn status_kind_at(bytes: &[u8]) -> Result<(StatusKind, &[u8]), Bad>
+fn status_kind_at(bytes: &[u8]) -> Result<(StatusKind, &[u8]), PacketError>
     ensures { Reads result (status_kind.read bytes.now) }
 {
     let (number, rest) = byte_at(bytes)?;
@@ -24,23 +24,23 @@ fn status_kind_at(bytes: &[u8]) -> Result<(StatusKind, &[u8]), Bad>
         0 => Ok((StatusKind::Ready, rest)),
         1 => Ok((StatusKind::Waiting, rest)),
         2 => Ok((StatusKind::Moving, rest)),
-        _ => Err(Bad::Flags),
+        _ => Err(PacketError::Flags),
     }
 }
 
 /// The size of a buffer at `base` in a memory of `size` bytes.
-fn cap_from_at(bytes: &[u8], size: u32, base: u32) -> Result<(u32, &[u8]), Bad>
+fn cap_from_at(bytes: &[u8], size: u32, base: u32) -> Result<(u32, &[u8]), PacketError>
     ensures { Reads result ((cap_from size base).read bytes.now) }
 {
     let (cap, rest) = u32_at(bytes)?;
     if u64::from(base) + u64::from(cap) > u64::from(size) {
-        return Err(Bad::Limit);
+        return Err(PacketError::Limit);
     }
     Ok((cap, rest))
 }
 
 /// What a waiting process waits for; its memory has `size` bytes.
-fn waiting_at(bytes: &[u8], size: u32) -> Result<((u32, (u32, u32)), &[u8]), Bad>
+fn waiting_at(bytes: &[u8], size: u32) -> Result<((u32, (u32, u32)), &[u8]), PacketError>
     ensures { Reads result ((waiting size).read bytes.now) }
 {
     let (mask, rest) = u32_at(bytes)?;
@@ -49,18 +49,18 @@ fn waiting_at(bytes: &[u8], size: u32) -> Result<((u32, (u32, u32)), &[u8]), Bad
     Ok(((mask, (base, cap)), rest))
 }
 
-fn direction_at(bytes: &[u8]) -> Result<(Direction, &[u8]), Bad>
+fn direction_at(bytes: &[u8]) -> Result<(Direction, &[u8]), PacketError>
     ensures { Reads result (direction.read bytes.now) }
 {
     let (number, rest) = byte_at(bytes)?;
     match Direction::numbered(u32::from(number)) {
         Some(direction) => Ok((direction, rest)),
-        None => Err(Bad::Flags),
+        None => Err(PacketError::Flags),
     }
 }
 
 /// How much of a data move is left from `base` in the owner's memory and `own` in a memory of `size` bytes.
-fn left_from_at(bytes: &[u8], size: u32, base: u32, own: u32) -> Result<(u32, &[u8]), Bad>
+fn left_from_at(bytes: &[u8], size: u32, base: u32, own: u32) -> Result<(u32, &[u8]), PacketError>
     ensures { Reads result ((left_from size base own).read bytes.now) }
 {
     let (left, rest) = u32_at(bytes)?;
@@ -68,13 +68,13 @@ fn left_from_at(bytes: &[u8], size: u32, base: u32, own: u32) -> Result<(u32, &[
     let within_area = u64::from(base) + u64::from(left) <= 65_536;
     let within_memory = u64::from(own) + u64::from(left) <= u64::from(size);
     if !(is_length && within_area && within_memory) {
-        return Err(Bad::Limit);
+        return Err(PacketError::Limit);
     }
     Ok((left, rest))
 }
 
 /// The status of a process whose memory has `size` bytes.
-fn status_at(bytes: &[u8], size: u32) -> Result<(Status, &[u8]), Bad>
+fn status_at(bytes: &[u8], size: u32) -> Result<(Status, &[u8]), PacketError>
     ensures { Reads result ((status size).read bytes.now) }
 {
     let (kind, rest) = status_kind_at(bytes)?;
@@ -89,7 +89,7 @@ fn status_at(bytes: &[u8], size: u32) -> Result<(Status, &[u8]), Bad>
 }
 
 /// The data move of a process whose memory has `size` bytes.
-fn moving_at(bytes: &[u8], size: u32) -> Result<(Status, &[u8]), Bad>
+fn moving_at(bytes: &[u8], size: u32) -> Result<(Status, &[u8]), PacketError>
     ensures { Reads result (read_status size StatusKind.Moving bytes.now) }
 {
     let (dir, rest) = direction_at(bytes)?;
@@ -109,7 +109,7 @@ fn moving_at(bytes: &[u8], size: u32) -> Result<(Status, &[u8]), Bad>
     Ok((moving, rest))
 }
 
-fn registers_at(bytes: &[u8]) -> Result<([u32; 16], &[u8]), Bad>
+fn registers_at(bytes: &[u8]) -> Result<([u32; 16], &[u8]), PacketError>
     ensures { Reads result (registers.read bytes.now) }
 {
     let mut registers = [0; 16];
@@ -122,7 +122,7 @@ fn registers_at(bytes: &[u8]) -> Result<([u32; 16], &[u8]), Bad>
     Ok((registers, rest))
 }
 
-fn regs_at(bytes: &[u8]) -> Result<(Regs, &[u8]), Bad>
+fn regs_at(bytes: &[u8]) -> Result<(Regs, &[u8]), PacketError>
     ensures { Reads result (regs.read bytes.now) }
 {
     let (r, rest) = registers_at(bytes)?;
@@ -130,29 +130,29 @@ fn regs_at(bytes: &[u8]) -> Result<(Regs, &[u8]), Bad>
     Ok((Regs { r, pc }, rest))
 }
 
-fn u128_at(bytes: &[u8]) -> Result<(u128, &[u8]), Bad>
+fn u128_at(bytes: &[u8]) -> Result<(u128, &[u8]), PacketError>
     ensures { Reads result ((number 16).read bytes.now) }
 {
     if bytes.len() < 16 {
-        return Err(Bad::Missing);
+        return Err(PacketError::Missing);
     }
     Ok((BigEndian::read_u128(bytes), &bytes[16..]))
 }
 
 /// Which slots of a table hold a link, bit s for slot s.
-fn mask_at(bytes: &[u8], cap: u8) -> Result<(u128, &[u8]), Bad>
+fn mask_at(bytes: &[u8], cap: u8) -> Result<(u128, &[u8]), PacketError>
     requires { (cap ≡ 32) ⊎ (cap ≡ 128) }
     ensures { Reads result ((mask cap).read bytes.now) }
 {
     let (mask, rest) = u128_at(bytes)?;
     if cap == 32 && mask >= 1 << 32 {
-        return Err(Bad::Limit);
+        return Err(PacketError::Limit);
     }
     Ok((mask, rest))
 }
 
 /// A table with the links that stand for the bits of the mask.
-fn slots_at(bytes: &[u8], mask: u128, cap: u8) -> Result<(Table, &[u8]), Bad>
+fn slots_at(bytes: &[u8], mask: u128, cap: u8) -> Result<(Table, &[u8]), PacketError>
     requires { (cap ≡ 32) ⊎ (cap ≡ 128) }
     ensures { Reads result (read_slots cap mask bytes.now) }
 {
@@ -170,7 +170,7 @@ fn slots_at(bytes: &[u8], mask: u128, cap: u8) -> Result<(Table, &[u8]), Bad>
     Ok((table, rest))
 }
 
-fn table_at(bytes: &[u8], cap: u8) -> Result<(Table, &[u8]), Bad>
+fn table_at(bytes: &[u8], cap: u8) -> Result<(Table, &[u8]), PacketError>
     requires { (cap ≡ 32) ⊎ (cap ≡ 128) }
     ensures { Reads result ((table cap).read bytes.now) }
 {
@@ -179,35 +179,35 @@ fn table_at(bytes: &[u8], cap: u8) -> Result<(Table, &[u8]), Bad>
 }
 
 /// How many blocks of 256 bytes a process has.
-fn blocks_at(bytes: &[u8]) -> Result<(u16, &[u8]), Bad>
+fn blocks_at(bytes: &[u8]) -> Result<(u16, &[u8]), PacketError>
     ensures { Reads result (blocks.read bytes.now) }
 {
     let (blocks, rest) = u16_at(bytes)?;
     if blocks < 1 || blocks > 256 {
-        return Err(Bad::Limit);
+        return Err(PacketError::Limit);
     }
     Ok((blocks, rest))
 }
 
-fn version_at(bytes: &[u8]) -> Result<(u8, &[u8]), Bad>
+fn version_at(bytes: &[u8]) -> Result<(u8, &[u8]), PacketError>
     ensures { Reads result (version.read bytes.now) }
 {
     let (version, rest) = byte_at(bytes)?;
     if version != 3 {
-        return Err(Bad::Version);
+        return Err(PacketError::Version);
     }
     Ok((version, rest))
 }
 
 /// A process with a table of so many slots.
-fn shell_at(bytes: &[u8], cap: u8) -> Result<(Shell, &[u8]), Bad>
+fn shell_at(bytes: &[u8], cap: u8) -> Result<(Shell, &[u8]), PacketError>
     requires { (cap ≡ 32) ⊎ (cap ≡ 128) }
     ensures { Reads result ((shell cap).read bytes.now) }
 {
     let (_, rest) = version_at(bytes)?;
     let (pid, rest) = pid_at(rest)?;
     let (blocks, rest) = blocks_at(rest)?;
-    let (stopped, rest) = yes_or_no_at(rest, Bad::Flags)?;
+    let (stopped, rest) = yes_or_no_at(rest, PacketError::Flags)?;
     let (status, rest) = status_at(rest, 256 * u32::from(blocks))?;
     let (sent, rest) = u32_at(rest)?;
     let (moves, rest) = u32_at(rest)?;
@@ -227,20 +227,20 @@ fn shell_at(bytes: &[u8], cap: u8) -> Result<(Shell, &[u8]), Bad>
 }
 
 /// The process that the bytes spell, all of them, or the first rule that they break.
-fn whole_at(bytes: &[u8], cap: u8) -> Result<Shell, Bad>
+fn whole_at(bytes: &[u8], cap: u8) -> Result<Shell, PacketError>
     requires { (cap ≡ 32) ⊎ (cap ≡ 128) }
     ensures { result ≡ read_shell bytes.now cap }
 {
     let (shell, rest) = shell_at(bytes, cap)?;
     if !rest.is_empty() {
-        return Err(Bad::Trailing);
+        return Err(PacketError::Trailing);
     }
     Ok(shell)
 }
 
 /// The same, with the rule as one of state bytes.
 #[tactic(auto, unfolding(crate::specs::Shell::shell_of_bytes))]
-pub fn state_at(bytes: &[u8], cap: u8) -> Result<Shell, CarryBad>
+pub fn state_at(bytes: &[u8], cap: u8) -> Result<Shell, StateBytesError>
     requires { (cap ≡ 32) ⊎ (cap ≡ 128) }
     ensures { result ≡ shell_of_bytes bytes.now cap }
 {

@@ -8,4 +8,4 @@ mod sender;
 pub use dm_memory::NoMemory;
 pub use law::{any_schedule, one_step, while_it_stands};
 pub use receiver::{Arrived, Receiver};
-pub use sender::{GiveNo, Sender, WINDOW};
+pub use sender::{GiveError, Sender, WINDOW};

@@ -14,7 +14,7 @@ pub const WINDOW: u32 = 8;
 
 /// Why a message wasn't given. It is handed back.
 #[derive(Debug, Drop, Error)]
-pub enum GiveNo<M> {
+pub enum GiveError<M> {
     /// All numbers of the stream are used.
     #[error("all numbers of the stream are used")]
     Worn(M),
@@ -96,18 +96,18 @@ impl<M> Sender<M> {
     }
 
     /// Gives one more message, which gets the next number.
-    pub fn give(&mut self, message: M) -> Result<(), GiveNo<M>>
+    pub fn give(&mut self, message: M) -> Result<(), GiveError<M>>
         ensures ok { OnOk result (self.new ≡ with_given self.old message) }
-        ensures worn { (result ≡ Err (GiveNo.Worn message)) ↔ (given_count self.old ≡ self.old.numbers) }
+        ensures worn { (result ≡ Err (GiveError.Worn message)) ↔ (given_count self.old ≡ self.old.numbers) }
         ensures returned { IfErr result (λ e. message_in e ≡ message) }
         ensures err { OnErr result (self.new ≡ self.old) }
     {
         if self.given() == self.numbers {
-            return Err(GiveNo::Worn(message));
+            return Err(GiveError::Worn(message));
         }
         match push_back_or_return(&mut self.unacked, message) {
             Ok(()) => Ok(()),
-            Err((message, none)) => Err(GiveNo::NoMemory(message, none)),
+            Err((message, none)) => Err(GiveError::NoMemory(message, none)),
         }
     }
 

@@ -10,7 +10,7 @@ use Rattle.std.proofs.lemmas.List.Elements.{All-head, All-tail}
 use Rattle.dm_message.specs.declared.Message.{Message}
 use Rattle.dm_packet.specs.declared.Packet.{Packet}
 use Rattle.dm_packet.specs.declared.Packet.TheVariants as packet
-use Rattle.dm_packet.specs.declared.Bad.{Bad}
+use Rattle.dm_packet.specs.declared.PacketError.{PacketError}
 use Rattle.dm_packet.specs.Packets.{packet_of}
 use Rattle.dm_stream.specs.Packets.{Load, Data, Ack}
 use Rattle.dm_wire.specs.Sent.{Sent, bytes_at, marked}
@@ -102,12 +102,12 @@ came_alone w e a c l h may =
 from_sender : (n : NodeState) (from a : ℕ) (l : Load Message) → from ≡ a → MayArrive n from l → MayArrive n a l
 from_sender n from a l e h = subst (λ k. MayArrive n k l) e h
 
-reads_alone : (w : WorldState) (e : Step) (a c : ℕ) (r : Result Packet Bad) → here (w.nodes c) ≡ c → MayRead w a c r → AloneIn c w (reads w e a c r)
+reads_alone : (w : WorldState) (e : Step) (a c : ℕ) (r : Result Packet PacketError) → here (w.nodes c) ≡ c → MayRead w a c r → AloneIn c w (reads w e a c r)
 reads_alone w e a c (Ok (packet.Data from to k m)) h may = came_alone w e a c (Data k m) h (from_sender (w.nodes c) from a (Data k m) may.0 may.1.0)
 reads_alone w e a c (Ok (packet.Ack from to k)) h may = came_alone w e a c (Ack k) h (from_sender (w.nodes c) from a (Ack k) may.0 may.1.0)
 reads_alone w e a c (Err bad) h may = tt
 
-marked_read : (w : WorldState) (a c k : ℕ) (r : Result Packet Bad) → MayRead w a c r → MayRead (record w { wires = after_mark w.wires a c k }) a c r
+marked_read : (w : WorldState) (a c k : ℕ) (r : Result Packet PacketError) → MayRead w a c r → MayRead (record w { wires = after_mark w.wires a c k }) a c r
 marked_read w a c k (Ok p) h = h
 marked_read w a c k (Err bad) h = h
 

@@ -7,7 +7,7 @@ use Rattle.std.specs.declared.result.Result.TheVariants.{Ok}
 use Rattle.std.proofs.lemmas.Option.{slice_get_within}
 use Rattle.dm_packet.specs.declared.Packet.{Packet}
 use Rattle.dm_packet.specs.declared.Packet.TheVariants as packet
-use Rattle.dm_packet.specs.declared.Bad.{Bad}
+use Rattle.dm_packet.specs.declared.PacketError.{PacketError}
 use Rattle.dm_packet.specs.Packets.{packet_of}
 use Rattle.dm_stream.specs.Packets.{Data, Ack}
 use Rattle.dm_wire.specs.Sent.{Sent, bytes_at}
@@ -28,7 +28,7 @@ came : (w : WorldState) (e : Step) (a c : ℕ) (p : Packet) → sent_by p ≡ a 
 came w e a c (packet.Data from to k m) h = ap (λ x. Some (Says (acted w e c (node.arrives (w.nodes c) x (Data k m))))) (sym h)
 came w e a c (packet.Ack from to k) h = ap (λ x. Some (Says (acted w e c (node.arrives (w.nodes c) x (Ack k))))) (sym h)
 
-pub may_read : (w : WorldState) (a c : ℕ) (r : Result Packet Bad) (p : Packet) → r ≡ Ok p → MayRead w a c r → MayRead w a c (Ok p)
+pub may_read : (w : WorldState) (a c : ℕ) (r : Result Packet PacketError) (p : Packet) → r ≡ Ok p → MayRead w a c r → MayRead w a c (Ok p)
 may_read w a c r p e h = subst (MayRead w a c) e h
 
 pub read_bytes : (bytes : List ℕ) (p : Packet) → Some (packet_of bytes) ≡ Some (Ok p) → packet_of bytes ≡ Ok p

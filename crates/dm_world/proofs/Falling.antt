@@ -8,7 +8,7 @@ use Rattle.std.proofs.lemmas.Bool.Decides.{eqb_tells, leb_tells}
 use Rattle.std.proofs.lemmas.Option.{slice_get_cases}
 use Rattle.dm_packet.specs.declared.Packet.{Packet}
 use Rattle.dm_packet.specs.declared.Packet.TheVariants as packet
-use Rattle.dm_packet.specs.declared.Bad.{Bad}
+use Rattle.dm_packet.specs.declared.PacketError.{PacketError}
 use Rattle.dm_packet.specs.Packets.{packet_of}
 use Rattle.dm_stream.specs.Packets.{Data, Ack}
 use Rattle.dm_wire.specs.Sent.{Sent, bytes_at, just_put, marked}
@@ -136,7 +136,7 @@ turned_more w e m None = tt
 turned_more w e m (Some (Goes d)) = acted_more w e m d
 turned_more w e m (Some (Worn from to)) = tt
 
-reads_more : (w : WorldState) (e : Step) (a c : ℕ) (r : Result Packet Bad) → MoreIn w (reads w e a c r)
+reads_more : (w : WorldState) (e : Step) (a c : ℕ) (r : Result Packet PacketError) → MoreIn w (reads w e a c r)
 reads_more w e a c (Ok (packet.Data from to k m)) = acted_more w e c (node.arrives (w.nodes c) a (Data k m))
 reads_more w e a c (Ok (packet.Ack from to k)) = acted_more w e c (node.arrives (w.nodes c) a (Ack k))
 reads_more w e a c (Err bad) = tt

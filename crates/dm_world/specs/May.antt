@@ -6,7 +6,7 @@ use Rattle.std.specs.declared.result.Result.{Result}
 use Rattle.std.specs.declared.result.Result.TheVariants.{Ok, Err}
 use Rattle.dm_packet.specs.declared.Packet.{Packet}
 use Rattle.dm_packet.specs.declared.Packet.TheVariants as packet
-use Rattle.dm_packet.specs.declared.Bad.{Bad}
+use Rattle.dm_packet.specs.declared.PacketError.{PacketError}
 use Rattle.dm_packet.specs.Packets.{packet_of}
 use Rattle.dm_wire.specs.Sent.{bytes_at}
 use Rattle.dm_onekernel.specs.declared.boot.Boot.{Boot}
@@ -22,7 +22,7 @@ sent_by (packet.Data from to k m) = from
 sent_by (packet.Ack from to k) = from
 
 -- bytes that machine a put on the wire to machine c are a packet of a's that c can take
-abbrev pub MayRead : WorldState → ℕ → ℕ → Result Packet Bad → Type 0
+abbrev pub MayRead : WorldState → ℕ → ℕ → Result Packet PacketError → Type 0
 MayRead w a c (Ok p) = (sent_by p ≡ a) × node.MayArrivePacket (w.nodes c) p
 MayRead w a c (Err bad) = ⊥
 

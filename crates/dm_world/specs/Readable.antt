@@ -9,7 +9,7 @@ use Rattle.dm_stream.specs.Packets.{Data, Ack}
 use Rattle.dm_stream.specs.Sending.{Sending, given_count, outstanding}
 use Rattle.dm_packet.specs.declared.Packet.{Packet}
 use Rattle.dm_packet.specs.declared.Packet.TheVariants as packet
-use Rattle.dm_packet.specs.declared.Bad.{Bad}
+use Rattle.dm_packet.specs.declared.PacketError.{PacketError}
 use Rattle.dm_packet.specs.Packets.{packet_of, spelling}
 use Rattle.dm_wire.specs.Sent.{Sent, bytes_at}
 use Rattle.dm_onekernel.specs.declared.boot.Boot.{Boot}
@@ -51,7 +51,7 @@ gave_some None = []
 gave_some (Some (Goes d)) = d.outs
 gave_some (Some (Worn from to)) = []
 
-abbrev pub gave_read : WorldState → ℕ → ℕ → Result Packet Bad → List Out
+abbrev pub gave_read : WorldState → ℕ → ℕ → Result Packet PacketError → List Out
 gave_read w a c (Ok (packet.Data from to k m)) = (node.arrives (w.nodes c) a (Data k m)).outs
 gave_read w a c (Ok (packet.Ack from to k)) = (node.arrives (w.nodes c) a (Ack k)).outs
 gave_read w a c (Err bad) = []

@@ -8,7 +8,7 @@ use Rattle.dm_message.specs.declared.Message.{Message}
 use Rattle.dm_stream.specs.Packets.{Load, Data, Ack}
 use Rattle.dm_packet.specs.declared.Packet.{Packet}
 use Rattle.dm_packet.specs.declared.Packet.TheVariants as packet
-use Rattle.dm_packet.specs.declared.Bad.{Bad}
+use Rattle.dm_packet.specs.declared.PacketError.{PacketError}
 use Rattle.dm_packet.specs.Packets.{packet_of}
 use Rattle.dm_wire.specs.Sent.{Sent, bytes_at}
 use Rattle.dm_wire.specs.Wire.{after_mark}
@@ -55,7 +55,7 @@ turned w e m (Some (Worn from to)) = Some (WornOut from to)
 abbrev pub arrives : WorldState → Step → ℕ → ℕ → Load Message → Option Happened
 arrives w e a c carried = Some (Says (acted w e c (node.arrives (w.nodes c) a carried)))
 
-abbrev pub reads : WorldState → Step → ℕ → ℕ → Result Packet Bad → Option Happened
+abbrev pub reads : WorldState → Step → ℕ → ℕ → Result Packet PacketError → Option Happened
 reads w e a c (Ok (packet.Data from to k m)) = arrives w e a c (Data k m)
 reads w e a c (Ok (packet.Ack from to k)) = arrives w e a c (Ack k)
 reads w e a c (Err bad) = None

@@ -1,7 +1,7 @@
 -- Where each packet of a wire can be read, and what is out and not acknowledged is read as it was put, a delivery reads what
 -- was put; of a message that was acknowledged long ago, its number.
 use Rattle.dm_mirror.proofs.Names.{◌≡◌, ◌≢◌, ℕ, ◌+◌, ◌-◌, ◌^◌, ◌<◌, ◌≤◌, ◌==◌, eqb, nat_le, nat_lt, Bool, true, not, List, length, drop, refl, ap, ◌∙◌, sym, subst, arith, if◌then◌else◌, slice_get, option_map, Ok, Option, None, Some, Result}
-use Rattle.dm_mirror.proofs.Names.{eqb-true, eq-eqb, nat_tests, IsMachine, Message, Bad, PacketKind, Packet, Opening, ◌>>=◌, number, machine, IsRoute, ended, message, numbered_message, opening, other_machine, packet_kind, packet_of}
+use Rattle.dm_mirror.proofs.Names.{eqb-true, eq-eqb, nat_tests, IsMachine, Message, PacketError, PacketKind, Packet, Opening, ◌>>=◌, number, machine, IsRoute, ended, message, numbered_message, opening, other_machine, packet_kind, packet_of}
 use Rattle.dm_mirror.proofs.Names.{read_rest, spell_message, spelling, version, IsField, IsField-both, IsField-for, IsField-made, IsField-number, IsField-tested, guard_ok, machine_is, packet_kind_is, Sending, outstanding, Data, load_in}
 use Rattle.dm_mirror.proofs.Names.{MayCome-stands, get-drop, bytes_at, Boot, IsValid, Point, Placed, WorldState, History, StandsWith, IsReadable}
 use Rattle.std.specs.Prelude.{Err}
@@ -25,8 +25,8 @@ not_same_test a b apart = grind (arith, nat_tests)
 
 opening_is : IsField opening (λ o. IsRoute o.from o.to)
 opening_is =
-    let four = IsField-for version (λ v. (v < 256 ^ 1) × (eqb v 4 ≡ true)) (λ v. v ≡ 4) (IsField-tested (number 1) (λ v. v < 256 ^ 1) (IsField-number 1) (λ v. v == 4) Bad.Version) (λ v fits. eqb-true v 4 fits.1) (λ v e. (omega (arith, e), eq-eqb v 4 e)) in
-    let others = λ (a : ℕ). IsField-for (other_machine a) (λ b. IsMachine b × (not (eqb b a) ≡ true)) (λ b. IsMachine b × (b ≢ a)) (IsField-tested machine IsMachine machine_is (λ b. not (b == a)) Bad.Machine) (λ b fits. (fits.0, not_same a b fits.1)) (λ b fits. (fits.0, not_same_test a b fits.1)) in
+    let four = IsField-for version (λ v. (v < 256 ^ 1) × (eqb v 4 ≡ true)) (λ v. v ≡ 4) (IsField-tested (number 1) (λ v. v < 256 ^ 1) (IsField-number 1) (λ v. v == 4) PacketError.Version) (λ v fits. eqb-true v 4 fits.1) (λ v e. (omega (arith, e), eq-eqb v 4 e)) in
+    let others = λ (a : ℕ). IsField-for (other_machine a) (λ b. IsMachine b × (not (eqb b a) ≡ true)) (λ b. IsMachine b × (b ≢ a)) (IsField-tested machine IsMachine machine_is (λ b. not (b == a)) PacketError.Machine) (λ b fits. (fits.0, not_same a b fits.1)) (λ b fits. (fits.0, not_same_test a b fits.1)) in
     let from_machines = IsField-both machine IsMachine machine_is other_machine (λ a b. IsMachine b × (b ≢ a)) others in
     let from_kind = IsField-both packet_kind (λ _. Unit {0}) packet_kind_is (λ _. both machine other_machine) (λ _ m. IsMachine m.0 × (IsMachine m.1 × (m.1 ≢ m.0))) (λ _. from_machines) in
     let parts = IsField-both version (λ v. v ≡ 4) four (λ _. both packet_kind (λ _. both machine other_machine)) (λ _ o. Unit {0} × (IsMachine o.1.0 × (IsMachine o.1.1 × (o.1.1 ≢ o.1.0)))) (λ _. from_kind) in
@@ -37,16 +37,16 @@ opening_is =
 
 -- ---- a packet with a message is read as a packet with the same number
 
-abbrev numbered_of : ℕ → Message × List ℕ → Result ((ℕ × Message) × List ℕ) Bad
+abbrev numbered_of : ℕ → Message × List ℕ → Result ((ℕ × Message) × List ℕ) PacketError
 numbered_of n y = Ok ((n, y.0), y.1)
 
-abbrev data_of : ℕ → ℕ → (ℕ × Message) × List ℕ → Result (Packet × List ℕ) Bad
+abbrev data_of : ℕ → ℕ → (ℕ × Message) × List ℕ → Result (Packet × List ℕ) PacketError
 data_of a c x = Ok (Packet.Data a c x.0.0 x.0.1, x.1)
 
-abbrev message_behind : ℕ × List ℕ → Result ((ℕ × Message) × List ℕ) Bad
+abbrev message_behind : ℕ × List ℕ → Result ((ℕ × Message) × List ℕ) PacketError
 message_behind x = message.read x.1 >>= numbered_of x.0
 
-abbrev with_number : ℕ → ℕ → ℕ → Result (Message × List ℕ) Bad → Result Packet Bad
+abbrev with_number : ℕ → ℕ → ℕ → Result (Message × List ℕ) PacketError → Result Packet PacketError
 with_number a c n r = ((r >>= numbered_of n) >>= data_of a c) >>= ended
 
 read_on : (a c n : ℕ) (m : Message) → IsRoute a c → n < 256 ^ 4 → packet_of (spelling (Packet.Data a c n m)) ≡ with_number a c n (message.read (spell_message m))
@@ -54,11 +54,11 @@ unfolding packet_of read_rest spelling
 read_on a c n m route small =
     let first = opening_is.again (record { kind = PacketKind.Data; from = a; to = c }) (numbered_message.spell (n, m)) route in
     let second = (IsField-number 4).again n (spell_message m) small in
-    ap (λ (r : Result (Opening × List ℕ) Bad). r >>= λ o. read_rest o.0.kind o.0.from o.0.to o.1 >>= ended) first
-    ∙ ap (λ (r : Result (ℕ × List ℕ) Bad). ((r >>= message_behind) >>= data_of a c) >>= ended) second
+    ap (λ (r : Result (Opening × List ℕ) PacketError). r >>= λ o. read_rest o.0.kind o.0.from o.0.to o.1 >>= ended) first
+    ∙ ap (λ (r : Result (ℕ × List ℕ) PacketError). ((r >>= message_behind) >>= data_of a c) >>= ended) second
 
-numbered : (a c n : ℕ) (r : Result (Message × List ℕ) Bad) (p : Packet) → with_number a c n r ≡ Ok p → (x : Message) × (p ≡ Packet.Data a c n x)
-numbered a c n (Ok y) p e = (y.0, sym (guard_ok (eqb (length y.1) 0) Bad.Trailing (Packet.Data a c n y.0) p e).1)
+numbered : (a c n : ℕ) (r : Result (Message × List ℕ) PacketError) (p : Packet) → with_number a c n r ≡ Ok p → (x : Message) × (p ≡ Packet.Data a c n x)
+numbered a c n (Ok y) p e = (y.0, sym (guard_ok (eqb (length y.1) 0) PacketError.Trailing (Packet.Data a c n y.0) p e).1)
 numbered a c n (Err d) p e = cc
 
 same_number : (a c n : ℕ) (m : Message) (p : Packet) → IsRoute a c → n < 256 ^ 4 → packet_of (spelling (Packet.Data a c n m)) ≡ Ok p → (x : Message) × (p ≡ Packet.Data a c n x)

@@ -1,6 +1,6 @@
 -- A directive to move a process: the manager's message goes to its child, or a line says why none does.
 use Rattle.dm_mirror.proofs.Names.{◌≡◌, ℕ, ◌+◌, ◌≤◌, ◌==◌, ◌||◌, Bool, true, false, List, [], ◌∷◌, refl, ap, ◌∙◌, sym, subst, inl, inr, arith, if◌then◌else◌, cond, Option, None, Some, Err, cases_Bool, false≢true, nat_tests, Addr, Pid}
-use Rattle.dm_mirror.proofs.Names.{pid_eq, pid_of, place_of, Message, MsgId, What, MessageKind, MoveNo, Step, id_of, incoming_of, Boot, manager, switchboard, address, child_named, moves_child, tells_to_move, asks_manager, asks_move}
+use Rattle.dm_mirror.proofs.Names.{pid_eq, pid_of, place_of, Message, MsgId, What, MessageKind, MoveError, Step, id_of, incoming_of, Boot, manager, switchboard, address, child_named, moves_child, tells_to_move, asks_manager, asks_move}
 use Rattle.dm_mirror.proofs.Names.{told_to_move, KernelState, id_eq-same, pid_eq-is, Line, Receiver, Sender, child_number, place_of_child, unmoved, migrates, migrates_child, Point, after, moved, at_machine, Spot, Queue, standing, Run}
 use Rattle.dm_mirror.proofs.Names.{Placed, Mirrors, mirrors_view, child_place, no_child, AllOwnStand, KernelStands, AllRecords, TokensStand, Wants, destination_of}
 use Rattle.dm_kernel.specs.declared.part.Part.{Part}
@@ -182,7 +182,7 @@ asked_child b pt l records k c p to child found turn is =
 asked_server : (b : Boot) (pt : Point) (l : Placed) (records : AllRecords) (k : KernelState) (c : Asks b pt l records k) (p : Pid) (to : ℕ) → (pid_eq p switchboard || pid_eq p manager) ≡ true → asks_move k p to ≡ told_to_move k p (moves_child l.manager.children p to (machine.own_id k))
     → Turns b 0 (Step.Migrate p to) (asks_move k p to) pt (asked_point pt p to) l records k
 asked_server b pt l records k c p to server turn =
-    asked_line b pt l records k c p to (Line.Pinned p) (turn ∙ ap (λ (t : Bool). told_to_move k p (if t then Err MoveNo.Pinned else tells_to_move (machine.own_id k) to (child_named p l.manager.children))) server)
+    asked_line b pt l records k c p to (Line.Pinned p) (turn ∙ ap (λ (t : Bool). told_to_move k p (if t then Err MoveError.Pinned else tells_to_move (machine.own_id k) to (child_named p l.manager.children))) server)
     (pinned (pid_eq p switchboard) (pid_eq p manager) server) refl
   where
     pinned : (s t : Bool) → (s || t) ≡ true → (if s then rule.Says (Line.Pinned p) ∷ [] else if t then rule.Says (Line.Pinned p) ∷ [] else migrates_child pt.addresses p (child_number pt.kernel p)) ≡ rule.Says (Line.Pinned p) ∷ []
@@ -204,7 +204,7 @@ asks_turn b pt l records k p to c =
     elim (cases_Bool (pid_eq p switchboard || pid_eq p manager)) [
       | inl server ↦ asked_server b pt l records k c p to server turn
       | inr other ↦
-          asked_other b pt l records k c p to (child_named p l.manager.children) refl (turn ∙ ap (λ (t : Bool). told_to_move k p (if t then Err MoveNo.Pinned else tells_to_move (machine.own_id k) to (child_named p l.manager.children))) other)
+          asked_other b pt l records k c p to (child_named p l.manager.children) refl (turn ∙ ap (λ (t : Bool). told_to_move k p (if t then Err MoveError.Pinned else tells_to_move (machine.own_id k) to (child_named p l.manager.children))) other)
           (neither (pid_eq p switchboard) (pid_eq p manager) other)
     ]
   where

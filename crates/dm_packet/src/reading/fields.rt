@@ -4,60 +4,60 @@ ghost use Rattle.dm_packet.specs.Field.{number, run};
 ghost use Rattle.dm_packet.specs.Fields.{addr, channel, flags, len_from, link, machine, pid};
 ghost use Rattle.dm_packet.specs.Reads.{Reads, ReadsSlice};
 
-use crate::Bad;
+use crate::PacketError;
 use arrayvec::ArrayVec;
 use byteorder::{BigEndian, ByteOrder};
 use dm_link::{Addr, Area, Kind, Link, Pid};
 
-pub fn byte_at(bytes: &[u8]) -> Result<(u8, &[u8]), Bad>
+pub fn byte_at(bytes: &[u8]) -> Result<(u8, &[u8]), PacketError>
     ensures { Reads result ((number 1).read bytes.now) }
 {
     match bytes {
-        [] => Err(Bad::Missing),
+        [] => Err(PacketError::Missing),
         [byte, rest @ ..] => Ok((*byte, rest)),
     }
 }
 
 /// The first bytes, and those behind them.
-pub fn run_at(bytes: &[u8], len: usize) -> Result<(&[u8], &[u8]), Bad>
+pub fn run_at(bytes: &[u8], len: usize) -> Result<(&[u8], &[u8]), PacketError>
     ensures read { ReadsSlice result ((run len).read bytes.now) }
     ensures len { IfOk result (λ x. length x.0.now ≡ len) }
 {
     if bytes.len() < len {
-        return Err(Bad::Missing);
+        return Err(PacketError::Missing);
     }
     Ok(bytes.split_at(len))
 }
 
-pub fn u16_at(bytes: &[u8]) -> Result<(u16, &[u8]), Bad>
+pub fn u16_at(bytes: &[u8]) -> Result<(u16, &[u8]), PacketError>
     ensures { Reads result ((number 2).read bytes.now) }
 {
     if bytes.len() < 2 {
-        return Err(Bad::Missing);
+        return Err(PacketError::Missing);
     }
     Ok((BigEndian::read_u16(bytes), &bytes[2..]))
 }
 
-pub fn u32_at(bytes: &[u8]) -> Result<(u32, &[u8]), Bad>
+pub fn u32_at(bytes: &[u8]) -> Result<(u32, &[u8]), PacketError>
     ensures { Reads result ((number 4).read bytes.now) }
 {
     if bytes.len() < 4 {
-        return Err(Bad::Missing);
+        return Err(PacketError::Missing);
     }
     Ok((BigEndian::read_u32(bytes), &bytes[4..]))
 }
 
-pub fn machine_at(bytes: &[u8]) -> Result<(u8, &[u8]), Bad>
+pub fn machine_at(bytes: &[u8]) -> Result<(u8, &[u8]), PacketError>
     ensures { Reads result (machine.read bytes.now) }
 {
     let (machine, rest) = byte_at(bytes)?;
     if machine > 15 {
-        return Err(Bad::Machine);
+        return Err(PacketError::Machine);
     }
     Ok((machine, rest))
 }
 
-pub fn pid_at(bytes: &[u8]) -> Result<(Pid, &[u8]), Bad>
+pub fn pid_at(bytes: &[u8]) -> Result<(Pid, &[u8]), PacketError>
     ensures { Reads result (pid.read bytes.now) }
 {
     let (home, rest) = machine_at(bytes)?;
@@ -65,7 +65,7 @@ pub fn pid_at(bytes: &[u8]) -> Result<(Pid, &[u8]), Bad>
     Ok((Pid { home, num }, rest))
 }
 
-pub fn addr_at(bytes: &[u8]) -> Result<(Addr, &[u8]), Bad>
+pub fn addr_at(bytes: &[u8]) -> Result<(Addr, &[u8]), PacketError>
     ensures { Reads result (addr.read bytes.now) }
 {
     let (pid, rest) = pid_at(bytes)?;
@@ -74,7 +74,7 @@ pub fn addr_at(bytes: &[u8]) -> Result<(Addr, &[u8]), Bad>
     Ok((Addr { pid, at, moves }, rest))
 }
 
-fn flags_at(bytes: &[u8]) -> Result<((Kind, bool, bool), &[u8]), Bad>
+fn flags_at(bytes: &[u8]) -> Result<((Kind, bool, bool), &[u8]), PacketError>
     ensures { Reads result (flags.read bytes.now) }
 {
     let (flags, rest) = byte_at(bytes)?;
@@ -87,32 +87,32 @@ fn flags_at(bytes: &[u8]) -> Result<((Kind, bool, bool), &[u8]), Bad>
         9 => (Kind::Reply, false, true),
         12 => (Kind::General, true, true),
         13 => (Kind::Reply, true, true),
-        _ => return Err(Bad::Flags),
+        _ => return Err(PacketError::Flags),
     };
     Ok((flags, rest))
 }
 
-pub fn channel_at(bytes: &[u8]) -> Result<(u8, &[u8]), Bad>
+pub fn channel_at(bytes: &[u8]) -> Result<(u8, &[u8]), PacketError>
     ensures { Reads result (channel.read bytes.now) }
 {
     let (channel, rest) = byte_at(bytes)?;
     if channel > 31 {
-        return Err(Bad::Limit);
+        return Err(PacketError::Limit);
     }
     Ok((channel, rest))
 }
 
-fn len_from_at(bytes: &[u8], base: u32) -> Result<(u32, &[u8]), Bad>
+fn len_from_at(bytes: &[u8], base: u32) -> Result<(u32, &[u8]), PacketError>
     ensures { Reads result ((len_from base).read bytes.now) }
 {
     let (len, rest) = u32_at(bytes)?;
     if u64::from(base) + u64::from(len) > 65_536 {
-        return Err(Bad::Limit);
+        return Err(PacketError::Limit);
     }
     Ok((len, rest))
 }
 
-pub fn link_at(bytes: &[u8]) -> Result<(Link, &[u8]), Bad>
+pub fn link_at(bytes: &[u8]) -> Result<(Link, &[u8]), PacketError>
     ensures { Reads result (link.read bytes.now) }
 {
     let (addr, rest) = addr_at(bytes)?;

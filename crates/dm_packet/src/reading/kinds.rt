@@ -9,11 +9,11 @@ use super::parts::{
     asker_at, block_bytes_at, blocks_of_at, byte_at_most, outcome_at, piece_at, piece_from_at,
     u16_at_most, yes_or_no_at,
 };
-use crate::Bad;
+use crate::PacketError;
 use dm_message::{MessageKind, What};
 
 #[tactic(auto, unfolding(crate::specs::Whats::read_what))]
-fn user_at(bytes: &[u8]) -> Result<(What, &[u8]), Bad>
+fn user_at(bytes: &[u8]) -> Result<(What, &[u8]), PacketError>
     ensures { Reads result (read_what kinds.User bytes.now) }
 {
     let (code, rest) = u32_at(bytes)?;
@@ -30,7 +30,7 @@ fn user_at(bytes: &[u8]) -> Result<(What, &[u8]), Bad>
 }
 
 #[tactic(auto, unfolding(crate::specs::Whats::read_what))]
-fn read_at(bytes: &[u8]) -> Result<(What, &[u8]), Bad>
+fn read_at(bytes: &[u8]) -> Result<(What, &[u8]), PacketError>
     ensures { Reads result (read_what kinds.Read bytes.now) }
 {
     let (base, rest) = u32_at(bytes)?;
@@ -39,7 +39,7 @@ fn read_at(bytes: &[u8]) -> Result<(What, &[u8]), Bad>
 }
 
 #[tactic(auto, unfolding(crate::specs::Whats::read_what))]
-fn write_at(bytes: &[u8]) -> Result<(What, &[u8]), Bad>
+fn write_at(bytes: &[u8]) -> Result<(What, &[u8]), PacketError>
     ensures { Reads result (read_what kinds.Write bytes.now) }
 {
     let (base, rest) = u32_at(bytes)?;
@@ -48,7 +48,7 @@ fn write_at(bytes: &[u8]) -> Result<(What, &[u8]), Bad>
 }
 
 #[tactic(auto, unfolding(crate::specs::Whats::read_what))]
-fn block_at(bytes: &[u8]) -> Result<(What, &[u8]), Bad>
+fn block_at(bytes: &[u8]) -> Result<(What, &[u8]), PacketError>
     ensures { Reads result (read_what kinds.Block bytes.now) }
 {
     let (bytes, rest) = bytes_within_at(bytes, 1)?;
@@ -56,7 +56,7 @@ fn block_at(bytes: &[u8]) -> Result<(What, &[u8]), Bad>
 }
 
 #[tactic(auto, unfolding(crate::specs::Whats::read_what))]
-fn create_at(bytes: &[u8]) -> Result<(What, &[u8]), Bad>
+fn create_at(bytes: &[u8]) -> Result<(What, &[u8]), PacketError>
     ensures { Reads result (read_what kinds.Create bytes.now) }
 {
     let (image, rest) = u16_at(bytes)?;
@@ -65,7 +65,7 @@ fn create_at(bytes: &[u8]) -> Result<(What, &[u8]), Bad>
 }
 
 #[tactic(auto, unfolding(crate::specs::Whats::read_what))]
-fn ask_at(bytes: &[u8]) -> Result<(What, &[u8]), Bad>
+fn ask_at(bytes: &[u8]) -> Result<(What, &[u8]), PacketError>
     ensures { Reads result (read_what kinds.Ask bytes.now) }
 {
     let (pid, rest) = pid_at(bytes)?;
@@ -84,7 +84,7 @@ fn ask_at(bytes: &[u8]) -> Result<(What, &[u8]), Bad>
 }
 
 #[tactic(auto, unfolding(crate::specs::Whats::read_what))]
-fn refuse_at(bytes: &[u8]) -> Result<(What, &[u8]), Bad>
+fn refuse_at(bytes: &[u8]) -> Result<(What, &[u8]), PacketError>
     ensures { Reads result (read_what kinds.Refuse bytes.now) }
 {
     let (pid, rest) = pid_at(bytes)?;
@@ -99,7 +99,7 @@ fn refuse_at(bytes: &[u8]) -> Result<(What, &[u8]), Bad>
 }
 
 #[tactic(auto, unfolding(crate::specs::Whats::read_what))]
-fn pull_state_at(bytes: &[u8]) -> Result<(What, &[u8]), Bad>
+fn pull_state_at(bytes: &[u8]) -> Result<(What, &[u8]), PacketError>
     ensures { Reads result (read_what kinds.PullState bytes.now) }
 {
     let (pid, rest) = pid_at(bytes)?;
@@ -108,12 +108,12 @@ fn pull_state_at(bytes: &[u8]) -> Result<(What, &[u8]), Bad>
 }
 
 #[tactic(auto, unfolding(crate::specs::Whats::read_what))]
-fn state_at(bytes: &[u8]) -> Result<(What, &[u8]), Bad>
+fn state_at(bytes: &[u8]) -> Result<(What, &[u8]), PacketError>
     ensures { Reads result (read_what kinds.State bytes.now) }
 {
     let (pid, rest) = pid_at(bytes)?;
     let (chunk, rest) = u32_at(rest)?;
-    let (last, rest) = yes_or_no_at(rest, Bad::Flags)?;
+    let (last, rest) = yes_or_no_at(rest, PacketError::Flags)?;
     let (bytes, rest) = bytes_within_at(rest, 1)?;
     let state = What::State {
         pid,
@@ -125,7 +125,7 @@ fn state_at(bytes: &[u8]) -> Result<(What, &[u8]), Bad>
 }
 
 #[tactic(auto, unfolding(crate::specs::Whats::read_what))]
-fn pull_block_at(bytes: &[u8]) -> Result<(What, &[u8]), Bad>
+fn pull_block_at(bytes: &[u8]) -> Result<(What, &[u8]), PacketError>
     ensures { Reads result (read_what kinds.PullBlock bytes.now) }
 {
     let (pid, rest) = pid_at(bytes)?;
@@ -134,7 +134,7 @@ fn pull_block_at(bytes: &[u8]) -> Result<(What, &[u8]), Bad>
 }
 
 #[tactic(auto, unfolding(crate::specs::Whats::read_what))]
-fn memory_at(bytes: &[u8]) -> Result<(What, &[u8]), Bad>
+fn memory_at(bytes: &[u8]) -> Result<(What, &[u8]), PacketError>
     ensures { Reads result (read_what kinds.Memory bytes.now) }
 {
     let (pid, rest) = pid_at(bytes)?;
@@ -144,7 +144,7 @@ fn memory_at(bytes: &[u8]) -> Result<(What, &[u8]), Bad>
 }
 
 #[tactic(auto, unfolding(crate::specs::Whats::read_what))]
-fn created_at(bytes: &[u8]) -> Result<(What, &[u8]), Bad>
+fn created_at(bytes: &[u8]) -> Result<(What, &[u8]), PacketError>
     ensures { Reads result (read_what kinds.Created bytes.now) }
 {
     let (pid, rest) = pid_at(bytes)?;
@@ -152,7 +152,7 @@ fn created_at(bytes: &[u8]) -> Result<(What, &[u8]), Bad>
 }
 
 #[tactic(auto, unfolding(crate::specs::Whats::read_what))]
-fn all_taken_at(bytes: &[u8]) -> Result<(What, &[u8]), Bad>
+fn all_taken_at(bytes: &[u8]) -> Result<(What, &[u8]), PacketError>
     ensures { Reads result (read_what kinds.AllTaken bytes.now) }
 {
     let (pid, rest) = pid_at(bytes)?;
@@ -160,7 +160,7 @@ fn all_taken_at(bytes: &[u8]) -> Result<(What, &[u8]), Bad>
 }
 
 #[tactic(auto, unfolding(crate::specs::Whats::read_what))]
-fn restart_at(bytes: &[u8]) -> Result<(What, &[u8]), Bad>
+fn restart_at(bytes: &[u8]) -> Result<(What, &[u8]), PacketError>
     ensures { Reads result (read_what kinds.Restart bytes.now) }
 {
     let (pid, rest) = pid_at(bytes)?;
@@ -168,7 +168,7 @@ fn restart_at(bytes: &[u8]) -> Result<(What, &[u8]), Bad>
 }
 
 #[tactic(auto, unfolding(crate::specs::Whats::read_what))]
-fn call_off_at(bytes: &[u8]) -> Result<(What, &[u8]), Bad>
+fn call_off_at(bytes: &[u8]) -> Result<(What, &[u8]), PacketError>
     ensures { Reads result (read_what kinds.CallOff bytes.now) }
 {
     let (pid, rest) = pid_at(bytes)?;
@@ -176,7 +176,7 @@ fn call_off_at(bytes: &[u8]) -> Result<(What, &[u8]), Bad>
 }
 
 #[tactic(auto, unfolding(crate::specs::Whats::read_what))]
-fn bury_at(bytes: &[u8]) -> Result<(What, &[u8]), Bad>
+fn bury_at(bytes: &[u8]) -> Result<(What, &[u8]), PacketError>
     ensures { Reads result (read_what kinds.Bury bytes.now) }
 {
     let (pid, rest) = pid_at(bytes)?;
@@ -184,7 +184,7 @@ fn bury_at(bytes: &[u8]) -> Result<(What, &[u8]), Bad>
 }
 
 #[tactic(auto, unfolding(crate::specs::Whats::read_what))]
-fn migrate_at(bytes: &[u8]) -> Result<(What, &[u8]), Bad>
+fn migrate_at(bytes: &[u8]) -> Result<(What, &[u8]), PacketError>
     ensures { Reads result (read_what kinds.Migrate bytes.now) }
 {
     let (machine, rest) = machine_at(bytes)?;
@@ -192,7 +192,7 @@ fn migrate_at(bytes: &[u8]) -> Result<(What, &[u8]), Bad>
 }
 
 #[tactic(auto, unfolding(crate::specs::Whats::read_what))]
-fn move_at(bytes: &[u8]) -> Result<(What, &[u8]), Bad>
+fn move_at(bytes: &[u8]) -> Result<(What, &[u8]), PacketError>
     ensures { Reads result (read_what kinds.Move bytes.now) }
 {
     let (machine, rest) = machine_at(bytes)?;
@@ -200,7 +200,7 @@ fn move_at(bytes: &[u8]) -> Result<(What, &[u8]), Bad>
 }
 
 #[tactic(auto, unfolding(crate::specs::Whats::read_what))]
-fn update_at(bytes: &[u8]) -> Result<(What, &[u8]), Bad>
+fn update_at(bytes: &[u8]) -> Result<(What, &[u8]), PacketError>
     ensures { Reads result (read_what kinds.Update bytes.now) }
 {
     let (about, rest) = addr_at(bytes)?;
@@ -208,7 +208,7 @@ fn update_at(bytes: &[u8]) -> Result<(What, &[u8]), Bad>
 }
 
 #[tactic(auto, unfolding(crate::specs::Whats::read_what))]
-fn moved_at(bytes: &[u8]) -> Result<(What, &[u8]), Bad>
+fn moved_at(bytes: &[u8]) -> Result<(What, &[u8]), PacketError>
     ensures { Reads result (read_what kinds.Moved bytes.now) }
 {
     let (outcome, rest) = outcome_at(bytes)?;
@@ -217,7 +217,7 @@ fn moved_at(bytes: &[u8]) -> Result<(What, &[u8]), Bad>
 
 /// What a message of this kind carries.
 #[tactic(auto, unfolding(crate::specs::Whats::read_what))]
-pub fn what_at(kind: MessageKind, bytes: &[u8]) -> Result<(What, &[u8]), Bad>
+pub fn what_at(kind: MessageKind, bytes: &[u8]) -> Result<(What, &[u8]), PacketError>
     ensures { Reads result (read_what kind bytes.now) }
 {
     match kind {

@@ -5,13 +5,16 @@ ghost use Rattle.dm_packet.specs.Fields.{bytes_within, link, links};
 ghost use Rattle.dm_packet.specs.Reads.{ReadsItems};
 
 use super::fields::{byte_at, link_at, run_at, u16_at};
-use crate::Bad;
+use crate::PacketError;
 use arrayvec::ArrayVec;
 use dm_link::Link;
 use dm_message::Enclosed;
 
 /// So many bytes.
-pub fn items_at<const N: usize>(bytes: &[u8], len: u16) -> Result<(ArrayVec<u8, N>, &[u8]), Bad>
+pub fn items_at<const N: usize>(
+    bytes: &[u8],
+    len: u16,
+) -> Result<(ArrayVec<u8, N>, &[u8]), PacketError>
     requires { len ≤ N }
     ensures { ReadsItems result ((run len).read bytes.now) }
 {
@@ -25,18 +28,18 @@ pub fn items_at<const N: usize>(bytes: &[u8], len: u16) -> Result<(ArrayVec<u8, 
 pub fn bytes_within_at<const N: usize>(
     bytes: &[u8],
     least: u16,
-) -> Result<(ArrayVec<u8, N>, &[u8]), Bad>
+) -> Result<(ArrayVec<u8, N>, &[u8]), PacketError>
     ensures { ReadsItems result ((bytes_within least N).read bytes.now) }
 {
     let (len, rest) = u16_at(bytes)?;
     if len < least || len as usize > N {
-        return Err(Bad::Limit);
+        return Err(PacketError::Limit);
     }
     items_at(rest, len)
 }
 
 /// So many links.
-fn link_run_at(bytes: &[u8], count: u8) -> Result<(Enclosed, &[u8]), Bad>
+fn link_run_at(bytes: &[u8], count: u8) -> Result<(Enclosed, &[u8]), PacketError>
     requires { count ≤ 4 }
     ensures read { ReadsItems result (read_times link.read count bytes.now) }
     ensures count { IfOk result (λ x. length x.0.items ≡ count) }
@@ -52,20 +55,20 @@ fn link_run_at(bytes: &[u8], count: u8) -> Result<(Enclosed, &[u8]), Bad>
 }
 
 /// At most so many links, behind their number.
-pub fn links_at(bytes: &[u8], most: u8) -> Result<(Enclosed, &[u8]), Bad>
+pub fn links_at(bytes: &[u8], most: u8) -> Result<(Enclosed, &[u8]), PacketError>
     requires { most ≤ 4 }
     ensures read { ReadsItems result ((links most).read bytes.now) }
     ensures few { IfOk result (λ x. length x.0.items ≤ most) }
 {
     let (count, rest) = byte_at(bytes)?;
     if count > most {
-        return Err(Bad::Limit);
+        return Err(PacketError::Limit);
     }
     link_run_at(rest, count)
 }
 
 /// At most 3 links, behind their number.
-pub fn three_links_at(bytes: &[u8]) -> Result<(ArrayVec<Link, 3>, &[u8]), Bad>
+pub fn three_links_at(bytes: &[u8]) -> Result<(ArrayVec<Link, 3>, &[u8]), PacketError>
     ensures { ReadsItems result ((links 3).read bytes.now) }
 {
     let (found, rest) = links_at(bytes, 3)?;

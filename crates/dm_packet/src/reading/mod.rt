@@ -9,22 +9,22 @@ mod lists;
 pub mod parts;
 
 use crate::front::{Head, Opening, PacketKind};
-use crate::{Bad, Packet};
+use crate::{Packet, PacketError};
 use dm_message::{Message, MsgId};
 use fields::{addr_at, byte_at, machine_at, pid_at, u32_at};
 use kinds::what_at;
 use parts::{is_over, kind_at, yes_or_no_at};
 
-fn id_at(bytes: &[u8]) -> Result<(MsgId, &[u8]), Bad>
+fn id_at(bytes: &[u8]) -> Result<(MsgId, &[u8]), PacketError>
     ensures { Reads result (id.read bytes.now) }
 {
     let (from, rest) = pid_at(bytes)?;
     let (n, rest) = u32_at(rest)?;
-    let (answer, rest) = yes_or_no_at(rest, Bad::Answer)?;
+    let (answer, rest) = yes_or_no_at(rest, PacketError::Answer)?;
     Ok((MsgId { from, n, answer }, rest))
 }
 
-fn head_parts_at(bytes: &[u8]) -> Result<(Head, &[u8]), Bad>
+fn head_parts_at(bytes: &[u8]) -> Result<(Head, &[u8]), PacketError>
     ensures { Reads result (head_parts.read bytes.now) }
 {
     let (id, rest) = id_at(bytes)?;
@@ -40,18 +40,18 @@ fn head_parts_at(bytes: &[u8]) -> Result<(Head, &[u8]), Bad>
     Ok((head, rest))
 }
 
-fn head_at(bytes: &[u8]) -> Result<(Head, &[u8]), Bad>
+fn head_at(bytes: &[u8]) -> Result<(Head, &[u8]), PacketError>
     ensures { Reads result (head.read bytes.now) }
 {
     let (head, rest) = head_parts_at(bytes)?;
     if !head.is_named_right() {
-        return Err(Bad::Answer);
+        return Err(PacketError::Answer);
     }
     Ok((head, rest))
 }
 
 #[tactic(auto, unfolding(crate::specs::Packets::read_message))]
-fn message_at(bytes: &[u8]) -> Result<(Message, &[u8]), Bad>
+fn message_at(bytes: &[u8]) -> Result<(Message, &[u8]), PacketError>
     ensures { Reads result (read_message bytes.now) }
 {
     let (head, rest) = head_at(bytes)?;
@@ -65,37 +65,37 @@ fn message_at(bytes: &[u8]) -> Result<(Message, &[u8]), Bad>
     Ok((message, rest))
 }
 
-fn packet_kind_at(bytes: &[u8]) -> Result<(PacketKind, &[u8]), Bad>
+fn packet_kind_at(bytes: &[u8]) -> Result<(PacketKind, &[u8]), PacketError>
     ensures { Reads result (packet_kind.read bytes.now) }
 {
     let (number, rest) = byte_at(bytes)?;
     match number {
         1 => Ok((PacketKind::Data, rest)),
         2 => Ok((PacketKind::Ack, rest)),
-        _ => Err(Bad::PacketKind),
+        _ => Err(PacketError::PacketKind),
     }
 }
 
 /// The version and the front of a packet.
-fn opening_at(bytes: &[u8]) -> Result<(Opening, &[u8]), Bad>
+fn opening_at(bytes: &[u8]) -> Result<(Opening, &[u8]), PacketError>
     ensures { Reads result (opening.read bytes.now) }
 {
     let (version, rest) = byte_at(bytes)?;
     if version != 4 {
-        return Err(Bad::Version);
+        return Err(PacketError::Version);
     }
     let (kind, rest) = packet_kind_at(rest)?;
     let (from, rest) = machine_at(rest)?;
     let (to, rest) = machine_at(rest)?;
     if to == from {
-        return Err(Bad::Machine);
+        return Err(PacketError::Machine);
     }
     Ok((Opening { kind, from, to }, rest))
 }
 
 /// What stands behind the front.
 #[tactic(auto, unfolding(crate::specs::Packets::read_rest))]
-fn rest_at(opening: Opening, bytes: &[u8]) -> Result<(Packet, &[u8]), Bad>
+fn rest_at(opening: Opening, bytes: &[u8]) -> Result<(Packet, &[u8]), PacketError>
     ensures { Reads result (read_rest opening.kind opening.from opening.to bytes.now) }
 {
     let Opening { kind, from, to } = opening;
@@ -124,13 +124,13 @@ fn rest_at(opening: Opening, bytes: &[u8]) -> Result<(Packet, &[u8]), Bad>
 
 /// The packet that the bytes spell, or the first rule that they break.
 #[tactic(auto, unfolding(crate::specs::Packets::packet_of))]
-pub fn packet_at(bytes: &[u8]) -> Result<Packet, Bad>
+pub fn packet_at(bytes: &[u8]) -> Result<Packet, PacketError>
     ensures { result ≡ packet_of bytes.now }
 {
     let (opening, rest) = opening_at(bytes)?;
     let (packet, rest) = rest_at(opening, rest)?;
     if !is_over(rest) {
-        return Err(Bad::Trailing);
+        return Err(PacketError::Trailing);
     }
     Ok(packet)
 }

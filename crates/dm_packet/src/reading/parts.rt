@@ -6,7 +6,7 @@ ghost use Rattle.dm_packet.specs.Whats.{asker, at_most, blocks_of, memory, messa
 
 use super::fields::{addr_at, byte_at, run_at, u16_at, u32_at};
 use super::lists::items_at;
-use crate::Bad;
+use crate::PacketError;
 use dm_link::Pid;
 use dm_message::{Asker, Body, MessageKind, Outcome};
 
@@ -18,7 +18,7 @@ pub fn is_over(rest: &[u8]) -> bool
 }
 
 /// A yes or no.
-pub fn yes_or_no_at(bytes: &[u8], rule: Bad) -> Result<(bool, &[u8]), Bad>
+pub fn yes_or_no_at(bytes: &[u8], rule: PacketError) -> Result<(bool, &[u8]), PacketError>
     ensures { Reads result ((yes_or_no rule).read bytes.now) }
 {
     let (byte, rest) = byte_at(bytes)?;
@@ -29,17 +29,17 @@ pub fn yes_or_no_at(bytes: &[u8], rule: Bad) -> Result<(bool, &[u8]), Bad>
     }
 }
 
-pub fn kind_at(bytes: &[u8]) -> Result<(MessageKind, &[u8]), Bad>
+pub fn kind_at(bytes: &[u8]) -> Result<(MessageKind, &[u8]), PacketError>
     ensures { Reads result (message_kind.read bytes.now) }
 {
     let (number, rest) = byte_at(bytes)?;
     match MessageKind::numbered(number) {
         Some(kind) => Ok((kind, rest)),
-        None => Err(Bad::MessageKind),
+        None => Err(PacketError::MessageKind),
     }
 }
 
-pub fn outcome_at(bytes: &[u8]) -> Result<(Outcome, &[u8]), Bad>
+pub fn outcome_at(bytes: &[u8]) -> Result<(Outcome, &[u8]), PacketError>
     ensures { Reads result (outcome.read bytes.now) }
 {
     let (byte, rest) = byte_at(bytes)?;
@@ -47,7 +47,7 @@ pub fn outcome_at(bytes: &[u8]) -> Result<(Outcome, &[u8]), Bad>
         0 => Ok((Outcome::Done, rest)),
         1 => Ok((Outcome::Stayed, rest)),
         3 => Ok((Outcome::Ended, rest)),
-        _ => Err(Bad::Limit),
+        _ => Err(PacketError::Limit),
     }
 }
 
@@ -59,18 +59,18 @@ fn is_piece(base: u32, len: u16) -> bool
 }
 
 /// The length of a piece that begins at an address.
-pub fn piece_from_at(bytes: &[u8], base: u32) -> Result<(u16, &[u8]), Bad>
+pub fn piece_from_at(bytes: &[u8], base: u32) -> Result<(u16, &[u8]), PacketError>
     ensures { Reads result ((piece_from base).read bytes.now) }
 {
     let (len, rest) = u16_at(bytes)?;
     if !is_piece(base, len) {
-        return Err(Bad::Limit);
+        return Err(PacketError::Limit);
     }
     Ok((len, rest))
 }
 
 /// A piece that begins at an address.
-pub fn piece_at(bytes: &[u8], base: u32) -> Result<(Body, &[u8]), Bad>
+pub fn piece_at(bytes: &[u8], base: u32) -> Result<(Body, &[u8]), PacketError>
     ensures { ReadsItems result ((counted (piece_from base) run).read bytes.now) }
 {
     let (len, rest) = piece_from_at(bytes, base)?;
@@ -78,21 +78,21 @@ pub fn piece_at(bytes: &[u8], base: u32) -> Result<(Body, &[u8]), Bad>
 }
 
 /// How many blocks a process has.
-pub fn blocks_of_at(bytes: &[u8], pid: Pid) -> Result<(u16, &[u8]), Bad>
+pub fn blocks_of_at(bytes: &[u8], pid: Pid) -> Result<(u16, &[u8]), PacketError>
     ensures { Reads result ((blocks_of pid).read bytes.now) }
 {
     let (blocks, rest) = u16_at(bytes)?;
     let is_server = pid.home == 0 && (pid.num == 1 || pid.num == 2);
     if blocks > 256 || (blocks == 0) != is_server {
-        return Err(Bad::Limit);
+        return Err(PacketError::Limit);
     }
     Ok((blocks, rest))
 }
 
-pub fn asker_at(bytes: &[u8]) -> Result<(Option<Asker>, &[u8]), Bad>
+pub fn asker_at(bytes: &[u8]) -> Result<(Option<Asker>, &[u8]), PacketError>
     ensures { Reads result ((optional asker).read bytes.now) }
 {
-    let (has, rest) = yes_or_no_at(bytes, Bad::Flags)?;
+    let (has, rest) = yes_or_no_at(bytes, PacketError::Flags)?;
     if !has {
         return Ok((None, rest));
     }
@@ -101,28 +101,28 @@ pub fn asker_at(bytes: &[u8]) -> Result<(Option<Asker>, &[u8]), Bad>
     Ok((Some(Asker { n, addr }), rest))
 }
 
-pub fn byte_at_most(bytes: &[u8], most: u8) -> Result<(u8, &[u8]), Bad>
+pub fn byte_at_most(bytes: &[u8], most: u8) -> Result<(u8, &[u8]), PacketError>
     ensures { Reads result ((at_most 1 most).read bytes.now) }
 {
     let (number, rest) = byte_at(bytes)?;
     if number > most {
-        return Err(Bad::Limit);
+        return Err(PacketError::Limit);
     }
     Ok((number, rest))
 }
 
-pub fn u16_at_most(bytes: &[u8], most: u16) -> Result<(u16, &[u8]), Bad>
+pub fn u16_at_most(bytes: &[u8], most: u16) -> Result<(u16, &[u8]), PacketError>
     ensures { Reads result ((at_most 2 most).read bytes.now) }
 {
     let (number, rest) = u16_at(bytes)?;
     if number > most {
-        return Err(Bad::Limit);
+        return Err(PacketError::Limit);
     }
     Ok((number, rest))
 }
 
 /// A block of memory.
-pub fn block_bytes_at(bytes: &[u8]) -> Result<([u8; 256], &[u8]), Bad>
+pub fn block_bytes_at(bytes: &[u8]) -> Result<([u8; 256], &[u8]), PacketError>
     ensures { Reads result ((run 256).read bytes.now) }
 {
     let (front, rest) = run_at(bytes, 256)?;

@@ -11,7 +11,7 @@ ghost use Rattle.dm_program.specs.Status.{BlamesShelf, BlamesSink};
 use crate::inputs::{Traced, read_trace_files};
 use crate::status::{Status, push_number, words};
 use arrayvec::ArrayString;
-use dm_check::{CheckNo, Good, check_trace};
+use dm_check::{CheckError, Good, check_trace};
 use dm_outside::{Shelf, Sink};
 use dm_run::write_all;
 use std::alloc::Global;
@@ -59,11 +59,11 @@ fn check<K: Sink>(alloc: Global, traced: Traced, out: &mut K) -> Status
     let Traced { boot, trace } = traced;
     match check_trace(alloc, boot, trace.as_slice()) {
         Ok(good) => say_good(good, out),
-        Err(CheckNo::Refused { line, fault }) => Status::TraceRefused {
+        Err(CheckError::Refused { line, fault }) => Status::TraceRefused {
             line,
             why: fault.number(),
         },
-        Err(CheckNo::NoMemory(no)) => Status::NoMemory(no),
+        Err(CheckError::NoMemory(no)) => Status::NoMemory(no),
     }
 }
 

@@ -9,7 +9,7 @@ ghost use Rattle.dm_program.specs.Status.{BlamesShelf, BlamesSink};
 ghost use Rattle.dm_explain.specs.Explained.{IsToldValid};
 
 use crate::inputs::{MOST_BOOT, MOST_SCHEDULE};
-use crate::read::{ReadNo, read_file};
+use crate::read::{ReadError, read_file};
 use crate::status::{Input, Status};
 use dm_explain::{BootTold, ScheduleTold, explain_boot, explain_schedule};
 use dm_memory::{NoMemory, extend_from_slice};
@@ -120,9 +120,9 @@ fn tell_boot<F: Shelf>(alloc: Global, name: &str, shelf: &mut F) -> Result<BootT
             Ok(told) => Ok(told),
             Err(no) => Err(Status::NoMemory(no)),
         },
-        Err(ReadNo::Fault) => Err(Status::ReadFault(Input::Boot)),
-        Err(ReadNo::NoMemory(no)) => Err(Status::NoMemory(no)),
-        Err(ReadNo::TooLong) => Err(Status::TooLong(Input::Boot)),
+        Err(ReadError::Fault) => Err(Status::ReadFault(Input::Boot)),
+        Err(ReadError::NoMemory(no)) => Err(Status::NoMemory(no)),
+        Err(ReadError::TooLong) => Err(Status::TooLong(Input::Boot)),
     }
 }
 
@@ -147,9 +147,9 @@ fn tell_schedule<F: Shelf>(
             Ok(told) => Ok(told),
             Err(no) => Err(Status::NoMemory(no)),
         },
-        Err(ReadNo::Fault) => Err(Status::ReadFault(Input::Schedule)),
-        Err(ReadNo::NoMemory(no)) => Err(Status::NoMemory(no)),
-        Err(ReadNo::TooLong) => Err(Status::TooLong(Input::Schedule)),
+        Err(ReadError::Fault) => Err(Status::ReadFault(Input::Schedule)),
+        Err(ReadError::NoMemory(no)) => Err(Status::NoMemory(no)),
+        Err(ReadError::TooLong) => Err(Status::TooLong(Input::Schedule)),
     }
 }
 

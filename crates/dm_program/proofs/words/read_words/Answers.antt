@@ -2,7 +2,7 @@ use Rattle.std.proofs.Common.{◌≡◌, List, ℕ, map, sym, ◌∙◌, subst, 
 use Rattle.std.specs.declared.result.Result.TheVariants.{Err}
 use Rattle.clap.specs.Words.{app_of, fault_of}
 use Rattle.clap.specs.declared.parser.matches.ArgMatches.{ArgMatches}
-use Rattle.dm_memory.specs.declared.of_clap.NoMatches.{NoMatches}
+use Rattle.dm_memory.specs.declared.of_clap.MatchesError.{MatchesError}
 use Rattle.dm_memory.specs.Clap.{FailsBy}
 use Rattle.dm_program.specs.Words.{request_of}
 use Rattle.dm_program.proofs.Names.{not_taken, refused, taken}
@@ -32,10 +32,10 @@ pub returns-in-Err-Refused-clause-refused : goal.returns-in-Err-Refused-clause-r
 returns-in-Err-Refused-clause-refused c = λ usage is_taken.
     let words : List (List ℕ) = map (λ w. w.now) c.args.words.now in
     not_taken (app_of c.in-Ok.command) words c.in-Ok.ensures
-    (λ simple. subst (λ (n : NoMatches). FailsBy {A = ArgMatches} (fault_of (app_of c.in-Ok.command) words) (Err n)) c.in-Err-Refused.field-0-is (c.in-Err-Refused.ensures.fails simple)) is_taken.passes
+    (λ simple. subst (λ (n : MatchesError). FailsBy {A = ArgMatches} (fault_of (app_of c.in-Ok.command) words) (Err n)) c.in-Err-Refused.field-0-is (c.in-Err-Refused.ensures.fails simple)) is_taken.passes
 
 pub returns-in-Err-Refused-clause-usage : goal.returns-in-Err-Refused-clause-usage
 returns-in-Err-Refused-clause-usage c = λ usage.
     let words : List (List ℕ) = map (λ w. w.now) c.args.words.now in
     refused (app_of c.in-Ok.command) words c.in-Ok.ensures
-    (λ simple. subst (λ (n : NoMatches). FailsBy {A = ArgMatches} (fault_of (app_of c.in-Ok.command) words) (Err n)) c.in-Err-Refused.field-0-is (c.in-Err-Refused.ensures.fails simple))
+    (λ simple. subst (λ (n : MatchesError). FailsBy {A = ArgMatches} (fault_of (app_of c.in-Ok.command) words) (Err n)) c.in-Err-Refused.field-0-is (c.in-Err-Refused.ensures.fails simple))
