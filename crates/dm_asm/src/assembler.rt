@@ -29,7 +29,7 @@ fn defined_before(labels: &Labels, line: usize, label: Option<&[u8]>) -> bool
 #[tactic(auto, unfolding(crate::specs::Assembled::with_line, crate::specs::Statements::line_bytes))]
 fn add_line(labels: &Labels, image: &mut Vec<u8>, number: usize, line: &[u8]) -> Result<(), Stop>
     ensures exact { Gives (λ _. image.new.items) result (with_line (place_in labels.now) number image.old.items line.now) }
-    ensures most { OnOk result (length image.new.items ≤ 65536) }
+    ensures most { OnOk result (length image.new.items ≤ MOST_MEMORY) }
 {
     let (label, statement) = split_label(uncommented(line));
     let twice = defined_before(labels, number, label);
@@ -53,7 +53,7 @@ fn stopped(line: usize, stop: Stop) -> AssembleError
 /// The bytes of all lines.
 fn all_lines(alloc: Global, labels: &Labels, text: &[u8]) -> Result<Vec<u8>, AssembleError>
     ensures exact { Answers (λ image. image.items) result (with_lines (place_in labels.now) 1 [] (lines text.now)) }
-    ensures most { IfOk result (λ image. length image.items ≤ 65536) }
+    ensures most { IfOk result (λ image. length image.items ≤ MOST_MEMORY) }
 {
     let mut image = Vec::new(alloc);
     let mut rest = text;

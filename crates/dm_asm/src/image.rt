@@ -1,6 +1,7 @@
 //! What the assembler makes.
 ghost use Rattle.std.specs.Prelude.{◌≡◌, ◌≤◌, length};
 
+use dm_processor::MOST_MEMORY;
 use std::marker::Model;
 
 /// The bytes that a memory begins with: at most 65,536.
@@ -22,7 +23,7 @@ impl Model for Image {
 impl Image {
     /// An image of these bytes.
     pub(crate) fn new(bytes: Vec<u8>) -> Image
-        requires { length bytes.items ≤ 65536 }
+        requires { length bytes.items ≤ MOST_MEMORY }
         ensures { result ≡ bytes.items }
     {
         Image { bytes }
@@ -39,7 +40,7 @@ impl Image {
     /// The bytes, at most 65,536.
     pub fn as_bytes(&self) -> &[u8]
         ensures bytes { result.now ≡ self.now }
-        ensures most { length result.now ≤ 65536 }
+        ensures most { length result.now ≤ MOST_MEMORY }
     {
         self.bytes.as_slice()
     }

@@ -27,6 +27,12 @@ use std::alloc::Global;
 use system::system_of;
 use toml::Value;
 
+/// The most images that a boot file has.
+pub const MOST_IMAGES: usize = 256;
+
+/// The most processes that a boot file has: 255 on each of 16 machines.
+pub const MOST_PROCESSES: usize = 4080;
+
 /// Reads the system that a boot file describes, or the first rule that it breaks.
 #[tactic(auto, using(crate::proofs::Validity::valid_lemmas))]
 pub fn read_boot(alloc: Global, bytes: &[u8]) -> Result<Boot, BootError>

@@ -5,6 +5,7 @@ ghost use Rattle.dm_boot.specs.Tables.{count, is_place};
 ghost use Rattle.dm_boot.specs.Build.{format_number, format_of, image_blocks, image_place, image_tables, machine_number, numbers_of, process_tables, quantum_of};
 ghost use Rattle.dm_boot.specs.Rules.{has_good_image_count, has_good_machine_count, has_good_room, has_good_settings, has_link_count, has_machine, has_own_name, has_process_name};
 
+use crate::MOST_IMAGES;
 use crate::document::Document;
 use crate::names::{is_name, is_server};
 use crate::tables::{items_at, number_at, text_at};
@@ -66,7 +67,7 @@ pub fn has_good_machine_count(top: &Value) -> bool
 pub fn has_good_image_count(top: &Value) -> bool
     ensures { result ≡ has_good_image_count (view top.now) }
 {
-    items_at(top, "image").len() <= 256
+    items_at(top, "image").len() <= MOST_IMAGES
 }
 
 /// Whether a machine's room is within its limits.

@@ -4,6 +4,7 @@ ghost use Rattle.toml.specs.View.{view};
 ghost use Rattle.dm_boot.specs.Tables.{count};
 ghost use Rattle.dm_boot.specs.Build.{linked_all, process_tables};
 
+use crate::MOST_PROCESSES;
 use crate::document::Document;
 use crate::links::links_of;
 use crate::tables::items_at;
@@ -20,7 +21,7 @@ pub fn processes_of(
     document: &Document<'_>,
     starts: &[BootProcess],
 ) -> Result<Items<BootProcess>, NoMemory>
-    requires few { count (process_tables (view document.now.top.now)) ≤ 4080 }
+    requires few { count (process_tables (view document.now.top.now)) ≤ MOST_PROCESSES }
     ensures { IfOk result (λ ps. ps ≡ linked_all (view document.now.top.now) starts.now starts.now (process_tables (view document.now.top.now))) }
 {
     let tables = items_at(document.top, "process");

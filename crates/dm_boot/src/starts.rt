@@ -13,6 +13,7 @@ use crate::document::Document;
 use crate::limits::{image_place, machine_number};
 use crate::rules::{BootError, BootRule};
 use crate::tables::items_at;
+use crate::{MOST_IMAGES, MOST_PROCESSES};
 use dm_link::{FIRST_NUMBER, Pid};
 use dm_lists::Items;
 use dm_onekernel::boot::{BootImage, BootMachine, BootProcess};
@@ -28,10 +29,10 @@ pub fn starts_of(
 ) -> Result<Items<BootProcess>, BootError>
     requires machines { machines.now ≡ machines_of (view document.now.top.now) }
     requires images { images.now ≡ images_of (view document.now.top.now) }
-    requires few { count (image_tables (view document.now.top.now)) ≤ 256 }
+    requires few { count (image_tables (view document.now.top.now)) ≤ MOST_IMAGES }
     ensures starts { Answers (unless_at rules.ProcessRoom
         (first_failing (has_place (view document.now.top.now)) 0 (process_tables (view document.now.top.now))) (starts_of (view document.now.top.now))) result }
-    ensures few { OnOk result (count (process_tables (view document.now.top.now)) ≤ 4080) }
+    ensures few { OnOk result (count (process_tables (view document.now.top.now)) ≤ MOST_PROCESSES) }
 {
     let tables = items_at(document.top, "process");
     let mut starts = Items::new(alloc);
@@ -59,7 +60,7 @@ fn start_of(
     table: &Value,
 ) -> BootProcess
     requires few { (m : ℕ) → starting_at m earlier.now ≤ 255 }
-    requires few_images { count (image_tables (view document.now.top.now)) ≤ 256 }
+    requires few_images { count (image_tables (view document.now.top.now)) ≤ MOST_IMAGES }
     ensures start { result ≡ start_of (view document.now.top.now) earlier.now (view table.now) }
     ensures home { result.pid.home ≤ 15 }
 {

@@ -16,6 +16,7 @@ use crate::processes::processes_of;
 use crate::rules::{BootError, BootRule, TableRule};
 use crate::starts::starts_of;
 use crate::tables::items_at;
+use crate::{MOST_IMAGES, MOST_PROCESSES};
 use dm_lists::Items;
 use dm_onekernel::boot::{Boot, BootImage, BootMachine, BootProcess};
 use std::alloc::Global;
@@ -95,7 +96,7 @@ fn before_images() -> [TableRule; 9]
 #[tactic(auto, unfolding(crate::specs::Rules::rule_of))]
 fn read_images(alloc: Global, document: &Document<'_>) -> Result<Items<BootImage>, BootError>
     ensures images { Answers (unless (first_broken image_rules (view document.now.top.now)) (images_of (view document.now.top.now))) result }
-    ensures few { OnOk result (count (image_tables (view document.now.top.now)) ≤ 256) }
+    ensures few { OnOk result (count (image_tables (view document.now.top.now)) ≤ MOST_IMAGES) }
 {
     let before = before_images();
     if let Some((rule, place)) = first_broken(document, &before) {
@@ -124,9 +125,9 @@ fn read_starts(
 ) -> Result<Items<BootProcess>, BootError>
     requires machines { machines.now ≡ machines_of (view document.now.top.now) }
     requires images { images.now ≡ images_of (view document.now.top.now) }
-    requires few { count (image_tables (view document.now.top.now)) ≤ 256 }
+    requires few { count (image_tables (view document.now.top.now)) ≤ MOST_IMAGES }
     ensures starts { Answers (unless (first_broken process_rules (view document.now.top.now)) (starts_of (view document.now.top.now))) result }
-    ensures few { OnOk result (count (process_tables (view document.now.top.now)) ≤ 4080) }
+    ensures few { OnOk result (count (process_tables (view document.now.top.now)) ≤ MOST_PROCESSES) }
 {
     let before = [
         TableRule::ProcessKeys,
@@ -151,7 +152,7 @@ fn read_processes(
     starts: &[BootProcess],
 ) -> Result<Items<BootProcess>, BootError>
     requires starts { starts.now ≡ starts_of (view document.now.top.now) }
-    requires few { count (process_tables (view document.now.top.now)) ≤ 4080 }
+    requires few { count (process_tables (view document.now.top.now)) ≤ MOST_PROCESSES }
     ensures { Answers (unless (first_broken link_rules (view document.now.top.now)) (processes_of (view document.now.top.now))) result }
 {
     let rules = [

@@ -54,7 +54,7 @@ pub fn code_in(link: &Value, most: u32) -> Option<u32>
 
 pub fn channel_in(link: &Value) -> Option<u32>
     ensures channel { result ≡ channel_in (view link.now) }
-    ensures few { IfSome result (λ n. n ≤ 31) }
+    ensures few { IfSome result (λ n. n ≤ LAST_CHANNEL) }
 {
     number_at(link, "channel", 0, 0, u32::from(LAST_CHANNEL))
 }

@@ -266,7 +266,7 @@ fn put_left_words(
 
 /// How many processes have no lane.
 fn without_lane(frame: &Frame) -> u64
-    ensures { result ≡ length frame.now.processes - 12 }
+    ensures { result ≡ length frame.now.processes - MOST_LANES }
 {
     frame.processes.len().saturating_sub(MOST_LANES) as u64
 }

@@ -36,7 +36,7 @@ pub struct Frame {
 /// How many lanes there are.
 fn few(count: usize) -> u32
     ensures few { result ≡ few count }
-    ensures most { result ≤ 12 }
+    ensures most { result ≤ MOST_LANES }
 {
     if count < MOST_LANES { count as u32 } else { 12 }
 }

@@ -47,9 +47,9 @@ impl Kept {
 /// One more group.
 #[tactic(auto, unfolding(crate::specs::Kept::keep))]
 pub fn keep(kept: &mut Kept, group: Vec<Line>) -> Result<(), NoMemory>
-    requires { kept.old.rows ≤ 1200 }
+    requires { kept.old.rows ≤ MOST_ROWS }
     ensures kept { OnOk result (kept.new ≡ keep kept.old group.items) }
-    ensures rows { OnOk result (kept.new.rows ≤ 1200) }
+    ensures rows { OnOk result (kept.new.rows ≤ MOST_ROWS) }
 {
     let rows = rows_in(group.as_slice());
     let messages = messages_in(group.as_slice()) as u64;
@@ -72,8 +72,8 @@ pub fn keep(kept: &mut Kept, group: Vec<Line>) -> Result<(), NoMemory>
 
 /// Whether so many rows more have room.
 fn fits(kept: &Kept, rows: u32) -> bool
-    requires kept { kept.now.rows ≤ 1200 }
-    requires rows { rows ≤ 1200 }
+    requires kept { kept.now.rows ≤ MOST_ROWS }
+    requires rows { rows ≤ MOST_ROWS }
     ensures { result ≡ fits kept.now rows }
 {
     !kept.full && kept.rows + rows < MOST_ROWS
@@ -90,7 +90,7 @@ fn plus(a: u64, b: u64) -> u64
 #[tactic(auto, using(crate::proofs::Walks::behind_lemmas))]
 fn rows_in(group: &[Line]) -> u32
     ensures rows { result ≡ rows_in group.now }
-    ensures most { result ≤ 1200 }
+    ensures most { result ≤ MOST_ROWS }
 {
     let mut spot = first_spot();
     for line in group {

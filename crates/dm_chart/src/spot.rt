@@ -43,7 +43,7 @@ pub fn first_spot() -> Spot
 #[tactic(auto, unfolding(crate::specs::Spots::next_spot))]
 pub fn next_spot(spot: Spot, line: &Line) -> Spot
     ensures spot { result ≡ next_spot spot line.now }
-    ensures most { spot.row ≤ 1200 → result.row ≤ 1200 }
+    ensures most { spot.row ≤ MOST_ROWS → result.row ≤ MOST_ROWS }
 {
     spot_after(spot, role_of(line))
 }
@@ -51,7 +51,7 @@ pub fn next_spot(spot: Spot, line: &Line) -> Spot
 /// Behind a line of this role.
 pub fn spot_after(spot: Spot, role: Role) -> Spot
     ensures spot { result ≡ spot_after spot role }
-    ensures most { spot.row ≤ 1200 → result.row ≤ 1200 }
+    ensures most { spot.row ≤ MOST_ROWS → result.row ≤ MOST_ROWS }
 {
     match role {
         Role::Head(step) => Spot {
@@ -80,7 +80,7 @@ pub fn spot_after(spot: Spot, role: Role) -> Spot
 /// One row more.
 fn with_row(spot: Spot, own: bool) -> Spot
     ensures spot { result ≡ with_row own spot }
-    ensures most { result.row ≤ 1200 }
+    ensures most { result.row ≤ MOST_ROWS }
 {
     Spot {
         row: more(spot.row),
@@ -110,7 +110,7 @@ fn without_row(spot: Spot) -> Spot
 /// One more of what a picture has at most so many of.
 fn more(n: u32) -> u32
     ensures more { result ≡ more n }
-    ensures most { result ≤ 1200 }
+    ensures most { result ≤ MOST_ROWS }
 {
     if n < MOST_ROWS { n + 1 } else { MOST_ROWS }
 }

@@ -15,3 +15,6 @@ pub mod trace;
 pub use fault::TraceFault;
 pub use stop::CheckError;
 pub use trace::{Good, check_trace};
+
+/// The most bytes of a trace.
+pub const MOST_TRACE: u32 = 16_777_216;

@@ -16,6 +16,7 @@ ghost use Rattle.dm_check.specs.Good.{EndsFit, IsTrace, good_verdict, text_behin
 ghost use Rattle.dm_check.specs.Judge as judge;
 ghost use Rattle.dm_check.specs.Judge.{can_hold, judged_from, verdict};
 
+use crate::MOST_TRACE;
 use crate::fault::TraceFault;
 use crate::follow::{follow_ends, follow_lines, refused, unless_none};
 use crate::stop::CheckError;
@@ -40,7 +41,7 @@ pub struct Good {
 /// Checks that a text is what the system of a boot file prints, for the directives that its heads are.
 pub fn check_trace(alloc: Global, boot: Boot, trace: &[u8]) -> Result<Good, CheckError>
     requires valid { IsValid boot }
-    requires short { length trace.now ≤ 16777216 }
+    requires short { length trace.now ≤ MOST_TRACE }
     ensures verdict { IfOk result (λ g. verdict boot trace.now ≡ good_verdict g.groups g.ended) }
     ensures good { IfOk result (λ g. IsTrace boot trace.now g.groups g.ended) }
     ensures refused { IfErr result (RefusedSo (verdict boot trace.now)) }
@@ -66,7 +67,7 @@ fn check_on(
     requires groups { world.old.groups ≡ 0 }
     requires quantum { world.old.boot.quantum ≡ quantum }
     requires machines { length world.old.boot.machines ≡ machines }
-    requires short { length trace.now ≤ 16777216 }
+    requires short { length trace.now ≤ MOST_TRACE }
     ensures verdict { IfOk result (λ g. verdict world.old.boot trace.now ≡ good_verdict g.groups g.ended) }
     ensures good { IfOk result (λ g. IsTrace world.old.boot trace.now g.groups g.ended) }
     ensures refused { IfErr result (RefusedSo (verdict world.old.boot trace.now)) }

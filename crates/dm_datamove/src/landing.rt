@@ -10,10 +10,11 @@ ghost use Rattle.dm_datamove.specs.Landing.{IsAnswerOf, IsAwaited, IsLawfulLande
 
 use crate::requests::{piece_of, send_request};
 use crate::{Landed, Rest};
+use dm_link::MACHINES;
 use dm_message::{Message, What};
 use dm_onekernel::Reply;
 use dm_process::{Direction, Process, Status};
-use dm_processor::Cells;
+use dm_processor::{Cells, MOST_MEMORY};
 
 /// Ends the move with a reply in register 0.
 fn end(process: &mut Process, reply: Reply) -> Landed
@@ -27,10 +28,10 @@ fn end(process: &mut Process, reply: Reply) -> Landed
 
 /// Goes on behind the first piece of the rest, which has come.
 fn go_on(process: &mut Process, rest: Rest, here: u8) -> Landed
-    requires area { rest.base + rest.left ≤ 65536 }
+    requires area { rest.base + rest.left ≤ MOST_MEMORY }
     requires own { rest.own + rest.left ≤ length process.old.memory }
-    requires size { length process.old.memory ≤ 65536 }
-    requires counts { process.old.sent < 4294967295 }
+    requires size { length process.old.memory ≤ MOST_MEMORY }
+    requires counts { process.old.sent < u32.MAX }
     ensures landed { result ≡ (goes_on here process.old rest).landed }
     ensures process { process.new ≡ (goes_on here process.old rest).process }
 {
@@ -52,10 +53,10 @@ fn go_on(process: &mut Process, rest: Rest, here: u8) -> Landed
 /// Lands the answer to the request for the first piece of the rest.
 fn land_first(process: &mut Process, rest: Rest, what: &What, here: u8) -> Landed
     requires answer { IsAnswerOf rest.dir rest.left what.now }
-    requires area { rest.base + rest.left ≤ 65536 }
+    requires area { rest.base + rest.left ≤ MOST_MEMORY }
     requires own { rest.own + rest.left ≤ length process.old.memory }
-    requires size { length process.old.memory ≤ 65536 }
-    requires counts { process.old.sent < 4294967295 }
+    requires size { length process.old.memory ≤ MOST_MEMORY }
+    requires counts { process.old.sent < u32.MAX }
     ensures { lands_what here process.old rest rest.dir what.now ≡ Some (record { landed = result; process = process.new }) }
 {
     match (rest.dir, what) {
@@ -74,7 +75,7 @@ fn land_first(process: &mut Process, rest: Rest, what: &What, here: u8) -> Lande
 fn land_awaited(process: &mut Process, message: &Message, here: u8) -> Landed
     requires lawful { IsLawfulProcess process.old }
     requires awaited { IsAwaited process.old.status message.now }
-    requires counts { process.old.sent < 4294967295 }
+    requires counts { process.old.sent < u32.MAX }
     ensures { landing here process.old message.now.what process.old.status ≡ Some (record { landed = result; process = process.new }) }
 {
     let Status::Moving {
@@ -104,9 +105,9 @@ fn land_awaited(process: &mut Process, message: &Message, here: u8) -> Landed
 pub fn land(process: &mut Process, message: &Message, here: u8) -> Landed
     requires lawful { IsLawfulProcess process.old }
     requires lawful_answer { IsLawfulMessage message.now }
-    requires here { here < 16 }
+    requires here { here < MACHINES }
     requires awaited { IsAwaited process.old.status message.now }
-    requires counts { process.old.sent < 4294967295 }
+    requires counts { process.old.sent < u32.MAX }
     ensures exact { landing here process.old message.now.what process.old.status ≡ Some (record { landed = result; process = process.new }) }
     ensures gone { (result ≡ landed.Done reply.Gone) ↔ (message.now.what ≡ what.Gone) }
     ensures plain { plain_landed result process.new ≡ plainly_landed process.old (plain_message message.now) }

@@ -13,7 +13,7 @@ use dm_link::Addr;
 use dm_message::{Body, Message};
 use dm_onekernel::Reply;
 use dm_process::{Direction, Process};
-use dm_processor::{Cells, Memory};
+use dm_processor::{BLOCK, Cells, Memory};
 pub use landing::land;
 pub use requests::request;
 pub use serving::{answer, gone, serve};
@@ -51,7 +51,7 @@ pub fn address_of(process: &Process, here: u8) -> Addr
 
 /// A copy of so many bytes at an address.
 pub fn body_at(memory: &Memory, base: u32, len: u32) -> Body
-    requires short { len ≤ 256 }
+    requires short { len ≤ BLOCK }
     requires within { base + len ≤ length memory.now }
     ensures { result ≡ record { items = take len (drop base memory.now) } }
 {

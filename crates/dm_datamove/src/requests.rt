@@ -8,13 +8,15 @@ ghost use Rattle.dm_onekernel.specs.Plain.{plain_process};
 ghost use Rattle.dm_datamove.specs.Requests.{IsRest, moving, plain_requested, request, request_of};
 
 use crate::{Rest, address_of, body_at};
+use dm_link::MACHINES;
 use dm_message::{MOST_BODY, Message, MsgId, What};
 use dm_process::{Direction, Process, Status};
+use dm_processor::BLOCK;
 
 /// The length of the first piece of so many bytes.
 pub fn piece_of(left: u32) -> u32
     ensures piece { result ≡ piece_of left }
-    ensures short { result ≤ 256 }
+    ensures short { result ≤ BLOCK }
     ensures part { result ≤ left }
 {
     left.min(MOST_BODY as u32)
@@ -41,7 +43,7 @@ fn request_of(process: &Process, rest: Rest) -> What
 /// Sends the request for the first piece of what is left.
 pub fn send_request(process: &mut Process, rest: Rest, here: u8) -> Message
     requires own { rest.own + rest.left ≤ length process.old.memory }
-    requires counts { process.old.sent < 4294967295 }
+    requires counts { process.old.sent < u32.MAX }
     ensures message { result ≡ request here process.old rest }
     ensures process { process.new ≡ moving process.old rest }
 {
@@ -79,9 +81,9 @@ pub fn send_request(process: &mut Process, rest: Rest, here: u8) -> Message
 /// then.
 pub fn request(process: &mut Process, rest: Rest, here: u8) -> Message
     requires lawful { IsLawfulProcess process.old }
-    requires here { here < 16 }
+    requires here { here < MACHINES }
     requires rest { IsRest (length process.old.memory) rest }
-    requires counts { process.old.sent < 4294967295 }
+    requires counts { process.old.sent < u32.MAX }
     ensures message { result ≡ request here process.old rest }
     ensures process { process.new ≡ moving process.old rest }
     ensures plain { plain_requested (plain_message result) process.new ≡

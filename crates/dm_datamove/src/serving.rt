@@ -6,7 +6,7 @@ ghost use Rattle.dm_process.specs.Lawful.{IsLawfulProcess};
 ghost use Rattle.dm_datamove.specs.Serving.{IsRequest, IsWithin, after_serving, answer, answer_of, gone_answer, plain_served, plainly_gone, served_plainly, serving_answer};
 
 use crate::body_at;
-use dm_link::Addr;
+use dm_link::{Addr, MACHINES};
 use dm_message::{Message, MsgId, What};
 use dm_process::Process;
 use dm_processor::Cells;
@@ -66,7 +66,7 @@ fn serve_request(process: &mut Process, message: &Message, here: u8) -> Message
 pub fn serve(process: &mut Process, message: &Message, here: u8) -> Message
     requires lawful { IsLawfulProcess process.old }
     requires lawful_request { IsLawfulMessage message.now }
-    requires here { here < 16 }
+    requires here { here < MACHINES }
     requires within { IsWithin (length process.old.memory) message.now.what }
     ensures answer { serving_answer here process.old message.now ≡ Some result }
     ensures process { process.new ≡ after_serving process.old message.now.what }
@@ -80,7 +80,7 @@ pub fn serve(process: &mut Process, message: &Message, here: u8) -> Message
 /// The answer to a request for a piece where its receiver has ended, on machine `here`.
 pub fn gone(message: &Message, here: u8) -> Message
     requires lawful { IsLawfulMessage message.now }
-    requires here { here < 16 }
+    requires here { here < MACHINES }
     requires request { IsRequest message.now.what }
     ensures answer { result ≡ gone_answer here message.now }
     ensures plain { plain_message result ≡ plainly_gone (plain_message message.now) }

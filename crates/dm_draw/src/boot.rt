@@ -3,7 +3,7 @@ ghost use Rattle.std.specs.Prelude.{◌≡◌, ◌≤◌, ◌<◌, ◌*◌, ◌�
 ghost use Rattle.dm_onekernel.specs.Boot.{IsValid};
 ghost use Rattle.dm_draw.specs.Boot.{boot_of, image, link_to, machines_of, pid_at, process_at, processes_of};
 
-use dm_link::{Addr, Area, FIRST_NUMBER, Kind, Link, Pid};
+use dm_link::{Addr, Area, FIRST_NUMBER, Kind, Link, MACHINES, Pid};
 use dm_lists::Items;
 use dm_memory::{NoMemory, from_slice};
 use dm_onekernel::Boot;
@@ -19,7 +19,7 @@ const PROGRAM: [u8; 60] = [
 /// The system of so many machines, 2 to 16.
 #[tactic(auto, unfolding(crate::specs::Boot::boot_of))]
 pub fn drill_boot(alloc: Global, machines: u8) -> Result<Boot, NoMemory>
-    requires { (2 ≤ machines) × (machines ≤ 16) }
+    requires { (2 ≤ machines) × (machines ≤ MACHINES) }
     ensures boot { IfOk result (λ b. b ≡ boot_of machines) }
     ensures valid { IfOk result IsValid }
     ensures machines { IfOk result (λ b. length b.machines ≡ machines) }
@@ -60,7 +60,7 @@ fn images_of(alloc: Global) -> Result<Items<BootImage>, NoMemory>
 
 /// Two processes a machine, one after another round the machines.
 fn processes_of(alloc: Global, machines: u8) -> Result<Items<BootProcess>, NoMemory>
-    requires { (2 ≤ machines) × (machines ≤ 16) }
+    requires { (2 ≤ machines) × (machines ≤ MACHINES) }
     ensures { IfOk result (λ items. items ≡ processes_of machines (2 * machines)) }
 {
     let mut items = Items::new(alloc);
@@ -72,7 +72,7 @@ fn processes_of(alloc: Global, machines: u8) -> Result<Items<BootProcess>, NoMem
 
 /// A process with its two links.
 fn process_at(alloc: Global, machines: u8, i: u8) -> Result<BootProcess, NoMemory>
-    requires machines { (2 ≤ machines) × (machines ≤ 16) }
+    requires machines { (2 ≤ machines) × (machines ≤ MACHINES) }
     requires within { i < 2 * machines }
     ensures { IfOk result (λ p. p ≡ process_at machines i) }
 {

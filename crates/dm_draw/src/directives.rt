@@ -5,7 +5,7 @@ ghost use Rattle.dm_schedule.specs.declared.Directive.{Directive as TheDirective
 ghost use Rattle.dm_draw.specs.Directives.{IsDrawn, deliver_drawn, directive_drawn, directives_drawn, migrate_drawn, tick_drawn, turn_drawn};
 
 use crate::draw::Generator;
-use dm_link::{FIRST_NUMBER, Pid};
+use dm_link::{FIRST_NUMBER, MACHINES, Pid};
 use dm_memory::{NoMemory, push};
 use dm_schedule::{Directive, Step};
 use std::alloc::Global;
@@ -17,7 +17,7 @@ pub fn drill_directives(
     machines: u8,
     lines: u32,
 ) -> Result<Vec<Directive>, NoMemory>
-    requires { (2 ≤ machines) × (machines ≤ 16) }
+    requires { (2 ≤ machines) × (machines ≤ MACHINES) }
     ensures drawn { IfOk result (λ ds. ds.items ≡ directives_drawn machines seed lines) }
     ensures each { IfOk result (λ ds. All (IsDrawn machines) ds.items) }
     ensures count { IfOk result (λ ds. length ds.items ≡ lines) }
@@ -33,7 +33,7 @@ pub fn drill_directives(
 /// A directive for so many machines: of eight, three are turns, one a tick, a move and a delivery each, and two rounds.
 #[tactic(auto, unfolding(crate::specs::Directives::directive_drawn))]
 fn draw_directive(machines: u8, generator: &mut Generator) -> Directive
-    requires { (2 ≤ machines) × (machines ≤ 16) }
+    requires { (2 ≤ machines) × (machines ≤ MACHINES) }
     ensures directive { result ≡ (directive_drawn machines generator.old.state).directive }
     ensures state { generator.new.state ≡ (directive_drawn machines generator.old.state).state }
 {
@@ -53,7 +53,7 @@ fn draw_directive(machines: u8, generator: &mut Generator) -> Directive
 
 /// A machine's turn.
 fn draw_turn(machines: u8, generator: &mut Generator) -> Directive
-    requires { (2 ≤ machines) × (machines ≤ 16) }
+    requires { (2 ≤ machines) × (machines ≤ MACHINES) }
     ensures directive { result ≡ (turn_drawn machines generator.old.state).directive }
     ensures state { generator.new.state ≡ (turn_drawn machines generator.old.state).state }
 {
@@ -62,7 +62,7 @@ fn draw_turn(machines: u8, generator: &mut Generator) -> Directive
 
 /// A machine's tick.
 fn draw_tick(machines: u8, generator: &mut Generator) -> Directive
-    requires { (2 ≤ machines) × (machines ≤ 16) }
+    requires { (2 ≤ machines) × (machines ≤ MACHINES) }
     ensures directive { result ≡ (tick_drawn machines generator.old.state).directive }
     ensures state { generator.new.state ≡ (tick_drawn machines generator.old.state).state }
 {
@@ -71,7 +71,7 @@ fn draw_tick(machines: u8, generator: &mut Generator) -> Directive
 
 /// A move of one of the first two processes of a machine.
 fn draw_migrate(machines: u8, generator: &mut Generator) -> Directive
-    requires { (2 ≤ machines) × (machines ≤ 16) }
+    requires { (2 ≤ machines) × (machines ≤ MACHINES) }
     ensures directive { result ≡ (migrate_drawn machines generator.old.state).directive }
     ensures state { generator.new.state ≡ (migrate_drawn machines generator.old.state).state }
 {
@@ -86,7 +86,7 @@ fn draw_migrate(machines: u8, generator: &mut Generator) -> Directive
 
 /// The arrival of a packet, if there is one with its number.
 fn draw_deliver(machines: u8, generator: &mut Generator) -> Directive
-    requires { (2 ≤ machines) × (machines ≤ 16) }
+    requires { (2 ≤ machines) × (machines ≤ MACHINES) }
     ensures directive { result ≡ (deliver_drawn machines generator.old.state).directive }
     ensures state { generator.new.state ≡ (deliver_drawn machines generator.old.state).state }
 {

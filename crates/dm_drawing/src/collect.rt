@@ -10,9 +10,9 @@ ghost use Rattle.dm_chart.specs.Kept.{none_kept};
 ghost use Rattle.dm_run.specs.Coming.{IsAfter, IsAtStart, IsFor};
 ghost use Rattle.dm_drawing.specs.Collected.{Came, HasKept, IsDue};
 
-use dm_chart::{Kept, keep};
+use dm_chart::{Kept, MOST_ROWS, keep};
 use dm_run::directives::rounds_fit;
-use dm_schedule::{Directive, Step};
+use dm_schedule::{Directive, MOST_SCHEDULE, Step};
 use dm_world::{Cursor, Stop, World};
 
 /// Does these directives, and keeps what a picture shows of their groups.
@@ -20,7 +20,7 @@ pub fn collect(directives: &[Directive], world: &mut World, kept: &mut Kept) -> 
     requires fresh { IsAtStart world.old }
     requires none { kept.old ≡ none_kept }
     requires each { All (IsFor (length world.old.boot.machines)) directives.now }
-    requires few { length directives.now ≤ 16777216 }
+    requires few { length directives.now ≤ MOST_SCHEDULE }
     ensures came { Came world.old.boot directives.now (all_of []) kept.new (state_of world.new) result }
 {
     'directives: for directive in directives {
@@ -35,7 +35,7 @@ fn collect_directive(directive: &Directive, world: &mut World, kept: &mut Kept) 
     requires running { world.old.stopped ≡ false }
     requires due { IsDue world.old directive.now kept.old }
     requires groups { world.old.groups + 2 ^ 90 ≤ 2 ^ 126 }
-    requires rows { kept.old.rows ≤ 1200 }
+    requires rows { kept.old.rows ≤ MOST_ROWS }
     ensures came { (ds rest : List TheDirective) →
         HasKept world.old.boot ds (all_of (directive.now ∷ rest)) kept.old (state_of world.old) →
         Came world.old.boot ds (all_of rest) kept.new (state_of world.new) result }
@@ -43,7 +43,7 @@ fn collect_directive(directive: &Directive, world: &mut World, kept: &mut Kept) 
     ensures running { OnOk result (world.new.stopped ≡ false) }
     ensures boot { OnOk result (world.new.boot ≡ world.old.boot) }
     ensures groups { OnOk result (world.new.groups ≤ world.old.groups + 2 ^ 90) }
-    ensures rows { OnOk result (kept.new.rows ≤ 1200) }
+    ensures rows { OnOk result (kept.new.rows ≤ MOST_ROWS) }
 {
     let mut cursor = Cursor::new(directive);
     rounds_fit(cursor);
@@ -60,7 +60,7 @@ fn collect_group(step: &Step, world: &mut World, kept: &mut Kept) -> Result<(), 
     requires running { world.old.stopped ≡ false }
     requires may { MayStep world.old.boot (state_of world.old) step.now }
     requires groups { world.old.groups < 2 ^ 127 }
-    requires rows { kept.old.rows ≤ 1200 }
+    requires rows { kept.old.rows ≤ MOST_ROWS }
     ensures came { (ds : List TheDirective) (t : Todo) (n : Next) →
         HasKept world.old.boot ds t kept.old (state_of world.old) →
         next_step (length world.old.boot.machines) (state_of world.old) t ≡ Some n → n.step ≡ step.now →
@@ -69,7 +69,7 @@ fn collect_group(step: &Step, world: &mut World, kept: &mut Kept) -> Result<(), 
     ensures world { OnOk result (IsWorld world.new) }
     ensures running { OnOk result (world.new.stopped ≡ false) }
     ensures boot { OnOk result (world.new.boot ≡ world.old.boot) }
-    ensures rows { OnOk result (kept.new.rows ≤ 1200) }
+    ensures rows { OnOk result (kept.new.rows ≤ MOST_ROWS) }
 {
     match world.step(step) {
         Ok(lines) => match keep(kept, lines) {

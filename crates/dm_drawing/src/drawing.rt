@@ -12,7 +12,7 @@ use dm_link::Pid;
 use dm_memory::NoMemory;
 use dm_onekernel::Boot;
 use dm_run::begin;
-use dm_schedule::Directive;
+use dm_schedule::{Directive, MOST_SCHEDULE};
 use dm_world::{Stop, World};
 use std::alloc::Global;
 
@@ -29,7 +29,7 @@ pub enum Drawn {
 pub fn draw_run(alloc: Global, boot: Boot, directives: &[Directive]) -> Result<Drawn, NoMemory>
     requires valid { IsValid boot }
     requires each { All (IsFor (length boot.machines)) directives.now }
-    requires few { length directives.now ≤ 16777216 }
+    requires few { length directives.now ≤ MOST_SCHEDULE }
     ensures { IfOk result (λ d. IsDrawn boot directives.now d) }
 {
     let machines = count_of(&boot);
@@ -58,7 +58,7 @@ fn draw_world(
     requires machines { machines ≡ length world.old.boot.machines }
     requires starts { starts.now ≡ starts_of world.old.boot }
     requires each { All (IsFor (length world.old.boot.machines)) directives.now }
-    requires few { length directives.now ≤ 16777216 }
+    requires few { length directives.now ≤ MOST_SCHEDULE }
     ensures { IfOk result (λ d. IsDrawn world.old.boot directives.now d) }
 {
     let mut kept = Kept::new(alloc);

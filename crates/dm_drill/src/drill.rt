@@ -19,7 +19,7 @@ use dm_line::line::Line;
 use dm_memory::NoMemory;
 use dm_outside::Sink;
 use dm_run::{Stop, lines_fit, offer, offer_bytes};
-use dm_schedule::{Directive, Step};
+use dm_schedule::{Directive, MOST_SCHEDULE, Step};
 use dm_world::{Cursor, Stop as WorldStop, World};
 use std::alloc::Global;
 
@@ -44,7 +44,7 @@ pub fn run_drill<K: Sink>(
 ) -> Result<(), Stop>
     requires fresh { IsAtStart world.old }
     requires each { All (IsFor (length world.old.boot.machines)) directives.now }
-    requires few { length directives.now ≤ 16777216 }
+    requires few { length directives.now ≤ MOST_SCHEDULE }
     ensures ended { Ended drill.now world.old.boot directives.now (K.told out.old) (K.told out.new) world.new result }
     ensures lasts { OnOk result (Lasts world.old.boot directives.now) }
     ensures blames { Blames (K.faults out.old) (K.faults out.new) result }

@@ -23,8 +23,10 @@ use dm_message::{Message, MsgId, What};
 use dm_migrate::{Arriving, Ask, Asked, Wanted, answer_ask};
 use dm_onekernel::Boot;
 use dm_process::Process;
+use dm_processor::MOST_BLOCKS;
 use dm_records::Record;
 use dm_room::Lacks;
+use dm_statebytes::MOST_STATE;
 
 impl Kernel {
     /// Answers a process that asks to come.
@@ -34,11 +36,11 @@ impl Kernel {
         message: &Message,
         ask: Ask,
     ) -> Result<Vec<Part>, NoMemory>
-        requires sent { self.old.sent < 4294967295 }
+        requires sent { self.old.sent < u32.MAX }
         requires least { 1 ≤ ask.blocks }
-        requires most { ask.blocks ≤ 256 }
-        requires moves { ask.moves < 4294967295 }
-        requires size { ask.size ≤ 3201 }
+        requires most { ask.blocks ≤ MOST_BLOCKS }
+        requires moves { ask.moves < u32.MAX }
+        requires size { ask.size ≤ MOST_STATE }
         ensures { Answers result self.new (answers_ask boot.now (state_of self.old) message.now ask.pid ask.blocks ask.moves ask.size ask.asker) }
     {
         match answer_ask(self.alloc, ask, &mut self.room, boot.format.slots()) {
@@ -56,7 +58,7 @@ impl Kernel {
         arriving: Arriving,
         pull: What,
     ) -> Result<Vec<Part>, NoMemory>
-        requires { self.old.sent < 4294967295 }
+        requires { self.old.sent < u32.MAX }
         ensures { Answers result self.new (turned (with_sent (with_known (state_of self.old) pid (Incoming arriving)))
             (takes_step stage_.Accepted pid ∷ Part.Routes (own (state_of self.old) message.now.sender pull) ∷ [])) }
     {
@@ -75,7 +77,7 @@ impl Kernel {
         refusal: What,
         lacks: Lacks,
     ) -> Result<Vec<Part>, NoMemory>
-        requires { self.old.sent < 4294967295 }
+        requires { self.old.sent < u32.MAX }
         ensures { Answers result self.new (turned (with_sent (state_of self.old))
             (Part.Says (line_.Lacks pid lacks.free_slots lacks.free_blocks) ∷ Part.Routes (own (state_of self.old) message.now.sender refusal) ∷ [])) }
     {
@@ -114,7 +116,7 @@ impl Kernel {
         last: bool,
         bytes: &[u8],
     ) -> Result<Vec<Part>, NoMemory>
-        requires sent { self.old.sent < 4294967295 }
+        requires sent { self.old.sent < u32.MAX }
         requires chunk { IsSuch (λ (a : Arrival). IsNextChunk a pid chunk last bytes.now) (incoming_of (at self.old.records pid)) }
         ensures { Answers result self.new (bind (incoming_of (at self.old.records pid))
             (λ a. took_piece (state_of self.old) message.now pid (Some (with_chunk a chunk last bytes.now)))) }
@@ -133,7 +135,7 @@ impl Kernel {
         block: u8,
         bytes: &[u8; 256],
     ) -> Result<Vec<Part>, NoMemory>
-        requires sent { self.old.sent < 4294967295 }
+        requires sent { self.old.sent < u32.MAX }
         requires block { IsSuch (λ (a : Arrival). (pid ≡ a.pid) × (a.wanted ≡ Wanted.Block block)) (incoming_of (at self.old.records pid)) }
         ensures { Answers result self.new (bind (incoming_of (at self.old.records pid))
             (λ a. took_piece (state_of self.old) message.now pid (Some (with_block a block bytes.now)))) }
@@ -146,7 +148,7 @@ impl Kernel {
 
     /// Asks who sent a piece for the next.
     fn pull(&mut self, message: &Message, said: Line, pull: What) -> Result<Vec<Part>, NoMemory>
-        requires { self.old.sent < 4294967295 }
+        requires { self.old.sent < u32.MAX }
         ensures { Answers result self.new (turned (with_sent (state_of self.old))
             (Part.Says said ∷ Part.Routes (own (state_of self.old) message.now.sender pull) ∷ [])) }
     {

@@ -56,7 +56,7 @@ impl Kernel {
         requires image { process.now.image < length boot.now.images }
         requires links { length process.now.links ≤ slots_of boot.now.format }
         requires room { process.now.pid.home ≡ self.old.here → HasRoom self.old.room (blocks_of_image (slice_get boot.now.images process.now.image)) }
-        requires counts { self.old.made < 4294967295 }
+        requires counts { self.old.made < u32.MAX }
         ensures { OnOk result (IsIn self.new (begins boot.now (state_of self.old) process.now (slice_get boot.now.images process.now.image))) }
     {
         if process.pid.home != self.here {

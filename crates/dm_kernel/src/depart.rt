@@ -98,7 +98,7 @@ impl Kernel {
         pid: Pid,
         chunk: u32,
     ) -> Result<Vec<Part>, NoMemory>
-        requires sent { self.old.sent < 4294967295 }
+        requires sent { self.old.sent < u32.MAX }
         requires chunk { IsSuch (λ (d : Departure). HasChunk (state_bytes d.process) chunk) (frozen_of (at self.old.records pid)) }
         ensures { Answers result self.new (bind (frozen_of (at self.old.records pid))
             (λ d. gives_piece (state_of self.old) message.now (chunk_of d.process.pid (state_bytes d.process) chunk))) }
@@ -114,7 +114,7 @@ impl Kernel {
         pid: Pid,
         block: u8,
     ) -> Result<Vec<Part>, NoMemory>
-        requires sent { self.old.sent < 4294967295 }
+        requires sent { self.old.sent < u32.MAX }
         requires block { IsSuch (λ (d : Departure). HasBlock d.process.memory block) (frozen_of (at self.old.records pid)) }
         ensures { Answers result self.new (bind (frozen_of (at self.old.records pid))
             (λ d. gives_piece (state_of self.old) message.now (block_of d.process.pid d.process.memory block))) }
@@ -125,7 +125,7 @@ impl Kernel {
 
     /// Sends a piece to who asked for it.
     fn give(&mut self, message: &Message, piece: What) -> Result<Vec<Part>, NoMemory>
-        requires { self.old.sent < 4294967295 }
+        requires { self.old.sent < u32.MAX }
         ensures { Answers result self.new (gives_piece (state_of self.old) message.now piece) }
     {
         let piece = self.send(message.sender, piece);
@@ -134,7 +134,7 @@ impl Kernel {
 
     /// Lets a process go, of which all has come to the other machine: what waits for it goes on.
     pub(crate) fn let_go(&mut self, pid: Pid) -> Result<Vec<Part>, NoMemory>
-        requires sent { self.old.sent < 4294967295 }
+        requires sent { self.old.sent < u32.MAX }
         requires process { IsSuch (MayLeave self.old.room) (frozen_of (at self.old.records pid)) }
         ensures { Answers result self.new (bind (frozen_of (at self.old.records pid)) (leaves (state_of self.old) pid)) }
     {
@@ -160,7 +160,7 @@ impl Kernel {
         messages: Vec<Message>,
         restart: Message,
     ) -> Result<Vec<Part>, NoMemory>
-        requires { length messages.items < 4294967295 }
+        requires { length messages.items < u32.MAX }
         ensures { IfOk result (λ parts. parts.items ≡
             Part.Says (line_.SentOn pid (length messages.items)) ∷ map Part.Routes messages.items ++ takes_step stage_.Left pid ∷ Part.Routes restart ∷ []) }
     {

@@ -23,7 +23,7 @@ impl Kernel {
         to: u8,
         moves: u32,
     ) -> Result<Vec<Part>, NoMemory>
-        requires { self.old.sent < 4294967295 }
+        requires { self.old.sent < u32.MAX }
         ensures { Answers result self.new (forwards (state_of self.old) message to moves) }
     {
         let mut message = message;

@@ -15,7 +15,7 @@ ghost use Rattle.dm_kernel.specs.Served.{Handles, IsHere};
 use crate::kernel::Kernel;
 use crate::part::Part;
 use dm_line::line::Line;
-use dm_link::{MANAGER, SWITCHBOARD};
+use dm_link::{MACHINES, MANAGER, SWITCHBOARD};
 use dm_memory::NoMemory;
 use dm_message::{Message, What};
 use dm_onekernel::Boot;
@@ -26,7 +26,7 @@ impl Kernel {
     pub(crate) fn handle(&mut self, boot: &Boot, message: Message) -> Result<Vec<Part>, NoMemory>
         requires may { MayHandle boot.now (state_of self.old) message }
         requires images { images_are_valid boot.now.images ≡ true }
-        requires here { self.old.here < 16 }
+        requires here { self.old.here < MACHINES }
         requires processes { (p : _) (x : _) → at self.old.records p ≡ Some (Here x) → MayAct (state_of self.old) p x }
         ensures answers { Answers result self.new (handles boot.now (state_of self.old) message) }
         ensures whole { OnOk result (FreezesReceiverWhole (state_of self.old) message) }
@@ -46,7 +46,7 @@ impl Kernel {
     /// Handles a message for a process.
     fn for_process(&mut self, message: Message) -> Result<Vec<Part>, NoMemory>
         requires lawful { IsLawfulMessage message }
-        requires here { self.old.here < 16 }
+        requires here { self.old.here < MACHINES }
         requires fits { FitsKnown (state_of self.old) message (at self.old.records message.to.pid) }
         requires acts { (x : _) → at self.old.records message.to.pid ≡ Some (Here x) → MayAct (state_of self.old) message.to.pid x }
         ensures answers { Answers result self.new (process_handles (state_of self.old) message (at self.old.records message.to.pid)) }
@@ -67,7 +67,7 @@ impl Kernel {
     /// Handles a message for a process that is here.
     fn for_here(&mut self, message: Message) -> Result<Vec<Part>, NoMemory>
         requires lawful { IsLawfulMessage message }
-        requires here { self.old.here < 16 }
+        requires here { self.old.here < MACHINES }
         requires process { IsHere (Handles (state_of self.old) message) (at self.old.records message.to.pid) }
         ensures answers { Answers result self.new (bind (here_of (at self.old.records message.to.pid))
             (λ x. here_handles (state_of self.old) message x message.what)) }
@@ -93,7 +93,7 @@ impl Kernel {
     /// Handles a message for a process that has ended here.
     fn for_ended(&self, message: &Message) -> Result<Vec<Part>, NoMemory>
         requires lawful { IsLawfulMessage message.now }
-        requires here { self.now.here < 16 }
+        requires here { self.now.here < MACHINES }
         requires fits { FitsEnded message.now.what }
         ensures { Answers result self.now (ended_handles (state_of self.now) message.now message.now.what) }
     {

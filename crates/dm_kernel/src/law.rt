@@ -11,6 +11,8 @@ ghost use Rattle.dm_kernel.specs.May.{MayTurn};
 ghost use Rattle.dm_kernel.specs.State.{KernelState, Turned};
 ghost use Rattle.dm_kernel.specs.Turn.{turn};
 
+use dm_link::MACHINES;
+
 /// A turn leaves processes, messages and servers lawful, and each message that it routes is lawful.
 pub fn turns_are_lawful()
     ensures { (b : Boot) (s : KernelState) (t : Turned) → images_are_valid b.images ≡ true → MayTurn b s → IsLawfulState s → turn b s ≡ Some t →
@@ -19,7 +21,7 @@ pub fn turns_are_lawful()
 
 /// What asking for a move leaves and routes is lawful.
 pub fn moves_are_asked_lawfully()
-    ensures { (s : KernelState) (p : Pid) (machine : ℕ) (t : Turned) → s.here < 16 → IsMachine machine → IsLawfulState s → asks_move s p machine ≡
+    ensures { (s : KernelState) (p : Pid) (machine : ℕ) (t : Turned) → s.here < MACHINES → IsMachine machine → IsLawfulState s → asks_move s p machine ≡
         Some t → IsLawfulTurned t }
 {}
 

@@ -19,7 +19,7 @@ use crate::part::Part;
 use dm_datamove::answer;
 use dm_line::line::Line;
 use dm_link::{FIRST_NUMBER, Link, Pid};
-use dm_linktable::Table;
+use dm_linktable::{FEW_SLOTS, MOST_SLOTS, Table};
 use dm_memory::{NoMemory, list_of};
 use dm_message::{Message, What};
 use dm_migrate::Ask;
@@ -88,7 +88,7 @@ impl Kernel {
     ) -> Result<Vec<Part>, NoMemory>
         requires image { image_is_valid image.now ≡ true }
         requires links { length links.now ≤ 3 }
-        requires counts { 3 + self.old.made < 4294967295 }
+        requires counts { 3 + self.old.made < u32.MAX }
         ensures { Answers result self.new (makes boot.now (state_of self.old) message.now links.now image.now (has_room self.old.room image.now.blocks)) }
     {
         match self.room.reserve(image.blocks) {
@@ -103,7 +103,7 @@ impl Kernel {
 
     /// The name of the next process that is made here.
     fn next_pid(&self) -> Pid
-        requires { 3 + self.now.made < 4294967295 }
+        requires { 3 + self.now.made < u32.MAX }
         ensures { result ≡ next_pid (state_of self.now) }
     {
         Pid {
@@ -114,7 +114,7 @@ impl Kernel {
 
     /// Puts a process that begins into the records and at the ring's back, and counts it.
     pub(crate) fn stand(&mut self, pid: Pid, process: Process) -> Result<(), NoMemory>
-        requires { self.old.made < 4294967295 }
+        requires { self.old.made < u32.MAX }
         ensures { OnOk result (IsIn self.new (record (state_of self.old)
             { records = with_record (at self.old.records) pid (Here process); ring = self.old.ring ++ pid ∷ []; made = self.old.made + 1 })) }
     {
@@ -187,7 +187,7 @@ pub(crate) fn image_of(boot: &Boot, place: u16) -> &BootImage
 
 /// A table with these links from slot 0 on.
 fn table_of(links: &[Link], slots: u8) -> Table
-    requires slots { (slots ≡ 32) ⊎ (slots ≡ 128) }
+    requires slots { (slots ≡ FEW_SLOTS) ⊎ (slots ≡ MOST_SLOTS) }
     requires fits { length links.now ≤ slots }
     ensures { result ≡ slots_with slots links.now }
 {

@@ -27,7 +27,7 @@ impl Kernel {
 
     /// A message that the kernel sends itself, which it counts.
     pub(crate) fn send(&mut self, to: Addr, what: What) -> Message
-        requires { self.old.sent < 4294967295 }
+        requires { self.old.sent < u32.MAX }
         ensures message { result ≡ own (state_of self.old) to what }
         ensures state { IsIn self.new (with_sent (state_of self.old)) }
     {

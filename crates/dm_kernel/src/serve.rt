@@ -13,7 +13,7 @@ use crate::kernel::Kernel;
 use crate::part::Part;
 use crate::run::{Halt, execute};
 use dm_line::line::Line;
-use dm_link::Pid;
+use dm_link::{MACHINES, Pid};
 use dm_memory::{NoMemory, list_of};
 use dm_message::{Message, MsgId};
 use dm_onekernel::{Label, Why};
@@ -28,7 +28,7 @@ impl Kernel {
         service: Service,
         quantum: u32,
     ) -> Result<Vec<Part>, NoMemory>
-        requires here { self.old.here < 16 }
+        requires here { self.old.here < MACHINES }
         requires process { IsHere (Serves (state_of self.old) pid service) (at self.old.records pid) }
         ensures { Answers result self.new (serves quantum (state_of self.old) pid (at self.old.records pid)) }
     {
@@ -40,7 +40,7 @@ impl Kernel {
 
     /// Lets a ready process execute.
     fn run(&mut self, pid: Pid, quantum: u32) -> Result<Vec<Part>, NoMemory>
-        requires here { self.old.here < 16 }
+        requires here { self.old.here < MACHINES }
         requires process { IsHere (Executes (state_of self.old) pid) (at self.old.records pid) }
         ensures { Answers result self.new (bind (here_of (at self.old.records pid)) (λ x. executes (state_of self.old) pid x (ran quantum (processor_of x)))) }
     {

@@ -35,7 +35,7 @@ impl Kernel {
     /// Lets the switchboard take a user message.
     fn take_for_board(&mut self, message: &Message) -> Result<Vec<Part>, NoMemory>
         requires user { kind_of message.now.what ≡ kind.User }
-        requires fits { IsSuch (λ (v : Servers). v.board.sent < 4294967295) self.old.servers }
+        requires fits { IsSuch (λ (v : Servers). v.board.sent < u32.MAX) self.old.servers }
         ensures { Answers result self.new (bind self.old.servers (λ v. board_took (state_of self.old) message.now v (takes v.board message.now.what))) }
     {
         let took = self.servers.as_mut().unwrap().board.take(message)?;
@@ -55,7 +55,7 @@ impl Kernel {
 
     /// Lets the process manager take a user message, or an answer that it waits for.
     fn take_for_manager(&mut self, message: &Message) -> Result<Vec<Part>, NoMemory>
-        requires fits { IsSuch (λ (v : Servers). IsForManager v.manager message.now.id.n message.now.what × (v.manager.sent < 4294967295) ×
+        requires fits { IsSuch (λ (v : Servers). IsForManager v.manager message.now.id.n message.now.what × (v.manager.sent < u32.MAX) ×
             (length v.manager.children < 4294967295)) self.old.servers }
         ensures { Answers result self.new (bind self.old.servers
             (λ v. manager_took (state_of self.old) message.now v (manage.takes v.manager message.now.id.n message.now.what))) }

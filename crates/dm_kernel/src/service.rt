@@ -17,6 +17,7 @@ use crate::kernel::Kernel;
 use crate::part::Part;
 use dm_datamove::{Landed, gone, land, serve};
 use dm_line::line::Line;
+use dm_link::MACHINES;
 use dm_memory::{NoMemory, list_of};
 use dm_message::{Message, MsgId};
 use dm_onekernel::{Label, Why};
@@ -63,7 +64,7 @@ impl Kernel {
     /// Reads or writes a piece of a process's memory, and answers.
     pub(crate) fn answer_piece(&mut self, message: &Message) -> Result<Vec<Part>, NoMemory>
         requires lawful { IsLawfulMessage message.now }
-        requires here { self.old.here < 16 }
+        requires here { self.old.here < MACHINES }
         requires owner { IsHere (OwnsPiece message.now) (at self.old.records message.now.to.pid) }
         ensures { Answers result self.new (bind (here_of (at self.old.records message.now.to.pid)) (λ x. answered (state_of self.old) message.now x)) }
     {
@@ -76,7 +77,7 @@ impl Kernel {
     /// Lands the answer to a piece at the process that asked for it, which may ask for the next one.
     pub(crate) fn land_piece(&mut self, message: &Message) -> Result<Vec<Part>, NoMemory>
         requires lawful { IsLawfulMessage message.now }
-        requires here { self.old.here < 16 }
+        requires here { self.old.here < MACHINES }
         requires mover { IsHere (AwaitsPiece message.now) (at self.old.records message.now.to.pid) }
         ensures { Answers result self.new (bind (here_of (at self.old.records message.now.to.pid))
             (λ x. lands (state_of self.old) message.now (landing self.old.here x message.now.what x.status))) }
@@ -92,7 +93,7 @@ impl Kernel {
     /// Answers a request for a piece of a process that has ended.
     pub(crate) fn answer_gone(&self, message: &Message) -> Result<Vec<Part>, NoMemory>
         requires lawful { IsLawfulMessage message.now }
-        requires here { self.now.here < 16 }
+        requires here { self.now.here < MACHINES }
         requires request { IsRequest message.now.what }
         ensures { Answers result self.now (is_gone (state_of self.now) message.now) }
     {

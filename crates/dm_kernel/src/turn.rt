@@ -15,7 +15,7 @@ use crate::kernel::Kernel;
 use crate::part::Part;
 use crate::ring::move_back;
 use dm_line::line::Line;
-use dm_link::Pid;
+use dm_link::{MACHINES, Pid};
 use dm_memory::{NoMemory, list_of};
 use dm_onekernel::Boot;
 use dm_process::Service;
@@ -38,7 +38,7 @@ impl Kernel {
 
     /// Serves the first process of the ring that can be served, which goes to the ring's back.
     fn go_round(&mut self, boot: &Boot) -> Result<Vec<Part>, NoMemory>
-        requires here { self.old.here < 16 }
+        requires here { self.old.here < MACHINES }
         requires processes { (p : _) (x : _) → at self.old.records p ≡ Some (Here x) → MayAct (state_of self.old) p x }
         ensures { Answers result self.new (goes_round boot.now (state_of self.old) (first_runnable (at self.old.records) self.old.ring)) }
     {

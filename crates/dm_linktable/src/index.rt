@@ -4,6 +4,7 @@ ghost use Rattle.std.specs.Int.{bit_at};
 ghost use Rattle.dm_link.specs.Names.{pid_eq};
 ghost use Rattle.dm_linktable.specs.Index.{IsIndex, IsPlace, mask_of};
 
+use crate::MOST_SLOTS;
 use arrayvec::ArrayVec;
 use dm_link::Pid;
 
@@ -38,7 +39,7 @@ pub fn slots_of(entries: &[Entry], receiver: Pid) -> u128
 
 /// The slots with one more.
 fn with_slot(slots: u128, slot: u8) -> u128
-    requires { slot < 128 }
+    requires { slot < MOST_SLOTS }
     ensures bits { (s : ℕ) → bit_at result s ≡ (if s == slot then 1 else bit_at slots s) }
     ensures some { 0 < result }
 {
@@ -47,7 +48,7 @@ fn with_slot(slots: u128, slot: u8) -> u128
 
 /// The slots without one.
 pub fn without_slot(slots: u128, slot: u8) -> u128
-    requires { slot < 128 }
+    requires { slot < MOST_SLOTS }
     ensures bits { (s : ℕ) → bit_at result s ≡ (if s == slot then 0 else bit_at slots s) }
     ensures fewer { bit_at slots slot ≡ 1 → result < slots }
 {
@@ -57,7 +58,7 @@ pub fn without_slot(slots: u128, slot: u8) -> u128
 /// The lowest of the slots.
 pub fn lowest_slot(slots: u128) -> u8
     requires { 0 < slots }
-    ensures within { result < 128 }
+    ensures within { result < MOST_SLOTS }
     ensures one { bit_at slots result ≡ 1 }
 {
     slots.trailing_zeros() as u8
@@ -66,8 +67,8 @@ pub fn lowest_slot(slots: u128) -> u8
 /// A slot leads to a process now.
 pub fn add(entries: &mut Index, receiver: Pid, slot: u8)
     requires index { IsIndex entries.old.items }
-    requires room { length entries.old.items < 128 }
-    requires slot { slot < 128 }
+    requires room { length entries.old.items < MOST_SLOTS }
+    requires slot { slot < MOST_SLOTS }
     ensures index { IsIndex entries.new.items }
     ensures bits { (q : _) (s : ℕ) → bit_at (mask_of entries.new.items q) s ≡
         (if pid_eq receiver q && (s == slot) then 1 else bit_at (mask_of entries.old.items q) s) }
@@ -87,7 +88,7 @@ pub fn add(entries: &mut Index, receiver: Pid, slot: u8)
 /// A slot no longer leads to a process.
 pub fn remove(entries: &mut Index, receiver: Pid, slot: u8)
     requires index { IsIndex entries.old.items }
-    requires slot { slot < 128 }
+    requires slot { slot < MOST_SLOTS }
     ensures index { IsIndex entries.new.items }
     ensures bits { (q : _) (s : ℕ) → bit_at (mask_of entries.new.items q) s ≡
         (if pid_eq receiver q && (s == slot) then 0 else bit_at (mask_of entries.old.items q) s) }

@@ -15,6 +15,12 @@ use index::Index;
 use slots::{count_free, empty_slots, first_free, retarget_slots};
 use std::marker::Model;
 
+/// How many slots a process has where the boot file's format is 1.
+pub const FEW_SLOTS: u8 = 32;
+
+/// How many slots a process has where the boot file's format is 2.
+pub const MOST_SLOTS: u8 = 128;
+
 /// A table of 32 or 128 slots, each empty or with a link.
 ///
 /// Its model is the list of its slots.
@@ -53,7 +59,7 @@ pub enum CopyError {
 impl Table {
     /// An empty table of 32 or 128 slots.
     pub fn new(cap: u8) -> Self
-        requires { (cap ≡ 32) ⊎ (cap ≡ 128) }
+        requires { (cap ≡ FEW_SLOTS) ⊎ (cap ≡ MOST_SLOTS) }
         ensures { result ≡ replicate cap None }
     {
         Table {
@@ -65,7 +71,7 @@ impl Table {
     /// How many slots.
     pub fn cap(&self) -> u8
         ensures cap { result ≡ length self.now }
-        ensures known { (result ≡ 32) ⊎ (result ≡ 128) }
+        ensures known { (result ≡ FEW_SLOTS) ⊎ (result ≡ MOST_SLOTS) }
     {
         self.slots.len() as u8
     }

@@ -6,13 +6,14 @@ ghost use Rattle.std.specs.Int.{bit_at};
 ghost use Rattle.dm_linktable.specs.Index.{leads};
 ghost use Rattle.dm_linktable.specs.Slots.{first_empty, link_at, plain_slot, retargeted_slot, slot_is_behind};
 
+use crate::MOST_SLOTS;
 use crate::index::{lowest_slot, without_slot};
 use arrayvec::ArrayVec;
 use dm_link::{Link, Pid};
 
 /// So many empty slots.
 pub fn empty_slots(cap: u8) -> ArrayVec<Option<Link>, 128>
-    requires { cap ≤ 128 }
+    requires { cap ≤ MOST_SLOTS }
     ensures { result.items ≡ replicate cap None }
 {
     let mut slots = ArrayVec::new();
@@ -31,7 +32,7 @@ pub fn first_free(slots: &[Option<Link>]) -> Option<usize>
 
 /// How many slots are empty.
 pub fn count_free(slots: &[Option<Link>]) -> u8
-    requires { length slots.now ≤ 128 }
+    requires { length slots.now ≤ MOST_SLOTS }
     ensures { result ≡ count_by is_none slots.now }
 {
     slots.iter().filter(|slot| slot.is_none()).count() as u8
@@ -56,7 +57,7 @@ pub fn retarget_slots(
     at: u8,
     moves: u32,
 ) -> u8
-    requires cap { length slots.old ≤ 128 }
+    requires cap { length slots.old ≤ MOST_SLOTS }
     requires leading { (s : ℕ) → bit_at leading s ≡ leads about (link_at slots.old s) }
     ensures links { slots.new ≡ map (retargeted_slot about at moves) slots.old }
     ensures changed { result ≡ count_by (slot_is_behind about moves) slots.old }

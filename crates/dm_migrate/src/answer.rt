@@ -4,9 +4,12 @@ ghost use Rattle.dm_migrate.specs.Answer.{AnswersFor};
 
 use crate::arriving::{Arriving, expect};
 use dm_link::Pid;
+use dm_linktable::{FEW_SLOTS, MOST_SLOTS};
 use dm_memory::NoMemory;
 use dm_message::{Asker, What};
+use dm_processor::MOST_BLOCKS;
 use dm_room::{Lacks, Room};
+use dm_statebytes::MOST_STATE;
 use std::alloc::Global;
 
 /// What becomes of an ask.
@@ -38,10 +41,10 @@ pub struct Ask {
 /// the process needs here.
 pub fn answer_ask(alloc: Global, ask: Ask, room: &mut Room, cap: u8) -> Asked
     requires least { 1 ≤ ask.blocks }
-    requires most { ask.blocks ≤ 256 }
-    requires moves { ask.moves < 4294967295 }
-    requires size { ask.size ≤ 3201 }
-    requires cap { (cap ≡ 32) ⊎ (cap ≡ 128) }
+    requires most { ask.blocks ≤ MOST_BLOCKS }
+    requires moves { ask.moves < u32.MAX }
+    requires size { ask.size ≤ MOST_STATE }
+    requires cap { (cap ≡ FEW_SLOTS) ⊎ (cap ≡ MOST_SLOTS) }
     ensures { AnswersFor ask.pid ask.blocks ask.moves ask.size ask.asker cap room.old room.new result }
 {
     if let Err(lacks) = room.reserve(ask.blocks) {

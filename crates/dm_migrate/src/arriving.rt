@@ -6,11 +6,12 @@ ghost use Rattle.dm_migrate.specs.Arrival.{IsNextChunk, after_block, after_chunk
 
 use crate::answer::Ask;
 use dm_link::Pid;
+use dm_linktable::{FEW_SLOTS, MOST_SLOTS};
 use dm_memory::{NoMemory, push_or_return, zeros};
 use dm_message::{Asker, CHUNK, Message, What};
 use dm_process::{Mailbox, Process};
-use dm_processor::Memory;
-use dm_statebytes::{Shell, unpack};
+use dm_processor::{MOST_BLOCKS, Memory};
+use dm_statebytes::{MOST_STATE, Shell, unpack};
 use std::alloc::Global;
 use std::marker::Model;
 
@@ -74,10 +75,10 @@ impl Model for Arriving {
 /// Makes room for a process that is to come, with nothing of it yet.
 pub(crate) fn expect(alloc: Global, ask: Ask, cap: u8) -> Result<Arriving, NoMemory>
     requires least { 1 ≤ ask.blocks }
-    requires most { ask.blocks ≤ 256 }
-    requires moves { ask.moves < 4294967295 }
-    requires size { ask.size ≤ 3201 }
-    requires cap { (cap ≡ 32) ⊎ (cap ≡ 128) }
+    requires most { ask.blocks ≤ MOST_BLOCKS }
+    requires moves { ask.moves < u32.MAX }
+    requires size { ask.size ≤ MOST_STATE }
+    requires cap { (cap ≡ FEW_SLOTS) ⊎ (cap ≡ MOST_SLOTS) }
     ensures { IfOk result (λ a. a ≡ expected ask.pid ask.blocks ask.moves ask.size ask.asker cap) }
 {
     Ok(Arriving {
@@ -247,7 +248,7 @@ fn after_chunk(chunk: u32, last: bool) -> Wanted
 
 /// What is asked for after a block, where there are so many.
 fn after_block(block: u8, blocks: u16) -> Wanted
-    requires { blocks ≤ 256 }
+    requires { blocks ≤ MOST_BLOCKS }
     ensures { result ≡ after_block block blocks }
 {
     if u16::from(block) + 1 < blocks {
@@ -259,7 +260,7 @@ fn after_block(block: u8, blocks: u16) -> Wanted
 
 /// The process that a shell and a memory make, after one move more.
 fn revive(alloc: Global, shell: Shell, memory: Memory) -> Process
-    requires { shell.moves < 4294967295 }
+    requires { shell.moves < u32.MAX }
     ensures { result ≡ revived shell memory }
 {
     Process {

@@ -13,7 +13,7 @@ ghost use Rattle.dm_migrate.specs.Way.{ArrivesWhole, ComesByPieces};
 /// Every lawful process can move, where its numbers fit their fields, as those of a process that stands in memory do, and
 /// its count of moves isn't the greatest.
 pub fn can_move()
-    ensures { (p : Process) → IsLawfulProcess p → FitsShell (shell_of p) → p.moves < 4294967295 → CanMove p }
+    ensures { (p : Process) → IsLawfulProcess p → FitsShell (shell_of p) → p.moves < u32.MAX → CanMove p }
 {}
 
 /// Each piece that a frozen process gives is the one that is asked for, in order, whatever messages are held meanwhile;

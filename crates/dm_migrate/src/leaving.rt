@@ -50,7 +50,7 @@ pub fn freeze(
     asker: Option<Asker>,
 ) -> Result<(Leaving, What), (Process, NoMemory)>
     requires lawful { IsLawfulProcess process }
-    requires moves { process.moves < 4294967295 }
+    requires moves { process.moves < u32.MAX }
     ensures frozen { IfOk result (λ l. l.0 ≡ frozen process to asker) }
     ensures ask { IfOk result (λ l. l.1 ≡ ask_of process asker) }
     ensures lawful { ¬ IsServer process.pid → IfSome asker (λ a. IsLawfulAddr a.addr) → IfOk result (λ l. IsLawfulWhat l.1) }

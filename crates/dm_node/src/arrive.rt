@@ -10,6 +10,7 @@ use crate::node::Node;
 use crate::out::Out;
 use crate::route::push;
 use dm_line::line::Line;
+use dm_link::MACHINES;
 use dm_memory::NoMemory;
 use dm_message::Message;
 use dm_packet::Packet;
@@ -68,7 +69,7 @@ impl Node {
         arrived: Arrived<Message>,
         outs: &mut Vec<Out>,
     ) -> Result<(), NoMemory>
-        requires from { from < 16 }
+        requires from { from < MACHINES }
         requires streams { HasStreams self.old }
         ensures { OnOk result (Gave self.new outs.old.items outs.new.items (comes_in (state_of self.old) from seq arrived)) }
     {
@@ -108,7 +109,7 @@ impl Node {
 
     /// Takes the messages of machine `from` that came early and whose turn has come.
     fn take_kept(&mut self, from: u8, outs: &mut Vec<Out>) -> Result<(), NoMemory>
-        requires from { from < 16 }
+        requires from { from < MACHINES }
         requires streams { HasStreams self.old }
         ensures { OnOk result (Gave self.new outs.old.items outs.new.items (takes_kept window (state_of self.old) from)) }
     {
@@ -134,7 +135,7 @@ impl Node {
 
     /// Acknowledges all that was taken of machine `to`'s messages.
     fn acknowledge(&self, to: u8, outs: &mut Vec<Out>) -> Result<(), NoMemory>
-        requires to { to < 16 }
+        requires to { to < MACHINES }
         requires streams { HasStreams self.now }
         ensures { OnOk result (outs.new.items ≡ outs.old.items ++ acknowledges (state_of self.now) to) }
     {

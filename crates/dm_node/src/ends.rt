@@ -10,6 +10,7 @@ ghost use Rattle.dm_node.specs.State.{with_receiver, with_sender};
 use crate::node::Node;
 use crate::stop::Stop;
 use crate::streams;
+use dm_link::MACHINES;
 use dm_message::Message;
 use dm_packet::Packet;
 use dm_stream::{Arrived, GiveError};
@@ -18,7 +19,7 @@ impl Node {
     /// Whether all messages to machine `to` have gone out.
     pub(crate) fn none_waits(&self, to: u8) -> bool
         requires streams { HasStreams self.now }
-        requires to { to < 16 }
+        requires to { to < MACHINES }
         ensures { result ≡ none_waits ((state_of self.now).senders to) }
     {
         streams::none_waits(&self.senders, to)
@@ -27,7 +28,7 @@ impl Node {
     /// Gives a message to the stream to machine `to`.
     pub(crate) fn give(&mut self, to: u8, message: Message) -> Result<(), Stop>
         requires streams { HasStreams self.old }
-        requires to { to < 16 }
+        requires to { to < MACHINES }
         ensures { Gives result self.new (state_of self.old) to message }
     {
         match streams::give(&mut self.senders, to, message) {
@@ -43,7 +44,7 @@ impl Node {
     /// The packet that is due to machine `to`.
     pub(crate) fn due(&self, to: u8) -> Option<Packet>
         requires streams { HasStreams self.now }
-        requires to { to < 16 }
+        requires to { to < MACHINES }
         ensures { result ≡ numbered self.now.kernel.here to (due ((state_of self.now).senders to)) }
     {
         streams::due(&self.senders, self.kernel.here(), to)
@@ -52,7 +53,7 @@ impl Node {
     /// The packet that is due to machine `to` has gone out.
     pub(crate) fn sent_due(&mut self, to: u8)
         requires streams { HasStreams self.old }
-        requires to { to < 16 }
+        requires to { to < MACHINES }
         requires due { IsSome (due ((state_of self.old).senders to)) }
         ensures state { state_of self.new ≡ with_sender (state_of self.old) to (with_sent ((state_of self.old).senders to)) }
         ensures streams { HasStreams self.new }
@@ -63,7 +64,7 @@ impl Node {
     /// The packet at a place, from 0 on, among those that are out to machine `to`.
     pub(crate) fn outstanding(&self, to: u8, place: usize) -> Option<Packet>
         requires streams { HasStreams self.now }
-        requires to { to < 16 }
+        requires to { to < MACHINES }
         ensures { result ≡ numbered self.now.kernel.here to (outstanding ((state_of self.now).senders to) place) }
     {
         streams::outstanding(&self.senders, self.kernel.here(), to, place)
@@ -72,7 +73,7 @@ impl Node {
     /// How many packets are out to machine `to` and not acknowledged, 0 to 8.
     pub(crate) fn count_out(&self, to: u8) -> u32
         requires streams { HasStreams self.now }
-        requires to { to < 16 }
+        requires to { to < MACHINES }
         ensures count { result ≡ count_out ((state_of self.now).senders to) }
         ensures few { result ≤ 8 }
     {
@@ -82,7 +83,7 @@ impl Node {
     /// Machine `to` has taken the first `count` messages.
     pub(crate) fn acked(&mut self, to: u8, count: u32)
         requires streams { HasStreams self.old }
-        requires to { to < 16 }
+        requires to { to < MACHINES }
         requires gone { count ≤ ((state_of self.old).senders to).gone }
         ensures state { state_of self.new ≡ with_sender (state_of self.old) to (with_acked ((state_of self.old).senders to) count) }
         ensures streams { HasStreams self.new }
@@ -93,7 +94,7 @@ impl Node {
     /// How many messages of machine `from` were taken.
     pub fn count(&self, from: u8) -> u32
         requires streams { HasStreams self.now }
-        requires from { from < 16 }
+        requires from { from < MACHINES }
         ensures { result ≡ ((state_of self.now).receivers from).count }
     {
         streams::count(&self.receivers, from)
@@ -102,7 +103,7 @@ impl Node {
     /// A message with its number has come from machine `from`.
     pub(crate) fn receive(&mut self, from: u8, seq: u32, message: Message) -> Arrived<Message>
         requires streams { HasStreams self.old }
-        requires from { from < 16 }
+        requires from { from < MACHINES }
         requires in_window { seq < ((state_of self.old).receivers from).count + 8 }
         requires numbered { seq < 2 ^ 32 - 1 }
         ensures value { result ≡ arrival ((state_of self.old).receivers from) seq message }
@@ -115,7 +116,7 @@ impl Node {
     /// Takes the message of machine `from` that came early and is the next now.
     pub(crate) fn next_kept(&mut self, from: u8) -> Option<Message>
         requires streams { HasStreams self.old }
-        requires from { from < 16 }
+        requires from { from < MACHINES }
         ensures value { result ≡ next ((state_of self.old).receivers from) }
         ensures state { state_of self.new ≡ with_receiver (state_of self.old) from (after_next ((state_of self.old).receivers from)) }
         ensures streams { HasStreams self.new }

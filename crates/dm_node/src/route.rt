@@ -9,6 +9,7 @@ use crate::node::Node;
 use crate::out::Out;
 use crate::stop::Stop;
 use dm_line::line::Line;
+use dm_link::MACHINES;
 use dm_memory::NoMemory;
 use dm_message::Message;
 
@@ -16,7 +17,7 @@ impl Node {
     /// Routes a message to the machine that its receiver's address names.
     pub(crate) fn route(&mut self, message: Message, outs: &mut Vec<Out>) -> Result<(), Stop>
         requires streams { HasStreams self.old }
-        requires to { message.to.at < 16 }
+        requires to { message.to.at < MACHINES }
         requires home { self.old.home ≤ self.old.numbers }
         requires numbers { self.old.numbers < 2 ^ 32 }
         ensures { Answers result self.new outs.old.items outs.new.items (routes (state_of self.old) message) }
@@ -66,7 +67,7 @@ impl Node {
     /// Routes a message to another machine: it goes out at once where none waits before it, and the window isn't full.
     fn route_away(&mut self, message: Message, outs: &mut Vec<Out>) -> Result<(), Stop>
         requires streams { HasStreams self.old }
-        requires to { message.to.at < 16 }
+        requires to { message.to.at < MACHINES }
         ensures { Answers result self.new outs.old.items outs.new.items
             (routes_away (state_of self.old) message.to.at message ((state_of self.old).senders message.to.at)) }
     {
@@ -84,7 +85,7 @@ impl Node {
     /// Sends the packet that is due to machine `to`, if there is one; whether there was.
     pub(crate) fn send_due(&mut self, to: u8, outs: &mut Vec<Out>) -> Result<bool, NoMemory>
         requires streams { HasStreams self.old }
-        requires to { to < 16 }
+        requires to { to < MACHINES }
         ensures gave { OnOk result (Gave self.new outs.old.items outs.new.items (sends_due (state_of self.old) to (due ((state_of self.old).senders to)))) }
         ensures was { IfOk result (λ sent. sent ≡ is_some (due ((state_of self.old).senders to))) }
     {

@@ -14,7 +14,7 @@ use crate::route::push;
 use crate::stop::Stop;
 use dm_kernel::{Part, moves_are_asked_lawfully, turns_are_lawful};
 use dm_line::line::Line;
-use dm_link::Pid;
+use dm_link::{MACHINES, Pid};
 use dm_memory::NoMemory;
 use dm_onekernel::Boot;
 
@@ -41,7 +41,7 @@ impl Node {
     /// the end of `outs`, and it stops as worn like a turn.
     pub fn ask_move(&mut self, pid: Pid, to: u8, outs: &mut Vec<Out>) -> Result<(), Stop>
         requires may { MayAskMove (state_of self.old) }
-        requires to { to < 16 }
+        requires to { to < MACHINES }
         requires lawful { IsLawfulState (state_of self.old).kernel }
         requires streams { HasStreams self.old }
         ensures { AnswersSome result self.new outs.old.items outs.new.items (asks_move (state_of self.old) pid to) }
@@ -92,7 +92,7 @@ impl Node {
     /// How many packets are out to other machines and not acknowledged, 0 to 120.
     fn counts_out(&self) -> u32
         requires streams { HasStreams self.now }
-        requires machines { self.now.machines ≤ 16 }
+        requires machines { self.now.machines ≤ MACHINES }
         ensures { result ≡ counts_out (state_of self.now) self.now.machines }
     {
         let mut count = 0;
@@ -107,7 +107,7 @@ impl Node {
     /// Sends all packets again that are out to machine `to`.
     fn send_again(&self, to: u8, outs: &mut Vec<Out>) -> Result<(), NoMemory>
         requires streams { HasStreams self.now }
-        requires to { to < 16 }
+        requires to { to < MACHINES }
         ensures { OnOk result (outs.new.items ≡ outs.old.items ++ first_out (state_of self.now) to (count_out ((state_of self.now).senders to))) }
     {
         let count = self.count_out(to);

@@ -18,6 +18,9 @@ use reading::packet_at;
 use thiserror::Error;
 use writing::{Buffer, put_packet};
 
+/// The room for a packet: no packet has more bytes.
+pub const MOST_PACKET: usize = 1024;
+
 /// What goes from one machine to another: a numbered message, or how many messages have come.
 #[derive(Drop)]
 pub enum Packet {
@@ -93,7 +96,7 @@ pub fn decode(bytes: &[u8]) -> Result<Packet, PacketError>
     ensures found { IfOk result (λ p. IsLawfulPacket p × FitsPacket p × (bytes.now ≡ spelling p)) }
     // What is spelled so is read, where its numbers fit their fields, as those of a packet that stands in memory do.
     ensures only { (p : Packet) → IsLawfulPacket p → FitsPacket p → bytes.now ≡ spelling p → result ≡ Ok p }
-    ensures size { OnOk result (length bytes.now ≤ 1024) }
+    ensures size { OnOk result (length bytes.now ≤ MOST_PACKET) }
 {
     packet_at(bytes)
 }
@@ -103,7 +106,7 @@ pub fn encode(packet: &Packet, out: &mut Vec<u8>) -> Result<(), NoMemory>
     requires lawful { IsLawfulPacket packet.now }
     ensures ok { OnOk result (out.new.items ≡ out.old.items ++ spelling packet.now) }
     ensures err { OnErr result (out.new.items ≡ out.old.items) }
-    ensures size { length (spelling packet.now) ≤ 1024 }
+    ensures size { length (spelling packet.now) ≤ MOST_PACKET }
     // What is written is read again.
     ensures again { packet_of (spelling packet.now) ≡ Ok packet.now }
 {

@@ -9,7 +9,7 @@ use crate::mailbox::Mailbox;
 use dm_link::{Addr, Pid};
 use dm_linktable::Table;
 use dm_memory::NoMemory;
-use dm_processor::{Memory, Regs};
+use dm_processor::{BLOCK, MOST_BLOCKS, Memory, Regs};
 use std::alloc::Global;
 
 /// What a process does when it is served.
@@ -106,9 +106,9 @@ impl Process {
         table: Table,
     ) -> Result<Process, NoMemory>
         requires least { 1 ≤ blocks }
-        requires most { blocks ≤ 256 }
-        requires fits { length image.now ≤ 256 * blocks }
-        ensures ok { IfOk result (λ p. p ≡ begun pid (image.now ++ replicate (256 * blocks - length image.now) 0) table) }
+        requires most { blocks ≤ MOST_BLOCKS }
+        requires fits { length image.now ≤ BLOCK * blocks }
+        ensures ok { IfOk result (λ p. p ≡ begun pid (image.now ++ replicate (BLOCK * blocks - length image.now) 0) table) }
     {
         Ok(Process {
             pid,

@@ -12,6 +12,9 @@ use std::marker::Model;
 /// How many bytes a block of memory has.
 pub const BLOCK: usize = 256;
 
+/// The most blocks that a memory has.
+pub const MOST_BLOCKS: usize = 256;
+
 /// The most bytes of a memory: 256 blocks.
 pub const MOST_MEMORY: u32 = 65_536;
 
@@ -60,8 +63,8 @@ fn set_byte_at(blocks: &mut [[u8; 256]], at: usize, value: u8)
 fn rest_at(blocks: &[[u8; 256]], at: usize) -> &[u8]
     requires whole { AreWhole blocks.now }
     requires within { at < length (concat blocks.now) }
-    ensures len { length result.now ≡ 256 - at % 256 }
-    ensures bytes { result.now ≡ take (256 - at % 256) (drop at (concat blocks.now)) }
+    ensures len { length result.now ≡ BLOCK - at % BLOCK }
+    ensures bytes { result.now ≡ take (BLOCK - at % BLOCK) (drop at (concat blocks.now)) }
 {
     &blocks[at / BLOCK][at % BLOCK..]
 }
@@ -87,7 +90,7 @@ fn write_part(blocks: &mut [[u8; 256]], at: usize, from: &[u8]) -> usize
 fn block_at(blocks: &[[u8; 256]], k: usize) -> &[u8; 256]
     requires whole { AreWhole blocks.now }
     requires within { k < length blocks.now }
-    ensures { result.now ≡ take 256 (drop (256 * k) (concat blocks.now)) }
+    ensures { result.now ≡ take BLOCK (drop (BLOCK * k) (concat blocks.now)) }
 {
     &blocks[k]
 }
@@ -97,7 +100,7 @@ fn block_at(blocks: &[[u8; 256]], k: usize) -> &[u8; 256]
 fn put_block_at(blocks: &mut [[u8; 256]], k: usize, block: &[u8; 256])
     requires whole { AreWhole blocks.old }
     requires within { k < length blocks.old }
-    ensures bytes { concat blocks.new ≡ take (256 * k) (concat blocks.old) ++ block.now ++ drop (256 * k + 256) (concat blocks.old) }
+    ensures bytes { concat blocks.new ≡ take (BLOCK * k) (concat blocks.old) ++ block.now ++ drop (BLOCK * k + BLOCK) (concat blocks.old) }
     ensures whole { AreWhole blocks.new }
 {
     blocks[k] = *block;
@@ -108,9 +111,9 @@ impl Memory {
     /// An image, and zeros up to the end of so many blocks.
     pub fn from_image(alloc: Global, image: &[u8], blocks: u16) -> Result<Memory, NoMemory>
         requires least { 1 ≤ blocks }
-        requires most { blocks ≤ 256 }
-        requires fits { length image.now ≤ 256 * blocks }
-        ensures ok { IfOk result (λ m. m ≡ image.now ++ replicate (256 * blocks - length image.now) 0) }
+        requires most { blocks ≤ MOST_BLOCKS }
+        requires fits { length image.now ≤ BLOCK * blocks }
+        ensures ok { IfOk result (λ m. m ≡ image.now ++ replicate (BLOCK * blocks - length image.now) 0) }
     {
         let mut memory = zeros(alloc, blocks)?;
         memory.copy_in(0, image);
@@ -119,25 +122,25 @@ impl Memory {
 
     /// How many blocks there are: 1 to 256.
     pub fn blocks(&self) -> u16
-        ensures all { 256 * result ≡ length self.now }
+        ensures all { BLOCK * result ≡ length self.now }
         ensures least { 1 ≤ result }
-        ensures most { result ≤ 256 }
+        ensures most { result ≤ MOST_BLOCKS }
     {
         self.blocks.len() as u16
     }
 
     /// A block, by its number from 0.
     pub fn block(&self, k: u8) -> &[u8; 256]
-        requires { 256 * k < length self.now }
-        ensures { result.now ≡ take 256 (drop (256 * k) self.now) }
+        requires { BLOCK * k < length self.now }
+        ensures { result.now ≡ take BLOCK (drop (BLOCK * k) self.now) }
     {
         block_at(&self.blocks, usize::from(k))
     }
 
     /// Changes a block.
     pub fn put_block(&mut self, k: u8, block: &[u8; 256])
-        requires { 256 * k < length self.old }
-        ensures { self.new ≡ take (256 * k) self.old ++ block.now ++ drop (256 * k + 256) self.old }
+        requires { BLOCK * k < length self.old }
+        ensures { self.new ≡ take (BLOCK * k) self.old ++ block.now ++ drop (BLOCK * k + BLOCK) self.old }
     {
         put_block_at(&mut self.blocks, usize::from(k), block);
     }
@@ -147,8 +150,8 @@ impl Memory {
 #[tactic(auto, using(crate::proofs::Concat::places))]
 fn zeros(alloc: Global, blocks: u16) -> Result<Memory, NoMemory>
     requires least { 1 ≤ blocks }
-    requires most { blocks ≤ 256 }
-    ensures ok { IfOk result (λ m. m ≡ replicate (256 * blocks) 0) }
+    requires most { blocks ≤ MOST_BLOCKS }
+    ensures ok { IfOk result (λ m. m ≡ replicate (BLOCK * blocks) 0) }
 {
     let blocks = repeated(alloc, [0; 256], usize::from(blocks))?;
     Ok(Memory { blocks })
@@ -183,7 +186,7 @@ impl Cells for Memory {
 /// Fills a slice with the bytes from a place in a list of blocks on.
 fn read_at(blocks: &[[u8; 256]], at: usize, into: &mut [u8])
     requires whole { AreWhole blocks.now }
-    requires few { length blocks.now ≤ 256 }
+    requires few { length blocks.now ≤ MOST_BLOCKS }
     requires within { at + length into.old ≤ length (concat blocks.now) }
     ensures { into.new ≡ take (length into.old) (drop at (concat blocks.now)) }
 {
@@ -199,7 +202,7 @@ fn read_at(blocks: &[[u8; 256]], at: usize, into: &mut [u8])
 /// Copies all of a slice to a place in a list of blocks.
 fn write_all_at(blocks: &mut [[u8; 256]], at: usize, from: &[u8])
     requires whole { AreWhole blocks.old }
-    requires few { length blocks.old ≤ 256 }
+    requires few { length blocks.old ≤ MOST_BLOCKS }
     requires within { at + length from.now ≤ length (concat blocks.old) }
     ensures bytes { concat blocks.new ≡ take at (concat blocks.old) ++ from.now ++ drop (at + length from.now) (concat blocks.old) }
     ensures whole { AreWhole blocks.new }

@@ -1,6 +1,7 @@
 //! A memory in one piece.
 ghost use Rattle.std.specs.Prelude.{◌≡◌, ◌+◌, ◌-◌, ◌*◌, ◌≤◌, ◌++◌, IfOk, drop, length, replicate, take};
 
+use crate::blocks::{BLOCK, MOST_BLOCKS};
 use crate::storage::Cells;
 use dm_memory::{NoMemory, zeros};
 use std::alloc::Global;
@@ -25,9 +26,9 @@ impl Model for Flat {
 impl Flat {
     /// An image, and zeros up to so many times 256 bytes: 0 to 256 times.
     pub fn from_image(alloc: Global, image: &[u8], blocks: u16) -> Result<Flat, NoMemory>
-        requires most { blocks ≤ 256 }
-        requires fits { length image.now ≤ 256 * blocks }
-        ensures ok { IfOk result (λ m. m ≡ image.now ++ replicate (256 * blocks - length image.now) 0) }
+        requires most { blocks ≤ MOST_BLOCKS }
+        requires fits { length image.now ≤ BLOCK * blocks }
+        ensures ok { IfOk result (λ m. m ≡ image.now ++ replicate (BLOCK * blocks - length image.now) 0) }
     {
         let mut bytes = zeros(alloc, 256 * u32::from(blocks))?;
         write_at(&mut bytes, 0, image);

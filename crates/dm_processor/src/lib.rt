@@ -11,11 +11,11 @@ mod operations;
 mod registers;
 mod storage;
 
-pub use blocks::{BLOCK, MOST_MEMORY, Memory};
+pub use blocks::{BLOCK, MOST_BLOCKS, MOST_MEMORY, Memory};
 pub use dm_memory::NoMemory;
 pub use flat_bytes::Flat;
 pub use laws::{instructions_keep_lengths, instructions_keep_ranges, words_spell_their_bytes};
 pub use machine::step;
 pub use opcodes::Opcode;
-pub use registers::{Fault, Regs, Stepped};
+pub use registers::{Fault, REGISTERS, Regs, Stepped};
 pub use storage::Cells;

@@ -2,7 +2,7 @@
 ghost use Rattle.std.specs.Prelude.{◌≡◌, ◌+◌, ◌%◌, ◌<◌, ◌^◌, ◌≤◌, IfErr, IfOk, drop, length, slice_index, slice_set, take};
 ghost use Rattle.dm_processor.specs.Instructions.{DoesRow, Faults, Plain, Row, byte_row, past, reg, with_reg, with_word, word_at, word_row};
 
-use crate::registers::{Fault, Regs, Stepped};
+use crate::registers::{Fault, REGISTERS, Regs, Stepped};
 use crate::storage::Cells;
 use byteorder::{BigEndian, ByteOrder};
 
@@ -56,7 +56,7 @@ fn byte_address<C: Cells>(cells: &C, at: u64) -> Result<u32, Fault>
 
 /// The address in a register and a number beside it.
 pub fn address(regs: &Regs, field: u8, beside: u8) -> u64
-    requires { field < 16 }
+    requires { field < REGISTERS }
     ensures place { result ≡ reg regs.now field + beside }
     ensures small { result < 2 ^ 33 }
 {
@@ -80,7 +80,7 @@ pub fn fetch<C: Cells>(pc: u32, cells: &C) -> Result<[u8; 4], Fault>
 
 /// Loads a word into a register.
 pub fn load_word<C: Cells>(regs: &mut Regs, cells: &C, field: u8, at: u64) -> Stepped
-    requires register { field < 16 }
+    requires register { field < REGISTERS }
     requires place { at < 2 ^ 33 }
     ensures row { let m = C.bytes cells.now in DoesRow result regs.new m (word_row m at (Plain (with_reg regs.old field (word_at m at)) m)) regs.old m }
 {
@@ -92,7 +92,7 @@ pub fn load_word<C: Cells>(regs: &mut Regs, cells: &C, field: u8, at: u64) -> St
 
 /// Stores a register as a word.
 pub fn store_word<C: Cells>(regs: &mut Regs, cells: &mut C, field: u8, at: u64) -> Stepped
-    requires register { field < 16 }
+    requires register { field < REGISTERS }
     requires place { at < 2 ^ 33 }
     ensures row { let m = C.bytes cells.old in DoesRow result regs.new (C.bytes cells.new)
         (word_row m at (Plain (past regs.old) (with_word m at (reg regs.old field)))) regs.old m }
@@ -108,7 +108,7 @@ pub fn store_word<C: Cells>(regs: &mut Regs, cells: &mut C, field: u8, at: u64) 
 
 /// Loads a byte into a register.
 pub fn load_byte<C: Cells>(regs: &mut Regs, cells: &C, field: u8, at: u64) -> Stepped
-    requires { field < 16 }
+    requires { field < REGISTERS }
     ensures row { let m = C.bytes cells.now in DoesRow result regs.new m (byte_row m at (Plain (with_reg regs.old field (slice_index m at)) m)) regs.old m }
 {
     match byte_address(cells, at) {
@@ -119,7 +119,7 @@ pub fn load_byte<C: Cells>(regs: &mut Regs, cells: &C, field: u8, at: u64) -> St
 
 /// Stores the lowest byte of a register.
 pub fn store_byte<C: Cells>(regs: &mut Regs, cells: &mut C, field: u8, at: u64) -> Stepped
-    requires { field < 16 }
+    requires { field < REGISTERS }
     ensures row { let m = C.bytes cells.old in DoesRow result regs.new (C.bytes cells.new)
         (byte_row m at (Plain (past regs.old) (slice_set m at (reg regs.old field % 256)))) regs.old m }
 {

@@ -3,6 +3,9 @@ ghost use Rattle.std.specs.Prelude.{◌≡◌, ◌<◌, replicate};
 ghost use Rattle.dm_processor.specs.Faults.{fault_code};
 ghost use Rattle.dm_processor.specs.Instructions.{at_pc, branch_pc, past, reg, with_reg};
 
+/// How many registers a process has.
+pub const REGISTERS: usize = 16;
+
 /// The registers r0 to r15 and the program counter, a byte address.
 #[derive(Clone, Copy, Debug, PartialEq, Eq)]
 pub struct Regs {
@@ -13,7 +16,7 @@ pub struct Regs {
 impl Regs {
     /// All registers and the program counter at 0.
     pub fn new() -> Regs
-        ensures registers { result.r ≡ replicate 16 0 }
+        ensures registers { result.r ≡ replicate REGISTERS 0 }
         ensures pc { result.pc ≡ 0 }
     {
         Regs { r: [0; 16], pc: 0 }
@@ -21,7 +24,7 @@ impl Regs {
 
     /// A register's value.
     pub(crate) fn read(&self, field: u8) -> u32
-        requires { field < 16 }
+        requires { field < REGISTERS }
         ensures { result ≡ reg self.now field }
     {
         self.r[field as usize]
@@ -38,7 +41,7 @@ impl Regs {
 
     /// Puts a value into a register, and goes on to the next instruction.
     pub(crate) fn put(&mut self, field: u8, value: u32) -> Stepped
-        requires { field < 16 }
+        requires { field < REGISTERS }
         ensures result { result ≡ Stepped.Plain }
         ensures after { self.new ≡ with_reg self.old field value }
     {

@@ -102,8 +102,8 @@ impl ProcMan {
     /// Takes a user message, or the answer to a pending request; the message that it sends, if any.
     pub fn take(&mut self, message: &Message) -> Result<Option<Message>, NoMemory>
         requires row { IsForManager self.old message.now.id.n message.now.what }
-        requires counts { self.old.sent < 4294967295 }
-        requires children { length self.old.children < 4294967295 }
+        requires counts { self.old.sent < u32.MAX }
+        requires children { length self.old.children < u32.MAX }
         ensures exact { IfOk result (λ sent. takes self.old message.now.id.n message.now.what ≡ Some (record { manager = self.new; message = sent })) }
         ensures err { OnErr result (self.new ≡ self.old) }
         ensures plain { IfOk result (λ sent. plain_taken self.new sent ≡ plainly_taken self.old (plain_message message.now)) }
@@ -116,8 +116,8 @@ impl ProcMan {
     /// Takes what a message says, by its number.
     fn take_what(&mut self, number: u32, what: &What) -> Result<Option<Message>, NoMemory>
         requires row { IsForManager self.old number what.now }
-        requires counts { self.old.sent < 4294967295 }
-        requires children { length self.old.children < 4294967295 }
+        requires counts { self.old.sent < u32.MAX }
+        requires children { length self.old.children < u32.MAX }
         ensures exact { IfOk result (λ sent. takes self.old number what.now ≡ Some (record { manager = self.new; message = sent })) }
         ensures err { OnErr result (self.new ≡ self.old) }
     {
@@ -142,7 +142,7 @@ impl ProcMan {
         body: &[u8],
         links: &[Link],
     ) -> Result<Option<Message>, NoMemory>
-        requires counts { self.old.sent < 4294967295 }
+        requires counts { self.old.sent < u32.MAX }
         requires links { length links.now ≤ 4 }
         ensures exact { IfOk result (λ sent. takes_user self.old code body.now links.now ≡ record { manager = self.new; message = sent }) }
         ensures err { OnErr result (self.new ≡ self.old) }
@@ -157,8 +157,8 @@ impl ProcMan {
     /// Takes the news that the child of a pending request stands.
     fn take_created(&mut self, number: u32, pid: Pid) -> Result<Option<Message>, NoMemory>
         requires pending { IsSome (pending_numbered number self.old.pending) }
-        requires counts { self.old.sent < 4294967295 }
-        requires children { length self.old.children < 4294967295 }
+        requires counts { self.old.sent < u32.MAX }
+        requires children { length self.old.children < u32.MAX }
         ensures exact { IfOk result (λ sent. takes_created self.old number pid (pending_numbered number self.old.pending) ≡
             Some (record { manager = self.new; message = sent })) }
         ensures err { OnErr result (self.new ≡ self.old) }
@@ -177,7 +177,7 @@ impl ProcMan {
     /// Takes the news that there was no room for the child of a pending request.
     fn take_no_room(&mut self, number: u32) -> Message
         requires pending { IsSome (pending_numbered number self.old.pending) }
-        requires counts { self.old.sent < 4294967295 }
+        requires counts { self.old.sent < u32.MAX }
         ensures { takes_no_room self.old number (pending_numbered number self.old.pending) ≡ Some (record { manager = self.new; message = Some result }) }
     {
         let request = take_pending(&mut self.pending, number);

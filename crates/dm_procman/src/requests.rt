@@ -53,7 +53,7 @@ impl Control {
 impl ProcMan {
     /// Counts a message as sent.
     fn send(&mut self, to: Addr, what: What) -> Message
-        requires { self.old.sent < 4294967295 }
+        requires { self.old.sent < u32.MAX }
         ensures { record { manager = self.new; message = Some result } ≡ sends self.old (message_to self.old.sent to what) }
     {
         let message = message_to(self.sent, to, what);
@@ -63,7 +63,7 @@ impl ProcMan {
 
     /// One byte goes over the link of an answer, with at most 4 links.
     pub(crate) fn answer(&mut self, link: &Link, code: u8, links: &[Link]) -> Message
-        requires counts { self.old.sent < 4294967295 }
+        requires counts { self.old.sent < u32.MAX }
         requires links { length links.now ≤ 4 }
         ensures { record { manager = self.new; message = Some result } ≡ answers self.old link.now code links.now }
     {
@@ -74,7 +74,7 @@ impl ProcMan {
 
     /// A bad request is answered over its first link, if it has one.
     fn bad_request(&mut self, links: &[Link]) -> Option<Message>
-        requires { self.old.sent < 4294967295 }
+        requires { self.old.sent < u32.MAX }
         ensures { record { manager = self.new; message = result } ≡ bad_request self.old links.now }
     {
         let [first, ..] = links else {
@@ -89,7 +89,7 @@ impl ProcMan {
         body: &[u8],
         links: &[Link],
     ) -> Result<Option<Message>, NoMemory>
-        requires counts { self.old.sent < 4294967295 }
+        requires counts { self.old.sent < u32.MAX }
         requires links { length links.now ≤ 4 }
         ensures exact { IfOk result (λ sent. requests self.old body.now links.now ≡ record { manager = self.new; message = sent }) }
         ensures err { OnErr result (self.new ≡ self.old) }
@@ -110,7 +110,7 @@ impl ProcMan {
         image: u16,
         links: &[Link],
     ) -> Result<Option<Message>, NoMemory>
-        requires counts { self.old.sent < 4294967295 }
+        requires counts { self.old.sent < u32.MAX }
         requires links { length links.now ≤ 4 }
         ensures exact { IfOk result (λ sent. wants_child self.old machine image links.now ≡ record { manager = self.new; message = sent }) }
         ensures err { OnErr result (self.new ≡ self.old) }
@@ -133,7 +133,7 @@ impl ProcMan {
         answer: Link,
         links: &[Link],
     ) -> Result<Message, NoMemory>
-        requires counts { self.old.sent < 4294967295 }
+        requires counts { self.old.sent < u32.MAX }
         requires links { length links.now ≤ 3 }
         ensures exact { IfOk result (λ sent. asks_for self.old machine image answer links.now ≡ record { manager = self.new; message = Some sent }) }
         ensures err { OnErr result (self.new ≡ self.old) }
@@ -156,7 +156,7 @@ impl ProcMan {
 
     /// Takes a body that came over a link with the number of a child as its code.
     pub(crate) fn control(&mut self, code: u32, body: &[u8], links: &[Link]) -> Option<Message>
-        requires { self.old.sent < 4294967295 }
+        requires { self.old.sent < u32.MAX }
         ensures { controls self.old (child_numbered self.old.children code) body.now links.now ≡ record { manager = self.new; message = result } }
     {
         let Some(child) = self.children.numbered(code) else {

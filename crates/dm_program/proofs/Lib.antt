@@ -9,5 +9,6 @@ mod ChartOutcomes
 mod CheckOutcomes
 mod ExplainOutcomes
 mod RunsChecked
+mod DrillsChecked
 mod Whose
 mod Lacking

@@ -11,19 +11,14 @@ ghost use Rattle.dm_run.specs.Coming.{IsFor};
 use crate::read::{ReadError, read_file};
 use crate::status::{Input, Status};
 use dm_boot::{BootError, read_boot};
+use dm_check::MOST_TRACE;
 use dm_onekernel::Boot;
 use dm_outside::Shelf;
-use dm_schedule::{Directive, ScheduleError, read_schedule};
+use dm_schedule::{Directive, MOST_SCHEDULE, ScheduleError, read_schedule};
 use std::alloc::Global;
 
 /// The most bytes of a boot file.
 pub const MOST_BOOT: u32 = 1_048_576;
-
-/// The most bytes of a schedule.
-pub const MOST_SCHEDULE: u32 = 16_777_216;
-
-/// The most bytes of a trace.
-const MOST_TRACE: u32 = 16_777_216;
 
 /// What a run begins with.
 #[derive(Drop)]
@@ -42,7 +37,7 @@ pub fn read_files<F: Shelf>(
     ensures accepts { IfOk result (λ i. AcceptsFiles (F.told shelf.old) boot.now schedule.now i.boot i.directives.items) }
     ensures valid { IfOk result (λ i. IsValid i.boot) }
     ensures each { IfOk result (λ i. All (IsFor (length i.boot.machines)) i.directives.items) }
-    ensures few { IfOk result (λ i. length i.directives.items ≤ 16777216) }
+    ensures few { IfOk result (λ i. length i.directives.items ≤ MOST_SCHEDULE) }
     ensures none { IfErr result (λ s. NoFiles (F.told shelf.old) boot.now schedule.now (F.faults shelf.old) (F.faults shelf.new) s) }
     ensures same { F.told shelf.new ≡ F.told shelf.old }
     ensures steady { IfOk result (λ _. F.faults shelf.new ≡ F.faults shelf.old) }
@@ -75,7 +70,7 @@ pub fn read_trace_files<F: Shelf>(
 ) -> Result<Traced, Status>
     ensures has { IfOk result (λ t. HasTrace (F.told shelf.old) boot.now trace.now t.boot t.trace.items) }
     ensures valid { IfOk result (λ t. IsValid t.boot) }
-    ensures short { IfOk result (λ t. length t.trace.items ≤ 16777216) }
+    ensures short { IfOk result (λ t. length t.trace.items ≤ MOST_TRACE) }
     ensures none { IfErr result (λ s. NoTrace (F.told shelf.old) boot.now trace.now (F.faults shelf.old) (F.faults shelf.new) s) }
     ensures same { F.told shelf.new ≡ F.told shelf.old }
     ensures steady { IfOk result (λ _. F.faults shelf.new ≡ F.faults shelf.old) }
@@ -144,7 +139,7 @@ fn read_directives<F: Shelf>(
 ) -> Result<Vec<Directive>, Status>
     ensures says { IfOk result (λ ds. SaysDirectives (F.told shelf.old) name.now machines ds.items) }
     ensures each { IfOk result (λ ds. All (IsFor machines) ds.items) }
-    ensures few { IfOk result (λ ds. length ds.items ≤ 16777216) }
+    ensures few { IfOk result (λ ds. length ds.items ≤ MOST_SCHEDULE) }
     ensures none { IfErr result (λ s. NoDirectives (F.told shelf.old) name.now machines (F.faults shelf.old) (F.faults shelf.new) s) }
     ensures same { F.told shelf.new ≡ F.told shelf.old }
     ensures steady { IfOk result (λ _. F.faults shelf.new ≡ F.faults shelf.old) }

@@ -6,6 +6,12 @@ use arrayvec::ArrayString;
 use dm_memory::NoMemory;
 use itoa::Buffer;
 
+/// The room for the line of a status, its line feed included.
+pub const LONGEST_LINE: usize = 96;
+
+/// The most bytes of what a status says, without its line feed.
+pub const LONGEST_TEXT: usize = 95;
+
 /// One of the files that the program reads.
 #[derive(Clone, Copy, Debug, PartialEq, Eq)]
 pub enum Input {
@@ -73,7 +79,7 @@ pub fn status_line(status: &Status) -> ArrayString<96>
 /// What a status says in one line, nothing where all is done.
 pub fn status_text(status: &Status) -> ArrayString<96>
     ensures text { result.bytes ≡ text_of status.now }
-    ensures short { length result.bytes ≤ 95 }
+    ensures short { length result.bytes ≤ LONGEST_TEXT }
 {
     match *status {
         Status::Done => words(""),
@@ -93,7 +99,7 @@ pub fn status_text(status: &Status) -> ArrayString<96>
 
 /// A text of these words.
 pub(crate) fn words(s: &str) -> ArrayString<96>
-    requires { length s.now ≤ 95 }
+    requires { length s.now ≤ LONGEST_TEXT }
     ensures { result.bytes ≡ s.now }
 {
     let mut text = ArrayString::new();
@@ -103,7 +109,7 @@ pub(crate) fn words(s: &str) -> ArrayString<96>
 
 /// What a refused boot file is told.
 fn boot_refused(number: u8, place: u64) -> ArrayString<96>
-    ensures short { length result.bytes ≤ 95 }
+    ensures short { length result.bytes ≤ LONGEST_TEXT }
     ensures text { result.bytes ≡ text_of (Status.BootRefused number place) }
 {
     let mut text = words("boot refused: ");
@@ -115,7 +121,7 @@ fn boot_refused(number: u8, place: u64) -> ArrayString<96>
 
 /// What a refused schedule is told.
 fn schedule_refused(line: u64, why: u8) -> ArrayString<96>
-    ensures short { length result.bytes ≤ 95 }
+    ensures short { length result.bytes ≤ LONGEST_TEXT }
     ensures text { result.bytes ≡ text_of (Status.ScheduleRefused line why) }
 {
     let mut text = words("schedule refused: line ");
@@ -127,7 +133,7 @@ fn schedule_refused(line: u64, why: u8) -> ArrayString<96>
 
 /// What a refused trace is told.
 fn trace_refused(line: u64, why: u8) -> ArrayString<96>
-    ensures short { length result.bytes ≤ 95 }
+    ensures short { length result.bytes ≤ LONGEST_TEXT }
     ensures text { result.bytes ≡ text_of (Status.TraceRefused line why) }
 {
     let mut text = words("trace refused: line ");
@@ -139,7 +145,7 @@ fn trace_refused(line: u64, why: u8) -> ArrayString<96>
 
 /// What is told of two machines that count as many messages as they may.
 fn worn(from: u8, to: u8) -> ArrayString<96>
-    ensures short { length result.bytes ≤ 95 }
+    ensures short { length result.bytes ≤ LONGEST_TEXT }
     ensures text { result.bytes ≡ text_of (Status.Worn from to) }
 {
     let mut text = words("worn: ");
@@ -151,7 +157,7 @@ fn worn(from: u8, to: u8) -> ArrayString<96>
 
 /// Adds a number in decimal digits.
 pub(crate) fn push_number(text: &mut ArrayString<96>, n: u64)
-    requires { length text.old.bytes + 20 ≤ 96 }
+    requires { length text.old.bytes + 20 ≤ LONGEST_LINE }
     ensures written { text.new.bytes ≡ text.old.bytes ++ decimal n }
     ensures room { length text.new.bytes ≤ length text.old.bytes + 20 }
 {

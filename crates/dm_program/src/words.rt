@@ -16,10 +16,14 @@ ghost use Rattle.dm_program.specs.Words.{IsInRange, IsTaken, demosmp, request_at
 use crate::status::Status;
 use clap::{Arg, ArgAction, ArgMatches, Command};
 use dm_drill::drill::Drill;
+use dm_link::MACHINES;
 use dm_memory::NoMemory;
 use dm_memory::of_clap::{MatchesError, matches_from, with_arg, with_subcommand};
 use dm_shape::names::{byte, count};
 use std::alloc::Global;
+
+/// The most directives that a drill draws.
+pub const MOST_LINES: u32 = 10_000;
 
 /// Why the words ask for nothing.
 #[derive(Clone, Copy, Debug, PartialEq, Eq)]
@@ -286,7 +290,7 @@ fn seed(matches: &ArgMatches<'_>) -> Option<u32>
 fn machines(matches: &ArgMatches<'_>) -> Option<u8>
     ensures number { result ≡ machines_of (rows_of (found_of matches.now)) }
     ensures least { IfSome result (λ n. 2 ≤ n) }
-    ensures most { IfSome result (λ n. n ≤ 16) }
+    ensures most { IfSome result (λ n. n ≤ MACHINES) }
 {
     match value(matches, "machines") {
         Some(word) => machines_in(word),
@@ -298,16 +302,20 @@ fn machines(matches: &ArgMatches<'_>) -> Option<u8>
 fn machines_in(word: &str) -> Option<u8>
     ensures number { result ≡ machines_in word.now }
     ensures least { IfSome result (λ n. 2 ≤ n) }
-    ensures most { IfSome result (λ n. n ≤ 16) }
+    ensures most { IfSome result (λ n. n ≤ MACHINES) }
 {
     let n = byte(word.as_bytes())?;
-    if 2 <= n && n <= 16 { Some(n) } else { None }
+    if 2 <= n && n <= MACHINES {
+        Some(n)
+    } else {
+        None
+    }
 }
 
 /// The number of the option `--lines`, if it is in its range.
 fn lines(matches: &ArgMatches<'_>) -> Option<u32>
     ensures number { result ≡ lines_of (rows_of (found_of matches.now)) }
-    ensures most { IfSome result (λ n. n ≤ 10000) }
+    ensures most { IfSome result (λ n. n ≤ MOST_LINES) }
 {
     match value(matches, "lines") {
         Some(word) => lines_in(word),
@@ -318,10 +326,14 @@ fn lines(matches: &ArgMatches<'_>) -> Option<u32>
 /// The number of directives that a word says.
 fn lines_in(word: &str) -> Option<u32>
     ensures number { result ≡ lines_in word.now }
-    ensures most { IfSome result (λ n. n ≤ 10000) }
+    ensures most { IfSome result (λ n. n ≤ MOST_LINES) }
 {
     let n = count(word.as_bytes())?;
-    if 1 <= n && n <= 10_000 { Some(n) } else { None }
+    if 1 <= n && n <= MOST_LINES {
+        Some(n)
+    } else {
+        None
+    }
 }
 
 /// Whether the option `--trace` is there.

@@ -15,7 +15,7 @@ ghost use Rattle.dm_run.specs.Running.{IsRunning};
 use crate::offering::{offer, offer_ends};
 use crate::stop::Stop;
 use dm_outside::Sink;
-use dm_schedule::{Directive, Step};
+use dm_schedule::{Directive, MOST_SCHEDULE, Step};
 use dm_world::{Cursor, Stop as WorldStop, World};
 use std::alloc::Global;
 
@@ -28,7 +28,7 @@ pub fn run_directives<K: Sink>(
 ) -> Result<(), Stop>
     requires fresh { IsAtStart world.old }
     requires each { All (IsFor (length world.old.boot.machines)) directives.now }
-    requires few { length directives.now ≤ 16777216 }
+    requires few { length directives.now ≤ MOST_SCHEDULE }
     ensures came { Came world.old.boot directives.now (all_of []) (K.told out.old) (K.told out.new) world.new result }
     ensures running { OnOk result (IsRunning world.new) }
     ensures boot { OnOk result (world.new.boot ≡ world.old.boot) }
@@ -53,7 +53,7 @@ pub fn run_to_end<K: Sink>(
 ) -> Result<(), Stop>
     requires fresh { IsAtStart world.old }
     requires each { All (IsFor (length world.old.boot.machines)) directives.now }
-    requires few { length directives.now ≤ 16777216 }
+    requires few { length directives.now ≤ MOST_SCHEDULE }
     ensures ended { Ended world.old.boot directives.now (K.told out.old) (K.told out.new) world.new result }
     ensures lasts { OnOk result (Lasts world.old.boot directives.now) }
     ensures blames { Blames (K.faults out.old) (K.faults out.new) result }

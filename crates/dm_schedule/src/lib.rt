@@ -18,6 +18,9 @@ use dm_memory::{NoMemory, push};
 use std::alloc::Global;
 use thiserror::Error;
 
+/// The most bytes of a schedule; it has no more directives than bytes.
+pub const MOST_SCHEDULE: u32 = 16_777_216;
+
 /// A directive that can't be divided further.
 #[derive(Clone, Copy, Debug, PartialEq, Eq)]
 pub enum Step {

@@ -13,7 +13,7 @@ mod status;
 mod writing;
 
 use dm_link::Pid;
-use dm_linktable::Table;
+use dm_linktable::{FEW_SLOTS, MOST_SLOTS, Table};
 pub use dm_memory::NoMemory;
 use dm_memory::from_slice;
 use dm_packet::PacketError;
@@ -24,6 +24,12 @@ use reading::state_at;
 use std::alloc::Global;
 use thiserror::Error;
 use writing::{extend_with_links, put_front, put_mask};
+
+/// The fewest bytes that a state has: no link, and no word but its own.
+pub const LEAST_STATE: usize = 102;
+
+/// The most bytes that a state has: 128 links, and a data move under way.
+pub const MOST_STATE: usize = 3201;
 
 /// The parts of a process that its state bytes carry.
 #[derive(Drop)]
@@ -102,7 +108,7 @@ fn rule_of(bad: PacketError) -> StateBytesError
 pub fn pack(alloc: Global, process: &Process) -> Result<Vec<u8>, NoMemory>
     requires lawful { IsLawfulProcess process.now }
     ensures ok { IfOk result (λ v. v.items ≡ spelling (shell_of process.now)) }
-    ensures size { IfOk result (λ v. (102 ≤ length v.items) × (length v.items ≤ 3201)) }
+    ensures size { IfOk result (λ v. (LEAST_STATE ≤ length v.items) × (length v.items ≤ MOST_STATE)) }
     ensures lawful { IsLawfulShell (length process.now.table) (shell_of process.now) }
     // What is packed is unpacked at the table's number of slots.
     ensures again { IfOk result (λ v. shell_of_bytes v.items (length process.now.table) ≡ Ok (shell_of process.now)) }
@@ -118,14 +124,14 @@ pub fn pack(alloc: Global, process: &Process) -> Result<Vec<u8>, NoMemory>
 /// The process that the bytes spell, all of them, with a table of 32 or 128 slots, or the first rule from the left that
 /// they break. It takes no memory.
 pub fn unpack(bytes: &[u8], cap: u8) -> Result<Shell, StateBytesError>
-    requires { (cap ≡ 32) ⊎ (cap ≡ 128) }
+    requires { (cap ≡ FEW_SLOTS) ⊎ (cap ≡ MOST_SLOTS) }
     // Which process, and which rule.
     ensures exact { result ≡ shell_of_bytes bytes.now cap }
     // What is read is lawful, and spelled so and in no other way.
     ensures found { IfOk result (λ s. IsLawfulShell cap s × (bytes.now ≡ spelling s)) }
     // What is spelled so is read, where its numbers fit their fields, as those of a process that stands in memory do.
     ensures only { (s : Shell) → IsLawfulShell cap s → FitsShell s → bytes.now ≡ spelling s → result ≡ Ok s }
-    ensures size { OnOk result (length bytes.now ≤ 3201) }
+    ensures size { OnOk result (length bytes.now ≤ MOST_STATE) }
 {
     state_at(bytes, cap)
 }

@@ -9,7 +9,7 @@ ghost use Rattle.dm_statebytes.specs.Table.{mask, read_slots, table};
 use crate::status::StatusKind;
 use crate::{Shell, StateBytesError, rule_of};
 use byteorder::{BigEndian, ByteOrder};
-use dm_linktable::Table;
+use dm_linktable::{FEW_SLOTS, MOST_SLOTS, Table};
 use dm_packet::PacketError;
 use dm_packet::reading::fields::{addr_at, byte_at, link_at, pid_at, u16_at, u32_at};
 use dm_packet::reading::parts::yes_or_no_at;
@@ -141,7 +141,7 @@ fn u128_at(bytes: &[u8]) -> Result<(u128, &[u8]), PacketError>
 
 /// Which slots of a table hold a link, bit s for slot s.
 fn mask_at(bytes: &[u8], cap: u8) -> Result<(u128, &[u8]), PacketError>
-    requires { (cap ≡ 32) ⊎ (cap ≡ 128) }
+    requires { (cap ≡ FEW_SLOTS) ⊎ (cap ≡ MOST_SLOTS) }
     ensures { Reads result ((mask cap).read bytes.now) }
 {
     let (mask, rest) = u128_at(bytes)?;
@@ -153,7 +153,7 @@ fn mask_at(bytes: &[u8], cap: u8) -> Result<(u128, &[u8]), PacketError>
 
 /// A table with the links that stand for the bits of the mask.
 fn slots_at(bytes: &[u8], mask: u128, cap: u8) -> Result<(Table, &[u8]), PacketError>
-    requires { (cap ≡ 32) ⊎ (cap ≡ 128) }
+    requires { (cap ≡ FEW_SLOTS) ⊎ (cap ≡ MOST_SLOTS) }
     ensures { Reads result (read_slots cap mask bytes.now) }
 {
     let mut table = Table::new(cap);
@@ -171,7 +171,7 @@ fn slots_at(bytes: &[u8], mask: u128, cap: u8) -> Result<(Table, &[u8]), PacketE
 }
 
 fn table_at(bytes: &[u8], cap: u8) -> Result<(Table, &[u8]), PacketError>
-    requires { (cap ≡ 32) ⊎ (cap ≡ 128) }
+    requires { (cap ≡ FEW_SLOTS) ⊎ (cap ≡ MOST_SLOTS) }
     ensures { Reads result ((table cap).read bytes.now) }
 {
     let (mask, rest) = mask_at(bytes, cap)?;
@@ -201,7 +201,7 @@ fn version_at(bytes: &[u8]) -> Result<(u8, &[u8]), PacketError>
 
 /// A process with a table of so many slots.
 fn shell_at(bytes: &[u8], cap: u8) -> Result<(Shell, &[u8]), PacketError>
-    requires { (cap ≡ 32) ⊎ (cap ≡ 128) }
+    requires { (cap ≡ FEW_SLOTS) ⊎ (cap ≡ MOST_SLOTS) }
     ensures { Reads result ((shell cap).read bytes.now) }
 {
     let (_, rest) = version_at(bytes)?;
@@ -228,7 +228,7 @@ fn shell_at(bytes: &[u8], cap: u8) -> Result<(Shell, &[u8]), PacketError>
 
 /// The process that the bytes spell, all of them, or the first rule that they break.
 fn whole_at(bytes: &[u8], cap: u8) -> Result<Shell, PacketError>
-    requires { (cap ≡ 32) ⊎ (cap ≡ 128) }
+    requires { (cap ≡ FEW_SLOTS) ⊎ (cap ≡ MOST_SLOTS) }
     ensures { result ≡ read_shell bytes.now cap }
 {
     let (shell, rest) = shell_at(bytes, cap)?;
@@ -241,7 +241,7 @@ fn whole_at(bytes: &[u8], cap: u8) -> Result<Shell, PacketError>
 /// The same, with the rule as one of state bytes.
 #[tactic(auto, unfolding(crate::specs::Shell::shell_of_bytes))]
 pub fn state_at(bytes: &[u8], cap: u8) -> Result<Shell, StateBytesError>
-    requires { (cap ≡ 32) ⊎ (cap ≡ 128) }
+    requires { (cap ≡ FEW_SLOTS) ⊎ (cap ≡ MOST_SLOTS) }
     ensures { result ≡ shell_of_bytes bytes.now cap }
 {
     match whole_at(bytes, cap) {

@@ -20,7 +20,7 @@ use dm_packet::writing::fields::{
     put_addr, put_bool, put_byte, put_bytes, put_link, put_pid, put_u16, put_u32,
 };
 use dm_process::{Direction, Process, Status};
-use dm_processor::Regs;
+use dm_processor::{REGISTERS, Regs};
 
 /// What is waited for.
 fn put_waiting(out: &mut Buffer, mask: u32, base: u32, cap: u32)
@@ -111,7 +111,7 @@ fn put_registers(out: &mut Buffer, registers: &[u32])
 /// The registers and the program counter.
 fn put_regs(out: &mut Buffer, regs: &Regs)
     requires room { length out.old.items ≤ 100 }
-    requires registers { length regs.now.r ≡ 16 }
+    requires registers { length regs.now.r ≡ REGISTERS }
     ensures put { Puts out.old out.new (regs_field.spell regs.now) }
     ensures registers { All (Fits 4) regs.now.r }
     ensures pc { Fits 4 regs.now.pc }
@@ -123,7 +123,7 @@ fn put_regs(out: &mut Buffer, regs: &Regs)
 /// What stands before the links, where nothing was put yet.
 pub fn put_front(out: &mut Buffer, process: &Process)
     requires empty { out.old.items ≡ [] }
-    requires registers { length process.now.regs.r ≡ 16 }
+    requires registers { length process.now.regs.r ≡ REGISTERS }
     ensures put { Puts out.old out.new (front.spell (front_of (shell_of process.now))) }
     ensures pid { FitsPid process.now.pid }
     ensures status { FitsStatus process.now.status }

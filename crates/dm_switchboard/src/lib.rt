@@ -88,7 +88,7 @@ impl Switchboard {
     /// Takes a user message, and answers a request that has a link for the answer.
     pub fn take(&mut self, message: &Message) -> Result<Took, NoMemory>
         requires user { kind_of message.now.what ≡ kind.User }
-        requires counts { self.old.sent < 4294967295 }
+        requires counts { self.old.sent < u32.MAX }
         ensures exact { IfOk result (λ t. takes self.old message.now.what ≡ Some (record { board = self.new; took = t })) }
         ensures err { OnErr result (self.new ≡ self.old) }
         ensures plain { IfOk result (λ t. plain_taken self.new t ≡ plainly_taken self.old (plain_message message.now)) }
@@ -104,7 +104,7 @@ impl Switchboard {
 
     /// Takes a request with its links, the first for the answer.
     fn take_request(&mut self, body: &[u8], links: &[Link]) -> Result<Took, NoMemory>
-        requires { self.old.sent < 4294967295 }
+        requires { self.old.sent < u32.MAX }
         ensures exact { IfOk result (λ t. takes_request self.old body.now links.now ≡ record { board = self.new; took = t }) }
         ensures err { OnErr result (self.new ≡ self.old) }
     {

@@ -11,6 +11,7 @@ use crate::links::{copy, drop_link, make};
 use crate::number::Call;
 use crate::send::send;
 use crate::transfer::transfer;
+use dm_link::MACHINES;
 use dm_onekernel::{Reply, Why};
 use dm_process::{Process, Status};
 use dm_processor::{Cells, Memory};
@@ -18,8 +19,8 @@ use dm_processor::{Cells, Memory};
 /// Does the call with a number for a process on machine `here`, whose program counter is past the instruction.
 pub fn call(process: &mut Process, number: u8, here: u8) -> Called
     requires lawful { IsLawfulProcess process.old }
-    requires here { here < 16 }
-    requires counts { process.old.sent < 4294967295 }
+    requires here { here < MACHINES }
+    requires counts { process.old.sent < u32.MAX }
     ensures called { result ≡ (calls here process.old number).called }
     ensures process { process.new ≡ (calls here process.old number).process }
     ensures plain { plain_called result process.new ≡ Some (kernel.call process.old.pid (plain_process process.old) number) }
@@ -33,8 +34,8 @@ pub fn call(process: &mut Process, number: u8, here: u8) -> Called
 /// Does the call with a number.
 fn dispatch(process: &mut Process, number: u8, here: u8) -> Called
     requires lawful { IsLawfulProcess process.old }
-    requires here { here < 16 }
-    requires counts { process.old.sent < 4294967295 }
+    requires here { here < MACHINES }
+    requires counts { process.old.sent < u32.MAX }
     ensures called { result ≡ (calls here process.old number).called }
     ensures process { process.new ≡ (calls here process.old number).process }
 {

@@ -87,7 +87,7 @@ fn make_refusal(process: &Process) -> Option<Reply>
 
 /// A link to the process itself, where it is now.
 fn own_link(process: &Process, here: u8) -> Link
-    requires { reg process.now.regs 2 ≤ 31 }
+    requires { reg process.now.regs 2 ≤ LAST_CHANNEL }
     ensures { result ≡ own_link here process.now }
 {
     let [_, code, channel, flags, base, len, ..] = process.regs.r;

@@ -17,7 +17,7 @@ use dm_linktable::Table;
 use dm_message::What;
 use dm_onekernel::Reply;
 use dm_process::{Process, Status};
-use dm_processor::{Cells, Regs};
+use dm_processor::{Cells, REGISTERS, Regs};
 
 /// The register that holds the slot of a message's first link.
 const FIRST_SLOT: usize = 5;
@@ -136,7 +136,7 @@ fn place_links(regs: &mut Regs, table: &mut Table, links: &[Link])
 
 /// Puts a link into the lowest empty slot, whose number stands in a register then.
 fn place_link(regs: &mut Regs, table: &mut Table, register: usize, link: &Link)
-    requires { register < 16 }
+    requires { register < REGISTERS }
     ensures regs { regs.new ≡ (place_into (record { regs = regs.old; table = table.old }) register link.now (first_empty table.old)).regs }
     ensures table { table.new ≡ (place_into (record { regs = regs.old; table = table.old }) register link.now (first_empty table.old)).table }
 {

@@ -14,14 +14,14 @@ use crate::calls::{ends_outside, reply};
 use crate::links::{empty_slot, link_in};
 use dm_datamove::{address_of, body_at};
 use dm_link::{Kind, Link};
-use dm_linktable::Table;
-use dm_message::{Body, Enclosed, MOST_LINKS, Message, MsgId, What};
+use dm_linktable::{FEW_SLOTS, Table};
+use dm_message::{Body, Enclosed, MOST_BODY, MOST_LINKS, Message, MsgId, What};
 use dm_onekernel::Reply;
 use dm_process::Process;
 
 /// Sends a body of r3 bytes at r2, with the links of the r4 slots whose numbers stand at r5, over the link in slot r1.
 pub fn send(process: &mut Process, here: u8) -> Called
-    requires { process.old.sent < 4294967295 }
+    requires { process.old.sent < u32.MAX }
     ensures called { result ≡ (sends here process.old (link_at process.old.table (reg process.old.regs 1))).called }
     ensures process { process.new ≡ (sends here process.old (link_at process.old.table (reg process.old.regs 1))).process }
 {
@@ -42,7 +42,7 @@ pub fn send(process: &mut Process, here: u8) -> Called
 /// Why nothing is sent over a link that is there.
 fn send_refusal(process: &Process) -> Option<Reply>
     ensures refusal { result ≡ first_failed (send_refusals (plain_process process.now)) }
-    ensures body_short { IfNone result (reg process.now.regs 3 ≤ 256) }
+    ensures body_short { IfNone result (reg process.now.regs 3 ≤ MOST_BODY) }
     ensures list_short { IfNone result (reg process.now.regs 4 ≤ 4) }
     ensures body_within { IfNone result (reg process.now.regs 2 + reg process.now.regs 3 ≤ length process.now.memory) }
     ensures list_within { IfNone result (reg process.now.regs 5 + reg process.now.regs 4 ≤ length process.now.memory) }
@@ -61,7 +61,7 @@ fn send_refusal(process: &Process) -> Option<Reply>
 
 /// The most bytes of a body: 64 in a process of 32 slots, 256 in one of 128.
 fn most_body(table: &Table) -> u32
-    ensures { result ≡ (if length table.now == 32 then 64 else 256) }
+    ensures { result ≡ (if length table.now == FEW_SLOTS then 64 else 256) }
 {
     if table.cap() == 32 { 64 } else { 256 }
 }
@@ -147,7 +147,7 @@ fn lists_reply_twice(table: &Table, slots: &[u8]) -> bool
 
 /// The message that a process sends over a link.
 fn message_over(process: &Process, link: Link, slots: &[u8], here: u8) -> Message
-    requires short { reg process.now.regs 3 ≤ 256 }
+    requires short { reg process.now.regs 3 ≤ MOST_BODY }
     requires within { reg process.now.regs 2 + reg process.now.regs 3 ≤ length process.now.memory }
     requires few { length slots.now ≤ 4 }
     requires listed { slots.now ≡ listed process.now }
@@ -186,7 +186,7 @@ fn links_in(table: &Table, slots: &[u8]) -> Enclosed
 
 /// Counts a message that was sent: reply links that were used or enclosed leave their slots.
 fn count_sent(process: &mut Process, slots: &[u8])
-    requires counts { process.old.sent < 4294967295 }
+    requires counts { process.old.sent < u32.MAX }
     requires listed { slots.now ≡ listed process.old }
     ensures { process.new ≡ after_send process.old }
 {

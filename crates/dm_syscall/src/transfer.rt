@@ -15,7 +15,7 @@ use crate::Called;
 use crate::calls::{ends_outside, reply};
 use crate::links::link_in;
 use dm_datamove::{Rest, request};
-use dm_link::{Area, Link};
+use dm_link::{Area, Link, MACHINES};
 use dm_onekernel::Reply;
 use dm_process::{Direction, Process};
 
@@ -23,8 +23,8 @@ use dm_process::{Direction, Process};
 /// own memory.
 pub fn transfer(process: &mut Process, here: u8) -> Called
     requires lawful { IsLawfulProcess process.old }
-    requires here { here < 16 }
-    requires counts { process.old.sent < 4294967295 }
+    requires here { here < MACHINES }
+    requires counts { process.old.sent < u32.MAX }
     ensures called { result ≡ (moves here process.old (link_at process.old.table (reg process.old.regs 1))).called }
     ensures process { process.new ≡ (moves here process.old (link_at process.old.table (reg process.old.regs 1))).process }
 {
@@ -38,8 +38,8 @@ pub fn transfer(process: &mut Process, here: u8) -> Called
 fn transfer_over(process: &mut Process, link: Link, here: u8) -> Called
     requires lawful { IsLawfulProcess process.old }
     requires link { IsLawfulEnclosed link }
-    requires here { here < 16 }
-    requires counts { process.old.sent < 4294967295 }
+    requires here { here < MACHINES }
+    requires counts { process.old.sent < u32.MAX }
     ensures called { result ≡ (moves_over here process.old link (direction_numbered (reg process.old.regs 2))).called }
     ensures process { process.new ≡ (moves_over here process.old link (direction_numbered (reg process.old.regs 2))).process }
 {
@@ -86,8 +86,8 @@ fn begin(process: &mut Process, link: Link, dir: Direction, here: u8) -> Called
     requires link { IsLawfulEnclosed link }
     requires area { reg process.old.regs 3 + reg process.old.regs 5 ≤ link.area.len }
     requires own { reg process.old.regs 4 + reg process.old.regs 5 ≤ length process.old.memory }
-    requires here { here < 16 }
-    requires counts { process.old.sent < 4294967295 }
+    requires here { here < MACHINES }
+    requires counts { process.old.sent < u32.MAX }
     ensures called { result ≡ (moves_bytes here process.old link dir).called }
     ensures process { process.new ≡ (moves_bytes here process.old link dir).process }
 {

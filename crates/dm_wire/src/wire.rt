@@ -59,7 +59,7 @@ impl Wire {
 
     /// Puts a packet on the wire from `a` to `b`, and tells its number. Where memory lacks, the bytes are let go.
     pub fn put(&mut self, a: u8, b: u8, bytes: Vec<u8>) -> Result<u64, NoMemory>
-        requires { (a < 16) × (b < 16) }
+        requires { (a < MACHINES) × (b < MACHINES) }
         ensures ok { OnOk result ((x y : ℕ) → packets_on self.new x y ≡ after_put (packets_on self.old) a b bytes.items x y) }
         ensures number { IfOk result (λ k. k ≡ length (packets_on self.old a b)) }
         ensures err { OnErr result ((x y : ℕ) → packets_on self.new x y ≡ packets_on self.old x y) }
@@ -71,7 +71,7 @@ impl Wire {
 
     /// How many packets were put on the wire from `a` to `b`.
     pub fn count(&self, a: u8, b: u8) -> u64
-        requires { (a < 16) × (b < 16) }
+        requires { (a < MACHINES) × (b < MACHINES) }
         ensures { result ≡ length (packets_on self.now a b) }
     {
         match self.pairs.get(place(a, b)) {
@@ -82,7 +82,7 @@ impl Wire {
 
     /// The bytes of the packet with this number on the wire from `a` to `b`.
     pub fn packet(&self, a: u8, b: u8, number: u64) -> Option<&[u8]>
-        requires { (a < 16) × (b < 16) }
+        requires { (a < MACHINES) × (b < MACHINES) }
         ensures { option_map (λ s. s.now) result ≡ bytes_at (packets_on self.now a b) number }
     {
         match self.pairs.get(place(a, b)) {
@@ -93,7 +93,7 @@ impl Wire {
 
     /// Marks the packet with this number on the wire from `a` to `b` as delivered.
     pub fn mark(&mut self, a: u8, b: u8, number: u64)
-        requires { (a < 16) × (b < 16) × (number < length (packets_on self.old a b)) }
+        requires { (a < MACHINES) × (b < MACHINES) × (number < length (packets_on self.old a b)) }
         ensures { (x y : ℕ) → packets_on self.new x y ≡ after_mark (packets_on self.old) a b number x y }
     {
         self.pairs[place(a, b)].mark(number);
@@ -101,7 +101,7 @@ impl Wire {
 
     /// The least number on the wire from `a` to `b` that isn't marked. It looks at no packet that was delivered.
     pub fn unseen(&self, a: u8, b: u8) -> Option<u64>
-        requires { (a < 16) × (b < 16) }
+        requires { (a < MACHINES) × (b < MACHINES) }
         ensures first { result ≡ position is_unseen (packets_on self.now a b) }
         ensures short { length (packets_on self.now a b) < 2 ^ 64 }
     {

@@ -4,6 +4,7 @@ ghost use Rattle.dm_node.specs.Meets as node;
 ghost use Rattle.dm_node.specs.Meets.{HasStreams};
 ghost use Rattle.dm_world.specs.Ends.{names_of};
 
+use dm_link::MACHINES;
 use dm_lists::{Items, Queue};
 use dm_memory::NoMemory;
 use dm_message::{Message, MsgId};
@@ -37,8 +38,8 @@ pub fn ids_of_held(alloc: Global, messages: &[Message]) -> Result<Items<MsgId>, 
 pub fn untaken_ids(sender: &Node, receiver: &Node, a: u8, c: u8) -> Result<Items<MsgId>, NoMemory>
     requires sender { HasStreams sender.now }
     requires receiver { HasStreams receiver.now }
-    requires from { a < 16 }
-    requires to { c < 16 }
+    requires from { a < MACHINES }
+    requires to { c < MACHINES }
     ensures { IfOk result (λ ids. ids ≡
         names_of (drop (((node.state_of receiver.now).receivers a).count - ((node.state_of sender.now).senders c).acked)
         ((node.state_of sender.now).senders c).unacked)) }

@@ -12,7 +12,7 @@ use dm_linktable::Table;
 use dm_memory::{NoMemory, push};
 use dm_migrate::{Arriving, Wanted};
 use dm_process::{Process, Status};
-use dm_processor::{Memory, Regs};
+use dm_processor::{BLOCK, Memory, Regs};
 use dm_statebytes::Shell;
 
 /// The lines of a process that machine `m` has: how it stands there, its registers, its memory and its links.
@@ -130,7 +130,7 @@ fn doing(status: Status) -> Doing
 
 /// The blocks of a memory, but for those of zeros alone.
 fn say_memory(pid: Pid, memory: &Memory, lines: &mut Vec<EndLine>) -> Result<(), NoMemory>
-    ensures { OnOk result (lines.new.items ≡ lines.old.items ++ memory_lines pid memory.now (length memory.now / 256)) }
+    ensures { OnOk result (lines.new.items ≡ lines.old.items ++ memory_lines pid memory.now (length memory.now / BLOCK)) }
 {
     for block in 0..memory.blocks() {
         let block = block as u8;

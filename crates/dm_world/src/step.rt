@@ -23,7 +23,7 @@ ghost use Rattle.dm_world.specs.Stepped.{StepMeets};
 use crate::speak::speak;
 use crate::world::World;
 use dm_line::line::Line;
-use dm_link::Pid;
+use dm_link::{MACHINES, Pid};
 use dm_memory::{NoMemory, list_of};
 use dm_node::{Node, Out, Stop};
 use dm_onekernel::Boot;
@@ -200,7 +200,7 @@ fn ask_manager(
     requires within { 0 < length nodes.old }
     requires nodes { AreNodes nodes.old }
     requires may { MayAskMove (node_in boot.now nodes.old 0) }
-    requires to { to < 16 }
+    requires to { to < MACHINES }
     requires lawful { IsLawfulState (node_in boot.now nodes.old 0).kernel }
     ensures answers { TurnAnswers result boot.now nodes.old nodes.new 0 (node.asks_move (node_in boot.now nodes.old 0) pid to) }
     ensures outs { IfOk result (λ outs. All IsSendable outs.items) }
@@ -253,7 +253,7 @@ fn nothing(alloc: Global) -> Result<Vec<Out>, NoMemory>
 
 /// The packet with this number on the wire from `a` to `b`.
 fn read(wires: &Wire, a: u8, b: u8, k: u64) -> Option<Packet>
-    requires machines { (a < 16) × (b < 16) }
+    requires machines { (a < MACHINES) × (b < MACHINES) }
     requires reads { IfSome (bytes_at (packets_on wires.now a b) k) (λ bytes. IsOk (packet_of bytes)) }
     ensures { option_map packet_of (bytes_at (packets_on wires.now a b) k) ≡ option_map Ok result }
 {

@@ -7,6 +7,7 @@ ghost use Rattle.dm_node.specs.State.{opened};
 ghost use Rattle.dm_world.specs.Meets.{AreNodes, IsNode, IsWorld, state_of};
 ghost use Rattle.dm_world.specs.World.{first_world};
 
+use dm_link::MACHINES;
 use dm_memory::{NoMemory, push};
 use dm_node::Node;
 use dm_onekernel::Boot;
@@ -58,7 +59,7 @@ impl World {
     pub(crate) fn machines(&self) -> u8
         requires { IsWorld self.now }
         ensures all { result ≡ length self.now.boot.machines }
-        ensures few { result ≤ 16 }
+        ensures few { result ≤ MACHINES }
     {
         self.boot.machines.len() as u8
     }

@@ -10,12 +10,13 @@ ghost use Rattle.dm_packet.specs.Writes.{HasRoom, Puts};
 use super::Buffer;
 use super::fields::{put_addr, put_bool, put_byte, put_bytes, put_pid, put_u16, put_u32};
 use super::lists::{put_counted, put_links};
+use crate::MOST_PACKET;
 use dm_link::{Link, Pid};
-use dm_message::{Asker, Outcome, What};
+use dm_message::{Asker, CHUNK, MOST_BODY, Outcome, What};
 
 fn put_user(out: &mut Buffer, code: u32, channel: u8, body: &[u8], links: &[Link])
-    requires room { length out.old.items + 600 ≤ 1024 }
-    requires body { length body.now ≤ 256 }
+    requires room { length out.old.items + 600 ≤ MOST_PACKET }
+    requires body { length body.now ≤ MOST_BODY }
     requires links { length links.now ≤ 4 }
     ensures put { Puts out.old out.new (user.spell (code, (channel, (body.now, links.now)))) }
     ensures code { Fits 4 code }
@@ -37,7 +38,7 @@ fn put_read(out: &mut Buffer, base: u32, len: u16)
 
 fn put_write(out: &mut Buffer, base: u32, bytes: &[u8])
     requires room { HasRoom out.old (write.spell (base, bytes.now)) }
-    requires few { length bytes.now ≤ 256 }
+    requires few { length bytes.now ≤ MOST_BODY }
     ensures put { Puts out.old out.new (write.spell (base, bytes.now)) }
 {
     put_u32(out, base);
@@ -45,7 +46,7 @@ fn put_write(out: &mut Buffer, base: u32, bytes: &[u8])
 }
 
 fn put_create(out: &mut Buffer, image: u16, links: &[Link])
-    requires room { length out.old.items + 99 ≤ 1024 }
+    requires room { length out.old.items + 99 ≤ MOST_PACKET }
     requires few { length links.now ≤ 3 }
     ensures put { Puts out.old out.new (create.spell (image, links.now)) }
     ensures image { Fits 2 image }
@@ -116,7 +117,7 @@ fn put_pull_state(out: &mut Buffer, pid: Pid, chunk: u32)
 
 fn put_state(out: &mut Buffer, pid: Pid, chunk: u32, last: bool, bytes: &[u8])
     requires room { HasRoom out.old (state.spell (pid, (chunk, (last, bytes.now)))) }
-    requires few { length bytes.now ≤ 512 }
+    requires few { length bytes.now ≤ CHUNK }
     ensures put { Puts out.old out.new (state.spell (pid, (chunk, (last, bytes.now)))) }
     ensures pid { FitsPid pid }
     ensures chunk { Fits 4 chunk }
@@ -138,11 +139,11 @@ fn put_pull_block(out: &mut Buffer, pid: Pid, block: u8)
 }
 
 fn put_memory(out: &mut Buffer, pid: Pid, block: u8, bytes: &[u8; 256])
-    requires room { length out.old.items + 262 ≤ 1024 }
+    requires room { length out.old.items + 262 ≤ MOST_PACKET }
     ensures put { Puts out.old out.new (memory.spell (pid, (block, bytes.now))) }
     ensures pid { FitsPid pid }
     ensures block { Fits 1 block }
-    ensures bytes { length bytes.now ≡ 256 }
+    ensures bytes { length bytes.now ≡ MOST_BODY }
 {
     put_pid(out, pid);
     put_byte(out, block);
@@ -164,7 +165,7 @@ fn put_outcome(out: &mut Buffer, outcome: Outcome)
 /// What a message carries, at most 600 bytes.
 #[tactic(auto, unfolding(crate::specs::Whats::spell_what))]
 pub fn put_what(out: &mut Buffer, what: &What)
-    requires room { length out.old.items + 600 ≤ 1024 }
+    requires room { length out.old.items + 600 ≤ MOST_PACKET }
     requires lawful { IsLawfulWhat what.now }
     ensures put { Puts out.old out.new (spell_what what.now) }
     ensures fits { FitsWhat what.now }

@@ -8,13 +8,15 @@ ghost use Rattle.dm_packet.specs.Writes.{HasRoom, Puts};
 
 use super::Buffer;
 use super::fields::{put_byte, put_bytes, put_link, put_u16};
+use crate::MOST_PACKET;
 use dm_link::Link;
+use dm_message::CHUNK;
 
 /// Bytes behind their number.
 pub fn put_counted(out: &mut Buffer, bytes: &[u8])
-    requires room { HasRoom out.old ((bytes_within 0 512).spell bytes.now) }
-    requires few { length bytes.now ≤ 512 }
-    ensures put { Puts out.old out.new ((bytes_within 0 512).spell bytes.now) }
+    requires room { HasRoom out.old ((bytes_within 0 CHUNK).spell bytes.now) }
+    requires few { length bytes.now ≤ CHUNK }
+    ensures put { Puts out.old out.new ((bytes_within 0 CHUNK).spell bytes.now) }
 {
     put_u16(out, bytes.len() as u16);
     put_bytes(out, bytes);
@@ -32,7 +34,7 @@ fn put_link_run(out: &mut Buffer, links: &[Link])
 
 /// Links behind their number.
 pub fn put_links(out: &mut Buffer, links: &[Link])
-    requires room { length out.old.items + 97 ≤ 1024 }
+    requires room { length out.old.items + 97 ≤ MOST_PACKET }
     requires few { length links.now ≤ 4 }
     ensures put { Puts out.old out.new ((links_field 4).spell links.now) }
     ensures fits { All FitsLink links.now }

@@ -15,6 +15,7 @@ use crate::status::Status;
 use dm_drawing::{Drawn, draw_run};
 use dm_outside::{Failed, Shelf, Sink};
 use dm_run::write_all;
+use dm_schedule::MOST_SCHEDULE;
 use std::alloc::Global;
 
 /// Draws the run of the schedule of the second name on the system of the boot file of the first, and writes the picture.
@@ -53,7 +54,7 @@ pub fn chart_files<F: Shelf, K: Sink>(
 fn chart<K: Sink>(alloc: Global, inputs: Inputs, out: &mut K) -> Status
     requires valid { IsValid inputs.boot }
     requires each { All (IsFor (length inputs.boot.machines)) inputs.directives.items }
-    requires few { length inputs.directives.items ≤ 16777216 }
+    requires few { length inputs.directives.items ≤ MOST_SCHEDULE }
     ensures says { ChartSays inputs.boot inputs.directives.items (K.told out.old) (K.told out.new) result }
     ensures sink { BlamesSink (K.faults out.old) (K.faults out.new) result }
     ensures writes { K.faults out.old ≤ K.faults out.new }

@@ -11,7 +11,7 @@ ghost use Rattle.dm_program.specs.Status.{BlamesShelf, BlamesSink};
 use crate::inputs::{Traced, read_trace_files};
 use crate::status::{Status, push_number, words};
 use arrayvec::ArrayString;
-use dm_check::{CheckError, Good, check_trace};
+use dm_check::{CheckError, Good, MOST_TRACE, check_trace};
 use dm_outside::{Shelf, Sink};
 use dm_run::write_all;
 use std::alloc::Global;
@@ -51,7 +51,7 @@ pub fn check_files<F: Shelf, K: Sink>(
 /// Checks a trace, and says that it is good.
 fn check<K: Sink>(alloc: Global, traced: Traced, out: &mut K) -> Status
     requires valid { IsValid traced.boot }
-    requires short { length traced.trace.items ≤ 16777216 }
+    requires short { length traced.trace.items ≤ MOST_TRACE }
     ensures says { CheckSays traced.boot traced.trace.items (K.told out.old) (K.told out.new) result }
     ensures sink { BlamesSink (K.faults out.old) (K.faults out.new) result }
     ensures writes { K.faults out.old ≤ K.faults out.new }

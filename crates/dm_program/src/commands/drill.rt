@@ -17,7 +17,7 @@ use dm_memory::NoMemory;
 use dm_onekernel::Boot;
 use dm_outside::Sink;
 use dm_run::begin;
-use dm_schedule::Directive;
+use dm_schedule::{Directive, MOST_SCHEDULE};
 use dm_world::World;
 use std::alloc::Global;
 
@@ -55,7 +55,7 @@ fn draw(alloc: Global, drill: &Drill) -> Result<Drawn, NoMemory>
     ensures valid { IfOk result (λ d. IsValid d.boot) }
     ensures directives { IfOk result (λ d. d.directives.items ≡ directives_of drill.now) }
     ensures each { IfOk result (λ d. All (IsFor (length d.boot.machines)) d.directives.items) }
-    ensures few { IfOk result (λ d. length d.directives.items ≤ 16777216) }
+    ensures few { IfOk result (λ d. length d.directives.items ≤ MOST_SCHEDULE) }
 {
     let boot = drill_boot(alloc, drill.machines)?;
     let directives = drill_directives(alloc, drill.seed, drill.machines, drill.lines)?;
@@ -72,7 +72,7 @@ fn run<K: Sink>(
 ) -> Status
     requires valid { IsValid drawn.boot }
     requires each { All (IsFor (length drawn.boot.machines)) drawn.directives.items }
-    requires few { length drawn.directives.items ≤ 16777216 }
+    requires few { length drawn.directives.items ≤ MOST_SCHEDULE }
     ensures says { DrilledSays drill.now drawn.boot drawn.directives.items (K.told out.old) (K.told out.new) world.new result }
     ensures sink { BlamesSink (K.faults out.old) (K.faults out.new) result }
     ensures writes { K.faults out.old ≤ K.faults out.new }

@@ -8,13 +8,14 @@ ghost use Rattle.dm_program.specs.Outside.{around};
 ghost use Rattle.dm_program.specs.Status.{BlamesShelf, BlamesSink};
 ghost use Rattle.dm_explain.specs.Explained.{IsToldValid};
 
-use crate::inputs::{MOST_BOOT, MOST_SCHEDULE};
+use crate::inputs::MOST_BOOT;
 use crate::read::{ReadError, read_file};
 use crate::status::{Input, Status};
 use dm_explain::{BootTold, ScheduleTold, explain_boot, explain_schedule};
 use dm_memory::{NoMemory, extend_from_slice};
 use dm_outside::{Shelf, Sink};
 use dm_run::write_all;
+use dm_schedule::MOST_SCHEDULE;
 use std::alloc::Global;
 
 /// What is said of files, and how the program ends that has said it.

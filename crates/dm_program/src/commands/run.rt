@@ -13,6 +13,7 @@ use crate::inputs::{Inputs, read_files};
 use crate::status::Status;
 use dm_outside::{Shelf, Sink};
 use dm_run::{Stop, begin, run_to_end};
+use dm_schedule::MOST_SCHEDULE;
 use dm_world::World;
 use std::alloc::Global;
 
@@ -55,7 +56,7 @@ pub fn run_files<F: Shelf, K: Sink>(
 fn run<K: Sink>(alloc: Global, inputs: Inputs, out: &mut K, world: &mut Option<World>) -> Status
     requires valid { IsValid inputs.boot }
     requires each { All (IsFor (length inputs.boot.machines)) inputs.directives.items }
-    requires few { length inputs.directives.items ≤ 16777216 }
+    requires few { length inputs.directives.items ≤ MOST_SCHEDULE }
     ensures says { RunSays inputs.boot inputs.directives.items (K.told out.old) (K.told out.new) world.new result }
     ensures sink { BlamesSink (K.faults out.old) (K.faults out.new) result }
     ensures writes { K.faults out.old ≤ K.faults out.new }
