@@ -1,13 +1,6 @@
 -- Cutting a list at the first item that passes a test.
-use Rattle.std.proofs.Common.{ℕ, zero, suc, Bool, true, false, not, ◌==◌, ◌≡◌, ◌+◌, ◌<◌, ◌≤◌, List, [], ◌∷◌, length, take, drop, get_or, length-drop, add-zero, ◌-◌, refl, ap, sym, ◌∙◌, arith}
-use Rattle.std.specs.List.{position, position_or_len}
-use Rattle.std.specs.Prelude.{Some, None}
-use Rattle.std.proofs.lemmas.Grind.{common_steps}
-use Rattle.std.proofs.lemmas.List.{take_all, length-take-le, get_or-drop}
-use Rattle.std.proofs.lemmas.Bool.Decides.{nat_tests}
-use Rattle.std.proofs.Math.Seq.{drop-length}
-use Rattle.std.proofs.lemmas.List.Quantifiers.{position-Some}
-use Rattle.dm_asm.specs.Lines.{cut, lines, words, separates, begins_comment, without_comment}
+use Rattle.dm_asm.proofs.Names.{ℕ, zero, suc, Bool, true, false, not, ◌==◌, ◌≡◌, ◌+◌, ◌<◌, ◌≤◌, List, [], ◌∷◌, length, take, drop, get_or, length-drop, add-zero, ◌-◌, refl, ap, sym, ◌∙◌, arith, position, position_or_len, Some, None}
+use Rattle.dm_asm.proofs.Names.{common_steps, take_all, length-take-le, get_or-drop, nat_tests, drop-length, position-Some, cut, lines, words, separates, begins_comment, without_comment}
 
 -- behind the first item that passes, the rest is cut
 cut-at : (test : ℕ → Bool) (xs : List ℕ) (i : ℕ) → i < length xs → test (get_or xs i 0) ≡ true → ((k : ℕ) → k < i → test (get_or xs k 0) ≡ false) → cut test xs ≡ take i xs ∷ cut test (drop (i + 1) xs)

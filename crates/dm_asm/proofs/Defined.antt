@@ -1,16 +1,7 @@
 -- What a table has when a label is defined.
-use Rattle.std.proofs.Common.{ℕ, Bool, true, false, cond, List, ◌≡◌, refl, sym, ap, ◌∙◌}
-use Rattle.std.specs.Prelude.{Option, Some, None, is_some, if◌then◌else◌}
-use Rattle.std.specs.Borrow.{Bor}
+use Rattle.dm_asm.proofs.Names.{ℕ, Bool, true, false, cond, List, ◌≡◌, refl, sym, ap, ◌∙◌, Option, Some, None, is_some, if◌then◌else◌, Bor, BTreeMap, get_by, slice_cmp, nat_cmp, bytes_eq, btree_map_updates_str, bytes_eq-Decides, Place}
+use Rattle.dm_asm.proofs.Names.{first_of}
 use Rattle.std.specs.BTreeMap as tree
-use Rattle.std.specs.BTreeMap.{BTreeMap, get_by}
-use Rattle.std.specs.Cmp.Lexicographic.{slice_cmp}
-use Rattle.std.specs.Ordering.{nat_cmp}
-use Rattle.std.specs.Str.{bytes_eq}
-use Rattle.std.proofs.lemmas.Map.Text.{btree_map_updates_str}
-use Rattle.std.proofs.lemmas.Slice.Eq.{bytes_eq-Decides}
-use Rattle.dm_asm.specs.declared.labels.Place.{Place}
-use Rattle.dm_asm.specs.Places.{first_of}
 
 -- nothing behind a place changes it
 pub first_of-None : (old : Option Place) → first_of old None ≡ old

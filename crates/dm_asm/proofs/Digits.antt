@@ -1,8 +1,5 @@
 -- Numbers that are not told apart from 2^32 on.
-use Rattle.std.proofs.Common.{ℕ, Bool, true, false, ◌≡◌, ◌+◌, ◌*◌, ◌^◌, ◌<◌, List, [], ◌∷◌, length, drop, get_or, min, refl, ap, sym, ◌∙◌, add-one, drop-cons, arith}
-use Rattle.std.specs.Prelude.{Option, Some, None, option_map}
-use Rattle.std.specs.Option.{option_and_then}
-use Rattle.dm_asm.specs.Numbers.{base, digit, going_on}
+use Rattle.dm_asm.proofs.Names.{ℕ, Bool, true, false, ◌≡◌, ◌+◌, ◌*◌, ◌^◌, ◌<◌, List, [], ◌∷◌, length, drop, get_or, min, refl, ap, sym, ◌∙◌, add-one, drop-cons, arith, Option, Some, None, option_map, option_and_then, base, digit, going_on}
 
 -- a number, at most 2^32
 abbrev pub capped : Option ℕ → Option ℕ
@@ -30,9 +27,3 @@ digit-read hex v new d i xs h e f =
     let a : capped (going_on hex new (drop (i + 1) xs)) ≡ capped (going_on hex (v * base hex + d) (drop (i + 1) xs)) = alike hex new (v * base hex + d) (drop (i + 1) xs) (omega arith) in
     let b : drop i xs ≡ get_or xs i 0 ∷ drop (i + 1) xs = drop-cons xs i 0 h ∙ ap (λ (k : ℕ). get_or xs i 0 ∷ drop k xs) (sym (add-one i)) in
     a ∙ sym (rw (b, ← e) refl)
-
--- what is no digit ends all
-pub digit-missing : (hex : Bool) (v i : ℕ) (xs : List ℕ) → i < length xs → None ≡ digit hex (get_or xs i 0) → capped (going_on hex v (drop i xs)) ≡ None
-digit-missing hex v i xs h e =
-    let b : drop i xs ≡ get_or xs i 0 ∷ drop (i + 1) xs = drop-cons xs i 0 h ∙ ap (λ (k : ℕ). get_or xs i 0 ∷ drop k xs) (sym (add-one i)) in
-    rw (b, ← e) refl

@@ -1,19 +1,6 @@
 -- What the loops leave is what a text means.
-use Rattle.std.proofs.Common.{ℕ, List, [], ◌∷◌, ◌++◌, ◌≡◌, refl, ap, sym, ◌∙◌, append_assoc}
-use Rattle.std.specs.Prelude.{Result, Ok, Err}
-use Rattle.std.proofs.lemmas.List.{append-nil}
-use Rattle.dm_asm.specs.declared.labels.Labels.{Labels}
-use Rattle.dm_asm.specs.declared.refusals.Why.{Why}
-use Rattle.dm_asm.specs.declared.refusals.AssembleError.{AssembleError}
-use Rattle.dm_asm.specs.declared.refusals.AssembleError.TheVariants.{Fault, NoMemory}
-use Rattle.dm_asm.specs.Assembled.{Answers, assembled, places_of, with_lines}
-use Rattle.dm_asm.specs.Labels.{place_in}
-use Rattle.dm_asm.specs.Lines.{lines}
-use Rattle.dm_asm.specs.Numbers.{number_of}
-use Rattle.dm_asm.specs.Operands.{wanted_number}
-use Rattle.dm_asm.specs.Places.{place_from}
-use Rattle.dm_asm.specs.Refusals.{◌>>=◌, behind}
-use Rattle.dm_asm.specs.Statements.{listed_bytes}
+use Rattle.dm_asm.proofs.Names.{ℕ, List, [], ◌∷◌, ◌++◌, ◌≡◌, refl, ap, sym, ◌∙◌, append_assoc, Result, Ok, Err, append-nil, Labels, Why, AssembleError, Fault, NoMemory, Answers, assembled, places_of, with_lines, place_in, lines, number_of}
+use Rattle.dm_asm.proofs.Names.{wanted_number, place_from, ◌>>=◌, behind, listed_bytes}
 
 -- with the table of its labels, the lines of a text give what it means
 pub meant : (labels : Labels) (text : List ℕ) → ((q : List ℕ) → place_in labels q ≡ place_from 1 0 (lines text) q) → with_lines (place_in labels) 1 [] (lines text) ≡ assembled text

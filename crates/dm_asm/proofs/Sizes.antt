@@ -1,23 +1,8 @@
 -- A line makes as many bytes as it counts.
-use Rattle.std.proofs.Common.{ℕ, suc, Bool, true, false, nat_le, ◌≡◌, refl, ap, List, [], ◌∷◌, length, replicate, arith}
-use Rattle.std.specs.Prelude.{Option, Some, None, Result, Ok, Err, if◌then◌else◌}
-use Rattle.std.proofs.lemmas.Bool.Decides.{nat_tests}
-use Rattle.std.proofs.lemmas.List.{length-replicate}
-use Rattle.dm_processor.specs.declared.opcodes.Opcode.{Opcode}
-use Rattle.dm_asm.specs.declared.forms.Form.{Form}
-use Rattle.dm_asm.specs.declared.forms.Form.TheVariants.{Instruction, Word, Byte, Zero}
-use Rattle.dm_asm.specs.declared.forms.Shape.{Shape}
-use Rattle.dm_asm.specs.declared.forms.Shape.TheVariants.{RegisterValue, TwoRegisters, ThreeRegisters, Access, Jump, Branch, Call}
-use Rattle.dm_asm.specs.declared.labels.Place.{Place}
-use Rattle.dm_asm.specs.declared.refusals.Why.{Why}
-use Rattle.dm_asm.specs.declared.refusals.Why.TheVariants.{OperandCount, OutOfRange}
-use Rattle.dm_asm.specs.Forms.{form_of, shape_of}
-use Rattle.dm_asm.specs.Lines.{words, without_comment}
-use Rattle.dm_asm.specs.Numbers.{number_of}
-use Rattle.dm_asm.specs.Operands.{fields, number, register, target, value, wanted_number}
-use Rattle.dm_asm.specs.Places.{behind_label, form_size, label_of, line_size, statement_size, zero_size}
-use Rattle.dm_asm.specs.Refusals.{◌>>=◌}
-use Rattle.dm_asm.specs.Statements.{form_bytes, instruction_bytes, is_twice, line_bytes, listed_bytes, named_bytes, statement_bytes, takes}
+use Rattle.dm_asm.proofs.Names.{ℕ, suc, Bool, true, false, nat_le, ◌≡◌, refl, ap, List, [], ◌∷◌, length, replicate, arith, Option, Some, None, Result, Ok, Err, if◌then◌else◌, nat_tests, length-replicate, Opcode, Form, Instruction, Word}
+use Rattle.dm_asm.proofs.Names.{Byte, Zero, Shape, RegisterValue, TwoRegisters, ThreeRegisters, Access, Jump, Branch, Call, Place, Why, OperandCount, OutOfRange, form_of, shape_of, words, without_comment, number_of, fields, number}
+use Rattle.dm_asm.proofs.Names.{register, target, value, wanted_number, behind_label, form_size, label_of, line_size, statement_size, zero_size, ◌>>=◌, form_bytes, instruction_bytes, is_twice, line_bytes, listed_bytes, named_bytes}
+use Rattle.dm_asm.proofs.Names.{statement_bytes, takes}
 
 -- so many bytes, if any
 abbrev pub HasLength : ℕ → Result (List ℕ) Why → Type 0

@@ -1,17 +1,6 @@
 -- Each label stands behind the bytes of the lines before it.
-use Rattle.std.proofs.Common.{ℕ, Bool, true, false, ◌+◌, ◌-◌, ◌≤◌, nat_le, ◌≡◌, refl, sym, ap, ◌∙◌, List, [], ◌∷◌, ◌++◌, length, take, append_assoc, arith, subst, suc}
-use Rattle.std.specs.Prelude.{Option, Some, Result, Ok, Err, if◌then◌else◌}
-use Rattle.std.proofs.lemmas.List.{length-append}
-use Rattle.std.proofs.lemmas.List.{append-nil}
-use Rattle.std.proofs.Math.Seq.{take-append_seam}
-use Rattle.dm_asm.specs.declared.labels.Place.{Place}
-use Rattle.dm_asm.specs.declared.refusals.Why.{Why}
-use Rattle.dm_asm.specs.declared.refusals.Why.TheVariants.{TooLong}
-use Rattle.dm_asm.specs.Assembled.{StandsBehind, assembled, from_line, not_too_long, places_of, with_line, with_lines}
-use Rattle.dm_asm.specs.Lines.{lines}
-use Rattle.dm_asm.specs.Places.{has_label, line_size, place_from}
-use Rattle.dm_asm.specs.Refusals.{◌>>=◌, behind}
-use Rattle.dm_asm.specs.Statements.{line_bytes}
+use Rattle.dm_asm.proofs.Names.{ℕ, Bool, true, false, ◌+◌, ◌-◌, ◌≤◌, nat_le, ◌≡◌, refl, sym, ap, ◌∙◌, List, [], ◌∷◌, ◌++◌, length, take, append_assoc, arith, subst, suc, Option, Some, Result, Ok, Err, if◌then◌else◌, length-append}
+use Rattle.dm_asm.proofs.Names.{append-nil, take-append_seam, Place, Why, TooLong, StandsBehind, assembled, from_line, not_too_long, places_of, with_line, with_lines, lines, has_label, line_size, place_from, ◌>>=◌, behind, line_bytes}
 use Rattle.dm_asm.proofs.Sizes.{HasLength, line-length}
 
 -- a list with more behind it

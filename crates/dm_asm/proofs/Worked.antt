@@ -1,14 +1,6 @@
 -- The definitions, computed on worked texts.
-use Rattle.std.proofs.Common.{◌≡◌, ℕ, Ok, Err, Result, List, [], ◌∷◌, ◌++◌, map, codes, refl}
-use Rattle.dm_asm.specs.declared.refusals.Why.{Why}
-use Rattle.dm_asm.specs.Assembled.{assembled, places_of, with_line}
-use Rattle.dm_asm.specs.Forms.{form_of}
-use Rattle.dm_asm.specs.Lines.{lines, words}
-use Rattle.dm_asm.specs.Numbers.{number_of}
-use Rattle.dm_asm.specs.Operands.{distance_of, fields, number, register, target, value, value_of}
-use Rattle.dm_asm.specs.Places.{has_label, line_size}
-use Rattle.dm_asm.specs.Refusals.{why_code}
-use Rattle.dm_asm.specs.Statements.{line_bytes, listed_bytes, statement_bytes}
+use Rattle.dm_asm.proofs.Names.{◌≡◌, ℕ, Ok, Err, Result, List, [], ◌∷◌, ◌++◌, map, codes, refl, Why, assembled, places_of, with_line, form_of, lines, words, number_of, distance_of, fields, number, register, target, value, value_of}
+use Rattle.dm_asm.proofs.Names.{has_label, line_size, why_code, line_bytes, listed_bytes, statement_bytes}
 
 -- the line and the number of a refusal; 0 and 0 where there is an image
 abbrev refusal : Result (List ℕ) (ℕ × Why) → ℕ × ℕ

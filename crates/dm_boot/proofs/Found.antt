@@ -1,22 +1,8 @@
 -- The processes of the file, found by their names.
-use Rattle.std.proofs.Common.{◌≡◌, ℕ, ◌+◌, ◌<◌, ◌≤◌, ◌==◌, ◌&&◌, zero, suc, Bool, true, false, cond, List, [], ◌∷◌, ◌++◌, length, slice_get, Option, Some, None, refl, ap, sym, ◌∙◌, arith, append_assoc}
-use Rattle.std.proofs.lemmas.Bool.Decides.{nat_tests}
-use Rattle.toml.specs.Data.{Data, Items, no_items, item, get_item}
-use Rattle.dm_link.specs.declared.Pid.{Pid}
-use Rattle.dm_link.specs.declared.Link.{Link}
-use Rattle.dm_link.specs.Names.{pid_eq}
-use Rattle.dm_onekernel.specs.declared.boot.BootImage.{BootImage}
-use Rattle.dm_onekernel.specs.declared.boot.BootProcess.{BootProcess}
-use Rattle.dm_onekernel.specs.Boot.{first_number, starting_at, blocks_at, blocks_of_image, process_named}
-use Rattle.dm_boot.specs.Tables.{count, or_zero}
-use Rattle.dm_boot.specs.Build.{home_of, image_place, start_of, starts_from, linked, linked_all, links_of}
+use Rattle.dm_boot.proofs.Names.{◌≡◌, ℕ, ◌+◌, ◌<◌, ◌≤◌, ◌==◌, ◌&&◌, zero, suc, Bool, true, false, cond, List, [], ◌∷◌, ◌++◌, length, slice_get, Option, Some, None, refl, ap, sym, ◌∙◌, arith, append_assoc, nat_tests, Data, Items, no_items}
+use Rattle.dm_boot.proofs.Names.{item, get_item, Pid, Link, pid_eq, BootImage, BootProcess, first_number, starting_at, blocks_at, blocks_of_image, process_named, count, or_zero, home_of, image_place, start_of, starts_from, linked}
+use Rattle.dm_boot.proofs.Names.{linked_all, links_of}
 use Rattle.dm_boot.proofs.Counted.{starting-push}
-
--- as many processes as tables
-pub starts-length : (d : Data) (done : List BootProcess) (ts : Items) → length (starts_from d done ts) ≡ count ts
-unfolding starts_from
-starts-length d done no_items = refl
-starts-length d done (item t ts) = omega (arith, starts-length d (done ++ start_of d done t ∷ []) ts)
 
 pub linked-length : (d : Data) (all done : List BootProcess) (ts : Items) → length (linked_all d all (starts_from d done ts) ts) ≡ count ts
 unfolding starts_from linked_all

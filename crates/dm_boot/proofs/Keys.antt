@@ -1,11 +1,5 @@
 -- The keys of a table, as the code goes through them.
-use Rattle.std.proofs.Common.{◌≡◌, ℕ, ◌||◌, ◌&&◌, List, [], ◌∷◌, map, refl, ap, String, string_bytes, Global, Bor}
-use Rattle.std.specs.List.{list_any, list_all}
-use Rattle.std.specs.Str.{bytes_eq}
-use Rattle.std.specs.Map.{keys_of}
-use Rattle.toml.specs.declared.value.Value.{Value}
-use Rattle.toml.specs.View.{members_view}
-use Rattle.dm_boot.specs.Tables.{is_known, all_known}
+use Rattle.dm_boot.proofs.Names.{◌≡◌, ℕ, ◌||◌, ◌&&◌, List, [], ◌∷◌, map, refl, ap, String, string_bytes, Global, Bor, list_any, list_all, bytes_eq, keys_of, Value, members_view, is_known, all_known}
 
 -- a key among those that references name
 pub is_known-map : (known : List (Bor (List ℕ))) (key : List ℕ) → is_known (map (λ k. k.now) known) key ≡ list_any (λ k. bytes_eq k.now key) known

@@ -1,30 +1,10 @@
 -- Each link of a boot file leads somewhere.
-use Rattle.std.proofs.Common.{◌≡◌, ℕ, ◌+◌, ◌*◌, ◌<◌, ◌≤◌, ◌==◌, ◌&&◌, ◌||◌, not, Bool, true, false, if◌then◌else◌, nat_le, List, [], length, slice_get, codes, Option, Some, None, refl, ap, sym, subst, ◌∙◌, arith}
-use Rattle.std.proofs.lemmas.Bool.{and_parts}
-use Rattle.std.proofs.lemmas.Bool.Decides.{nat_tests}
-use Rattle.std.specs.Option.{is_some}
-use Rattle.toml.specs.Data.{Data, get_item}
-use Rattle.dm_link.specs.declared.Pid.{Pid}
-use Rattle.dm_link.specs.declared.Link.{Link}
-use Rattle.dm_link.specs.Names.{pid_of, pid_eq}
-use Rattle.dm_onekernel.specs.declared.boot.BootProcess.{BootProcess}
-use Rattle.dm_onekernel.specs.declared.boot.Boot.{Boot}
-use Rattle.dm_onekernel.specs.Boot.{first_number, process_named, switchboard, manager, blocks_of_image, memory_size, leads_to_process, leads_to_server, controls_child, link_is_valid, area_is_within}
-use Rattle.dm_boot.specs.Tables.{count, or_zero, text_at, truth_at, place_of, named}
-use Rattle.dm_boot.specs.Text.{is_switchboard, is_manager, is_server}
-use Rattle.dm_boot.specs.Build.{process_tables, image_tables, image_place, image_of, images_of, starts_of, processes_of, linked, link_of, link_to, control_of, pid_named, pid_of_start, is_control, code_in, channel_in, base_in, len_in, system_of, system_with}
-use Rattle.dm_boot.specs.Rules.{has_target, is_plain, is_limited, has_area, memory_of}
+use Rattle.dm_boot.proofs.Names.{◌≡◌, ℕ, ◌+◌, ◌*◌, ◌<◌, ◌≤◌, ◌==◌, ◌&&◌, ◌||◌, not, Bool, true, false, if◌then◌else◌, nat_le, List, [], length, slice_get, codes, Option, Some, None, refl, ap, sym, subst, ◌∙◌, arith, and_parts, nat_tests}
+use Rattle.dm_boot.proofs.Names.{is_some, Data, get_item, Pid, Link, pid_of, pid_eq, BootProcess, Boot, first_number, process_named, switchboard, manager, blocks_of_image, memory_size, leads_to_process, leads_to_server, controls_child}
+use Rattle.dm_boot.proofs.Names.{link_is_valid, area_is_within, count, or_zero, text_at, truth_at, place_of, named, is_switchboard, is_manager, is_server, process_tables, image_tables, image_place, image_of, images_of, starts_of}
+use Rattle.dm_boot.proofs.Names.{processes_of, linked, link_of, link_to, control_of, pid_named, pid_of_start, is_control, code_in, channel_in, base_in, len_in, system_of, system_with, has_target, is_plain, is_limited, has_area, memory_of}
 use Rattle.dm_boot.proofs.Bounds.{none-is, number-bounds, number-zero, map-at, place-within, item-at}
 use Rattle.dm_boot.proofs.Found.{Start, linked-length, start-at, numbered-none, found-start, found-linked}
-
--- the parts of a system
-built-images : (d : Data) → (system_of d).images ≡ images_of d
-unfolding system_with
-built-images d = refl
-
-built-processes : (d : Data) → (system_of d).processes ≡ processes_of d
-unfolding system_with
-built-processes d = refl
 
 pub processes-length : (d : Data) → length (system_of d).processes ≡ count (process_tables d)
 unfolding system_with starts_of
@@ -37,10 +17,6 @@ and-true {a = false} h k = absurd (cc)
 or-right : (a b : Bool) → b ≡ true → (a || b) ≡ true
 or-right true b h = refl
 or-right false b h = h
-
-or-false : (a b : Bool) → (a || b) ≡ false → (a ≡ false) × (b ≡ false)
-or-false true b h = absurd (cc)
-or-false false b h = (refl, h)
 
 not-false : (b : Bool) → not b ≡ true → b ≡ false
 not-false true h = absurd (cc)

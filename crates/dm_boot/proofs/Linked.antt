@@ -1,13 +1,6 @@
 -- The processes with their links, as a loop goes through them.
-use Rattle.std.proofs.Common.{◌≡◌, ℕ, ◌+◌, ◌<◌, ◌≤◌, List, [], ◌∷◌, ◌++◌, length, get_or, drop, refl, ap, sym, ◌∙◌, append_assoc}
-use Rattle.std.proofs.lemmas.List.{append-nil, drop_more}
-use Rattle.std.proofs.Math.ListN.{drop_of_length-le}
-use Rattle.toml.specs.declared.value.Value.{Value}
-use Rattle.toml.specs.Data.{Data, no_items}
-use Rattle.toml.specs.View.{view, items_view}
-use Rattle.dm_link.specs.declared.Link.{Link}
-use Rattle.dm_onekernel.specs.declared.boot.BootProcess.{BootProcess}
-use Rattle.dm_boot.specs.Build.{linked, linked_all, links_of}
+use Rattle.dm_boot.proofs.Names.{◌≡◌, ℕ, ◌+◌, ◌<◌, ◌≤◌, List, [], ◌∷◌, ◌++◌, length, get_or, drop, refl, ap, sym, ◌∙◌, append_assoc, append-nil, drop_more, drop_of_length-le, Value, Data, no_items, view, items_view, Link, BootProcess}
+use Rattle.dm_boot.proofs.Names.{linked, linked_all, links_of}
 use Rattle.dm_boot.proofs.Elements.{element_at, no_more}
 
 start_at : (ps : List BootProcess) (i : ℕ) (p : BootProcess) → i < length ps → p ≡ get_or ps i p → drop i ps ≡ p ∷ drop (i + 1) ps

@@ -1,18 +1,9 @@
 -- Rules in parts, one after the other.
-use Rattle.std.proofs.Common.{◌≡◌, ℕ, ◌+◌, ◌≤◌, Bool, true, false, nat_le, if◌then◌else◌, List, [], ◌∷◌, ◌++◌, Option, Some, None, Result, Ok, Err, map, refl, ap, ◌∙◌, arith}
-use Rattle.std.proofs.lemmas.Bool.Decides.{nat_tests}
-use Rattle.toml.specs.Data.{Data, Items, no_items, item}
-use Rattle.dm_onekernel.specs.declared.boot.Boot.{Boot}
-use Rattle.dm_boot.specs.declared.rules.BootRule.{BootRule}
-use Rattle.dm_boot.specs.declared.rules.BootRule.TheVariants.{TopKeys, Settings, MachineCount, MachineKeys, MachineRoom, ImageCount, ImageText, ImageBytes, ProcessKeys, ProcessName, ProcessMachine, ProcessImage, ProcessRoom}
+use Rattle.dm_boot.proofs.Names.{◌≡◌, ℕ, ◌+◌, ◌≤◌, Bool, true, false, nat_le, if◌then◌else◌, List, [], ◌∷◌, ◌++◌, Option, Some, None, Result, Ok, Err, map, refl, ap, ◌∙◌, arith, nat_tests, Data, Items, no_items, item, Boot, BootRule}
+use Rattle.dm_boot.proofs.Names.{TopKeys, Settings, MachineCount, MachineKeys, MachineRoom, ImageCount, ImageText, ImageBytes, ProcessKeys, ProcessName, ProcessMachine, ProcessImage, ProcessRoom, BootError, Refused, NoMemory, before_images}
+use Rattle.dm_boot.proofs.Names.{count, first_failing, map_items, image_of, images_of, image_tables, process_tables, system_of, keeps, subjects, broken_at, broken_or, first_broken, first_unassembled, first_long, image_fits, has_place}
+use Rattle.dm_boot.proofs.Names.{rule_of, has_good_image_count, image_rules, process_rules, link_rules, rules, Answers, unless, unless_at, boot_of_table}
 use Rattle.dm_boot.specs.declared.rules.TableRule.TheVariants as of_tables
-use Rattle.dm_boot.specs.declared.rules.BootError.{BootError}
-use Rattle.dm_boot.specs.declared.rules.BootError.TheVariants.{Refused, NoMemory}
-use Rattle.dm_boot.specs.Before.{before_images}
-use Rattle.dm_boot.specs.Tables.{count, first_failing, map_items}
-use Rattle.dm_boot.specs.Build.{image_of, images_of, image_tables, process_tables, system_of}
-use Rattle.dm_boot.specs.Rules.{keeps, subjects, broken_at, broken_or, first_broken, first_unassembled, first_long, image_fits, has_place, rule_of, has_good_image_count, image_rules, process_rules, link_rules, rules}
-use Rattle.dm_boot.specs.Boot.{Answers, unless, unless_at, boot_of_table}
 
 -- what is broken first, or else what comes later
 abbrev pub or_later : Option (BootRule × ℕ) → Option (BootRule × ℕ) → Option (BootRule × ℕ)
@@ -28,11 +19,6 @@ pub broken-append : (rs ss : List BootRule) (d : Data) → first_broken (rs ++ s
 unfolding first_broken
 broken-append [] ss d = refl
 broken-append (r ∷ rs) ss d = ap (broken_or r (broken_at r d)) (broken-append rs ss d) ∙ or_later-step r (broken_at r d) (first_broken rs d) (first_broken ss d)
-
--- one rule after others
-pub broken-one : (rule : BootRule) (d : Data) → first_broken (rule ∷ []) d ≡ broken_or rule (broken_at rule d) None
-unfolding first_broken
-broken-one rule d = refl
 
 -- a list of rules of which none is broken
 pub none-first : (rule : BootRule) (o : Option ℕ) (rest : Option (BootRule × ℕ)) → broken_or rule o rest ≡ None → (o ≡ None) × (rest ≡ None)

@@ -1,16 +1,6 @@
 -- The processes without their links, as a loop goes through them.
-use Rattle.std.proofs.Common.{◌≡◌, ℕ, ◌+◌, ◌<◌, ◌≤◌, true, false, Some, List, [], ◌∷◌, ◌++◌, length, get_or, drop, take, ap, sym, ◌∙◌, append_assoc}
-use Rattle.std.proofs.lemmas.List.{append-nil}
-use Rattle.std.proofs.Math.Seq.{take-append_seam}
-use Rattle.toml.specs.declared.value.Value.{Value}
-use Rattle.toml.specs.Data.{Data}
-use Rattle.toml.specs.View.{view, items_view}
-use Rattle.dm_onekernel.specs.declared.boot.BootMachine.{BootMachine}
-use Rattle.dm_onekernel.specs.declared.boot.BootImage.{BootImage}
-use Rattle.dm_onekernel.specs.declared.boot.BootProcess.{BootProcess}
-use Rattle.dm_boot.specs.Tables.{first_failing}
-use Rattle.dm_boot.specs.Build.{machines_of, images_of, start_of, starts_from, starts_of}
-use Rattle.dm_boot.specs.Rules.{fits_after, has_place}
+use Rattle.dm_boot.proofs.Names.{◌≡◌, ℕ, ◌+◌, ◌<◌, ◌≤◌, true, false, Some, List, [], ◌∷◌, ◌++◌, length, get_or, drop, take, ap, sym, ◌∙◌, append_assoc, append-nil, take-append_seam, Value, Data, view, items_view, BootMachine, BootImage}
+use Rattle.dm_boot.proofs.Names.{BootProcess, first_failing, machines_of, images_of, start_of, starts_from, starts_of, fits_after, has_place}
 use Rattle.dm_boot.proofs.Elements.{element_at, no_more, failing-more, failing-here}
 
 pub starts-end : (d : Data) (done : List BootProcess) (vs : List Value) (i : ℕ) → length vs ≤ i → done ++ starts_from d done (items_view (drop i vs)) ≡ done

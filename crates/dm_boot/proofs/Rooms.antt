@@ -1,16 +1,7 @@
 -- Processes that fit their machines, one after the other.
-use Rattle.std.proofs.Common.{◌≡◌, ℕ, ◌+◌, ◌<◌, ◌≤◌, ◌==◌, Bool, true, false, cond, nat_le, nat_lt, List, [], ◌∷◌, ◌++◌, length, slice_get, Option, Some, None, refl, ap, sym, ◌∙◌, arith, append_assoc}
-use Rattle.std.proofs.lemmas.List.{append-nil, length-append}
-use Rattle.std.proofs.lemmas.Bool.{and_parts}
-use Rattle.std.proofs.lemmas.Bool.Decides.{nat_tests}
-use Rattle.toml.specs.Data.{Data, Items, no_items, item}
-use Rattle.dm_onekernel.specs.declared.boot.BootMachine.{BootMachine}
-use Rattle.dm_onekernel.specs.declared.boot.BootImage.{BootImage}
-use Rattle.dm_onekernel.specs.declared.boot.BootProcess.{BootProcess}
-use Rattle.dm_onekernel.specs.Boot.{starting_at, blocks_at, blocks_of_image}
-use Rattle.dm_boot.specs.Tables.{first_failing}
-use Rattle.dm_boot.specs.Build.{machines_of, images_of, start_of, starts_from, starts_of}
-use Rattle.dm_boot.specs.Rules.{fits_machine, fits_after, has_place}
+use Rattle.dm_boot.proofs.Names.{◌≡◌, ℕ, ◌+◌, ◌<◌, ◌≤◌, ◌==◌, Bool, true, false, cond, nat_le, nat_lt, List, [], ◌∷◌, ◌++◌, length, slice_get, Option, Some, None, refl, ap, sym, ◌∙◌, arith, append_assoc, append-nil, length-append}
+use Rattle.dm_boot.proofs.Names.{and_parts, nat_tests, Data, Items, no_items, item, BootMachine, BootImage, BootProcess, starting_at, blocks_at, blocks_of_image, first_failing, machines_of, images_of, start_of, starts_from, starts_of}
+use Rattle.dm_boot.proofs.Names.{fits_machine, fits_after, has_place}
 use Rattle.dm_boot.proofs.Bounds.{if-none}
 use Rattle.dm_boot.proofs.Counted.{starting-push, taking-push}
 use Rattle.dm_boot.proofs.Placed.{place-here}

@@ -1,11 +1,6 @@
 -- The rules, as a loop goes through them.
-use Rattle.std.proofs.Common.{◌≡◌, ℕ, ◌+◌, ◌<◌, ◌≤◌, List, ◌∷◌, length, get_or, drop, map, Some, None, ap}
-use Rattle.std.proofs.lemmas.List.{drop_more}
-use Rattle.std.proofs.Math.ListN.{drop_of_length-le}
-use Rattle.toml.specs.Data.{Data}
-use Rattle.dm_boot.specs.declared.rules.TableRule.{TableRule}
+use Rattle.dm_boot.proofs.Names.{◌≡◌, ℕ, ◌+◌, ◌<◌, ◌≤◌, List, ◌∷◌, length, get_or, drop, map, Some, None, ap, drop_more, drop_of_length-le, Data, TableRule, broken_at, first_broken, rule_of}
 use Rattle.dm_boot.specs.declared.rules.TableRule.TheVariants.{TopKeys}
-use Rattle.dm_boot.specs.Rules.{broken_at, first_broken, rule_of}
 
 -- rule i of these; `TopKeys` stands where there is none
 rule_at : (rs : List TableRule) (i : ℕ) → i < length rs → drop i rs ≡ get_or rs i TopKeys ∷ drop (i + 1) rs

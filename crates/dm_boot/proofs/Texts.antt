@@ -1,13 +1,6 @@
 -- The images, as loops go through them.
-use Rattle.std.proofs.Common.{◌≡◌, ℕ, ◌+◌, ◌<◌, ◌≤◌, true, false, List, ◌∷◌, length, get_or, drop, Option, Some, None, Ok, Err, ap, sym, ◌∙◌}
-use Rattle.std.proofs.lemmas.List.{drop_more}
-use Rattle.std.proofs.Math.ListN.{drop_of_length-le}
-use Rattle.toml.specs.declared.value.Value.{Value}
-use Rattle.toml.specs.View.{view, items_view}
-use Rattle.dm_onekernel.specs.declared.boot.BootImage.{BootImage}
-use Rattle.dm_boot.specs.declared.rules.BootRule.{BootRule}
-use Rattle.dm_boot.specs.Rules.{assembles, first_unassembled, image_fits, first_long}
-use Rattle.dm_boot.specs.Boot.{unless_at}
+use Rattle.dm_boot.proofs.Names.{◌≡◌, ℕ, ◌+◌, ◌<◌, ◌≤◌, true, false, List, ◌∷◌, length, get_or, drop, Option, Some, None, Ok, Err, ap, sym, ◌∙◌, drop_more, drop_of_length-le, Value, view, items_view, BootImage, BootRule, assembles}
+use Rattle.dm_boot.proofs.Names.{first_unassembled, image_fits, first_long, unless_at}
 use Rattle.dm_boot.proofs.Elements.{failing-end, failing-more, failing-here, map-end, map-more}
 
 -- one rule that is kept or broken

@@ -1,24 +1,9 @@
 -- Each message that is put has one arrow, and nothing else is an arrow.
-use Rattle.std.proofs.Common.{◌≡◌, ℕ, zero, suc, ◌-◌, Bool, true, false, List, [], ◌∷◌, ◌++◌, map, Some, None, refl, ap, ◌∙◌}
-use Rattle.std.specs.declared.option.Option.{Option}
-use Rattle.std.specs.List.{flat_map}
-use Rattle.std.specs.Prelude.{not, ◌&&◌, if◌then◌else◌}
-use Rattle.std.proofs.lemmas.Grind.{flat_map-append}
-use Rattle.std.proofs.lemmas.List.{append-nil}
-use Rattle.dm_link.specs.declared.Pid.{Pid}
-use Rattle.dm_message.specs.declared.MsgId.{MsgId}
-use Rattle.dm_line.specs.declared.line.Line.{Line}
-use Rattle.dm_chart.specs.declared.role.Letter.{Letter}
-use Rattle.dm_chart.specs.declared.role.Life.{Life}
+use Rattle.dm_chart.proofs.Names.{◌≡◌, ℕ, zero, suc, ◌-◌, Bool, true, false, List, [], ◌∷◌, ◌++◌, map, Some, None, refl, ap, ◌∙◌, Option, flat_map, not, ◌&&◌, if◌then◌else◌, flat_map-append, append-nil, Pid, MsgId, Line, Letter, Life, Role}
+use Rattle.dm_chart.proofs.Names.{Spot, is_delivery, letter_of_shape, letter_of_role, letters_of, role_of, Shape, Group, columns, deliveries, fate, fate_here, first_bar, group_shapes, life_shapes, line_shapes, lost_unless, moves_to}
+use Rattle.dm_chart.proofs.Names.{own_shapes, sending_shapes, shapes, shapes_from, first_spot, next_spot}
 use Rattle.dm_chart.specs.declared.role.Life.TheVariants as life
-use Rattle.dm_chart.specs.declared.role.Role.{Role}
 use Rattle.dm_chart.specs.declared.role.Role.TheVariants as role
-use Rattle.dm_chart.specs.declared.spot.Spot.{Spot}
-use Rattle.dm_chart.specs.Ahead.{is_delivery}
-use Rattle.dm_chart.specs.Laws.{letter_of_shape, letter_of_role, letters_of}
-use Rattle.dm_chart.specs.Roles.{role_of}
-use Rattle.dm_chart.specs.Shapes.{Shape, Group, columns, deliveries, fate, fate_here, first_bar, group_shapes, life_shapes, line_shapes, lost_unless, moves_to, own_shapes, sending_shapes, shapes, shapes_from}
-use Rattle.dm_chart.specs.Spots.{first_spot, next_spot}
 
 -- the messages of the arrows among some shapes
 abbrev arrows : List Shape → List Letter

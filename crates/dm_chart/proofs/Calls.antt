@@ -1,10 +1,5 @@
 -- The note of a call that was refused.
-use Rattle.std.proofs.Common.{◌≡◌, ℕ, [], ◌∷◌, Bool, ap, codes, if◌then◌else◌}
-use Rattle.std.proofs.lemmas.Bool.{ne_eqb}
-use Rattle.std.specs.Fmt.{decimal}
-use Rattle.dm_link.specs.declared.Pid.{Pid}
-use Rattle.dm_text.specs.Words.{pid_word}
-use Rattle.dm_chart.specs.Notes.{Note, note, no_note, call_note}
+use Rattle.dm_chart.proofs.Names.{◌≡◌, ℕ, [], ◌∷◌, Bool, ap, codes, if◌then◌else◌, ne_eqb, decimal, Pid, pid_word, Note, note, no_note, call_note}
 
 abbrev pub refused_call : Pid → ℕ → ℕ → Note
 refused_call p n code = note (codes "c0") (pid_word p ∷ codes " call " ∷ decimal n ∷ codes " refused: " ∷ decimal code ∷ [])

@@ -1,19 +1,7 @@
 -- Walks over lines, as loops go through them.
-use Rattle.std.proofs.Common.{◌≡◌, ℕ, zero, suc, ◌+◌, ◌<◌, ◌≤◌, Bool, true, false, List, [], ◌∷◌, ◌++◌, length, get_or, take, drop, map, Some, None, refl, ap, sym, ◌∙◌, add-one, append_assoc}
-use Rattle.std.specs.List.{flat_map}
-use Rattle.std.proofs.lemmas.Grind.{flat_map-append}
-use Rattle.std.proofs.lemmas.List.{append-nil, drop_more, flat_map_more, take_more}
-use Rattle.std.proofs.Math.ListN.{drop_of_length-le}
-use Rattle.dm_link.specs.declared.Pid.{Pid}
-use Rattle.dm_line.specs.declared.line.Line.{Line}
-use Rattle.dm_chart.specs.declared.frame.Frame.{Frame}
-use Rattle.dm_chart.specs.declared.role.Role.{Role}
-use Rattle.dm_chart.specs.declared.spot.Spot.{Spot}
-use Rattle.dm_chart.specs.Ahead.{first_ahead, is_delivery}
-use Rattle.dm_chart.specs.Drawn.{all_drawn, drawn}
-use Rattle.dm_chart.specs.Roles.{role_of}
-use Rattle.dm_chart.specs.Shapes.{Shape, Column, columns, deliveries, fate_here, first_bar, line_shapes, shapes_from}
-use Rattle.dm_chart.specs.Spots.{next_spot, behind}
+use Rattle.dm_chart.proofs.Names.{◌≡◌, ℕ, zero, suc, ◌+◌, ◌<◌, ◌≤◌, Bool, true, false, List, [], ◌∷◌, ◌++◌, length, get_or, take, drop, map, Some, None, refl, ap, sym, ◌∙◌, add-one, append_assoc, flat_map, flat_map-append, append-nil}
+use Rattle.dm_chart.proofs.Names.{drop_more, flat_map_more, take_more, drop_of_length-le, Pid, Line, Frame, Role, Spot, first_ahead, is_delivery, all_drawn, drawn, role_of, Shape, Column, columns, deliveries, fate_here, first_bar}
+use Rattle.dm_chart.proofs.Names.{line_shapes, shapes_from, next_spot, behind}
 use Rattle.dm_chart.proofs.Pieces.{read_at}
 
 -- the first line ahead that passes a test

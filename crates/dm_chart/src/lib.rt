@@ -17,3 +17,4 @@ mod xml;
 
 pub use chart::{picture, starts_of};
 pub use kept::{Kept, keep};
+pub use spot::MOST_ROWS;

@@ -1,37 +1,13 @@
 -- How far a text has been checked, group by group.
-use Rattle.std.proofs.Common.{◌≡◌, ◌≤◌, ◌<◌, ℕ, suc, ◌+◌, Bool, true, false, if◌then◌else◌, List, [], ◌∷◌, ◌++◌, length, map, refl, ap, sym, ◌∙◌, subst, append_assoc, append-nil, length-append, arith, Some, None}
-use Rattle.std.specs.List.{All}
-use Rattle.std.proofs.lemmas.List.Elements.{All-nil, All-cons, All-append}
-use Rattle.dm_onekernel.specs.declared.boot.Boot.{Boot}
-use Rattle.dm_onekernel.specs.Boot.{IsValid}
-use Rattle.dm_schedule.specs.declared.Step.{Step}
+use Rattle.dm_check.proofs.Names.{◌≡◌, ◌≤◌, ◌<◌, ℕ, suc, ◌+◌, Bool, true, false, if◌then◌else◌, List, [], ◌∷◌, ◌++◌, length, map, refl, ap, sym, ◌∙◌, subst, append_assoc, append-nil, length-append, arith, Some, None, All, All-nil, All-cons}
+use Rattle.dm_check.proofs.Names.{All-append, Boot, IsValid, Step, Line, all_of, IsStep, Spelled, Point, first_point, group_of, IsWorn, worn_in, LineFits, pieces, text, text_of_lines, WorldState, first_world, ones, Ran, joined, Stop, RanOn}
+use Rattle.dm_check.proofs.Names.{RunsOn, StopsWorn, TraceFault, NotDue, CheckError, HasChecked, NoGroup, RefusedSo, first_line, head_of_line, AllHeld, AreHeads, EndsFit, IsTrace, good_verdict, text_behind, Verdict, Refused, Falls, at_head}
+use Rattle.dm_check.proofs.Names.{behind_line, begins_group, can_hold, judged_from, unless_worn, verdict}
 use Rattle.dm_schedule.specs.declared.Step.TheVariants as step
-use Rattle.dm_line.specs.declared.line.Line.{Line}
 use Rattle.dm_line.specs.declared.line.Line.TheVariants as line
-use Rattle.dm_line.specs.Todo.{all_of}
-use Rattle.dm_rule.specs.Laws.{IsStep}
-use Rattle.dm_rule.specs.Parts.{Spelled}
-use Rattle.dm_rule.specs.Point.{Point, first_point}
-use Rattle.dm_rule.specs.Rule.{group_of}
-use Rattle.dm_rule.specs.Worn.{IsWorn, worn_in}
-use Rattle.dm_text.specs.Fits.{LineFits}
-use Rattle.dm_text.specs.Reading.{pieces}
-use Rattle.dm_text.specs.Text.{text, text_of_lines}
-use Rattle.dm_world.specs.World.{WorldState, first_world}
-use Rattle.dm_mirror.specs.Ran.{ones, Ran}
-use Rattle.dm_mirror.specs.Run.{joined}
-use Rattle.dm_node.specs.declared.stop.Stop.{Stop}
 use Rattle.dm_node.specs.declared.stop.Stop.TheVariants as stop
-use Rattle.dm_run.specs.Running.{RanOn, RunsOn, StopsWorn}
-use Rattle.dm_check.specs.declared.fault.TraceFault.{TraceFault}
-use Rattle.dm_check.specs.declared.fault.TraceFault.TheVariants.{NotDue}
-use Rattle.dm_check.specs.declared.stop.CheckError.{CheckError}
 use Rattle.dm_check.specs.declared.stop.CheckError.TheVariants as no
-use Rattle.dm_check.specs.Checked.{HasChecked, NoGroup}
-use Rattle.dm_check.specs.Checking.{RefusedSo, first_line, head_of_line}
-use Rattle.dm_check.specs.Good.{AllHeld, AreHeads, EndsFit, IsTrace, good_verdict, text_behind}
 use Rattle.dm_check.specs.Judge as judge
-use Rattle.dm_check.specs.Judge.{Verdict, Refused, Falls, at_head, behind_line, begins_group, can_hold, judged_from, unless_worn, verdict}
 use Rattle.dm_check.proofs.Groups.{fresh_group, group_head, kept_last}
 use Rattle.dm_check.proofs.Judging.{due_group, lines_append, no_group}
 
@@ -121,21 +97,6 @@ checks_stop b bytes rest number groups w e (no.Refused line fault) h head (at, i
     h.goes ∙ no_group b h.point groups number (pieces 10 rest) e head (λ l. falls h.steps h.lines h.point groups l h.ran)
     ∙ ap (λ (k : ℕ). Refused k NotDue) (sym at) ∙ ap (λ (f : TraceFault). Refused line f) (sym is)
 
--- no head is left
-pub checks_good : (b : Boot) (bytes rest : List ℕ) (number groups : ℕ) (ended : Bool) (w : WorldState) → (h : HasChecked b bytes rest number groups w) → rest ≡ text_behind ended h.point → EndsFit ended h.point → IsTrace b bytes groups ended
-checks_good b bytes rest number groups ended w h is fit = record {
-  steps = h.steps;
-  groups = h.lines;
-  end = h.point;
-  good = h.ran.good;
-  held = h.held;
-  heads = h.heads;
-  counts = h.count;
-  fits = h.fits;
-  ends_fit = fit;
-  text = h.read ∙ ap (λ t. text_of_lines (joined h.lines) ++ t) is;
-}
-
 -- the same of a world of this boot file, and of the lines as a slice
 pub checks_more : (b c : Boot) (bytes rest others : List ℕ) (number groups : ℕ) (w v : WorldState) (e : Step) (lines slice : List Line) → c ≡ b → slice ≡ lines → HasChecked b bytes rest number groups w
     → head_of_line (first_line (pieces 10 rest)) ≡ Some e → can_hold (length c.machines) e ≡ true → RunsOn w c e lines v → All LineFits lines → rest ≡ text_of_lines slice ++ others
@@ -152,11 +113,6 @@ pub checks_less : (b c : Boot) (quantum : ℕ) (bytes rest : List ℕ) (number g
 checks_less b c quantum bytes rest number groups w v e lines slice x same equal is h head held runs falls =
     checks_fall b bytes rest number groups w v e lines x h head (subst (λ (d : Boot). can_hold (length d.machines) e ≡ true) same held) (subst (λ (d : Boot). RunsOn w d e lines v) same runs)
     (subst (λ (ls : List Line). (pt : Point) (n : ℕ) → RefusedSo (judged_from b (behind_line ls pt n) number (pieces 10 rest)) x) is (λ pt n. falls b pt n equal))
-
--- a head that no schedule can hold has no group that is due
-pub none_unheld : (b : Boot) (w : WorldState) (e : Step) (number : ℕ) (x : CheckError) → x ≡ no.Refused number NotDue → can_hold (length b.machines) e ≡ false → NoGroup b w e number x
-none_unheld b w e number x is held =
-    subst (NoGroup b w e number) (sym is) (refl, refl, λ es gs pt n bytes r. ap (λ (t : Bool). if t then begins_group b pt n bytes (group_of b pt e) else Falls NotDue) held)
 
 -- nor has one whose group would route a message between two machines that count as many as they may
 pub none_worn : (b : Boot) (w : WorldState) (e : Step) (number from to : ℕ) (x : CheckError) → x ≡ no.Refused number NotDue → can_hold (length b.machines) e ≡ true → StopsWorn b w e (stop.Worn from to) → NoGroup b w e number x

@@ -1,22 +1,9 @@
 -- The lines at the end of a world that is checked.
-use Rattle.std.proofs.Common.{◌≡◌, ℕ, true, List, ap, sym, ◌∙◌, subst, None}
-use Rattle.std.specs.List.{All}
-use Rattle.dm_onekernel.specs.declared.boot.Boot.{Boot}
-use Rattle.dm_line.specs.declared.end_line.EndLine.{EndLine}
-use Rattle.dm_rule.specs.Ends.{end_lines}
-use Rattle.dm_rule.specs.Point.{Point, labels}
-use Rattle.dm_text.specs.Reading.{pieces}
-use Rattle.dm_world.specs.declared.world.World.{World}
-use Rattle.dm_world.specs.Meets.{state_of}
-use Rattle.dm_mirror.specs.Run.{joined}
-use Rattle.dm_run.specs.Running.{EndsSo, IsRunning}
-use Rattle.dm_shape.specs.Full.{IsFull}
-use Rattle.dm_check.specs.Checking.{first_line, head_of_line, is_final}
+use Rattle.dm_check.proofs.Names.{◌≡◌, ℕ, true, List, ap, sym, ◌∙◌, subst, None, All, Boot, EndLine, end_lines, Point, labels, pieces, World, state_of, joined, EndsSo, IsRunning, IsFull, first_line, head_of_line, is_final, judged_from}
 use Rattle.dm_check.specs.Judge as judge
-use Rattle.dm_check.specs.Judge.{judged_from}
 use Rattle.dm_check.proofs.Fulls.{ends_full}
 use Rattle.dm_check.proofs.Judging.{due_ends}
-use Rattle.dm_check.proofs.Names.{names_always}
+use Rattle.dm_check.proofs.KeptNames.{names_always}
 
 -- none of the lines at the end of a world says nothing
 pub full_there : (w : World) (ends : List EndLine) → IsRunning w → EndsSo w.boot (state_of w) ends → All IsFull ends

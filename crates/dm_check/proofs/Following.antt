@@ -1,22 +1,8 @@
 -- Lines that are due, one after another.
-use Rattle.std.proofs.Common.{◌≡◌, ◌<◌, ◌≤◌, ℕ, suc, ◌+◌, ◌==◌, Bool, true, false, List, [], ◌∷◌, ◌++◌, length, take, drop, get_or, drop-cons, refl, ap, sym, ◌∙◌, subst, append_assoc, append-nil, length-append, arith, Bor, Some, None}
-use Rattle.std.specs.List.{All, starts_with}
-use Rattle.std.specs.Prelude.{nat_eq, codes}
-use Rattle.std.proofs.lemmas.List.{take_more}
-use Rattle.std.proofs.Math.Seq.{drop-length, take-length}
-use Rattle.dm_onekernel.specs.declared.boot.Boot.{Boot}
-use Rattle.dm_line.specs.declared.line.Line.{Line}
-use Rattle.dm_line.specs.declared.end_line.EndLine.{EndLine}
-use Rattle.dm_rule.specs.Point.{Point}
-use Rattle.dm_text.specs.Ends.{end_words}
-use Rattle.dm_text.specs.Fits.{EndFits, LineFits}
-use Rattle.dm_text.specs.Reading.{pieces}
-use Rattle.dm_text.specs.Text.{words, spaced, spelled, text, end_text, text_of_ends, text_of_lines}
-use Rattle.dm_shape.specs.Full.{IsFull}
-use Rattle.dm_check.specs.declared.stop.CheckError.{CheckError}
-use Rattle.dm_check.specs.Checking.{RefusedSo}
+use Rattle.dm_check.proofs.Names.{◌≡◌, ◌<◌, ◌≤◌, ℕ, suc, ◌+◌, ◌==◌, Bool, true, false, List, [], ◌∷◌, ◌++◌, length, take, drop, get_or, drop-cons, refl, ap, sym, ◌∙◌, subst, append_assoc, append-nil, length-append, arith, Bor, Some, None}
+use Rattle.dm_check.proofs.Names.{All, starts_with, nat_eq, codes, take_more, drop-length, take-length, Boot, Line, EndLine, Point, end_words, EndFits, LineFits, pieces, words, spaced, spelled, text, end_text, text_of_ends, text_of_lines}
+use Rattle.dm_check.proofs.Names.{IsFull, CheckError, RefusedSo, Verdict, Ended, behind_line, judged_from}
 use Rattle.dm_check.specs.Judge as judge
-use Rattle.dm_check.specs.Judge.{Verdict, Ended, behind_line, judged_from}
 use Rattle.dm_check.proofs.Judging.{at_text_end, end_stands, lines_append}
 
 -- from a place on
@@ -39,15 +25,6 @@ pub line_off : (b : Boot) (lines : List Line) (i : ℕ) (d : Line) (pt : Point) 
 line_off b lines i d pt n first number all bytes x h so_far off =
     subst (λ v. RefusedSo v x) (sym (so_far ∙ ap (λ ls. judged_from b (behind_line ls pt n) number (pieces 10 bytes)) (from_here lines i d h))) off
 
--- all lines of the group stand
-pub lines_done : (b : Boot) (lines : List Line) (i : ℕ) (pt : Point) (n first number : ℕ) (all bytes : List ℕ) → i ≡ length lines → number ≡ first + i
-    → judged_from b (behind_line lines pt n) first (pieces 10 all) ≡ judged_from b (behind_line (drop i lines) pt n) number (pieces 10 bytes)
-    → judged_from b (behind_line lines pt n) first (pieces 10 all) ≡ judged_from b (judge.Head pt n) (first + length lines) (pieces 10 bytes)
-lines_done b lines i pt n first number all bytes e at so_far =
-    let none : drop i lines ≡ [] = ap (λ k. drop k lines) e ∙ drop-length lines in
-    so_far ∙ ap (λ ls. judged_from b (behind_line ls pt n) number (pieces 10 bytes)) none
-    ∙ ap (λ k. judged_from b (judge.Head pt n) k (pieces 10 bytes)) (at ∙ ap (λ k. first + k) e)
-
 one_line : (l : Line) → text_of_lines (l ∷ []) ≡ text l
 unfolding text_of_lines
 one_line l = append-nil (text l)
@@ -63,9 +40,6 @@ read_more lines i d all bytes rest h so_far on =
 pub read_none : (lines : List Line) (bytes : List ℕ) → bytes ≡ text_of_lines (take 0 lines) ++ bytes
 unfolding text_of_lines
 read_none lines bytes = refl
-
-pub read_all : (lines : List Line) (i : ℕ) (all bytes : List ℕ) → i ≡ length lines → all ≡ text_of_lines (take i lines) ++ bytes → all ≡ text_of_lines lines ++ bytes
-read_all lines i all bytes e so_far = so_far ∙ ap (λ ls. text_of_lines ls ++ bytes) (ap (λ k. take k lines) e ∙ take-length lines)
 
 -- a line takes a byte at least, its line feed
 some_bytes : (ws : List (List ℕ)) → 0 < length (spelled ws)
@@ -137,7 +111,3 @@ pub ends_done : (b : Boot) (ends : List EndLine) (i : ℕ) (n first number : ℕ
     → judged_from b (judge.End ends n) first (pieces 10 all) ≡ Ended n
 ends_done b ends i n first number all bytes e none so_far =
     ends_left b ends i n first number all bytes e so_far ∙ ap (λ t. judged_from b (judge.End [] n) number (pieces 10 t)) none ∙ at_text_end b (judge.End [] n) number
-
-pub read_ends : (ends : List EndLine) (i : ℕ) (all bytes : List ℕ) → i ≡ length ends → bytes ≡ [] → all ≡ text_of_ends (take i ends) ++ bytes → all ≡ text_of_ends ends
-read_ends ends i all bytes e none so_far =
-    so_far ∙ ap (λ t. text_of_ends (take i ends) ++ t) none ∙ append-nil (text_of_ends (take i ends)) ∙ ap text_of_ends (ap (λ k. take k ends) e ∙ take-length ends)

@@ -1,31 +1,11 @@
 -- None of the lines at the end says nothing.
-use Rattle.std.proofs.Common.{◌≡◌, ◌≢◌, ℕ, zero, suc, ◌+◌, ◌-◌, ◌*◌, ◌/◌, ◌<◌, ◌≤◌, ◌==◌, Bool, true, false, ◌&&◌, nat_le, if◌then◌else◌, List, [], ◌∷◌, ◌++◌, length, take, drop, get_or, refl, ap, sym, ◌∙◌, subst, arith, Some, None}
-use Rattle.std.specs.List.{All}
-use Rattle.std.specs.declared.option.Option.{Option}
-use Rattle.std.proofs.lemmas.Bool.Decides.{nat_tests}
-use Rattle.std.proofs.lemmas.List.{length-take}
-use Rattle.std.proofs.lemmas.List.Elements.{All-nil, All-cons, All-append}
-use Rattle.dm_link.specs.declared.Pid.{Pid}
-use Rattle.dm_link.specs.Names.{pid_of}
-use Rattle.dm_link.specs.Plain.{PlainLink}
-use Rattle.dm_message.specs.declared.MsgId.{MsgId}
-use Rattle.dm_message.specs.Ids.{id_of}
-use Rattle.dm_onekernel.specs.Boot.{first_number, manager, switchboard}
-use Rattle.dm_onekernel.specs.Kernel.{Life, Alive, NamedLink, Pending}
+use Rattle.dm_check.proofs.Names.{◌≡◌, ◌≢◌, ℕ, zero, suc, ◌+◌, ◌-◌, ◌*◌, ◌/◌, ◌<◌, ◌≤◌, ◌==◌, Bool, true, false, ◌&&◌, nat_le, if◌then◌else◌, List, [], ◌∷◌, ◌++◌, length, take, drop, get_or, refl, ap, sym, ◌∙◌, subst, arith, Some, None}
+use Rattle.dm_check.proofs.Names.{All, Option, nat_tests, length-take, All-nil, All-cons, All-append, Pid, pid_of, PlainLink, MsgId, id_of, first_number, manager, switchboard, Life, Alive, NamedLink, Pending, PlainProcess, is_name, EndLine}
+use Rattle.dm_check.proofs.Names.{before_zeros, trimmed, block_line, memory_lines, home_with, each_machine, list_line, Addresses, Stood, end_lines, Point, untaken, View, IsFull}
 use Rattle.dm_onekernel.specs.Kernel as kernel
-use Rattle.dm_onekernel.specs.PlainProcess.{PlainProcess}
-use Rattle.dm_onekernel.specs.Switchboard.{is_name}
-use Rattle.dm_line.specs.declared.end_line.EndLine.{EndLine}
 use Rattle.dm_line.specs.declared.end_line.EndLine.TheVariants as end
-use Rattle.dm_line.specs.Ends.{before_zeros, trimmed, block_line, memory_lines, home_with, each_machine, list_line}
-use Rattle.dm_rule.specs.Addresses.{Addresses}
 use Rattle.dm_rule.specs.Ends as ends
-use Rattle.dm_rule.specs.Ends.{Stood, end_lines}
-use Rattle.dm_rule.specs.Point.{Point}
-use Rattle.dm_rule.specs.Spots.{untaken}
-use Rattle.dm_rule.specs.View.{View}
-use Rattle.dm_shape.specs.Full.{IsFull}
-use Rattle.dm_check.proofs.Names.{AreNames}
+use Rattle.dm_check.proofs.KeptNames.{AreNames}
 
 abbrev AreFull : List EndLine → Type 0
 AreFull es = All IsFull es

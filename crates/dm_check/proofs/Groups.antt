@@ -1,20 +1,9 @@
 -- The groups of the rule: each begins with its head, and none routes a message between two machines that count as many as they
 -- may.
-use Rattle.std.proofs.Common.{◌≡◌, ◌≤◌, ℕ, List, [], ◌∷◌, ◌++◌, length, refl, ap, sym, ◌∙◌, subst, arith, Some, None}
-use Rattle.std.specs.declared.option.Option.{Option}
-use Rattle.dm_onekernel.specs.declared.boot.Boot.{Boot}
-use Rattle.dm_onekernel.specs.Options.{bind}
-use Rattle.dm_laws.proofs.Steps.{bind-is}
-use Rattle.dm_schedule.specs.declared.Step.{Step}
-use Rattle.dm_line.specs.declared.line.Line.{Line}
+use Rattle.dm_check.proofs.Names.{◌≡◌, ◌≤◌, ℕ, List, [], ◌∷◌, ◌++◌, length, refl, ap, sym, ◌∙◌, subst, arith, Some, None, Option, Boot, bind, bind-is, Step, Line, Todo, Two, IsKept, IsRun, Part, Spelled, Point, after_line, group_of, headed}
+use Rattle.dm_check.proofs.Names.{outcome, worn_in, group_over}
 use Rattle.dm_line.specs.declared.line.Line.TheVariants as line
-use Rattle.dm_line.specs.Todo.{Todo, Two}
-use Rattle.dm_rule.specs.Good.{IsKept, IsRun}
-use Rattle.dm_rule.specs.Parts.{Part, Spelled, spelled}
-use Rattle.dm_rule.specs.Point.{Point, after_line}
-use Rattle.dm_rule.specs.Rule.{group_of, headed, outcome}
-use Rattle.dm_rule.specs.Worn.{worn_in}
-use Rattle.dm_run.proofs.Full.{group_over}
+use Rattle.dm_rule.specs.Parts.{spelled}
 
 -- a group begins with its head
 pub group_head : (b : Boot) (pt : Point) (e : Step) (w : Spelled) → group_of b pt e ≡ Some w → (rest : List Line) × (w.lines ≡ line.Head e ∷ rest)

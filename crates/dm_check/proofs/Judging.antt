@@ -1,46 +1,12 @@
 -- What becomes of the verdict at each line of a text.
-use Rattle.std.proofs.Common.{◌≡◌, ◌<◌, ℕ, suc, ◌+◌, ◌==◌, Bool, true, false, ◌&&◌, nat_lt, not, if◌then◌else◌, List, [], ◌∷◌, ◌++◌, length, refl, ap, sym, ◌∙◌, subst, append_assoc, append-nil, arith, Some, None}
-use Rattle.std.specs.Prelude.{codes}
-use Rattle.std.specs.List.{All}
-use Rattle.std.specs.Str.{bytes_eq}
-use Rattle.std.specs.Result.{IfErr, IsErr, IsErrAnd}
-use Rattle.std.specs.declared.result.Result.{Result}
-use Rattle.std.specs.declared.result.Result.TheVariants.{Ok, Err}
-use Rattle.std.proofs.lemmas.Bool.{false≢true}
-use Rattle.std.proofs.lemmas.Bool.Decides.{nat_tests}
-use Rattle.std.specs.declared.option.Option.{Option}
-use Rattle.std.proofs.lemmas.Slice.Eq.{bytes_eq-Decides}
-use Rattle.dm_link.specs.declared.Pid.{Pid}
-use Rattle.dm_onekernel.specs.declared.boot.Boot.{Boot}
-use Rattle.dm_schedule.specs.declared.Step.{Step}
-use Rattle.dm_line.specs.declared.line.Line.{Line}
+use Rattle.dm_check.proofs.Names.{◌≡◌, ◌<◌, ℕ, suc, ◌+◌, ◌==◌, Bool, true, false, ◌&&◌, nat_lt, not, if◌then◌else◌, List, [], ◌∷◌, ◌++◌, length, refl, ap, sym, ◌∙◌, subst, append_assoc, append-nil, arith, Some, None, codes, All, bytes_eq}
+use Rattle.dm_check.proofs.Names.{IfErr, IsErr, IsErrAnd, Result, Ok, Err, false≢true, nat_tests, Option, bytes_eq-Decides, Pid, Boot, Step, Line, EndLine, Two, end_lines, Spelled, Point, group_of, worn_in, end_words, EndFits, LineFits}
+use Rattle.dm_check.proofs.Names.{pieces, words, spelled, text, end_text, text_of_ends, text_of_lines, end_words_are, words-are, line_bytes, spelled_bytes, pieces_of_line, IsFull, head_of, has_shape, some_piece, cut_is, first_is}
+use Rattle.dm_check.proofs.Names.{lines_have, ends_have, heads_have, TraceFault, NotALine, NotDue, NotTheEnd, CheckError, FallsBy, RefusedSo, first_line, head_of_line, is_final, Verdict, Ended, Refused, Due, Nothing, Taken, Stands, Falls}
+use Rattle.dm_check.proofs.Names.{is_text, behind_line, told, at_end, at_head, begins_group, unless_worn, can_hold, taken, ended, judged_from}
 use Rattle.dm_line.specs.declared.line.Line.TheVariants as line
-use Rattle.dm_line.specs.declared.end_line.EndLine.{EndLine}
-use Rattle.dm_line.specs.Todo.{Two}
-use Rattle.dm_rule.specs.Ends.{end_lines}
-use Rattle.dm_rule.specs.Parts.{Spelled}
-use Rattle.dm_rule.specs.Point.{Point}
-use Rattle.dm_rule.specs.Rule.{group_of}
-use Rattle.dm_rule.specs.Worn.{worn_in}
-use Rattle.dm_text.specs.Ends.{end_words}
-use Rattle.dm_text.specs.Fits.{EndFits, LineFits}
-use Rattle.dm_text.specs.Reading.{pieces}
-use Rattle.dm_text.specs.Text.{words, spelled, text, end_text, text_of_ends, text_of_lines}
-use Rattle.dm_text.proofs.EndsBack.{end_words_are}
-use Rattle.dm_text.proofs.LineBack.{words-are}
-use Rattle.dm_text.proofs.LinesBack.{line_bytes, spelled_bytes, pieces_of_line}
-use Rattle.dm_shape.specs.Full.{IsFull}
-use Rattle.dm_shape.specs.Heads.{head_of}
-use Rattle.dm_shape.specs.Shapes.{has_shape}
-use Rattle.dm_shape.proofs.NamesRead.{some_piece, cut_is, first_is}
-use Rattle.dm_shape.proofs.ShapeLaws.{lines_have, ends_have, heads_have}
-use Rattle.dm_check.specs.declared.fault.TraceFault.{TraceFault}
-use Rattle.dm_check.specs.declared.fault.TraceFault.TheVariants.{NotALine, NotDue, NotTheEnd}
-use Rattle.dm_check.specs.declared.stop.CheckError.{CheckError}
 use Rattle.dm_check.specs.declared.stop.CheckError.TheVariants as stop
-use Rattle.dm_check.specs.Checking.{FallsBy, RefusedSo, first_line, head_of_line, is_final}
 use Rattle.dm_check.specs.Judge as judge
-use Rattle.dm_check.specs.Judge.{Verdict, Ended, Refused, Due, Nothing, Taken, Stands, Falls, is_text, behind_line, told, at_end, at_head, begins_group, unless_worn, can_hold, taken, ended, judged_from}
 
 -- what holds of the one error holds of the error there is
 pub if_err : {A E : Type 0} (r : Result A E) (e : E) (P : E → Type 0) → IsErr r × IsErrAnd r (λ y. y ≡ e) → P e → IfErr r P
@@ -172,10 +138,6 @@ falls_at_end b l ls n number bytes other = record { ends = λ e. refl; lines = �
         let apart = text_other w (end_text l) (λ k. other rest (g ∙ sym (append_assoc w (codes "\n") rest) ∙ ap (λ t. t ++ rest) k)) in
         ap (λ (t : Bool). if t then Stands (judge.End ls n) else Falls NotTheEnd) apart
 
--- behind the lines at the end nothing stands
-pub falls_behind : (b : Boot) (n number : ℕ) (bytes : List ℕ) → (bytes ≡ [] → ⊥) → FallsBy b (judge.End [] n) number bytes NotTheEnd
-falls_behind b n number bytes some = record { ends = λ e. absurd (some e); lines = λ w is. refl }
-
 -- each line of the format falls, and so does the end of the text
 pub falls_so : (b : Boot) (due : Due) (number : ℕ) (bytes w rest : List ℕ) (f : TraceFault) → FallsBy b due number bytes f → pieces 10 bytes ≡ w ∷ pieces 10 rest → has_shape w ≡ true → judged_from b due number (pieces 10 bytes) ≡ Refused number f
 falls_so b due number bytes w rest f h cut shape =
@@ -220,11 +182,3 @@ pub due_ends : (b : Boot) (pt : Point) (n number : ℕ) (ps : List (List ℕ)) �
 due_ends b pt n number [] head is = absurd (cc)
 due_ends b pt n number (l ∷ []) head is = absurd (cc)
 due_ends b pt n number (l ∷ q ∷ ps) head is = taken_alike b (judge.Head pt n) (judge.End (end_lines pt) n) number l q ps (taken_ends b pt n l head is)
-
--- nothing is due that begins so
-pub falls_at_head : (b : Boot) (pt : Point) (n number : ℕ) (bytes : List ℕ) → (bytes ≡ [] → ⊥) → head_of_line (first_line (pieces 10 bytes)) ≡ None → is_final (first_line (pieces 10 bytes)) ≡ false → FallsBy b (judge.Head pt n) number bytes NotDue
-falls_at_head b pt n number bytes some head is = record {
-  ends = λ e. absurd (some e);
-  lines = λ l first.
-      ap (at_head b pt n l) (sym (ap head_of_line first) ∙ head) ∙ ap (λ (t : Bool). if t then at_end (end_lines pt) n l else Falls NotDue) (sym (ap is_final first) ∙ is);
-}

@@ -1,6 +1,7 @@
+pub mod Names
 pub mod Judging
 pub mod Groups
-pub mod Names
+pub mod KeptNames
 pub mod Fulls
 pub mod Checks
 pub mod Following

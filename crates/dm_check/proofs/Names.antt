@@ -1,199 +1,48 @@
--- Each name that the switchboard keeps has 1 to 16 bytes.
-use Rattle.std.proofs.Common.{◌≡◌, ℕ, ◌==◌, ◌&&◌, Bool, true, false, if◌then◌else◌, List, [], ◌∷◌, ◌++◌, length, refl, ap, sym, subst, Some, None}
-use Rattle.std.specs.declared.option.Option.{Option}
-use Rattle.dm_link.specs.declared.Pid.{Pid}
-use Rattle.dm_link.specs.Names.{pid_eq}
-use Rattle.dm_link.specs.Plain.{PlainLink}
-use Rattle.dm_message.specs.declared.MsgId.{MsgId}
-use Rattle.dm_message.specs.Plain as what
-use Rattle.dm_message.specs.Plain.{PlainMessage, PlainWhat}
-use Rattle.dm_onekernel.specs.declared.boot.Boot.{Boot}
-use Rattle.dm_onekernel.specs.declared.boot.BootImage.{BootImage}
-use Rattle.dm_onekernel.specs.declared.label.Label.{Label}
-use Rattle.dm_onekernel.specs.declared.label.Label.TheVariants as label
-use Rattle.dm_onekernel.specs.declared.label.Reply.{Reply}
-use Rattle.dm_onekernel.specs.declared.label.Why.{Why}
-use Rattle.dm_onekernel.specs.Boot.{is_general, switchboard, manager}
-use Rattle.dm_onekernel.specs.Calls as calls
-use Rattle.dm_onekernel.specs.Kernel.{NamedLink, Switchboard, OneKernel, with_sent}
-use Rattle.dm_onekernel.specs.Manager as manage
-use Rattle.dm_onekernel.specs.Options.{bind, when}
-use Rattle.dm_onekernel.specs.Pieces as pieces
-use Rattle.dm_onekernel.specs.PlainProcess.{PlainProcess}
-use Rattle.dm_onekernel.specs.Receiving as receiving
-use Rattle.dm_onekernel.specs.Service as service
-use Rattle.dm_onekernel.specs.Start.{start}
-use Rattle.dm_onekernel.specs.Step as step
-use Rattle.dm_onekernel.specs.Switchboard as board
-use Rattle.dm_onekernel.specs.Switchboard.{is_name}
-
--- each is a name
-abbrev pub AreNames : List NamedLink → Type 0
-AreNames [] = Unit {0}
-AreNames (k ∷ ks) = (is_name k.name ≡ true) × AreNames ks
-
-one_more : (ks : List NamedLink) (k : NamedLink) → AreNames ks → is_name k.name ≡ true → AreNames (ks ++ k ∷ [])
-one_more [] k h e = (e, tt)
-one_more (j ∷ ks) k h e = (h.0, one_more ks k h.1 e)
-
--- what the switchboard keeps after a request
-new_names : (ks : List NamedLink) (name : List ℕ) (l : PlainLink) (o : Option PlainLink) → AreNames ks → is_name name ≡ true → AreNames (board.registers_new ks name l o).names
-new_names ks name l None h e = one_more ks (record { name = name; link = l }) h e
-new_names ks name l (Some taken) h e = h
-
-registered : (ks : List NamedLink) (name : List ℕ) (l : PlainLink) (general : Bool) → AreNames ks → is_name name ≡ true
-    → AreNames (if general then board.registers_new ks name l (board.link_named name ks) else record { names = ks; answer = board.BadLink }).names
-registered ks name l true h e = new_names ks name l (board.link_named name ks) h e
-registered ks name l false h e = h
-
-if_name : (ks : List NamedLink) (name : List ℕ) (l : PlainLink) (t : Bool) → is_name name ≡ t → AreNames ks → AreNames (if t then board.registers ks name l else board.bad_request ks).names
-if_name ks name l true e h = registered ks name l (is_general l.kind) h e
-if_name ks name l false e h = h
-
-register_keeps : (ks : List NamedLink) (name : List ℕ) (others : List PlainLink) → AreNames ks → AreNames (board.asks_to_register ks name others).names
-register_keeps ks name [] h = h
-register_keeps ks name (l ∷ []) h = if_name ks name l (is_name name) refl h
-register_keeps ks name (l ∷ k ∷ others) h = h
-
-if_looks : (ks : List NamedLink) (name : List ℕ) (t : Bool) → AreNames ks → AreNames (if t then board.looks_up ks name else board.bad_request ks).names
-if_looks ks name true h = h
-if_looks ks name false h = h
-
-look_keeps : (ks : List NamedLink) (name : List ℕ) (others : List PlainLink) → AreNames ks → AreNames (board.asks_to_look_up ks name others).names
-look_keeps ks name [] h = if_looks ks name (is_name name) h
-look_keeps ks name (l ∷ others) h = h
-
-by_operation : (ks : List NamedLink) (name : List ℕ) (others : List PlainLink) (s t : Bool) → AreNames ks
-    → AreNames (if s then board.asks_to_register ks name others else if t then board.asks_to_look_up ks name others else board.bad_request ks).names
-by_operation ks name others true t h = register_keeps ks name others h
-by_operation ks name others false true h = look_keeps ks name others h
-by_operation ks name others false false h = h
-
-asks_keep : (ks : List NamedLink) (body : List ℕ) (others : List PlainLink) → AreNames ks → AreNames (board.asks ks body others).names
-asks_keep ks [] others h = h
-asks_keep ks (operation ∷ name) others h = by_operation ks name others (operation == 1) (operation == 2) h
-
-request_keeps : (b : Switchboard) (body : List ℕ) (links : List PlainLink) → AreNames b.names → AreNames (board.takes_request b body links).switchboard.names
-request_keeps b body [] h = h
-request_keeps b body (l ∷ others) h = asks_keep b.names body others h
-
-board_keeps : (b : Switchboard) (m : PlainMessage) (w : PlainWhat) (t : board.Took) → board.takes b m w ≡ Some t → AreNames b.names → AreNames t.switchboard.names
-board_keeps b m (what.User code channel body links) t e h = let f : board.takes_request b body links ≡ t = cc in subst (λ (x : board.Took). AreNames x.switchboard.names) f (request_keeps b body links h)
-board_keeps b m w t e h = absurd (cc)
-
--- a step keeps them
-abbrev Stay : OneKernel → OneKernel → Type 0
-Stay s t = AreNames s.switchboard.names → AreNames t.switchboard.names
-
-abbrev StaySome : OneKernel → Option OneKernel → Type 0
-StaySome s None = Unit {0}
-StaySome s (Some t) = Stay s t
-
-stay_bind : {A : Type 0} (s : OneKernel) (o : Option A) (go : A → Option OneKernel) → ((x : A) → o ≡ Some x → StaySome s (go x)) → StaySome s (bind o go)
-stay_bind s None go h = tt
-stay_bind s (Some x) go h = h x refl
-
-stay_when : (s t : OneKernel) (b : Bool) → Stay s t → StaySome s (when b t)
-stay_when s t true h = h
-stay_when s t false h = tt
-
-stay_sent : (s t : OneKernel) (o : Option PlainMessage) → Stay s t → Stay s (with_sent t o)
-stay_sent s t None h = h
-stay_sent s t (Some m) h = h
-
-replies_stay : (s : OneKernel) (p : Pid) (n : ℕ) (c : Reply) (x : step.Next) → StaySome s (step.replies s p n c x)
-replies_stay s p n c (step.Calls number (calls.Replies reply x)) = stay_when s (step.goes_on s p x) _ (λ h. h)
-replies_stay s p n c other = tt
-
-sends_stay : (s : OneKernel) (p : Pid) (id : MsgId) (x : step.Next) → StaySome s (step.sends s p id x)
-sends_stay s p id (step.Calls number (calls.Sends m x)) = stay_when s (with_sent (step.goes_on s p x) (Some m)) _ (λ h. h)
-sends_stay s p id other = tt
-
-waits_stay : (s : OneKernel) (p : Pid) (x : step.Next) → StaySome s (step.waits s p x)
-waits_stay s p (step.Calls number (calls.Waits x)) = λ h. h
-waits_stay s p other = tt
-
-outputs_stay : (s : OneKernel) (p : Pid) (w : ℕ) (x : step.Next) → StaySome s (step.outputs s p w x)
-outputs_stay s p w (step.Calls number (calls.Outputs word x)) = stay_when s (step.goes_on s p x) _ (λ h. h)
-outputs_stay s p w other = tt
-
-ends_stay : (s : OneKernel) (p : Pid) (y : Why) (x : step.Next) → StaySome s (step.ends s p y x)
-ends_stay s p y (step.Calls number (calls.Ends because)) = stay_when s _ _ (λ h. h)
-ends_stay s p y (step.Faults fault) = stay_when s _ _ (λ h. h)
-ends_stay s p y other = tt
-
-receives_stay : (s : OneKernel) (p : Pid) (id : MsgId) (c : receiving.Completed) → StaySome s (step.receives s p id c)
-receives_stay s p id (receiving.Receives x) = λ h. h
-receives_stay s p id (receiving.Refuses reply x) = tt
-
-refuses_stay : (s : OneKernel) (p : Pid) (c : Reply) (x : receiving.Completed) → StaySome s (step.refuses s p c x)
-refuses_stay s p c (receiving.Receives x) = tt
-refuses_stay s p c (receiving.Refuses reply x) = stay_when s (step.goes_on s p x) _ (λ h. h)
-
-landed_stays : (s : OneKernel) (id : MsgId) (m : PlainMessage) (r : pieces.Landed) → Stay s (service.landed s id m r)
-landed_stays s id m (pieces.Next request p) h = h
-landed_stays s id m (pieces.Done reply p) h = h
-
-serves_stay : (s : OneKernel) (id : MsgId) (m : PlainMessage) (p : PlainProcess) (w : PlainWhat) → StaySome s (service.serves s id m p w)
-serves_stay s id m p what.Stop = λ h. h
-serves_stay s id m p what.Resume = λ h. h
-serves_stay s id m p what.Kill = λ h. h
-serves_stay s id m p (what.Read base len) = stay_bind s (pieces.reads p m base len) (λ r. Some (service.answered s id m r)) (λ r e h. h)
-serves_stay s id m p (what.Write base bytes) = stay_bind s (pieces.writes p m base bytes) (λ r. Some (service.answered s id m r)) (λ r e h. h)
-serves_stay s id m p (what.Block bytes) = stay_bind s (pieces.lands m.to p m p.status) (λ r. Some (service.landed s id m r)) (λ r e. landed_stays s id m r)
-serves_stay s id m p what.Written = stay_bind s (pieces.lands m.to p m p.status) (λ r. Some (service.landed s id m r)) (λ r e. landed_stays s id m r)
-serves_stay s id m p what.Gone = stay_bind s (pieces.lands m.to p m p.status) (λ r. Some (service.landed s id m r)) (λ r e. landed_stays s id m r)
-serves_stay s id m p w = tt
-
-by_server : (s : OneKernel) (id : MsgId) (m : PlainMessage) (is_board is_manager : Bool)
-    → StaySome s (if is_board then bind (board.takes s.switchboard m m.what) (λ t. Some (service.switchboard_took s id t))
-    else if is_manager then bind (manage.takes s.manager s.machines (length s.images) m m.what) (λ t. Some (service.manager_took s id t)) else None)
-by_server s id m true is_manager =
-    stay_bind s (board.takes s.switchboard m m.what) (λ t. Some (service.switchboard_took s id t)) (λ t e h. stay_sent s _ t.answer (λ k. board_keeps s.switchboard m m.what t e k) h)
-by_server s id m false true =
-    stay_bind s (manage.takes s.manager s.machines (length s.images) m m.what) (λ t. Some (service.manager_took s id t)) (λ t e h. stay_sent s _ t.message (λ k. k) h)
-by_server s id m false false = tt
-
-took_stays : (s : OneKernel) (id : MsgId) (m : PlainMessage) → StaySome s (service.takes s id m)
-took_stays s id m = by_server s id m (pid_eq m.to switchboard) (pid_eq m.to manager)
-
-creates_stay : (s : OneKernel) (id : MsgId) (m : PlainMessage) (child : Pid) (w : PlainWhat) → StaySome s (service.creates s id m child w)
-creates_stay s id m child (what.Create image links) = stay_bind s _ (service.creates_of s id m child links) (λ i e. stay_when s _ _ (λ h. h))
-creates_stay s id m child w = tt
-
-no_room_stays : (s : OneKernel) (id : MsgId) (m : PlainMessage) (w : PlainWhat) → StaySome s (service.has_no_room s id m w)
-no_room_stays s id m (what.Create image links) = stay_when s _ _ (λ h. h)
-no_room_stays s id m w = tt
-
-step_stays : (s : OneKernel) (l : Label) → StaySome s (step.step s l)
-step_stays s (label.Ran p k) =
-    stay_bind s (step.running s p) (λ x. bind (step.plain_steps k (step.machine_of x)) (λ m. Some (step.goes_on s p (step.with_machine x m))))
-    (λ x e. stay_bind s (step.plain_steps k (step.machine_of x)) (λ m. Some (step.goes_on s p (step.with_machine x m))) (λ m f h. h))
-step_stays s (label.Call p n c) = stay_bind s (step.next s p) (step.replies s p n c) (λ x e. replies_stay s p n c x)
-step_stays s (label.Send p id) = stay_bind s (step.next s p) (step.sends s p id) (λ x e. sends_stay s p id x)
-step_stays s (label.Wait p) = stay_bind s (step.next s p) (step.waits s p) (λ x e. waits_stay s p x)
-step_stays s (label.Out p w) = stay_bind s (step.next s p) (step.outputs s p w) (λ x e. outputs_stay s p w x)
-step_stays s (label.End p y) = stay_bind s (step.next s p) (step.ends s p y) (λ x e. ends_stay s p y x)
-step_stays s (label.Receive p id) = stay_bind s (step.completing s p id) (step.receives s p id) (λ x e. receives_stay s p id x)
-step_stays s (label.Refuse p id c) = stay_bind s (step.completing s p id) (step.refuses s p c) (λ x e. refuses_stay s p c x)
-step_stays s (label.Served id) =
-    stay_bind s (s.bag id) (λ m. bind (step.alive (s.processes m.to)) (λ p. service.serves s id m p m.what)) (λ m e. stay_bind s (step.alive (s.processes m.to)) (λ p. service.serves s id m p m.what) (λ p f. serves_stay s id m p m.what))
-step_stays s (label.Took id) = stay_bind s (s.bag id) (service.takes s id) (λ m e. took_stays s id m)
-step_stays s (label.Dropped id) =
-    stay_bind s (s.bag id) (λ m. bind (step.ended (s.processes m.to)) (step.drops s id m)) (λ m e. stay_bind s (step.ended (s.processes m.to)) (step.drops s id m) (λ y f. stay_when s _ _ (λ h. h)))
-step_stays s (label.Gone id) =
-    stay_bind s (s.bag id) (λ m. bind (step.ended (s.processes m.to)) (step.says_gone s id m)) (λ m e. stay_bind s (step.ended (s.processes m.to)) (step.says_gone s id m) (λ y f. stay_when s _ _ (λ h. h)))
-step_stays s (label.Created id child) = stay_bind s (s.bag id) (λ m. service.creates s id m child m.what) (λ m e. creates_stay s id m child m.what)
-step_stays s (label.NoSpace id slots blocks) = stay_bind s (s.bag id) (λ m. service.has_no_room s id m m.what) (λ m e. no_room_stays s id m m.what)
-
-names_after : (s t : OneKernel) (ls : List Label) → step.replay s ls ≡ Some t → Stay s t
-names_after s t [] e = let f : s ≡ t = cc in subst (Stay s) f (λ h. h)
-names_after s t (l ∷ ls) e = by_step (step.step s l) (step_stays s l) e (λ u is. names_after u t ls is)
-  where
-    by_step : (o : Option OneKernel) → StaySome s o → bind o (λ u. step.replay u ls) ≡ Some t → ((u : OneKernel) → step.replay u ls ≡ Some t → Stay u t) → Stay s t
-    by_step None stay is more = absurd (cc)
-    by_step (Some u) stay is more = λ h. more u is (stay h)
-
--- so it is wherever a run of the kernel leads
-pub names_always : (b : Boot) (ls : List Label) (t : OneKernel) → step.replay (start b) ls ≡ Some t → AreNames t.switchboard.names
-names_always b ls t e = names_after (start b) t ls e tt
+-- What the proofs of this crate name of what lies below it.
+pub use Rattle.std.proofs.lemmas.Bool.Decides.{Decides-eqb}
+pub use Rattle.std.proofs.lemmas.Slice.Eq.{starts_is}
+pub use Rattle.std.specs.List.{starts_with}
+pub use Rattle.dm_records.proofs.Names.{Bool, Option, Pid, ap, arith, false, if◌then◌else◌, pid_eq, refl, rules, sym, true, ◌∙◌, ◌≡◌}
+pub use Rattle.dm_outside.proofs.Names.{drop}
+pub use Rattle.dm_processor.proofs.Names.{List, None, Some, [], drop-cons, get_or, length, length-append, nat_tests, suc, take, zero, ℕ, ◌*◌, ◌++◌, ◌+◌, ◌-◌, ◌/◌, ◌<◌, ◌∷◌, ◌≤◌}
+pub use Rattle.dm_stream.proofs.Names.{append-nil, nat_lt, subst, ◌≢◌}
+pub use Rattle.dm_linktable.proofs.Names.{map, ◌&&◌, ◌==◌}
+pub use Rattle.dm_packet.proofs.Names.{All, MsgId, append_assoc, length-take, nat_le, not}
+pub use Rattle.dm_schedule.proofs.Names.{Directive, codes, drop-length}
+pub use Rattle.dm_migrate.proofs.Names.{All-append, All-cons, Err, Ok, PlainWhat, Result, take_rest}
+pub use Rattle.dm_switchboard.proofs.Names.{is_general, is_name, nat_eq, switchboard}
+pub use Rattle.dm_procman.proofs.Names.{Boot, IsValid, PlainLink, manager}
+pub use Rattle.dm_laws.proofs.Names.{Alive, BootImage, Label, Life, OneKernel, Pending, PlainMessage, PlainProcess, Reply, Switchboard, Why, bind, false≢true, first_number, id_of, pid_of, start, when, with_sent, ⊤}
+pub use Rattle.dm_datamove.proofs.Names.{All-nil}
+pub use Rattle.dm_rule.proofs.Names.{Addresses, IsStep, Line, NamedLink, Next, Part, Point, Spelled, Step, Todo, View, after_line, all_of, bind-is, first_point, group_of, has_mail, headed, is_quiet, next_step, outcome, untaken}
+pub use Rattle.dm_kernel.proofs.Names.{All-head, All-tail, take_more}
+pub use Rattle.dm_rulelaws.proofs.Names.{IsRun, labels}
+pub use Rattle.dm_movelaws.proofs.Names.{EndLine, Stood, block_line, each_machine, end_lines, home_with, list_line, memory_lines, or, trimmed}
+pub use Rattle.dm_settlelaws.proofs.Names.{IsKept, Pass, Two, begin_pass, below, here_or_later, in_pass, is_over, next, next_delivery, next_directive, next_pass, next_turn, pairs_of, pass_begun, settles, takes_turn, undelivered}
+pub use Rattle.dm_text.proofs.LinesBack.{pieces_of_line}
+pub use Rattle.dm_text.proofs.Names.{EndFits, LineFits, end_text, end_words, spaced, spelled, text, words}
+unfoldable pub use Rattle.dm_text.specs.Reading.{pieces}
+unfoldable pub use Rattle.dm_text.specs.Text.{text_of_ends, text_of_lines}
+pub use Rattle.dm_shape.proofs.Fitting.{behind_none, split_some}
+pub use Rattle.dm_shape.proofs.Names.{Bor, IsFull, bytes_eq, bytes_eq-Decides, end_words_are, has_shape, line_bytes, spelled_bytes, words-are}
+pub use Rattle.dm_shape.proofs.NamesRead.{cut_is, first_is, one_piece, some_piece}
+pub use Rattle.dm_shape.proofs.ShapeLaws.{ends_have, heads_have, heads_read, lines_have}
+unfoldable pub use Rattle.dm_shape.specs.Heads.{head_of}
+pub use Rattle.dm_node.proofs.Names.{IsErrAnd, Stop}
+pub use Rattle.dm_world.proofs.Names.{World, WorldState, before_zeros, state_of}
+pub use Rattle.dm_mirror.proofs.Machines.{machines_group}
+pub use Rattle.dm_mirror.proofs.Names.{IsDirective, IsTodo, IsTwo, Ran, first_world, following, joined, ones, worn_in}
+pub use Rattle.dm_mirror.specs.Run.{IsGood}
+pub use Rattle.dm_run.proofs.Full.{group_over}
+pub use Rattle.dm_run.proofs.Laws.{ran_begins}
+pub use Rattle.dm_run.proofs.Names.{IfErr, IsErr, IsRunning, IsWorn, RanOn, RunsOn, StopsWorn, next_fits, take-length}
+pub use Rattle.dm_run.specs.Running.{EndsSo}
+pub use Rattle.dm_check.specs.Checked.{HasChecked, NoGroup}
+pub use Rattle.dm_check.specs.Checking.{FallsBy, RefusedSo, first_line, head_of_line, is_final, taken_of}
+pub use Rattle.dm_check.specs.Good.{AllHeld, AreHeads, EndsFit, IsTrace, good_verdict, text_behind}
+pub use Rattle.dm_check.specs.Judge.{Due, Ended, Falls, Nothing, Open, Refused, Stands, Taken, Verdict, at_end, at_head, begins_group, behind_line, can_hold, ended, falls_as_step, is_text, judged_from, taken, told, unless_worn}
+unfoldable pub use Rattle.dm_check.specs.Judge.{verdict}
+pub use Rattle.dm_check.specs.Laws.{BeginningsAreOpen, HasHome, IsHome, RunsAreEnded, TracesAreGood}
+pub use Rattle.dm_check.specs.declared.fault.TraceFault.{TraceFault}
+pub use Rattle.dm_check.specs.declared.fault.TraceFault.TheVariants.{NotALine, NotDue, NotTheEnd}
+pub use Rattle.dm_check.specs.declared.stop.CheckError.{CheckError}

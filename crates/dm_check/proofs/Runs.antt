@@ -1,54 +1,20 @@
 -- The verdict on the text of a run by the rule.
-use Rattle.std.proofs.Common.{◌≡◌, ◌≢◌, ◌<◌, ℕ, zero, suc, ◌+◌, ◌==◌, Bool, true, false, not, ◌&&◌, nat_lt, if◌then◌else◌, List, [], ◌∷◌, ◌++◌, length, map, refl, ap, sym, ◌∙◌, subst, append_assoc, append-nil, length-append, arith, Some, None}
-use Rattle.std.specs.Prelude.{⊤, codes}
-use Rattle.std.specs.List.{All}
-use Rattle.std.specs.declared.option.Option.{Option}
-use Rattle.std.proofs.lemmas.Bool.Decides.{nat_tests}
-use Rattle.std.proofs.lemmas.List.Elements.{All-nil, All-cons, All-head, All-tail}
-use Rattle.dm_link.specs.declared.Pid.{Pid}
-use Rattle.dm_onekernel.specs.declared.boot.Boot.{Boot}
-use Rattle.dm_schedule.specs.declared.Step.{Step}
+use Rattle.dm_check.proofs.Names.{◌≡◌, ◌≢◌, ◌<◌, ℕ, zero, suc, ◌+◌, ◌==◌, Bool, true, false, not, ◌&&◌, nat_lt, if◌then◌else◌, List, [], ◌∷◌, ◌++◌, length, map, refl, ap, sym, ◌∙◌, subst, append_assoc, append-nil, length-append, arith}
+use Rattle.dm_check.proofs.Names.{Some, None, ⊤, codes, All, Option, nat_tests, All-nil, All-cons, All-head, All-tail, Pid, Boot, Step, Directive, Line, EndLine, Pass, Two, Todo, Next, all_of, below, pairs_of, here_or_later, next_delivery}
+use Rattle.dm_check.proofs.Names.{pass_begun, takes_turn, next, next_turn, in_pass, or, begin_pass, settles, next_directive, next_pass, is_over, following, end_lines, next_step, undelivered, IsKept, IsRun, IsStep, Spelled, Point}
+use Rattle.dm_check.proofs.Names.{first_point, labels, has_mail, is_quiet, group_of, View, worn_in, EndFits, LineFits, pieces, words, text, end_text, text_of_ends, text_of_lines, words-are, line_bytes, spelled_bytes, pieces_of_line, ones}
+use Rattle.dm_check.proofs.Names.{IsGood, joined, IsTwo, IsDirective, IsTodo, machines_group, next_fits, head_of, some_piece, heads_read, first_line, head_of_line, is_final, AllHeld, EndsFit, IsTrace, good_verdict, text_behind, Open, Ended}
+use Rattle.dm_check.proofs.Names.{can_hold, behind_line, judged_from, verdict, IsHome, HasHome, TracesAreGood, BeginningsAreOpen, RunsAreEnded}
 use Rattle.dm_schedule.specs.declared.Step.TheVariants as step
-use Rattle.dm_schedule.specs.declared.Directive.{Directive}
 use Rattle.dm_schedule.specs.declared.Directive.TheVariants as directive
-use Rattle.dm_line.specs.declared.line.Line.{Line}
 use Rattle.dm_line.specs.declared.line.Line.TheVariants as line
-use Rattle.dm_line.specs.declared.end_line.EndLine.{EndLine}
 use Rattle.dm_line.specs.declared.end_line.EndLine.TheVariants as end
-use Rattle.dm_line.specs.declared.pass.Pass.{Pass}
 use Rattle.dm_line.specs.declared.pass.Pass.TheVariants as pass
-use Rattle.dm_line.specs.Todo.{Two, Todo, Next, all_of, below, pairs_of, here_or_later, next_delivery, pass_begun, takes_turn, next, next_turn, in_pass, or, begin_pass, settles, next_directive, next_pass, is_over, following}
-use Rattle.dm_rule.specs.Ends.{end_lines}
-use Rattle.dm_rule.specs.Good.{next_step, undelivered, IsKept, IsRun}
-use Rattle.dm_rule.specs.Laws.{IsStep}
-use Rattle.dm_rule.specs.Parts.{Spelled}
-use Rattle.dm_rule.specs.Point.{Point, first_point, labels}
-use Rattle.dm_rule.specs.Quiet.{has_mail, is_quiet}
-use Rattle.dm_rule.specs.Rule.{group_of}
-use Rattle.dm_rule.specs.View.{View}
-use Rattle.dm_rule.specs.Worn.{worn_in}
-use Rattle.dm_text.specs.Fits.{EndFits, LineFits}
-use Rattle.dm_text.specs.Reading.{pieces}
-use Rattle.dm_text.specs.Text.{words, text, end_text, text_of_ends, text_of_lines}
-use Rattle.dm_text.proofs.LineBack.{words-are}
-use Rattle.dm_text.proofs.LinesBack.{line_bytes, spelled_bytes, pieces_of_line}
-use Rattle.dm_mirror.specs.Ran.{ones}
-use Rattle.dm_mirror.specs.Run.{IsGood, joined}
-use Rattle.dm_mirror.specs.Todo.{IsTwo, IsDirective, IsTodo}
-use Rattle.dm_mirror.proofs.Machines.{machines_group}
-use Rattle.dm_mirror.proofs.Next.{next_fits}
-use Rattle.dm_shape.specs.Heads.{head_of}
-use Rattle.dm_shape.proofs.NamesRead.{some_piece}
-use Rattle.dm_shape.proofs.ShapeLaws.{heads_read}
-use Rattle.dm_check.specs.Checking.{first_line, head_of_line, is_final}
-use Rattle.dm_check.specs.Good.{AllHeld, EndsFit, IsTrace, good_verdict, text_behind}
 use Rattle.dm_check.specs.Judge as judge
-use Rattle.dm_check.specs.Judge.{Open, Ended, can_hold, behind_line, judged_from, verdict}
-use Rattle.dm_check.specs.Laws.{IsHome, HasHome, TracesAreGood, BeginningsAreOpen, RunsAreEnded}
 use Rattle.dm_check.proofs.Fulls.{ends_full}
 use Rattle.dm_check.proofs.Groups.{fresh_group, group_head}
 use Rattle.dm_check.proofs.Judging.{at_text_end, due_ends, due_group, ends_stand, first_of, group_stands, lines_append}
-use Rattle.dm_check.proofs.Names.{AreNames, names_always}
+use Rattle.dm_check.proofs.KeptNames.{AreNames, names_always}
 
 first_is_head : (e : Step) (others : List Line) (rest : List ℕ) → LineFits (line.Head e) → head_of_line (first_line (pieces 10 (text_of_lines (line.Head e ∷ others) ++ rest))) ≡ Some e
 unfolding text_of_lines

@@ -1,35 +1,12 @@
 -- The landing of a piece, without places and lawfully.
-use Rattle.std.proofs.Common.{◌≡◌, ◌∙◌, ℕ, ◌+◌, ◌-◌, ◌<◌, ◌≤◌, Bool, true, false, ◌==◌, length, take, drop, Some, None, refl, ap, arith}
-use Rattle.std.proofs.lemmas.Grind.{common_steps}
-use Rattle.std.proofs.lemmas.Bool.Decides.{nat_tests}
-use Rattle.std.specs.declared.option.Option.{Option}
-use Rattle.std.specs.Prelude.{if◌then◌else◌, ◌&&◌, nat_le}
-use Rattle.std.proofs.Math.ListN.{length-set}
-use Rattle.dm_onekernel.specs.Options.{bind}
-use Rattle.dm_link.specs.declared.Addr.{Addr}
-use Rattle.dm_message.specs.declared.MsgId.{MsgId}
-use Rattle.dm_message.specs.declared.Message.{Message}
-use Rattle.dm_message.specs.declared.What.{What}
+use Rattle.dm_datamove.proofs.Names.{◌≡◌, ◌∙◌, ℕ, ◌+◌, ◌-◌, ◌<◌, ◌≤◌, Bool, true, false, ◌==◌, length, take, drop, Some, None, refl, ap, arith, common_steps, nat_tests, Option, if◌then◌else◌, ◌&&◌, nat_le, length-set, bind, Addr, MsgId}
+use Rattle.dm_datamove.proofs.Names.{Message, What, kind_of, PlainMessage, plain_message, IsLawfulWhat, IsPiece, is_answer, Process, Status, Direction, IsLawfulProcess, IsLawfulStatus, Reply, plain_process, plain_status, Moving, piece_of}
+use Rattle.dm_datamove.proofs.Names.{written_at, lands, lands_what, Rest, Landed, IsRest, request_of, Landing, IsAnswerOf, IsAwaited, IsLawfulLanded, asks, behind, done, goes_on, landing, plain_landed, plainly_landed}
 use Rattle.dm_message.specs.declared.What.TheVariants as what
-use Rattle.dm_message.specs.Kinds.{kind_of}
-use Rattle.dm_message.specs.Plain.{PlainMessage, plain_message}
-use Rattle.dm_message.specs.Lawful.{IsLawfulWhat, IsPiece, is_answer}
-use Rattle.dm_process.specs.declared.process.Process.{Process}
-use Rattle.dm_process.specs.declared.process.Status.{Status}
 use Rattle.dm_process.specs.declared.process.Status.TheVariants as status
-use Rattle.dm_process.specs.declared.process.Direction.{Direction}
 use Rattle.dm_process.specs.declared.process.Direction.TheVariants as direction
-use Rattle.dm_process.specs.Lawful.{IsLawfulProcess, IsLawfulStatus}
-use Rattle.dm_onekernel.specs.declared.label.Reply.{Reply}
 use Rattle.dm_onekernel.specs.declared.label.Reply.TheVariants as reply
-use Rattle.dm_onekernel.specs.Plain.{plain_process, plain_status}
-use Rattle.dm_onekernel.specs.PlainProcess.{Moving}
-use Rattle.dm_onekernel.specs.Pieces.{piece_of, written_at, lands, lands_what}
 use Rattle.dm_onekernel.specs.Pieces as pieces
-use Rattle.dm_datamove.specs.declared.Rest.{Rest}
-use Rattle.dm_datamove.specs.declared.Landed.{Landed}
-use Rattle.dm_datamove.specs.Requests.{IsRest, request_of}
-use Rattle.dm_datamove.specs.Landing.{Landing, IsAnswerOf, IsAwaited, IsLawfulLanded, asks, behind, done, goes_on, landing, plain_landed, plainly_landed}
 use Rattle.dm_datamove.specs.Landing as places
 use Rattle.dm_datamove.proofs.Services.{length-written, with_memory}
 

@@ -1,3 +1,4 @@
+pub mod Names
 pub mod Services
 pub mod Landings
 pub mod Tested

@@ -1,18 +1,7 @@
 -- The service of a request, without places and lawfully.
-use Rattle.std.proofs.Common.{◌≡◌, ◌∙◌, ℕ, ◌+◌, ◌<◌, ◌≤◌, length, List, take, drop, Some, refl, ap, arith}
-use Rattle.std.proofs.lemmas.Grind.{common_steps}
-use Rattle.std.proofs.lemmas.Bool.Decides.{nat_tests}
-use Rattle.dm_link.specs.declared.Addr.{Addr}
-use Rattle.dm_message.specs.declared.MsgId.{MsgId}
-use Rattle.dm_message.specs.declared.Message.{Message}
-use Rattle.dm_message.specs.declared.What.{What}
+use Rattle.dm_datamove.proofs.Names.{◌≡◌, ◌∙◌, ℕ, ◌+◌, ◌<◌, ◌≤◌, length, List, take, drop, Some, refl, ap, arith, common_steps, nat_tests, Addr, MsgId, Message, What, plain_message, IsLawfulMessage, Process, IsLawfulProcess, written_at}
+use Rattle.dm_datamove.proofs.Names.{IsWithin, after_serving, answer, answer_of, answer_with, plain_served, served_plainly, serving_answer}
 use Rattle.dm_message.specs.declared.What.TheVariants as what
-use Rattle.dm_message.specs.Plain.{plain_message}
-use Rattle.dm_message.specs.Lawful.{IsLawfulMessage}
-use Rattle.dm_process.specs.declared.process.Process.{Process}
-use Rattle.dm_process.specs.Lawful.{IsLawfulProcess}
-use Rattle.dm_onekernel.specs.Pieces.{written_at}
-use Rattle.dm_datamove.specs.Serving.{IsWithin, after_serving, answer, answer_of, answer_with, plain_served, served_plainly, serving_answer}
 
 of_what : (here : ℕ) (p : Process) (id : MsgId) (to sender : Addr) (w : What) (a : Message) → IsWithin (length p.memory) w
     → answer_with here p (record { id = id; to = to; sender = sender; what = w }) (answer_of p w) ≡ Some a

@@ -1,6 +1,5 @@
 -- Directives, one more at a time.
-use Rattle.std.proofs.Common.{◌≡◌, ℕ, suc, ◌+◌, [], ◌∷◌, ◌++◌, refl, ap, ◌∙◌, arith}
-use Rattle.dm_draw.specs.Directives.{directive_drawn, directives_drawn, state_behind}
+use Rattle.dm_draw.proofs.Names.{◌≡◌, ℕ, suc, ◌+◌, [], ◌∷◌, ◌++◌, refl, ap, ◌∙◌, arith, directive_drawn, directives_drawn, state_behind}
 
 pub drawn_none : (machines x : ℕ) → directives_drawn machines x 0 ≡ []
 unfolding directives_drawn

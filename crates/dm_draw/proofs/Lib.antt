@@ -1,3 +1,4 @@
+pub mod Names
 pub mod Valid
 pub mod Drawing
 pub mod Within

@@ -1,9 +1,6 @@
 -- The system of a drill is one that may start, for each number of machines.
-use Rattle.std.proofs.Common.{◌≡◌, ℕ, zero, suc, ◌+◌, ◌-◌, ◌<◌, ◌≤◌, ◌&&◌, ◌==◌, nat_le, Bool, true, false, [], length, refl, sym, subst, arith}
-use Rattle.std.proofs.lemmas.Bool.Decides.{nat_tests}
-use Rattle.dm_onekernel.specs.declared.boot.Boot.{Boot}
-use Rattle.dm_onekernel.specs.Boot.{IsValid, machines_are_valid, images_are_valid, processes_are_valid}
-use Rattle.dm_draw.specs.Boot.{boot_of}
+use Rattle.dm_draw.proofs.Names.{◌≡◌, ℕ, zero, suc, ◌+◌, ◌-◌, ◌<◌, ◌≤◌, ◌&&◌, ◌==◌, nat_le, Bool, true, false, [], length, refl, sym, subst, arith, nat_tests, Boot, IsValid, machines_are_valid, images_are_valid, processes_are_valid}
+use Rattle.dm_draw.proofs.Names.{boot_of}
 
 -- all that is asked of a boot file
 abbrev pub is_valid : Boot → Bool

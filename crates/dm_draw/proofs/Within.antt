@@ -1,12 +1,7 @@
 -- What is drawn for so many machines is for machines that are there.
-use Rattle.std.proofs.Common.{◌≡◌, ◌≢◌, ◌⊎◌, inl, inr, ℕ, zero, suc, ◌+◌, ◌-◌, ◌*◌, ◌/◌, ◌%◌, ◌^◌, ◌<◌, ◌≤◌, ◌==◌, nat_lt, Bool, true, false, if◌then◌else◌, List, [], ◌∷◌, ◌++◌, length, length-append, refl, ap, ◌∙◌, sym, subst, arith}
-use Rattle.std.specs.List.{All}
-use Rattle.std.proofs.lemmas.List.Elements.{All-nil, All-cons, All-append}
-use Rattle.std.proofs.lemmas.Nat.{mod_below, mod-mul-add}
-use Rattle.dm_schedule.specs.declared.Directive.{Directive}
-use Rattle.dm_draw.specs.Boot.{boot_of, machines_of, machine}
-use Rattle.dm_draw.specs.Directives.{Drawn, IsDrawn, deliver_drawn, directive_drawn, directives_drawn, migrate_drawn, round_drawn, state_behind, tick_drawn, turn_drawn}
-use Rattle.dm_draw.specs.Draw.{drawn, stepped}
+use Rattle.dm_draw.proofs.Names.{◌≡◌, ◌≢◌, ◌⊎◌, inl, inr, ℕ, zero, suc, ◌+◌, ◌-◌, ◌*◌, ◌/◌, ◌%◌, ◌^◌, ◌<◌, ◌≤◌, ◌==◌, nat_lt, Bool, true, false, if◌then◌else◌, List, [], ◌∷◌, ◌++◌, length, length-append, refl, ap, ◌∙◌, sym, subst, arith}
+use Rattle.dm_draw.proofs.Names.{All, All-nil, All-cons, All-append, mod_below, mod-mul-add, Directive, boot_of, machines_of, machine, Drawn, IsDrawn, deliver_drawn, directive_drawn, directives_drawn, migrate_drawn, round_drawn}
+use Rattle.dm_draw.proofs.Names.{state_behind, tick_drawn, turn_drawn, drawn, stepped}
 use Rattle.dm_draw.proofs.Drawing.{drawn_next, drawn_none}
 
 pub drawn_below : (n x : ℕ) → 0 < n → drawn n x < n

@@ -1,8 +1,6 @@
 -- Worked draws.
-use Rattle.std.proofs.Common.{◌≡◌, [], ◌∷◌, refl}
+use Rattle.dm_draw.proofs.Names.{◌≡◌, [], ◌∷◌, refl, drawn, stepped, directive_drawn, directives_drawn, state_behind}
 use Rattle.dm_schedule.specs.declared.Directive.TheVariants as directive
-use Rattle.dm_draw.specs.Draw.{drawn, stepped}
-use Rattle.dm_draw.specs.Directives.{directive_drawn, directives_drawn, state_behind}
 
 -- seed 0 draws 167951807, so a round
 first_of_zero : stepped 0 ≡ 1442695040888963407

@@ -1,41 +1,9 @@
 -- A run goes on, group by group, and what a picture shows of it is kept.
-use Rattle.std.proofs.Common.{◌≡◌, ◌≤◌, ◌<◌, ◌+◌, ℕ, inl, inr, List, [], ◌∷◌, ◌++◌, length, drop, get_or, add-one, refl, ap, ◌∙◌, sym, subst, arith}
-use Rattle.std.specs.List.{All, fold}
-use Rattle.std.proofs.lemmas.Bool.{false≢true}
-use Rattle.std.proofs.lemmas.List.{drop_all, drop_more}
-use Rattle.std.proofs.lemmas.List.Sums.{fold-append}
-use Rattle.std.specs.Result.{IsErr, IsErrAnd}
-use Rattle.std.specs.declared.option.Option.{Option}
-use Rattle.std.specs.declared.option.Option.TheVariants.{None, Some}
-use Rattle.std.specs.declared.result.Result.{Result}
-use Rattle.std.specs.declared.result.Result.TheVariants.{Ok, Err}
-use Rattle.dm_onekernel.specs.declared.boot.Boot.{Boot}
-use Rattle.dm_onekernel.specs.Boot.{IsValid}
-use Rattle.dm_schedule.specs.declared.Step.{Step}
-use Rattle.dm_schedule.specs.declared.Directive.{Directive}
-use Rattle.dm_line.specs.declared.line.Line.{Line}
-use Rattle.dm_line.specs.Todo.{Todo, Next, all_of}
-use Rattle.dm_rule.specs.Point.{Point, first_point}
+use Rattle.dm_drawing.proofs.Names.{◌≡◌, ◌≤◌, ◌<◌, ◌+◌, ℕ, inl, inr, List, [], ◌∷◌, ◌++◌, length, drop, get_or, add-one, refl, ap, ◌∙◌, sym, subst, arith, All, fold, false≢true, drop_all, drop_more, fold-append, IsErr, IsErrAnd, Option}
+use Rattle.dm_drawing.proofs.Names.{None, Some, Result, Ok, Err, Boot, IsValid, Step, Directive, Line, Todo, Next, all_of, Point, first_point, Kept, keep, kept_of, none_kept, Stop, NoMemory, Worn, Cursor, OrNoMemory, NextIs, todo_of}
+use Rattle.dm_drawing.proofs.Names.{Answers, MayStep, next_step, AreWhole, AreReadBack, gave, WorldState, Said, Says, WornOut, first_world, world_step, GoesOn, RunStands, IsDirective, RunGoes, worn_out, run_begins, run_goes_on}
+use Rattle.dm_drawing.proofs.Names.{next_is_said, HasKept, HasWorn, Came, Stopped}
 use Rattle.dm_rule.specs.Worn as worn_as
-use Rattle.dm_chart.specs.declared.kept.Kept.{Kept}
-use Rattle.dm_chart.specs.Kept.{keep, kept_of, none_kept}
-use Rattle.dm_node.specs.declared.stop.Stop.{Stop}
-use Rattle.dm_node.specs.declared.stop.Stop.TheVariants.{NoMemory, Worn}
-use Rattle.dm_world.specs.declared.cursor.Cursor.{Cursor}
-use Rattle.dm_node.specs.Meets.{OrNoMemory}
-use Rattle.dm_world.specs.Cursor.{NextIs, todo_of}
-use Rattle.dm_world.specs.Meets.{Answers}
-use Rattle.dm_world.specs.May.{MayStep}
-use Rattle.dm_world.specs.Next.{next_step}
-use Rattle.dm_world.specs.Whole.{AreWhole}
-use Rattle.dm_world.specs.Readable.{AreReadBack, gave}
-use Rattle.dm_world.specs.World.{WorldState, Said, Says, WornOut, first_world, world_step}
-use Rattle.dm_mirror.specs.Run.{GoesOn, RunStands}
-use Rattle.dm_mirror.specs.Todo.{IsDirective}
-use Rattle.dm_mirror.specs.Laws.{RunGoes}
-use Rattle.dm_run.proofs.Counted.{worn_out}
-use Rattle.dm_run.proofs.Laws.{run_begins, run_goes_on, next_is_said}
-use Rattle.dm_drawing.specs.Collected.{HasKept, HasWorn, Came, Stopped}
 
 -- before the first directive
 pub keeps_first : (b : Boot) (ds : List Directive) (k : Kept) (w : WorldState) → IsValid b → All (IsDirective (length b.machines)) ds → k ≡ none_kept → w ≡ first_world b → HasKept b ds (all_of ds) k w

@@ -1,21 +1,6 @@
 -- What is kept of a run that came to its end, or to a worn pair, has its picture.
-use Rattle.std.proofs.Common.{◌≡◌, ℕ, List, [], length, ap, sym, ◌∙◌}
-use Rattle.dm_link.specs.declared.Pid.{Pid}
-use Rattle.dm_onekernel.specs.declared.boot.Boot.{Boot}
-use Rattle.dm_onekernel.specs.Boot.{IsValid}
-use Rattle.dm_schedule.specs.declared.Directive.{Directive}
-use Rattle.dm_line.specs.declared.line.Line.{Line}
-use Rattle.dm_line.specs.Todo.{all_of}
-use Rattle.dm_rule.specs.Point.{first_point}
-use Rattle.dm_chart.specs.declared.kept.Kept.{Kept}
-use Rattle.dm_chart.specs.Kept.{kept_of}
-use Rattle.dm_chart.specs.Picture.{chart_of, picture_of, starts_of}
-use Rattle.dm_world.specs.World.{WorldState}
-use Rattle.dm_run.specs.Printed.{IsOver, Lasts, WearsAfter}
-use Rattle.dm_run.proofs.Decisions.{ends_once}
-use Rattle.dm_run.proofs.Laws.{next_is_said}
-use Rattle.dm_drawing.specs.Collected.{HasKept, HasWorn}
-use Rattle.dm_drawing.specs.Pictured.{IsBeforeWorn, IsWhole}
+use Rattle.dm_drawing.proofs.Names.{◌≡◌, ℕ, List, [], length, ap, sym, ◌∙◌, Pid, Boot, IsValid, Directive, Line, all_of, first_point, Kept, kept_of, chart_of, picture_of, starts_of, WorldState, IsOver, Lasts, WearsAfter, ends_once}
+use Rattle.dm_drawing.proofs.Names.{next_is_said, HasKept, HasWorn, IsBeforeWorn, IsWhole}
 
 text_is : (b : Boot) (groups : List (List Line)) (machines : ℕ) (starts : List Pid) (k : Kept) (text : List ℕ) → machines ≡ length b.machines → starts ≡ starts_of b → k ≡ kept_of groups → text ≡ picture_of machines starts k → text ≡ chart_of b groups
 text_is b groups machines starts k text many there kept e =

@@ -1,9 +1,5 @@
 -- Counts, one more line at a time.
-use Rattle.std.proofs.Common.{◌≡◌, ℕ, ◌+◌, ◌<◌, List, [], ◌∷◌, ◌++◌, length, take, get_or, refl, ap, ◌∙◌}
-use Rattle.std.proofs.lemmas.List.{take_more}
-use Rattle.dm_line.specs.declared.line.Line.{Line}
-use Rattle.dm_drill.specs.Counts.{sort_of, one_more, with_lines}
-use Rattle.dm_drill.specs.Totals.{Totals}
+use Rattle.dm_drill.proofs.Names.{◌≡◌, ℕ, ◌+◌, ◌<◌, List, [], ◌∷◌, ◌++◌, length, take, get_or, refl, ap, ◌∙◌, take_more, Line, sort_of, one_more, with_lines, Totals}
 
 pub lines_none : (t : Totals) (ls : List Line) → with_lines t (take 0 ls) ≡ t
 unfolding with_lines

@@ -1,52 +1,12 @@
 -- A drill goes on, directive by directive: as a run does, with what is counted beside what is printed.
-use Rattle.std.proofs.Common.{◌≡◌, ◌≤◌, ◌<◌, ℕ, ◌+◌, ◌^◌, Bool, true, false, List, [], ◌∷◌, ◌++◌, length, take, drop, get_or, add-one, refl, ap, ◌∙◌, sym, subst, inl, inr, arith}
-use Rattle.std.proofs.lemmas.List.{drop_all, append-nil}
-use Rattle.std.proofs.Math.Seq.{drop-cons}
-use Rattle.std.specs.List.{All}
-use Rattle.std.proofs.lemmas.List.Elements.{All-nil}
-use Rattle.std.proofs.lemmas.Bool.{false≢true}
-use Rattle.std.specs.declared.option.Option.{Option}
-use Rattle.std.specs.declared.option.Option.TheVariants.{None, Some}
-use Rattle.std.specs.Prelude.{OnOk}
-use Rattle.std.specs.Result.{IsErr, IsErrAnd}
-use Rattle.std.specs.declared.result.Result.{Result}
-use Rattle.std.specs.declared.result.Result.TheVariants.{Ok, Err}
-use Rattle.dm_world.specs.declared.world.World.{World}
-use Rattle.dm_run.specs.declared.stop.Stop.{Stop}
-use Rattle.dm_run.specs.declared.stop.Stop.TheVariants.{NoMemory, WriteFault, Worn}
-use Rattle.dm_onekernel.specs.declared.boot.Boot.{Boot}
-use Rattle.dm_onekernel.specs.Boot.{IsValid}
-use Rattle.dm_schedule.specs.declared.Step.{Step}
-use Rattle.dm_schedule.specs.declared.Directive.{Directive}
-use Rattle.dm_line.specs.declared.line.Line.{Line}
-use Rattle.dm_line.specs.Todo.{Todo, Next, all_of}
-use Rattle.dm_rule.specs.Point.{first_point}
-use Rattle.dm_text.specs.Fits.{LineFits}
-use Rattle.dm_text.specs.Text.{text_of_lines}
-use Rattle.dm_world.specs.declared.cursor.Cursor.{Cursor}
-use Rattle.dm_world.specs.Cursor.{NextIs, todo_of}
-use Rattle.dm_world.specs.May.{MayStep}
-use Rattle.dm_world.specs.Meets.{IsWorld, state_of}
-use Rattle.dm_world.specs.Next.{next_step}
-use Rattle.dm_world.specs.Readable.{AreReadBack, gave}
-use Rattle.dm_world.specs.Whole.{AreWhole}
-use Rattle.dm_world.specs.World.{WorldState, Says, WornOut, first_world, world_step}
-use Rattle.dm_mirror.specs.Run.{RunStands, joined}
-use Rattle.dm_mirror.specs.Todo.{IsDirective}
-use Rattle.dm_outside.specs.Outside.{appended}
-use Rattle.dm_run.specs.Coming.{HasCome, Offered, rounds_of}
-use Rattle.dm_run.specs.Printed.{Lasts}
+use Rattle.dm_drill.proofs.Names.{◌≡◌, ◌≤◌, ◌<◌, ℕ, ◌+◌, ◌^◌, Bool, true, false, List, [], ◌∷◌, ◌++◌, length, take, drop, get_or, add-one, refl, ap, ◌∙◌, sym, subst, inl, inr, arith, drop_all, append-nil, drop-cons, All, All-nil}
+use Rattle.dm_drill.proofs.Names.{false≢true, Option, None, Some, OnOk, IsErr, IsErrAnd, Result, Ok, Err, World, Stop, NoMemory, WriteFault, Worn, Boot, IsValid, Step, Directive, Line, Todo, Next, all_of, first_point, LineFits}
+use Rattle.dm_drill.proofs.Names.{text_of_lines, Cursor, NextIs, todo_of, MayStep, IsWorld, state_of, next_step, AreReadBack, gave, AreWhole, WorldState, Says, WornOut, first_world, world_step, RunStands, joined, IsDirective, appended}
+use Rattle.dm_drill.proofs.Names.{HasCome, Offered, rounds_of, Lasts, ends_once, IsOnWay, some_left, Drill, with_group, with_groups, nothing, summary, Came, Ended, HasDrilled, IsOfFirst, IsWhole, IsWorn, Stopped, TellsQuiet, Told}
+use Rattle.dm_drill.proofs.Names.{text_shown, Totals}
 use Rattle.dm_run.proofs.Comes as run
-use Rattle.dm_run.proofs.Decisions.{ends_once}
 use Rattle.dm_run.proofs.Laws as laws
 use Rattle.dm_run.proofs.Settling as settling
-use Rattle.dm_run.proofs.Settling.{IsOnWay}
-use Rattle.dm_run.proofs.Writing.{some_left}
-use Rattle.dm_drill.specs.declared.drill.Drill.{Drill}
-use Rattle.dm_drill.specs.Counts.{with_group, with_groups, nothing}
-use Rattle.dm_drill.specs.Summary.{summary}
-use Rattle.dm_drill.specs.Drilled.{Came, Ended, HasDrilled, IsOfFirst, IsWhole, IsWorn, Stopped, TellsQuiet, Told, text_shown}
-use Rattle.dm_drill.specs.Totals.{Totals}
 
 -- as a run that printed all into an empty text
 abbrev run_of : (tr : Bool) (b : Boot) (ds : List Directive) (t : Todo) (before after : Told) (w : WorldState) → (h : HasDrilled tr b ds t before after w) → HasCome b ds t (Some []) (Some (text_of_lines (joined h.groups))) w

@@ -1,15 +1,6 @@
 -- Loops that look for the first that isn't good, and for a line.
-use Rattle.std.proofs.Common.{◌≡◌, ℕ, ◌+◌, ◌-◌, ◌<◌, ◌≤◌, zero, suc, Bool, true, false, if◌then◌else◌, List, [], ◌∷◌, ◌++◌, codes, length, get_or, drop, map, slice_get, refl, ap, ◌∙◌, None, arith}
-use Rattle.std.proofs.Math.ListN.{drop_of_length-le}
-use Rattle.toml.specs.declared.value.Value.{Value}
-use Rattle.toml.specs.Data.{Data, get_item}
-use Rattle.toml.specs.View.{items_view}
-use Rattle.dm_asm.specs.Lines.{lines as text_lines}
-use Rattle.dm_schedule.specs.Lines.{lines as schedule_lines}
-use Rattle.dm_boot.specs.Tables.{has_only}
-use Rattle.dm_explain.specs.Faults.{first_bad, key_fault, keys_text, wish_fault}
-use Rattle.dm_explain.specs.Wanted.{Wish}
-use Rattle.dm_explain.specs.LineAt.{line_or_nothing}
+use Rattle.dm_explain.proofs.Names.{◌≡◌, ℕ, ◌+◌, ◌-◌, ◌<◌, ◌≤◌, zero, suc, Bool, true, false, if◌then◌else◌, List, [], ◌∷◌, ◌++◌, codes, length, get_or, drop, map, slice_get, refl, ap, ◌∙◌, None, arith, drop_of_length-le, Value, Data}
+use Rattle.dm_explain.proofs.Names.{get_item, items_view, text_lines, schedule_lines, has_only, first_bad, key_fault, keys_text, wish_fault, Wish, line_or_nothing}
 use Rattle.dm_explain.proofs.Pieces.{get_or_same, read_at}
 
 pub bad-end : {K W : Type 0} (f : K → W) (good : W → Bool) (told : W → List ℕ) (other : List ℕ) (ks : List K) (i : ℕ) → length ks ≤ i → first_bad good told other (map f (drop i ks)) ≡ other

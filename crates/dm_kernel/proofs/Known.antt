@@ -1,22 +1,6 @@
 -- What is known of the process that an event is about.
-use Rattle.std.proofs.Common.{◌≡◌, ◌∙◌, Bool, true, false, if◌then◌else◌, refl, ap, sym, subst, Some, None, IsSome, rules}
-use Rattle.std.specs.declared.option.Option.{Option}
-use Rattle.std.specs.Option.{IfSome}
-use Rattle.dm_link.specs.declared.Pid.{Pid}
-use Rattle.dm_link.specs.Names.{pid_eq}
-use Rattle.dm_linktable.proofs.Names.{pid_eq_same, pid_eq_self}
-use Rattle.dm_process.specs.Process.{is_runnable}
-use Rattle.dm_process.specs.Service.{IsServiceOf}
-use Rattle.dm_process.specs.declared.process.Service.{Service}
-use Rattle.dm_process.specs.declared.process.Process.{Process}
-use Rattle.dm_room.specs.Room.{HasTaken, Taken}
-use Rattle.dm_records.specs.declared.record.Record.TheVariants.{Here, Frozen, Incoming, Forward, Ended}
-use Rattle.dm_records.specs.Records.{here_of, with_record}
-use Rattle.dm_onekernel.specs.Options.{bind}
-use Rattle.dm_kernel.specs.State.{KernelState, Known, Turned, blocks_of, with_here}
-use Rattle.dm_kernel.specs.May.{MayAct}
-use Rattle.dm_kernel.specs.Served.{IsHere, Serves}
-use Rattle.dm_kernel.specs.Turn.{known_is_runnable}
+use Rattle.dm_kernel.proofs.Names.{◌≡◌, ◌∙◌, Bool, true, false, if◌then◌else◌, refl, ap, sym, subst, Some, None, IsSome, rules, Option, IfSome, Pid, pid_eq, pid_eq_same, pid_eq_self, is_runnable, IsServiceOf, Service, Process, HasTaken}
+use Rattle.dm_kernel.proofs.Names.{Taken, Here, Frozen, Incoming, Forward, Ended, here_of, with_record, bind, KernelState, Known, Turned, blocks_of, with_here, MayAct, IsHere, Serves, known_is_runnable}
 
 -- what holds of it
 pub is_here : (P : Process → Type 0) (o : Option Known) (x : Process) → here_of o ≡ Some x → IsHere P o → P x

@@ -1,54 +1,16 @@
 -- What the rows of a migration give is lawful.
-use Rattle.std.proofs.Common.{◌≡◌, ◌∙◌, ℕ, ◌+◌, ◌-◌, ◌*◌, ◌/◌, min, ◌<◌, ◌≤◌, Bool, true, false, ◌==◌, List, [], ◌∷◌, ◌++◌, length, map, drop, Some, None, refl, sym, subst, ap, arith, inl, inr}
-use Rattle.std.specs.List.{All}
-use Rattle.std.specs.Option.{IfSome}
-use Rattle.std.specs.Prelude.{IfOk}
-use Rattle.std.specs.declared.result.Result.{Result}
-use Rattle.std.specs.declared.result.Result.TheVariants.{Ok, Err}
-use Rattle.std.proofs.lemmas.List.{length-drop, length-take}
-use Rattle.std.proofs.lemmas.List.Elements.{All-append, All-cons, All-head, All-nil, All-push, All-tail}
-use Rattle.std.proofs.lemmas.Bool.Decides.{nat_tests}
-use Rattle.std.specs.declared.option.Option.{Option}
-use Rattle.dm_link.specs.declared.Addr.{Addr}
-use Rattle.dm_link.specs.declared.Pid.{Pid}
-use Rattle.dm_link.specs.Lawful.{IsMachine, IsLawfulAddr}
-use Rattle.dm_link.specs.Names.{pid_eq}
-use Rattle.dm_linkupdate.specs.Notice.{is_told_back, kernel_at, update_of}
-use Rattle.dm_linkupdate.proofs.Lawful.{applied_lawful}
-use Rattle.dm_message.specs.declared.Asker.{Asker}
-use Rattle.dm_message.specs.declared.Message.{Message}
-use Rattle.dm_message.specs.declared.What.{What}
+use Rattle.dm_kernel.proofs.Names.{◌≡◌, ◌∙◌, ℕ, ◌+◌, ◌-◌, ◌*◌, ◌/◌, min, ◌<◌, ◌≤◌, Bool, true, false, ◌==◌, List, [], ◌∷◌, ◌++◌, length, map, drop, Some, None, refl, sym, subst, ap, arith, inl, inr, All, IfSome, IfOk, Result, Ok, Err}
+use Rattle.dm_kernel.proofs.Names.{length-drop, length-take, All-append, All-cons, All-head, All-nil, All-push, All-tail, nat_tests, Option, Addr, Pid, IsMachine, IsLawfulAddr, pid_eq, is_told_back, kernel_at, update_of, applied_lawful}
+use Rattle.dm_kernel.proofs.Names.{Asker, Message, What, kind_of, IsLawfulMessage, IsLawfulWhat, IsServer, is_answer, Process, IsLawfulProcess, Taken, free_blocks, free_slots, has_room, Here, Frozen, Incoming, Forward, Wanted, Chunk, Block}
+use Rattle.dm_kernel.proofs.Names.{Nothing, Arrival, expected, pull, with_block, with_chunk, with_held_too, with_piece, Departure, all_sent_on, ask_of, frozen, sent_on, with_held, HasChunk, chunk_bytes, chunk_of, lawful_all, Boot, manager}
+use Rattle.dm_kernel.proofs.Names.{slots_of, switchboard, MoveError, moves_child, moves_lawful, Servers, Part, Routes, asks_manager, asks_move, told_to_move, accepts, answers_ask, holds_arriving, restarts, restarts_as, takes_piece}
+use Rattle.dm_kernel.proofs.Names.{took_piece, freezes, gives_piece, holds_leaving, leaves, migrates, stays, board_follows, forwards, forwards_and, manager_follows, process_follows, AreLawful, IsLawfulArrival, IsLawfulDeparture}
+use Rattle.dm_kernel.proofs.Names.{IsLawfulPair, IsLawfulPart, IsLawfulState, MayRestart, KernelState, own, own_id}
 use Rattle.dm_message.specs.declared.What.TheVariants as what
-use Rattle.dm_message.specs.Kinds.{kind_of}
-use Rattle.dm_message.specs.Lawful.{IsLawfulMessage, IsLawfulWhat, IsServer, is_answer}
-use Rattle.dm_process.specs.declared.process.Process.{Process}
-use Rattle.dm_process.specs.Lawful.{IsLawfulProcess}
-use Rattle.dm_room.specs.Room.{Taken, free_blocks, free_slots, has_room}
-use Rattle.dm_records.specs.declared.record.Record.TheVariants.{Here, Frozen, Incoming, Forward}
-use Rattle.dm_migrate.specs.declared.arriving.Wanted.{Wanted}
-use Rattle.dm_migrate.specs.declared.arriving.Wanted.TheVariants.{Chunk, Block, Nothing}
-use Rattle.dm_migrate.specs.Arrival.{Arrival, expected, pull, with_block, with_chunk, with_held as with_held_too, with_piece}
-use Rattle.dm_migrate.specs.Departure.{Departure, all_sent_on, ask_of, frozen, sent_on, with_held}
-use Rattle.dm_migrate.specs.Pieces.{HasChunk, chunk_bytes, chunk_of, state_of}
-use Rattle.dm_migrate.proofs.Messages.{lawful_all}
-use Rattle.dm_onekernel.specs.declared.boot.Boot.{Boot}
-use Rattle.dm_onekernel.specs.Boot.{manager, slots_of, switchboard}
-use Rattle.dm_procman.specs.declared.moving.MoveError.{MoveError}
+use Rattle.dm_migrate.specs.Pieces.{state_of}
 use Rattle.dm_procman.specs.declared.moving.MoveError.TheVariants as no
-use Rattle.dm_procman.specs.Moving.{moves_child}
-use Rattle.dm_procman.proofs.Lawful.{moves_lawful}
 use Rattle.dm_procman.proofs.Lawful as manage
 use Rattle.dm_switchboard.proofs.Lawful as board
-use Rattle.dm_kernel.specs.declared.kernel.Servers.{Servers}
-use Rattle.dm_kernel.specs.declared.part.Part.{Part}
-use Rattle.dm_kernel.specs.declared.part.Part.TheVariants.{Routes}
-use Rattle.dm_kernel.specs.Asking.{asks_manager, asks_move, told_to_move}
-use Rattle.dm_kernel.specs.Coming.{accepts, answers_ask, holds_arriving, restarts, restarts_as, takes_piece, took_piece}
-use Rattle.dm_kernel.specs.Departing.{freezes, gives_piece, holds_leaving, leaves, migrates, stays}
-use Rattle.dm_kernel.specs.Following.{board_follows, forwards, forwards_and, manager_follows, process_follows}
-use Rattle.dm_kernel.specs.Lawful.{AreLawful, IsLawfulArrival, IsLawfulDeparture, IsLawfulPair, IsLawfulPart, IsLawfulState}
-use Rattle.dm_kernel.specs.May.{MayRestart}
-use Rattle.dm_kernel.specs.State.{KernelState, own, own_id}
 use Rattle.dm_kernel.proofs.LawfulRows.{Lawfully, if_lawfully, knows, none_said, routed, said, same_room, with_process}
 
 -- messages of the kernel's own, and messages that go on

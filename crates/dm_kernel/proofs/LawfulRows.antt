@@ -1,40 +1,8 @@
 -- What the rows of a turn give is lawful.
-use Rattle.std.proofs.Common.{◌≡◌, ℕ, ◌-◌, ◌*◌, ◌<◌, ◌≤◌, Bool, true, false, if◌then◌else◌, List, [], ◌∷◌, ◌++◌, length, map, replicate, Some, None, refl, sym, subst, inl, inr, ◌⊎◌, arith}
-use Rattle.std.specs.List.{All}
-use Rattle.std.specs.Option.{IfSome}
-use Rattle.std.proofs.lemmas.Grind.{common_steps}
-use Rattle.std.proofs.lemmas.List.Elements.{All-append, All-cons, All-map, All-nil, All-push}
-use Rattle.std.proofs.lemmas.Bool.Decides.{nat_tests}
-use Rattle.std.specs.declared.option.Option.{Option}
-use Rattle.dm_link.specs.declared.Link.{Link}
-use Rattle.dm_link.specs.declared.Pid.{Pid}
-use Rattle.dm_link.specs.Lawful.{IsMachine, IsLawfulEnclosed}
-use Rattle.dm_link.specs.Names.{pid_eq}
-use Rattle.dm_message.specs.declared.Message.{Message}
-use Rattle.dm_message.specs.declared.What.{What}
-use Rattle.dm_message.specs.Kinds.{kind_of}
-use Rattle.dm_message.specs.Lawful.{IsLawfulMessage, IsLawfulWhat, is_answer}
-use Rattle.dm_process.specs.declared.process.Process.{Process}
-use Rattle.dm_process.specs.Lawful.{IsLawfulProcess, SlotIsLawful}
-use Rattle.dm_records.specs.declared.record.Record.TheVariants.{Here, Ended}
-use Rattle.dm_records.specs.Records.{with_record}
-use Rattle.dm_room.specs.Room.{Taken}
-use Rattle.dm_datamove.specs.Serving.{answer}
-use Rattle.dm_datamove.proofs.Tested.{none_lawful}
-use Rattle.dm_onekernel.specs.declared.boot.Boot.{Boot}
-use Rattle.dm_onekernel.specs.declared.boot.BootImage.{BootImage}
-use Rattle.dm_onekernel.specs.declared.boot.Format.{Format}
-use Rattle.dm_onekernel.specs.declared.boot.Format.TheVariants.{One, Two}
-use Rattle.dm_onekernel.specs.declared.label.Why.{Why}
-use Rattle.dm_onekernel.specs.Boot.{image_is_valid, slots_of}
-use Rattle.dm_onekernel.specs.Start.{memory_of, slots_with}
-use Rattle.dm_line.specs.declared.line.Line.{Line}
-use Rattle.dm_kernel.specs.declared.part.Part.{Part}
-use Rattle.dm_kernel.specs.declared.part.Part.TheVariants.{Says, Routes}
-use Rattle.dm_kernel.specs.Begun.{child_of, with_child}
-use Rattle.dm_kernel.specs.Handle.{routes}
-use Rattle.dm_kernel.specs.Lawful.{AreLawful, IsLawfulKnown, IsLawfulPart, IsLawfulRoom, IsLawfulState, IsLawfulTurned}
-use Rattle.dm_kernel.specs.State.{KernelState, Known, Turned, drops, with_here, without_process}
+use Rattle.dm_kernel.proofs.Names.{◌≡◌, ℕ, ◌-◌, ◌*◌, ◌<◌, ◌≤◌, Bool, true, false, if◌then◌else◌, List, [], ◌∷◌, ◌++◌, length, map, replicate, Some, None, refl, sym, subst, inl, inr, ◌⊎◌, arith, All, IfSome, common_steps, All-append}
+use Rattle.dm_kernel.proofs.Names.{All-cons, All-map, All-nil, All-push, nat_tests, Option, Link, Pid, IsMachine, IsLawfulEnclosed, pid_eq, Message, What, kind_of, IsLawfulMessage, IsLawfulWhat, is_answer, Process, IsLawfulProcess}
+use Rattle.dm_kernel.proofs.Names.{SlotIsLawful, Here, Ended, with_record, Taken, answer, none_lawful, Boot, BootImage, Format, One, Two, Why, image_is_valid, slots_of, memory_of, slots_with, Line, Part, Says, Routes, child_of, with_child}
+use Rattle.dm_kernel.proofs.Names.{routes, AreLawful, IsLawfulKnown, IsLawfulPart, IsLawfulRoom, IsLawfulState, IsLawfulTurned, KernelState, Known, Turned, drops, with_here, without_process}
 
 -- what there is of a turn is lawful
 abbrev pub Lawfully : Option Turned → Type 0

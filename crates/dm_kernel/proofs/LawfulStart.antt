@@ -1,37 +1,9 @@
 -- A machine as the boot file has it may take a turn, and is lawful.
-use Rattle.std.proofs.Common.{◌≡◌, ◌∙◌, ℕ, ◌+◌, ◌*◌, ◌/◌, ◌<◌, ◌≤◌, Bool, true, false, ◌==◌, if◌then◌else◌, List, [], ◌∷◌, ◌++◌, length, Some, None, slice_get, refl, ap, sym, subst, arith}
-use Rattle.std.specs.Prelude.{⊤, ◌&&◌, ◌||◌, nat_le, not}
-use Rattle.std.specs.List.{All}
-use Rattle.std.specs.Option.{IfSome}
-use Rattle.std.proofs.lemmas.Grind.{common_steps}
-use Rattle.std.proofs.lemmas.List.Elements.{All-cons, All-nil}
-use Rattle.std.proofs.lemmas.Bool.{and_parts}
-use Rattle.std.proofs.lemmas.Bool.Decides.{nat_tests}
-use Rattle.std.specs.declared.option.Option.{Option}
-use Rattle.std.specs.declared.result.Result.TheVariants.{Ok}
-use Rattle.dm_link.specs.declared.Link.{Link}
-use Rattle.dm_link.specs.declared.Pid.{Pid}
-use Rattle.dm_link.specs.Lawful.{IsLawfulEnclosed}
-use Rattle.dm_link.specs.Names.{pid_eq}
-use Rattle.dm_linktable.proofs.Names.{pid_eq_same}
-use Rattle.dm_message.specs.Lawful.{IsLawfulMessage}
-use Rattle.dm_process.specs.declared.process.Process.{Process}
-use Rattle.dm_process.specs.Lawful.{IsLawfulProcess}
-use Rattle.dm_room.specs.Room.{HasTaken, Taken, with_reserved}
-use Rattle.dm_records.specs.declared.record.Record.TheVariants.{Here, Frozen, Incoming, Forward, Ended}
-use Rattle.dm_onekernel.specs.declared.boot.Boot.{Boot}
-use Rattle.dm_onekernel.specs.declared.boot.BootImage.{BootImage}
-use Rattle.dm_onekernel.specs.declared.boot.BootMachine.{BootMachine}
-use Rattle.dm_onekernel.specs.declared.boot.BootProcess.{BootProcess}
-use Rattle.dm_onekernel.specs.Boot.{IsValid, blocks_at, blocks_of_image, controls_child, image_is_valid, images_are_valid, leads_somewhere, leads_to_process, leads_to_server, link_is_valid, links_are_valid, machine_is_valid, manager, memory_size, process_is_valid, process_named, processes_are_valid, slots_of, starting_at, switchboard}
-use Rattle.dm_onekernel.specs.Start.{memory_of}
-use Rattle.dm_procman.proofs.Lawful.{started_lawful}
-use Rattle.dm_procman.specs.Managing.{starting}
-use Rattle.dm_switchboard.specs.Lawful.{IsLawfulNamed}
-use Rattle.dm_kernel.specs.Begun.{begins, child_of, empty, opened, room_of, with_all, with_child}
-use Rattle.dm_kernel.specs.Lawful.{IsLawfulKnown, IsLawfulPair, IsLawfulRoom, IsLawfulState}
-use Rattle.dm_kernel.specs.May.{FrontMay, MayTurn}
-use Rattle.dm_kernel.specs.State.{KernelState, Known, blocks_of}
+use Rattle.dm_kernel.proofs.Names.{◌≡◌, ◌∙◌, ℕ, ◌+◌, ◌*◌, ◌/◌, ◌<◌, ◌≤◌, Bool, true, false, ◌==◌, if◌then◌else◌, List, [], ◌∷◌, ◌++◌, length, Some, None, slice_get, refl, ap, sym, subst, arith, ⊤, ◌&&◌, ◌||◌, nat_le, not, All, IfSome}
+use Rattle.dm_kernel.proofs.Names.{common_steps, All-cons, All-nil, and_parts, nat_tests, Option, Ok, Link, Pid, IsLawfulEnclosed, pid_eq, pid_eq_same, IsLawfulMessage, Process, IsLawfulProcess, HasTaken, Taken, with_reserved, Here, Frozen}
+use Rattle.dm_kernel.proofs.Names.{Incoming, Forward, Ended, Boot, BootImage, BootMachine, BootProcess, IsValid, blocks_at, blocks_of_image, controls_child, image_is_valid, images_are_valid, leads_somewhere, leads_to_process}
+use Rattle.dm_kernel.proofs.Names.{leads_to_server, link_is_valid, links_are_valid, machine_is_valid, manager, memory_size, process_is_valid, process_named, processes_are_valid, slots_of, starting_at, switchboard, memory_of, started_lawful}
+use Rattle.dm_kernel.proofs.Names.{starting, IsLawfulNamed, begins, child_of, empty, opened, room_of, with_all, with_child, IsLawfulKnown, IsLawfulPair, IsLawfulRoom, IsLawfulState, FrontMay, MayTurn, KernelState, Known, blocks_of}
 use Rattle.dm_kernel.proofs.Making.{image_fits}
 use Rattle.dm_kernel.proofs.LawfulRows.{child_lawfully, same_room}
 use Rattle.dm_kernel.proofs.Opening.{machine_fits}

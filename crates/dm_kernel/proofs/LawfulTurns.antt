@@ -1,74 +1,24 @@
 -- What a turn gives is lawful.
-use Rattle.std.proofs.Common.{◌≡◌, ◌∙◌, ℕ, suc, ◌<◌, ◌≤◌, Bool, true, false, ◌==◌, if◌then◌else◌, List, [], ◌∷◌, length, map, remove, slice_get, Some, None, refl, sym, subst, ap, arith}
-use Rattle.std.specs.List.{All}
-use Rattle.std.specs.Option.{IfSome}
-use Rattle.std.proofs.lemmas.Grind.{common_steps}
-use Rattle.std.proofs.lemmas.List.Elements.{All-tail}
-use Rattle.std.specs.declared.option.Option.{Option}
-use Rattle.std.specs.declared.result.Result.TheVariants.{Ok}
-use Rattle.dm_link.specs.declared.Addr.{Addr}
-use Rattle.dm_link.specs.declared.Link.{Link}
-use Rattle.dm_link.specs.declared.Pid.{Pid}
-use Rattle.dm_link.specs.Lawful.{IsLawfulEnclosed, IsMachine}
-use Rattle.dm_link.specs.Names.{pid_eq}
-use Rattle.dm_link.specs.Plain.{plain_link}
-use Rattle.dm_message.specs.declared.Message.{Message}
-use Rattle.dm_message.specs.declared.What.{What}
+use Rattle.dm_kernel.proofs.Names.{◌≡◌, ◌∙◌, ℕ, suc, ◌<◌, ◌≤◌, Bool, true, false, ◌==◌, if◌then◌else◌, List, [], ◌∷◌, length, map, remove, slice_get, Some, None, refl, sym, subst, ap, arith, All, IfSome, common_steps, All-tail, Option, Ok}
+use Rattle.dm_kernel.proofs.Names.{Addr, Link, Pid, IsLawfulEnclosed, IsMachine, pid_eq, plain_link, Message, What, IsLawfulMessage, IsLawfulWhat, IsServer, Process, Status, IsLawfulProcess, first_on, is_on, without_first_on, Here, Frozen}
+use Rattle.dm_kernel.proofs.Names.{Incoming, Forward, Ended, frozen_of, incoming_of, Arrival, Departure, HasChunk, block_of, chunk_of, bind, Landed, Landing, IsAwaited, IsLawfulLanded, landing, IsWithin, after_serving, gone_answer}
+use Rattle.dm_kernel.proofs.Names.{serving_answer, IsLawfulLanding, lands_lawfully, answers_lawfully, serves_lawfully, Boot, BootImage, Reply, Why, image_is_valid, images_are_valid, manager, slots_of, switchboard, plain_process}
+use Rattle.dm_kernel.proofs.Names.{receive_refusals, first_failed, heard, manager_after, message_after, moved_back, answer_after, board_after, Called, calls, Completion, completes, completes_unless, completion, refusal, IsLawfulCalled}
+use Rattle.dm_kernel.proofs.Names.{completes_lawfully, IsLawfulDone, call_lawfully, Servers, Halt, asks_move, child_of, restarts, takes_piece, gives_piece, leaves, stays, answers_with, board_handles, board_took, ended_handles, handles}
+use Rattle.dm_kernel.proofs.Names.{here_handles, kernel_handles, lands, lands_as, makes, makes_of, manager_handles, manager_took, next_pid, process_handles, told_board, told_manager, IsLawfulArrival, IsLawfulDeparture, IsLawfulKnown}
+use Rattle.dm_kernel.proofs.Names.{IsLawfulPair, IsLawfulState, IsLawfulTurned, FitsEnded, FitsHere, FitsKernel, FrontMay, FitsKnown, FitsManager, FitsManagerWhat, IsSuch, MayHandle, MayRestart, MayTurn, called_with, ends, halts}
+use Rattle.dm_kernel.proofs.Names.{processor_of, ran, received_by, receives, serves, serves_status, with_machine, KernelState, Known, Turned, with_here, first_runnable, goes_round, turn, turns}
 use Rattle.dm_message.specs.declared.What.TheVariants as what
-use Rattle.dm_message.specs.Lawful.{IsLawfulMessage, IsLawfulWhat, IsServer}
-use Rattle.dm_process.specs.declared.process.Process.{Process}
-use Rattle.dm_process.specs.declared.process.Status.{Status}
 use Rattle.dm_process.specs.declared.process.Status.TheVariants as status
-use Rattle.dm_process.specs.Lawful.{IsLawfulProcess}
-use Rattle.dm_process.specs.Mail.{first_on, is_on, without_first_on}
-use Rattle.dm_records.specs.declared.record.Record.TheVariants.{Here, Frozen, Incoming, Forward, Ended}
-use Rattle.dm_records.specs.Records.{frozen_of, incoming_of}
-use Rattle.dm_migrate.specs.Arrival.{Arrival}
-use Rattle.dm_migrate.specs.Departure.{Departure}
-use Rattle.dm_migrate.specs.Pieces.{HasChunk, block_of, chunk_of, state_of}
-use Rattle.dm_onekernel.specs.Options.{bind}
-use Rattle.dm_datamove.specs.declared.Landed.{Landed}
+use Rattle.dm_migrate.specs.Pieces.{state_of}
 use Rattle.dm_datamove.specs.declared.Landed.TheVariants as landed
-use Rattle.dm_datamove.specs.Landing.{Landing, IsAwaited, IsLawfulLanded, landing}
-use Rattle.dm_datamove.specs.Serving.{IsWithin, after_serving, gone_answer, serving_answer}
-use Rattle.dm_datamove.proofs.Landings.{IsLawfulLanding, lands_lawfully}
-use Rattle.dm_datamove.proofs.Services.{answers_lawfully, serves_lawfully}
-use Rattle.dm_onekernel.specs.declared.boot.Boot.{Boot}
-use Rattle.dm_onekernel.specs.declared.boot.BootImage.{BootImage}
-use Rattle.dm_onekernel.specs.declared.label.Reply.{Reply}
-use Rattle.dm_onekernel.specs.declared.label.Why.{Why}
 use Rattle.dm_onekernel.specs.declared.label.Why.TheVariants as why
-use Rattle.dm_onekernel.specs.Boot.{image_is_valid, images_are_valid, manager, slots_of, switchboard}
-use Rattle.dm_onekernel.specs.Plain.{plain_process}
-use Rattle.dm_onekernel.specs.Receiving.{receive_refusals}
-use Rattle.dm_onekernel.specs.Refusals.{first_failed}
 use Rattle.dm_procman.specs.Taking as manage
-use Rattle.dm_procman.proofs.Hearing.{heard}
-use Rattle.dm_procman.proofs.Lawful.{manager_after, message_after}
-use Rattle.dm_line.specs.Sets.{moved_back}
 use Rattle.dm_switchboard.specs.Taking as board
-use Rattle.dm_switchboard.proofs.Lawful.{answer_after, board_after}
-use Rattle.dm_syscall.specs.declared.Called.{Called}
 use Rattle.dm_syscall.specs.declared.Called.TheVariants as called
-use Rattle.dm_syscall.specs.Calls.{calls}
 use Rattle.dm_syscall.specs.Completing as completing
-use Rattle.dm_syscall.specs.Completing.{Completion, completes, completes_unless, completion, refusal}
-use Rattle.dm_syscall.specs.Plainly.{IsLawfulCalled}
-use Rattle.dm_syscall.proofs.Completes.{completes_lawfully}
-use Rattle.dm_syscall.proofs.LawfulCalls.{IsLawfulDone, call_lawfully}
-use Rattle.dm_kernel.specs.declared.kernel.Servers.{Servers}
-use Rattle.dm_kernel.specs.declared.run.Halt.{Halt}
 use Rattle.dm_kernel.specs.declared.run.Halt.TheVariants as halt
-use Rattle.dm_kernel.specs.Asking.{asks_move}
-use Rattle.dm_kernel.specs.Begun.{child_of}
-use Rattle.dm_kernel.specs.Coming.{restarts, takes_piece}
-use Rattle.dm_kernel.specs.Departing.{gives_piece, leaves, stays}
-use Rattle.dm_kernel.specs.Handle.{answers_with, board_handles, board_took, ended_handles, handles, has_room, here_handles, kernel_handles, lands, lands_as, makes, makes_of, manager_handles, manager_took, next_pid, process_handles, told_board, told_manager}
-use Rattle.dm_kernel.specs.Lawful.{IsLawfulArrival, IsLawfulDeparture, IsLawfulKnown, IsLawfulPair, IsLawfulState, IsLawfulTurned}
-use Rattle.dm_kernel.specs.May.{FitsEnded, FitsHere, FitsKernel, FrontMay, FitsKnown, FitsManager, FitsManagerWhat, IsSuch, MayHandle, MayRestart, MayTurn}
-use Rattle.dm_kernel.specs.Serve.{called_with, ends, halts, processor_of, ran, received_by, receives, serves, serves_status, with_machine}
-use Rattle.dm_kernel.specs.State.{KernelState, Known, Turned, with_here}
-use Rattle.dm_kernel.specs.Turn.{first_runnable, goes_round, turn, turns}
+use Rattle.dm_kernel.specs.Handle.{has_room}
 use Rattle.dm_kernel.proofs.Making.{image_fits}
 use Rattle.dm_kernel.proofs.Serving.{first_is_on, has_run, runs_lawfully}
 use Rattle.dm_kernel.proofs.LawfulMoves.{asks_lawfully, asks_move_lawfully, board_follows_lawfully, chunk_lawfully, forwards_lawfully, gives_lawfully, holds_arriving_lawfully, holds_leaving_lawfully, leaves_lawfully, manager_follows_lawfully, migrates_lawfully, not_server, process_follows_lawfully, restarts_lawfully, stays_lawfully, takes_lawfully}

@@ -1,3 +1,4 @@
+pub mod Names
 pub mod Running
 pub mod Ringing
 pub mod Known
@@ -12,4 +13,4 @@ pub mod LawfulMoves
 pub mod LawfulTurns
 pub mod LawfulStart
 pub mod Worked
-pub mod Moved
+mod WorkedMoves

@@ -1,23 +1,7 @@
 -- How a process is made of a boot file's image, one link at a time, and what its rules say of each process.
-use Rattle.std.proofs.Common.{◌≡◌, ◌∙◌, IsOk, IfErr, IfOk, MatchResult, ◌<◌, ◌≤◌, ℕ, zero, suc, ◌+◌, ◌-◌, true, List, [], ◌∷◌, ◌++◌, length, map, replicate, take, drop, refl, sym, ap, subst, add-one, arith, Some, None, slice_get, set, get_or}
-use Rattle.std.proofs.Math.Seq.{drop-cons, set-append_seam}
-use Rattle.std.proofs.lemmas.List.{length-map, take_more}
-use Rattle.std.specs.declared.result.Result.{Result}
-use Rattle.std.specs.declared.result.Result.TheVariants.{Ok, Err}
-use Rattle.std.proofs.lemmas.Grind.{common_steps}
-use Rattle.std.proofs.lemmas.Option.{slice_get_read}
-use Rattle.std.proofs.lemmas.Bool.{and_parts}
-use Rattle.std.proofs.lemmas.Bool.Decides.{nat_tests}
-use Rattle.std.specs.List.{position_or_len}
-use Rattle.std.specs.Option.{is_none}
-use Rattle.std.specs.declared.option.Option.{Option}
-use Rattle.dm_link.specs.declared.Link.{Link}
-use Rattle.dm_linktable.specs.Slots.{first_empty}
-use Rattle.dm_onekernel.specs.declared.boot.Boot.{Boot}
-use Rattle.dm_onekernel.specs.declared.boot.BootImage.{BootImage}
-use Rattle.dm_onekernel.specs.declared.boot.BootProcess.{BootProcess}
-use Rattle.dm_onekernel.specs.Boot.{image_is_valid, images_are_valid, process_is_valid, processes_are_valid, slots_of, starting_at}
-use Rattle.dm_onekernel.specs.Start.{slots_with}
+use Rattle.dm_kernel.proofs.Names.{◌≡◌, ◌∙◌, IsOk, IfErr, IfOk, MatchResult, ◌<◌, ◌≤◌, ℕ, zero, suc, ◌+◌, ◌-◌, true, List, [], ◌∷◌, ◌++◌, length, map, replicate, take, drop, refl, sym, ap, subst, add-one, arith, Some, None, slice_get, set}
+use Rattle.dm_kernel.proofs.Names.{get_or, drop-cons, set-append_seam, length-map, take_more, Result, Ok, Err, common_steps, slice_get_read, and_parts, nat_tests, position_or_len, is_none, Option, Link, first_empty, Boot, BootImage}
+use Rattle.dm_kernel.proofs.Names.{BootProcess, image_is_valid, images_are_valid, process_is_valid, processes_are_valid, slots_of, starting_at, slots_with}
 
 -- the links before the first empty slot
 links_before : (links : List Link) (rest : List (Option Link)) → position_or_len is_none (map Some links ++ None ∷ rest) ≡ length links

@@ -1,20 +1,7 @@
 -- How the machine of a boot file comes to be, one process at a time.
-use Rattle.std.proofs.Common.{◌≡◌, ℕ, zero, suc, ◌+◌, ◌<◌, ◌≤◌, Bool, true, false, ◌==◌, if◌then◌else◌, List, [], ◌∷◌, length, Some, None, slice_get, refl, sym, subst, arith}
-use Rattle.std.specs.Prelude.{◌&&◌, nat_le}
-use Rattle.std.proofs.lemmas.Grind.{common_steps}
-use Rattle.std.proofs.lemmas.Bool.{and_parts}
-use Rattle.std.proofs.lemmas.Bool.Decides.{nat_tests}
-use Rattle.std.specs.declared.option.Option.{Option}
-use Rattle.dm_records.specs.Records.{at}
-use Rattle.dm_onekernel.specs.declared.boot.Boot.{Boot}
-use Rattle.dm_onekernel.specs.declared.boot.BootImage.{BootImage}
-use Rattle.dm_onekernel.specs.declared.boot.BootMachine.{BootMachine}
-use Rattle.dm_onekernel.specs.declared.boot.BootProcess.{BootProcess}
-use Rattle.dm_onekernel.specs.Boot.{IsValid, blocks_at, blocks_of_image, machine_is_valid, machines_are_valid, starting_at}
-use Rattle.dm_kernel.specs.declared.kernel.Kernel.{Kernel}
-use Rattle.dm_kernel.specs.State.{KernelState}
-use Rattle.dm_kernel.specs.Begun.{begins, child_of, empty, with_child}
-use Rattle.dm_kernel.specs.Meets.{IsIn, state_of}
+use Rattle.dm_kernel.proofs.Names.{◌≡◌, ℕ, zero, suc, ◌+◌, ◌<◌, ◌≤◌, Bool, true, false, ◌==◌, if◌then◌else◌, List, [], ◌∷◌, length, Some, None, slice_get, refl, sym, subst, arith, ◌&&◌, nat_le, common_steps, and_parts, nat_tests, Option}
+use Rattle.dm_kernel.proofs.Names.{at, Boot, BootImage, BootMachine, BootProcess, IsValid, blocks_at, blocks_of_image, machine_is_valid, machines_are_valid, starting_at, Kernel, KernelState, begins, child_of, empty, with_child, IsIn}
+use Rattle.dm_kernel.proofs.Names.{state_of}
 
 -- a kernel's state, as a whole
 pub is_state : (k : Kernel) (s : KernelState) → IsIn k s → state_of k ≡ s

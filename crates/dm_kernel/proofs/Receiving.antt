@@ -1,34 +1,12 @@
 -- What taking a message comes to, from what the end of the receive gives.
-use Rattle.std.proofs.Common.{◌≡◌, ◌∙◌, ℕ, List, [], ◌∷◌, ap, map, remove, slice_get, subst, sym, Some, None}
-use Rattle.std.specs.Prelude.{IfOk, Result, Vec}
-use Rattle.std.specs.declared.alloc.Global.{Global}
-use Rattle.std.specs.declared.option.Option.{Option}
-use Rattle.std.specs.declared.result.Result.TheVariants.{Ok, Err}
-use Rattle.dm_memory.specs.declared.NoMemory.{NoMemory}
-use Rattle.dm_link.specs.declared.Link.{Link}
-use Rattle.dm_link.specs.declared.Pid.{Pid}
-use Rattle.dm_link.specs.Plain.{plain_link}
-use Rattle.dm_message.specs.declared.Message.{Message}
-use Rattle.dm_message.specs.declared.What.{What}
+use Rattle.dm_kernel.proofs.Names.{◌≡◌, ◌∙◌, ℕ, List, [], ◌∷◌, ap, map, remove, slice_get, subst, sym, Some, None, IfOk, Vec, Global, Option, Ok, Err, NoMemory, Link, Pid, plain_link, Message, What, first_on, without_first_on, Takes}
+use Rattle.dm_kernel.proofs.Names.{Process, Status, Reply, plain_process, receive_refusals, first_failed, Completed, Completion, completes, completes_unless, completion, Kernel, Part, Answers, IsIn, MeetsSome, state_of, completed_label}
+use Rattle.dm_kernel.proofs.Names.{received, received_by, receives, KernelState, Turned, says, turned, with_here}
+use Rattle.std.specs.Prelude.{Result}
 use Rattle.dm_message.specs.declared.What.TheVariants as what
-use Rattle.dm_process.specs.Mail.{first_on, without_first_on}
-use Rattle.dm_process.specs.Service.{Takes}
-use Rattle.dm_process.specs.declared.process.Process.{Process}
-use Rattle.dm_process.specs.declared.process.Status.{Status}
 use Rattle.dm_process.specs.declared.process.Status.TheVariants as status
 use Rattle.dm_onekernel.specs.declared.label.Label.TheVariants as label
-use Rattle.dm_onekernel.specs.declared.label.Reply.{Reply}
-use Rattle.dm_onekernel.specs.Plain.{plain_process}
-use Rattle.dm_onekernel.specs.Receiving.{receive_refusals}
-use Rattle.dm_onekernel.specs.Refusals.{first_failed}
-use Rattle.dm_syscall.specs.declared.Completed.{Completed}
-use Rattle.dm_syscall.specs.Completing.{Completion, completes, completes_unless, completion}
 use Rattle.dm_syscall.specs.Completing as ends
-use Rattle.dm_kernel.specs.declared.kernel.Kernel.{Kernel}
-use Rattle.dm_kernel.specs.declared.part.Part.{Part}
-use Rattle.dm_kernel.specs.Meets.{Answers, IsIn, MeetsSome, state_of}
-use Rattle.dm_kernel.specs.Serve.{completed_label, received, received_by, receives}
-use Rattle.dm_kernel.specs.State.{KernelState, Turned, says, turned, with_here}
 
 module _ (s : KernelState) (p : Pid) (x : Process) (mask place : ℕ) (m : Message) (rest : remove x.queue place ≡ without_first_on mask x.queue) where
   -- what is said, and the process as it is then

@@ -1,12 +1,6 @@
 -- The ring, and the first of it that can be served.
-use Rattle.std.proofs.Common.{◌≡◌, ℕ, zero, suc, true, false, List, [], ◌∷◌, ◌++◌, take, remove, Some, None, slice_get, arith, ap, ◌∙◌}
-use Rattle.std.proofs.lemmas.Grind.{common_steps}
-use Rattle.std.specs.declared.option.Option.{Option}
-use Rattle.dm_link.specs.declared.Pid.{Pid}
-use Rattle.dm_linktable.proofs.Names.{pid_eq_self}
-use Rattle.dm_line.specs.Sets.{moved_back, without}
-use Rattle.dm_kernel.specs.State.{Known}
-use Rattle.dm_kernel.specs.Turn.{first_runnable, known_is_runnable}
+use Rattle.dm_kernel.proofs.Names.{◌≡◌, ℕ, zero, suc, true, false, List, [], ◌∷◌, ◌++◌, take, remove, Some, None, slice_get, arith, ap, ◌∙◌, common_steps, Option, Pid, pid_eq_self, moved_back, without, Known, first_runnable}
+use Rattle.dm_kernel.proofs.Names.{known_is_runnable}
 
 -- the process at a place may be taken out first
 pub without_removed : (ring : List Pid) (i : ℕ) (p : Pid) → slice_get ring i ≡ Some p → without p (remove ring i) ≡ without p ring

@@ -1,11 +1,7 @@
 -- One more plain instruction.
-use Rattle.std.proofs.Common.{◌≡◌, ℕ, suc, ◌+◌, ◌-◌, ◌<◌, List, arith, ap, ◌∙◌}
-use Rattle.dm_processor.specs.declared.registers.Regs.{Regs}
+use Rattle.dm_kernel.proofs.Names.{◌≡◌, ℕ, suc, ◌+◌, ◌-◌, ◌<◌, List, arith, ap, ◌∙◌, Regs, Row, instruction, DoesRow, Machine, Ran, ran, after_row, one_more}
 use Rattle.dm_processor.specs.declared.registers.Stepped.TheVariants as stepped
 use Rattle.dm_processor.specs.Instructions as row
-use Rattle.dm_processor.specs.Instructions.{Row, instruction, DoesRow}
-use Rattle.dm_onekernel.specs.Step.{Machine}
-use Rattle.dm_kernel.specs.Serve.{Ran, ran, after_row, one_more}
 
 -- so many instructions more
 abbrev pub more : ℕ → Ran → Ran

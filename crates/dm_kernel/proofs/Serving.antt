@@ -1,43 +1,16 @@
 -- What serving a process gives, from what its parts give.
-use Rattle.std.proofs.Common.{◌≡◌, ◌∙◌, ℕ, zero, suc, ◌/◌, Bool, true, false, ◌==◌, List, [], ◌∷◌, length, refl, ap, sym, subst, if◌then◌else◌, Some, None, IsSome, slice_get, ◌<◌, arith, rules}
-use Rattle.std.specs.declared.option.Option.{Option}
-use Rattle.dm_link.specs.declared.Link.{Link}
-use Rattle.dm_link.specs.declared.Pid.{Pid}
-use Rattle.dm_link.specs.Plain.{plain_link}
-use Rattle.dm_linktable.specs.Slots.{first_empty, link_at}
-use Rattle.dm_linktable.proofs.Names.{pid_eq_self}
-use Rattle.dm_message.specs.declared.Message.{Message}
+use Rattle.dm_kernel.proofs.Names.{◌≡◌, ◌∙◌, ℕ, zero, suc, ◌/◌, Bool, true, false, ◌==◌, List, [], ◌∷◌, length, refl, ap, sym, subst, if◌then◌else◌, Some, None, IsSome, slice_get, ◌<◌, arith, rules, Option, Link, Pid, plain_link}
+use Rattle.dm_kernel.proofs.Names.{first_empty, link_at, pid_eq_self, Message, Row, instruction, KeepsLengths, instruction-lengths, Process, Direction, Status, IsLawfulProcess, IsLawfulStatus, direction_numbered, first_on, is_on, Takes}
+use Rattle.dm_kernel.proofs.Names.{HasTaken, Taken, Here, Frozen, Incoming, Forward, Ended, here_of, with_record, Reply, CallNumber, Exit, Out, Make, Copy, Drop, Send, Receive, Move, Unknown, call_number, is_outside, is_reply}
+use Rattle.dm_kernel.proofs.Names.{make_refusals, move_refusals, send_refusals, bind, plain_process, reg, first_failed, Machine, Called, Done, after_send, calls, copies, does_call, message_over, moves, moves_bytes, moves_over, own_link}
+use Rattle.dm_kernel.proofs.Names.{puts_link, replied, sends, unless_refused, waits, whole, KernelState, Known, blocks_of, with_here, Ran, after_row, called_with, does, executes, halts, processor_of, ran, receives, serves, serves_status}
+use Rattle.dm_kernel.proofs.Names.{with_machine, MayAct, HasPlace, IsHere}
 use Rattle.dm_processor.specs.Instructions as row
-use Rattle.dm_processor.specs.Instructions.{Row, instruction}
-use Rattle.dm_processor.specs.Kept.{KeepsLengths}
-use Rattle.dm_processor.proofs.Lengths.{instruction-lengths}
-use Rattle.dm_process.specs.declared.process.Process.{Process}
-use Rattle.dm_process.specs.declared.process.Direction.{Direction}
-use Rattle.dm_process.specs.declared.process.Status.{Status}
 use Rattle.dm_process.specs.declared.process.Status.TheVariants as status
-use Rattle.dm_process.specs.Lawful.{IsLawfulProcess, IsLawfulStatus}
-use Rattle.dm_process.specs.Directions.{direction_numbered}
-use Rattle.dm_process.specs.Mail.{first_on, is_on}
-use Rattle.dm_process.specs.Service.{Takes}
-use Rattle.dm_room.specs.Room.{HasTaken, Taken}
-use Rattle.dm_records.specs.declared.record.Record.TheVariants.{Here, Frozen, Incoming, Forward, Ended}
-use Rattle.dm_records.specs.Records.{here_of, with_record}
-use Rattle.dm_onekernel.specs.declared.label.Reply.{Reply}
 use Rattle.dm_onekernel.specs.declared.label.Reply.TheVariants as reply
-use Rattle.dm_onekernel.specs.Calls.{CallNumber, Exit, Out, Make, Copy, Drop, Send, Receive, Move, Unknown, call_number, is_outside, is_reply, make_refusals, move_refusals, send_refusals}
-use Rattle.dm_onekernel.specs.Options.{bind}
-use Rattle.dm_onekernel.specs.Plain.{plain_process}
-use Rattle.dm_onekernel.specs.PlainProcess.{reg}
-use Rattle.dm_onekernel.specs.Refusals.{first_failed}
-use Rattle.dm_onekernel.specs.Step.{Machine}
-use Rattle.dm_syscall.specs.declared.Called.{Called}
 use Rattle.dm_syscall.specs.declared.Called.TheVariants as called
-use Rattle.dm_syscall.specs.Calls.{Done, after_send, begins, calls, copies, does_call, drops, message_over, moves, moves_bytes, moves_over, own_link, puts_link, replied, sends, unless_refused, waits, whole}
+use Rattle.dm_syscall.specs.Calls.{begins, drops}
 use Rattle.dm_syscall.specs.Completing.{IsAwaited}
-use Rattle.dm_kernel.specs.State.{KernelState, Known, blocks_of, with_here}
-use Rattle.dm_kernel.specs.Serve.{Ran, after_row, called_with, does, executes, halts, processor_of, ran, receives, serves, serves_status, with_machine}
-use Rattle.dm_kernel.specs.May.{MayAct}
-use Rattle.dm_kernel.specs.Served.{HasPlace, IsHere}
 use Rattle.dm_kernel.proofs.Known.{of_here, there}
 
 -- instructions keep the number of the registers and the length of the memory

@@ -1,26 +1,10 @@
 -- A worked case, computed: what one machine's kernel says in eight turns, where all that it routes comes to itself.
-use Rattle.std.proofs.Common.{◌≡◌, ℕ, zero, suc, List, [], ◌∷◌, ◌++◌, map, refl, false}
-use Rattle.std.specs.declared.option.Option.{Option}
+use Rattle.dm_kernel.proofs.Names.{◌≡◌, ℕ, zero, suc, List, [], ◌∷◌, ◌++◌, map, refl, false, Option, General, pid_of, Message, id_of, kind_of, instruction, Boot, One, bind, Line, Part, Says, Routes, opened, KernelState, Turned, turn}
 use Rattle.std.specs.declared.option.Option.TheVariants.{Some}
-use Rattle.dm_link.specs.declared.Kind.TheVariants.{General}
-use Rattle.dm_link.specs.Names.{pid_of}
-use Rattle.dm_message.specs.declared.Message.{Message}
-use Rattle.dm_message.specs.Ids.{id_of}
-use Rattle.dm_message.specs.Kinds.{kind_of}
 use Rattle.dm_message.specs.declared.kind.MessageKind.TheVariants as kind
-use Rattle.dm_processor.specs.Instructions.{instruction}
-use Rattle.dm_onekernel.specs.declared.boot.Boot.{Boot}
-use Rattle.dm_onekernel.specs.declared.boot.Format.TheVariants.{One}
 use Rattle.dm_onekernel.specs.declared.label.Label.TheVariants as label
 use Rattle.dm_onekernel.specs.declared.label.Why.TheVariants as why
-use Rattle.dm_onekernel.specs.Options.{bind}
-use Rattle.dm_line.specs.declared.line.Line.{Line}
 use Rattle.dm_line.specs.declared.line.Line.TheVariants as line
-use Rattle.dm_kernel.specs.declared.part.Part.{Part}
-use Rattle.dm_kernel.specs.declared.part.Part.TheVariants.{Says, Routes}
-use Rattle.dm_kernel.specs.Begun.{opened}
-use Rattle.dm_kernel.specs.State.{KernelState, Turned}
-use Rattle.dm_kernel.specs.Turn.{turn}
 
 -- a message that is routed from machine 0 to itself
 abbrev pub line_of : Part → Line

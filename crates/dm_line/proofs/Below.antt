@@ -1,8 +1,5 @@
 -- Tests on each of the first machines.
-use Rattle.std.proofs.Common.{◌≡◌, ◌≢◌, ℕ, zero, suc, ◌<◌, Bool, true, false, ◌&&◌, refl, ap, ◌∙◌, sym, subst, inl, inr, arith}
-use Rattle.std.proofs.lemmas.Bool.{false≢true}
-use Rattle.std.proofs.lemmas.Bool.Decides.{eqb_tells}
-use Rattle.dm_line.specs.Each.{all_below}
+use Rattle.dm_line.proofs.Names.{◌≡◌, ◌≢◌, ℕ, zero, suc, ◌<◌, Bool, true, false, ◌&&◌, refl, ap, ◌∙◌, sym, subst, inl, inr, arith, false≢true, eqb_tells, all_below}
 
 pub both_true : (x y : Bool) → x ≡ true → y ≡ true → (x && y) ≡ true
 both_true x y e f = ap (λ (b : Bool). b && y) e ∙ f
@@ -14,11 +11,6 @@ left_true false y e = e
 pub right_true : (x y : Bool) → (x && y) ≡ true → y ≡ true
 right_true true y e = e
 right_true false y e = absurd (false≢true e)
-
--- which of two tests isn't passed
-pub one_false : (x y : Bool) → (x && y) ≡ false → (x ≡ true → y ≡ false)
-one_false true y e h = e
-one_false false y e h = absurd (false≢true h)
 
 -- the last of the first machines, or one before it
 pub last_or_before : (P : ℕ → Type 0) (n k : ℕ) → k < suc n → P n → (k < n → P k) → P k
@@ -41,24 +33,6 @@ pub all_same : (n : ℕ) (f g : ℕ → Bool) → ((k : ℕ) → k < n → f k �
 all_same zero f g h = refl
 all_same (suc n) f g h =
     ap (λ (b : Bool). b && f n) (all_same n f g (λ k l. h k (omega (arith, l)))) ∙ ap (λ (b : Bool). all_below n g && b) (h n (omega arith))
-
--- a machine that doesn't pass
-pub record Fails (n : ℕ) (f : ℕ → Bool) : Type 0 where
-  pub machine : ℕ
-  pub within : machine < n
-  pub fails : f machine ≡ false
-
-fails_by : (n : ℕ) (f : ℕ → Bool) (all here : Bool) → all_below n f ≡ all → f n ≡ here → (all && here) ≡ false → (all_below n f ≡ false → Fails n f) → Fails (suc n) f
-fails_by n f true true is at e before = absurd (false≢true (sym e))
-fails_by n f true false is at e before = record { machine = n; within = omega arith; fails = at }
-fails_by n f false here is at e before =
-    let k = before is in
-    let within = k.within in
-    record { machine = k.machine; within = omega (arith, within); fails = k.fails }
-
-pub some_fails : (n : ℕ) (f : ℕ → Bool) → all_below n f ≡ false → Fails n f
-some_fails zero f e = absurd (false≢true (sym e))
-some_fails (suc n) f e = fails_by n f (all_below n f) (f n) refl refl e (some_fails n f)
 
 -- where one of them fails, not all pass
 pub fails_at : (n : ℕ) (f : ℕ → Bool) (k : ℕ) → k < n → f k ≡ false → all_below n f ≡ false

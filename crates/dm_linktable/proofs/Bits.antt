@@ -1,12 +1,6 @@
 -- One bit of a mask set or cleared.
-use Rattle.std.proofs.Common.{◌≡◌, ℕ, ◌-◌, ◌*◌, ◌%◌, ◌^◌, ◌<◌, ◌≤◌, ◌≢◌, ◌==◌, cond, arith, bit_or, bit_and, ⊎_elim}
-use Rattle.std.proofs.Math.Nat.{eq-zero-or-pos}
-use Rattle.std.proofs.lemmas.Bool.{cases_lt}
-use Rattle.std.proofs.lemmas.Grind.{common_steps}
-use Rattle.std.proofs.lemmas.Nat.{and_le_l}
-use Rattle.std.proofs.lemmas.Nat.Bits.{bit_at_set_same, bit_at_set_other, bit_at_clear_same, bit_at_clear_other, bit_at_above, bit_at-zero}
-use Rattle.std.specs.Int.{bit_at, w128}
-use Rattle.std.specs.Int.Bits.{and_lt}
+use Rattle.dm_linktable.proofs.Names.{◌≡◌, ℕ, ◌-◌, ◌*◌, ◌%◌, ◌^◌, ◌<◌, ◌≤◌, ◌≢◌, ◌==◌, cond, arith, bit_or, bit_and, ⊎_elim, eq-zero-or-pos, cases_lt, common_steps, and_le_l, bit_at_set_same, bit_at_set_other, bit_at_clear_same}
+use Rattle.dm_linktable.proofs.Names.{bit_at_clear_other, bit_at_above, bit_at-zero, bit_at, w128, and_lt}
 
 pub or_above : (m s : ℕ) → s < 128 → 0 < bit_or m (1 * 2 ^ s % 2 ^ 128)
 or_above m s lt = ⊎_elim (λ none. absurd (grind (arith, bit_at_set_same w128 m s lt, bit_at-zero s, none))) (λ some. some) (eq-zero-or-pos (bit_or m (1 * 2 ^ s % 2 ^ 128)))

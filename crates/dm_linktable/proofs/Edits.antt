@@ -1,20 +1,8 @@
 -- What an edit of one entry leaves of an index.
-use Rattle.std.proofs.Common.{◌≡◌, ℕ, ◌+◌, ◌-◌, ◌<◌, ◌≤◌, ◌^◌, ◌==◌, ◌&&◌, cond, List, length, get_or, set, arith, sym, ap, ◌∙◌, subst, ⊎_elim}
-use Rattle.std.proofs.Math.Nat.{eq-or-lt_of_le}
-use Rattle.std.proofs.lemmas.Bool.{cases_lt}
-use Rattle.std.proofs.lemmas.Grind.{common_steps}
-use Rattle.std.proofs.lemmas.List.{get_or_default}
-use Rattle.std.proofs.lemmas.List.Edits.{length-insert, length-remove, get_or-insert_below, get_or-insert_at, get_or-insert_above}
-use Rattle.std.proofs.lemmas.List.Sums.{sum_by-insert, sum_by-remove, sum_by-set}
-use Rattle.std.proofs.lemmas.Nat.Bits.{bit_at-zero}
-use Rattle.std.specs.Int.{bit_at}
-use Rattle.std.specs.List.{refill, insert, remove}
-use Rattle.std.specs.declared.cmp.Ordering.TheVariants.{Less}
-use Rattle.dm_link.specs.declared.Pid.{Pid}
-use Rattle.dm_link.specs.Names.{pid_cmp, pid_eq}
-use Rattle.dm_linktable.specs.declared.index.Entry.{Entry}
-use Rattle.dm_linktable.specs.Index.{IsIndex, mask_in, mask_of}
-use Rattle.dm_linktable.proofs.Names.{pid_eq_same}
+use Rattle.dm_linktable.proofs.Names.{◌≡◌, ℕ, ◌+◌, ◌-◌, ◌<◌, ◌≤◌, ◌^◌, ◌==◌, ◌&&◌, cond, List, length, get_or, set, arith, sym, ap, ◌∙◌, subst, ⊎_elim, eq-or-lt_of_le, cases_lt, common_steps, get_or_default, length-insert, length-remove}
+use Rattle.dm_linktable.proofs.Names.{get_or-insert_below, get_or-insert_at, get_or-insert_above, sum_by-insert, sum_by-remove, sum_by-set, bit_at-zero, bit_at, refill, insert, remove, Less, Pid, pid_cmp, pid_eq, Entry, IsIndex, mask_in}
+use Rattle.dm_linktable.proofs.Names.{mask_of}
+use Rattle.dm_linktable.proofs.ReceiverOrder.{pid_eq_same}
 use Rattle.dm_linktable.proofs.Entries.{get_or-insert, get_or-remove, get_or-set, mask_at}
 
 pub index-set : (es : List Entry) (index : IsIndex es) (i : ℕ) (e : Entry) → i < length es → e.receiver ≡ (get_or es i e).receiver → 0 < e.slots → e.slots < 2 ^ 128 → IsIndex (set es i e)

@@ -1,14 +1,7 @@
 -- The entries of an index, one at a time.
-use Rattle.std.proofs.Common.{◌≡◌, ◌≢◌, ℕ, suc, ◌+◌, ◌-◌, ◌<◌, ◌≤◌, false, cond, eqb, ltb, List, [], ◌∷◌, length, get_or, set, refl, arith}
-use Rattle.std.proofs.lemmas.Grind.{common_steps}
-use Rattle.std.proofs.lemmas.List.Edits.{length-remove, get_or-insert_below, get_or-insert_at, get_or-insert_above, get_or-remove_below, get_or-remove_above}
-use Rattle.std.proofs.lemmas.List.Sums.{sum_by-remove}
-use Rattle.std.specs.List.{insert, remove}
-use Rattle.dm_link.specs.declared.Pid.{Pid}
-use Rattle.dm_link.specs.Names.{pid_eq}
-use Rattle.dm_linktable.specs.declared.index.Entry.{Entry}
-use Rattle.dm_linktable.specs.Index.{IsIndex, mask_in, mask_of}
-use Rattle.dm_linktable.proofs.Names.{pid_eq_same, pid_eq_self, pid_less_apart}
+use Rattle.dm_linktable.proofs.Names.{◌≡◌, ◌≢◌, ℕ, suc, ◌+◌, ◌-◌, ◌<◌, ◌≤◌, false, cond, eqb, ltb, List, [], ◌∷◌, length, get_or, set, refl, arith, common_steps, length-remove, get_or-insert_below, get_or-insert_at, get_or-insert_above}
+use Rattle.dm_linktable.proofs.Names.{get_or-remove_below, get_or-remove_above, sum_by-remove, insert, remove, Pid, pid_eq, Entry, IsIndex, mask_in, mask_of}
+use Rattle.dm_linktable.proofs.ReceiverOrder.{pid_eq_same, pid_eq_self, pid_less_apart}
 
 pub get_or-insert : {X : Type 0} (xs : List X) (i : ℕ) (y d : X) (k : ℕ) → i ≤ length xs → get_or (insert xs i y) k d ≡ cond (ltb k i) (get_or xs k d) (cond (eqb k i) y (get_or xs (k - 1) d))
 get_or-insert xs i y d k le = grind (arith, common_steps, get_or-insert_below xs i y d k, get_or-insert_at xs i y d, get_or-insert_above xs i y d (k - 1))

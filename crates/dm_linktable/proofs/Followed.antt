@@ -1,12 +1,6 @@
 -- A table whose slots have all been told where a process is.
-use Rattle.std.proofs.Common.{◌≡◌, ℕ, ◌==◌, false, List, [], ◌∷◌, Option, None, cond, count_by, get_or, length, map, refl, arith}
-use Rattle.std.proofs.lemmas.Grind.{common_steps}
-use Rattle.std.proofs.lemmas.List.{get_or-map, get_or_default, length-map, same_lists}
-use Rattle.std.proofs.lemmas.Nat.Bits.{bit_at-zero}
-use Rattle.std.specs.Int.{bit_at}
-use Rattle.dm_link.specs.declared.Pid.{Pid}
-use Rattle.dm_link.specs.declared.Link.{Link}
-use Rattle.dm_linktable.specs.Slots.{retargeted_slot, slot_is_behind}
+use Rattle.dm_linktable.proofs.Names.{◌≡◌, ℕ, ◌==◌, false, List, [], ◌∷◌, Option, None, cond, count_by, get_or, length, map, refl, arith, common_steps, get_or-map, get_or_default, length-map, same_lists, bit_at-zero, bit_at, Pid, Link}
+use Rattle.dm_linktable.proofs.Names.{retargeted_slot, slot_is_behind}
 
 -- once no slot is left
 pub all_followed : (p : Pid) (m c left : ℕ) (now old : List (Option Link)) → left ≡ 0 → length now ≡ length old → ((s : ℕ) → get_or now s None ≡ cond (bit_at left s == 1) (get_or old s None) (retargeted_slot p m c (get_or old s None))) → now ≡ map (retargeted_slot p m c) old

@@ -1,5 +1,6 @@
-pub mod Bits
 pub mod Names
+pub mod Bits
+pub mod ReceiverOrder
 pub mod Entries
 pub mod Search
 pub mod Edits

@@ -1,33 +1,31 @@
--- The order of names.
-use Rattle.std.proofs.Common.{◌≡◌, ℕ, ◌<◌, ◌≤◌, true, false, arith}
-use Rattle.std.proofs.lemmas.Cmp.{nat_cmp_total, on_total, then_total}
-use Rattle.std.proofs.lemmas.Grind.{common_steps}
-use Rattle.std.specs.Cmp.{IsTotalOrder}
-use Rattle.std.specs.declared.cmp.Ordering.TheVariants.{Less, Equal, Greater}
-use Rattle.dm_link.specs.declared.Pid.{Pid}
-use Rattle.dm_link.specs.Names.{pid_cmp, pid_eq}
-
-pub pid_total : IsTotalOrder pid_cmp
-pid_total = then_total (on_total (λ (p : Pid). p.home) nat_cmp_total) (on_total (λ (p : Pid). p.num) nat_cmp_total)
-
-pub pid_eq_same : (p q : Pid) → pid_eq p q ≡ true → p ≡ q
-pid_eq_same p q h = grind (arith, common_steps)
-
-pub pid_eq_self : (p : Pid) → pid_eq p p ≡ true
-pid_eq_self p = grind (arith, common_steps)
-
-pub pid_less_apart : (p q : Pid) → pid_cmp p q ≡ Less → pid_eq p q ≡ false
-pid_less_apart p q h = grind (arith, common_steps)
-
-pub pid_equal : (p q : Pid) → pid_cmp p q ≡ Equal → p ≡ q
-pid_equal p q h = grind (arith, common_steps)
-
-pub pid_less_back : (p q : Pid) → pid_cmp p q ≡ Less → pid_cmp q p ≡ Greater
-pid_less_back p q h = grind (arith, common_steps)
-
-pub pid_greater_back : (p q : Pid) → pid_cmp p q ≡ Greater → pid_cmp q p ≡ Less
-pid_greater_back p q h = grind (arith, common_steps)
-
--- what stands before or behind p's place isn't p
-pub absent_between : (p q : Pid) (i k : ℕ) → (k < i → pid_cmp p q ≡ Less) → (i ≤ k → pid_cmp q p ≡ Less) → pid_eq p q ≡ false
-absent_between p q i k before behind = grind (arith, common_steps, before, behind, pid_less_apart p q, pid_less_apart q p, pid_eq_same p q, pid_eq_self p)
+-- What the proofs of this crate name of what lies below it.
+pub use Rattle.std.proofs.Common.{Err, List, None, Ok, Option, Result, Some, [], ap, arith, bit_and, bit_or, cond, count_by, eqb, false, get_or, length, ltb, map, refl, rules, set, subst, suc, sym, true, zero, ℕ, ⊎_elim, ◌%◌, ◌&&◌, ◌*◌}
+pub use Rattle.std.proofs.Common.{◌+◌, ◌-◌, ◌<◌, ◌==◌, ◌^◌, ◌∙◌, ◌∷◌, ◌≡◌, ◌≢◌, ◌≤◌}
+pub use Rattle.std.proofs.Math.ListN.{replicate}
+pub use Rattle.std.proofs.Math.Nat.{eq-or-lt_of_le, eq-zero-or-pos}
+pub use Rattle.std.proofs.lemmas.Bool.{cases_lt}
+pub use Rattle.std.proofs.lemmas.Cmp.{nat_cmp_total, on_total, then_total}
+pub use Rattle.std.proofs.lemmas.Grind.{common_steps}
+pub use Rattle.std.proofs.lemmas.List.{get_or-map, get_or_default, length-map, same_lists}
+pub use Rattle.std.proofs.lemmas.List.Edits.{get_or-insert_above, get_or-insert_at, get_or-insert_below, get_or-remove_above, get_or-remove_below, length-insert, length-remove}
+pub use Rattle.std.proofs.lemmas.List.Quantifiers.{position-Some}
+pub use Rattle.std.proofs.lemmas.List.Sorted.{answers_always, searchable_from_sorted}
+pub use Rattle.std.proofs.lemmas.List.Sums.{sum_by-insert, sum_by-remove, sum_by-set}
+pub use Rattle.std.proofs.lemmas.Map.Keys.{IsDistinct-from_apart}
+pub use Rattle.std.proofs.lemmas.Map.Steps.{length-le_from_distinct_below}
+pub use Rattle.std.proofs.lemmas.Nat.{and_le_l}
+pub use Rattle.std.proofs.lemmas.Nat.Bits.{bit_at-trailing_zeros, bit_at-zero, bit_at_above, bit_at_clear_other, bit_at_clear_same, bit_at_set_other, bit_at_set_same}
+pub use Rattle.std.specs.Cmp.{IsTotalOrder}
+pub use Rattle.std.specs.Int.{bit_at, trailing_zeros, w128}
+pub use Rattle.std.specs.Int.Bits.{and_lt}
+pub use Rattle.std.specs.List.{insert, list_any, refill, remove}
+pub use Rattle.std.specs.List.Sorted.{IsBinarySearchResult, IsNonDecreasingBy, IsSearchInRange}
+pub use Rattle.std.specs.Option.{is_none}
+pub use Rattle.std.specs.Ordering.{is_lt, ordering_index}
+pub use Rattle.std.specs.declared.cmp.Ordering.TheVariants.{Equal, Greater, Less}
+pub use Rattle.dm_link.specs.Names.{pid_cmp, pid_eq}
+pub use Rattle.dm_link.specs.declared.Link.{Link}
+pub use Rattle.dm_link.specs.declared.Pid.{Pid}
+pub use Rattle.dm_linktable.specs.Index.{Agrees, IsIndex, IsPlace, IsTable, leads, mask_in, mask_of}
+pub use Rattle.dm_linktable.specs.Slots.{first_empty, link_at, plain_slot, retargeted_slot, slot_is_behind}
+pub use Rattle.dm_linktable.specs.declared.index.Entry.{Entry}

@@ -1,8 +1,5 @@
 -- Retargeting keeps what the links mean.
-use Rattle.std.proofs.Common.{◌≡◌, ℕ, List, [], ◌∷◌, Option, map, refl, arith}
-use Rattle.dm_link.specs.declared.Pid.{Pid}
-use Rattle.dm_link.specs.declared.Link.{Link}
-use Rattle.dm_linktable.specs.Slots.{plain_slot, retargeted_slot}
+use Rattle.dm_linktable.proofs.Names.{◌≡◌, ℕ, List, [], ◌∷◌, Option, map, refl, arith, Pid, Link, plain_slot, retargeted_slot}
 
 pub plain_of_retargeted : (p : Pid) (m c : ℕ) (s : Option Link) → plain_slot (retargeted_slot p m c s) ≡ plain_slot s
 plain_of_retargeted p m c s = grind arith

@@ -1,19 +1,8 @@
 -- An index of a table with an empty slot has room for one entry more.
-use Rattle.std.proofs.Common.{◌≡◌, ◌≢◌, ℕ, zero, suc, ◌<◌, ◌≤◌, true, false, eqb, List, [], ◌∷◌, length, get_or, map, Option, None, Some, arith}
-use Rattle.std.proofs.lemmas.Grind.{common_steps}
-use Rattle.std.proofs.lemmas.List.{get_or-map, length-map}
-use Rattle.std.proofs.lemmas.Map.Keys.{IsDistinct-from_apart}
-use Rattle.std.proofs.lemmas.Map.Steps.{length-le_from_distinct_below}
-use Rattle.std.proofs.lemmas.Nat.Bits.{bit_at-trailing_zeros}
-use Rattle.std.specs.Int.{trailing_zeros, w128}
-use Rattle.std.specs.List.{list_any}
-use Rattle.dm_link.specs.declared.Pid.{Pid}
-use Rattle.dm_link.specs.declared.Link.{Link}
-use Rattle.dm_linktable.specs.declared.index.Entry.{Entry}
-use Rattle.dm_linktable.specs.Index.{Agrees, IsIndex, leads}
-use Rattle.dm_linktable.specs.Slots.{link_at}
+use Rattle.dm_linktable.proofs.Names.{◌≡◌, ◌≢◌, ℕ, zero, suc, ◌<◌, ◌≤◌, true, false, eqb, List, [], ◌∷◌, length, get_or, map, Option, None, Some, arith, common_steps, get_or-map, length-map, IsDistinct-from_apart}
+use Rattle.dm_linktable.proofs.Names.{length-le_from_distinct_below, bit_at-trailing_zeros, trailing_zeros, w128, list_any, Pid, Link, Entry, Agrees, IsIndex, leads, link_at}
 use Rattle.dm_linktable.proofs.Entries.{apart, mask_at}
-use Rattle.dm_linktable.proofs.Names.{pid_eq_same, pid_eq_self}
+use Rattle.dm_linktable.proofs.ReceiverOrder.{pid_eq_same, pid_eq_self}
 
 -- numbers below n, no two equal, are at most n
 list_any_below : (xs : List ℕ) (n q : ℕ) → ((i : ℕ) → i < length xs → get_or xs i 0 < n) → list_any (eqb q) xs ≡ true → q < n

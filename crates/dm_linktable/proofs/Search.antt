@@ -1,14 +1,7 @@
 -- What a binary search finds in an index.
-use Rattle.std.proofs.Common.{◌≡◌, ℕ, ◌+◌, Result, Ok, Err, List, length, get_or, false, arith}
-use Rattle.std.proofs.lemmas.List.Sorted.{searchable_from_sorted}
-use Rattle.std.specs.List.Sorted.{IsBinarySearchResult, IsNonDecreasingBy, IsSearchInRange}
-use Rattle.std.specs.Ordering.{is_lt, ordering_index}
-use Rattle.std.specs.declared.cmp.Ordering.TheVariants.{Less}
-use Rattle.dm_link.specs.declared.Pid.{Pid}
-use Rattle.dm_link.specs.Names.{pid_cmp}
-use Rattle.dm_linktable.specs.declared.index.Entry.{Entry}
-use Rattle.dm_linktable.specs.Index.{IsIndex, IsPlace}
-use Rattle.dm_linktable.proofs.Names.{pid_equal, pid_greater_back, pid_less_back, pid_total}
+use Rattle.dm_linktable.proofs.Names.{◌≡◌, ℕ, ◌+◌, Result, Ok, Err, List, length, get_or, false, arith, searchable_from_sorted, IsBinarySearchResult, IsNonDecreasingBy, IsSearchInRange, is_lt, ordering_index, Less, Pid, pid_cmp, Entry}
+use Rattle.dm_linktable.proofs.Names.{IsIndex, IsPlace}
+use Rattle.dm_linktable.proofs.ReceiverOrder.{pid_equal, pid_greater_back, pid_less_back, pid_total}
 
 not_less : (p q : Pid) → pid_cmp p q ≡ Less → is_lt (pid_cmp q p) ≡ false
 not_less p q h = grind (arith, pid_less_back p q h)

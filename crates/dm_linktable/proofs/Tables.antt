@@ -1,15 +1,6 @@
 -- A table and its index after a link was put into an empty slot.
-use Rattle.std.proofs.Common.{◌≡◌, ℕ, ◌<◌, ◌&&◌, ◌==◌, List, Option, None, Some, cond, length, set, arith}
-use Rattle.std.proofs.lemmas.Grind.{common_steps}
-use Rattle.std.proofs.lemmas.List.Quantifiers.{position-Some}
-use Rattle.std.specs.Int.{bit_at}
-use Rattle.std.specs.Option.{is_none}
-use Rattle.dm_link.specs.declared.Link.{Link}
-use Rattle.dm_link.specs.declared.Pid.{Pid}
-use Rattle.dm_link.specs.Names.{pid_eq}
-use Rattle.dm_linktable.specs.declared.index.Entry.{Entry}
-use Rattle.dm_linktable.specs.Index.{Agrees, IsIndex, IsTable, mask_of}
-use Rattle.dm_linktable.specs.Slots.{first_empty, link_at}
+use Rattle.dm_linktable.proofs.Names.{◌≡◌, ℕ, ◌<◌, ◌&&◌, ◌==◌, List, Option, None, Some, cond, length, set, arith, common_steps, position-Some, bit_at, is_none, Link, Pid, pid_eq, Entry, Agrees, IsIndex, IsTable, mask_of, first_empty}
+use Rattle.dm_linktable.proofs.Names.{link_at}
 use Rattle.dm_linktable.proofs.Entries.{get_or-set}
 
 pub first_is_empty : (slots : List (Option Link)) (s : ℕ) → first_empty slots ≡ Some s → link_at slots s ≡ None

@@ -1,21 +1,6 @@
 -- A lawful process that is told of another place is lawful.
-use Rattle.std.specs.Prelude.{ℕ, Bool, true, false, if◌then◌else◌, List, map, length}
-use Rattle.std.proofs.lemmas.List.{length-map}
-use Rattle.std.proofs.lemmas.List.Elements.{All-map}
-use Rattle.std.specs.List.{All}
-use Rattle.std.specs.declared.option.Option.{Option}
-use Rattle.std.specs.declared.option.Option.TheVariants.{None, Some}
-use Rattle.dm_link.specs.declared.Pid.{Pid}
-use Rattle.dm_link.specs.declared.Addr.{Addr}
-use Rattle.dm_link.specs.declared.Link.{Link}
-use Rattle.dm_link.specs.Lawful.{IsMachine, IsLawfulAddr, IsLawfulEnclosed}
-use Rattle.dm_link.specs.Places.{is_behind, relocated, retargeted, retargeted_link}
-use Rattle.dm_linktable.specs.Slots.{retargeted_slot}
-use Rattle.dm_process.specs.declared.process.Process.{Process}
-use Rattle.dm_process.specs.declared.process.Status.{Status}
-use Rattle.dm_process.specs.declared.process.Status.TheVariants.{Ready, Waiting, Moving}
-use Rattle.dm_process.specs.Lawful.{IsLawfulProcess, IsLawfulStatus, SlotIsLawful}
-use Rattle.dm_linkupdate.specs.Applied.{applied, status_after}
+use Rattle.dm_linkupdate.proofs.Names.{ℕ, Bool, true, false, if◌then◌else◌, List, map, length, length-map, All-map, All, Option, None, Some, Pid, Addr, Link, IsMachine, IsLawfulAddr, IsLawfulEnclosed, is_behind, relocated, retargeted}
+use Rattle.dm_linkupdate.proofs.Names.{retargeted_link, retargeted_slot, Process, Status, Ready, Waiting, Moving, IsLawfulProcess, IsLawfulStatus, SlotIsLawful, applied, status_after}
 
 either : (behind : Bool) (at moves : ℕ) (a : Addr) → IsMachine at → IsLawfulAddr a → IsLawfulAddr (if behind then relocated at moves a else a)
 either true at moves a m l = record { home = l.home; at = m }

@@ -1,17 +1,6 @@
 -- What stands after a chunk has come.
-use Rattle.std.proofs.Common.{ℕ, ◌≡◌, ◌⊎◌, ◌+◌, ◌*◌, ◌/◌, ◌<◌, ◌≤◌, Bool, true, false, List, ◌++◌, length, take, ap, subst, sym, ◌∙◌, refl, arith}
-use Rattle.dm_process.specs.Lawful.{IsLawfulProcess, IsLawfulStatus}
-use Rattle.dm_statebytes.specs.declared.Shell.{Shell}
-use Rattle.dm_statebytes.specs.Lawful.{IsLawfulShell}
-use Rattle.dm_statebytes.specs.Shell.{shell_of_bytes}
-use Rattle.dm_migrate.specs.Arrival.{IsNextChunk, IsStateFor, after_chunk, revived, with_chunk}
-use Rattle.std.specs.declared.result.Result.{Result}
-use Rattle.std.specs.declared.result.Result.TheVariants.{Ok, Err}
-use Rattle.std.specs.Prelude.{IfOk}
-use Rattle.dm_statebytes.specs.declared.StateBytesError.{StateBytesError}
-use Rattle.dm_migrate.specs.declared.arriving.Wanted.{Wanted}
-use Rattle.dm_migrate.specs.declared.arriving.Wanted.TheVariants.{Nothing}
-use Rattle.dm_migrate.specs.Coming.{IsComing, IsStage, Parts, come_of, memory_come, state_come}
+use Rattle.dm_migrate.proofs.Names.{ℕ, ◌≡◌, ◌⊎◌, ◌+◌, ◌*◌, ◌/◌, ◌<◌, ◌≤◌, Bool, true, false, List, ◌++◌, length, take, ap, subst, sym, ◌∙◌, refl, arith, IsLawfulProcess, IsLawfulStatus, Shell, IsLawfulShell, shell_of_bytes, IsNextChunk}
+use Rattle.dm_migrate.proofs.Names.{IsStateFor, after_chunk, revived, with_chunk, Result, Ok, Err, IfOk, StateBytesError, Wanted, Nothing, IsComing, IsStage, Parts, come_of, memory_come, state_come}
 use Rattle.dm_migrate.proofs.Pieces.{put, within, goes_on, chunk_come, last_come, length-put, memory_waits}
 
 abbrev pub chunk_put : Parts → ℕ → Bool → List ℕ → Parts

@@ -1,6 +1,6 @@
+pub mod Names
 pub mod Pieces
 pub mod Coming
 pub mod Messages
 pub mod Way
-pub mod Begun
 pub mod Worked

@@ -1,13 +1,6 @@
 -- Messages that go on keep their plain meaning.
-use Rattle.std.proofs.Common.{ℕ, ◌≡◌, ◌∙◌, List, [], ◌∷◌, ◌++◌, map, Option, None, Some, ap, ap₂, slice_index_or, subst, sym, refl}
-use Rattle.std.specs.List.{All}
-use Rattle.std.proofs.lemmas.List.{map-append}
-use Rattle.std.proofs.lemmas.List.Elements.{All-append, All-map}
-use Rattle.dm_link.specs.Lawful.{IsMachine}
-use Rattle.dm_message.specs.Lawful.{IsLawfulMessage}
-use Rattle.dm_message.specs.declared.Message.{Message}
-use Rattle.dm_message.specs.Plain.{PlainWhat, plain_message, plain_what, with_what}
-use Rattle.dm_migrate.specs.Departure.{sent_on}
+use Rattle.dm_migrate.proofs.Names.{ℕ, ◌≡◌, ◌∙◌, List, [], ◌∷◌, ◌++◌, map, Option, None, Some, ap, ap₂, slice_index_or, subst, sym, refl, All, map-append, All-append, All-map, IsMachine, IsLawfulMessage, Message, PlainWhat, plain_message}
+use Rattle.dm_migrate.proofs.Names.{plain_what, with_what, sent_on}
 
 plain_with : (at moves : ℕ) (m : Message) (w : Option PlainWhat) → with_what (sent_on at moves m) w ≡ with_what m w
 plain_with at moves m None = refl

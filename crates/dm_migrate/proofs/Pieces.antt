@@ -1,13 +1,6 @@
 -- Pieces put to their places.
-use Rattle.std.proofs.Common.{ℕ, ◌≡◌, ◌+◌, ◌-◌, ◌*◌, ◌<◌, ◌≤◌, min, Bool, true, false, List, ◌++◌, length, take, drop, ap, sym, ◌∙◌, refl, arith, length-append}
-use Rattle.std.proofs.Math.Seq.{take-add}
-use Rattle.std.proofs.lemmas.List.{length-take, length-take-le, length-drop, take_at, take_all}
-use Rattle.std.proofs.lemmas.Bool.Decides.{nat_tests}
-use Rattle.std.proofs.lemmas.Grind.{common_steps}
-use Rattle.dm_migrate.specs.declared.arriving.Wanted.TheVariants.{Chunk}
-use Rattle.dm_migrate.specs.Arrival.{after_chunk}
-use Rattle.dm_migrate.specs.Coming.{memory_come, state_come}
-use Rattle.dm_migrate.specs.Pieces.{chunk_bytes, is_last}
+use Rattle.dm_migrate.proofs.Names.{ℕ, ◌≡◌, ◌+◌, ◌-◌, ◌*◌, ◌<◌, ◌≤◌, min, Bool, true, false, List, ◌++◌, length, take, drop, ap, sym, ◌∙◌, refl, arith, length-append, take-add, length-take, length-take-le, length-drop, take_at, take_all}
+use Rattle.dm_migrate.proofs.Names.{nat_tests, common_steps, Chunk, after_chunk, memory_come, state_come, chunk_bytes, is_last}
 
 -- a list with a part put to a place
 abbrev pub put : List ℕ → ℕ → List ℕ → List ℕ

@@ -1,27 +1,9 @@
 -- Piece by piece, from the first chunk to the process.
-use Rattle.std.proofs.Common.{ℕ, zero, suc, ◌≡◌, ◌+◌, ◌-◌, ◌*◌, ◌/◌, ◌<◌, ◌≤◌, Bool, true, false, nat_lt, if◌then◌else◌, List, [], ◌++◌, length, take, drop, Option, Some, ap, sym, subst, ◌∙◌, refl, arith}
-use Rattle.std.proofs.Math.Seq.{take-add}
-use Rattle.std.proofs.lemmas.List.{take_all}
-use Rattle.std.proofs.lemmas.Bool.Decides.{nat_tests}
-use Rattle.dm_message.specs.declared.Asker.{Asker}
-use Rattle.dm_message.specs.declared.Message.{Message}
-use Rattle.dm_message.specs.declared.What.{What}
+use Rattle.dm_migrate.proofs.Names.{ℕ, zero, suc, ◌≡◌, ◌+◌, ◌-◌, ◌*◌, ◌/◌, ◌<◌, ◌≤◌, Bool, true, false, nat_lt, if◌then◌else◌, List, [], ◌++◌, length, take, drop, Option, Some, ap, sym, subst, ◌∙◌, refl, arith, take-add, take_all}
+use Rattle.dm_migrate.proofs.Names.{nat_tests, Asker, Message, What, Process, IsLawfulProcess, IsLawfulShell, shell_of, FitsShell, shell_is_lawful, shell_again, lawful_size, Wanted, Chunk, Block, Nothing, Arrival, IsNextPiece, after_block}
+use Rattle.dm_migrate.proofs.Names.{after_chunk, pull, restarted, revived_from, with_piece, memory_come, state_come, CanMove, HasBlock, HasChunk, block_bytes, block_of, chunk_bytes, chunk_of, is_last, state_of, ArrivesWhole, ComesByPieces}
+use Rattle.dm_migrate.proofs.Names.{Goes, HasPiece, coming, count_of_pieces, moved, piece_for}
 use Rattle.dm_message.specs.declared.What.TheVariants as what
-use Rattle.dm_process.specs.declared.process.Process.{Process}
-use Rattle.dm_process.specs.Lawful.{IsLawfulProcess}
-use Rattle.dm_statebytes.specs.Lawful.{IsLawfulShell}
-use Rattle.dm_statebytes.specs.Shell.{shell_of}
-use Rattle.dm_statebytes.specs.Widths.{FitsShell}
-use Rattle.dm_statebytes.proofs.Lawful.{shell_is_lawful}
-use Rattle.dm_statebytes.proofs.Shells.{shell_again}
-use Rattle.dm_statebytes.proofs.Sizes.{lawful_size}
-use Rattle.dm_migrate.specs.declared.arriving.Wanted.{Wanted}
-use Rattle.dm_migrate.specs.declared.arriving.Wanted.TheVariants.{Chunk, Block, Nothing}
-use Rattle.dm_migrate.specs.Arrival.{Arrival, IsNextPiece, after_block, after_chunk, pull, restarted, revived_from, with_piece}
-use Rattle.dm_migrate.specs.Coming.{memory_come, state_come}
-use Rattle.dm_migrate.specs.Departure.{CanMove}
-use Rattle.dm_migrate.specs.Pieces.{HasBlock, HasChunk, block_bytes, block_of, chunk_bytes, chunk_of, is_last, state_of}
-use Rattle.dm_migrate.specs.Way.{ArrivesWhole, ComesByPieces, Goes, HasPiece, coming, count_of_pieces, moved, piece_for}
 use Rattle.dm_migrate.proofs.Pieces.{memory_waits}
 
 -- a part more of a list

@@ -1,8 +1,5 @@
 -- The pieces of a process, computed.
-use Rattle.std.proofs.Common.{◌≡◌, ℕ, true, false, List, [], ◌∷◌, ◌++◌, replicate, refl}
-use Rattle.dm_migrate.specs.declared.arriving.Wanted.TheVariants.{Chunk, Block, Nothing}
-use Rattle.dm_migrate.specs.Arrival.{after_block, after_chunk}
-use Rattle.dm_migrate.specs.Pieces.{block_bytes, chunk_bytes, is_last}
+use Rattle.dm_migrate.proofs.Names.{◌≡◌, ℕ, true, false, List, [], ◌∷◌, ◌++◌, replicate, refl, Chunk, Block, Nothing, after_block, after_chunk, block_bytes, chunk_bytes, is_last}
 
 -- 512 bytes, then 70 others
 abbrev state : List ℕ

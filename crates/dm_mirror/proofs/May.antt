@@ -7,9 +7,9 @@ pub mod OwnKernel
 pub mod OwnRows
 pub mod Turns
 use Rattle.dm_mirror.proofs.Names.{◌≡◌, ℕ, ◌+◌, ◌^◌, ◌<◌, ◌≤◌, ◌==◌, Bool, true, false, List, [], ◌∷◌, length, refl, ap, sym, subst, arith, if◌then◌else◌, IsSome, All, Option, None, Some, Result, Err, nat_tests, All-nil, Message}
-use Rattle.dm_mirror.proofs.Names.{IsLawfulMessage, Packet, Line, PacketError, packet_of, Data, Ack, bytes_at, after_mark, Boot, IsValid, Step, Leads, Point, first_point, OwnTold, Run, Placed, IsLawfulState, KernelState, Turned, asks_manager}
-use Rattle.dm_mirror.proofs.Names.{asks_move, told_to_move, Servers, MoveError, moves_child, Pid, opened_may, asked_lawful, turn_lawful, Acted, Acts, Goes, Worn, NodeState, MayAct, MayArrive, MayAskMove, MayAfter, arrives_may, turn_may, Said}
-use Rattle.dm_mirror.proofs.Names.{WorldState, acted, arrives, delivers, first_world, reads, world_step, MayDeliver, MayRead, MayStep, AllMayAct, MadeStands, CountsStand, History, Stands, StandsWith, servers_at}
+use Rattle.dm_mirror.proofs.Names.{IsLawfulMessage, Packet, Line, PacketError, packet_of, Data, Ack, bytes_at, after_mark, Boot, IsValid, Step, Leads, Point, first_point, OwnTold, Run, Placed, IsLawfulState, KernelState, Turned}
+use Rattle.dm_mirror.proofs.Names.{asks_manager, asks_move, told_to_move, Servers, MoveError, moves_child, Pid, opened_may, asked_lawful, turn_lawful, Acted, Acts, Goes, Worn, NodeState, MayAct, MayArrive, MayAskMove, MayAfter, arrives_may}
+use Rattle.dm_mirror.proofs.Names.{turn_may, Said, WorldState, acted, arrives, delivers, first_world, reads, world_step, MayDeliver, MayRead, MayStep, AllMayAct, MadeStands, CountsStand, History, Stands, StandsWith, servers_at}
 use Rattle.std.specs.declared.result.Result.TheVariants.{Ok}
 use Rattle.dm_stream.specs.Packets.{Load}
 use Rattle.dm_kernel.specs.State.{own_id}

@@ -1,113 +1,77 @@
 -- What the proofs of this crate name of what lies below it.
-pub use Rattle.std.proofs.Common.{append_assoc, eqb, max, ◌^◌}
 pub use Rattle.std.proofs.Math.Path.{fun_ext}
-pub use Rattle.std.proofs.lemmas.Bool.{eq-eqb, eqb-true}
-pub use Rattle.std.proofs.lemmas.Bool.Decides.{eqb_tells}
-pub use Rattle.std.proofs.lemmas.List.{drop-drop, drop-map, drop_all, map-append}
-pub use Rattle.std.proofs.lemmas.List.Concat.{flat_map-cons}
-pub use Rattle.std.proofs.lemmas.List.Elements.{All-append, All-cons, All-drop, All-get_or, All-head, All-nil, All-push, All-tail}
-pub use Rattle.std.proofs.lemmas.Option.{get_or_from_slice_get, slice_get_past}
-pub use Rattle.std.specs.List.{All, flat_map}
-pub use Rattle.std.specs.Option.{IfSome}
-pub use Rattle.std.specs.Prelude.{IsSome, Ok}
-pub use Rattle.std.specs.declared.result.Result.{Result}
-pub use Rattle.std.specs.declared.result.Result.TheVariants.{Err}
-pub use Rattle.dm_link.specs.Lawful.{IsMachine}
-pub use Rattle.dm_records.specs.Records.{frozen_of, incoming_of, with_record}
+pub use Rattle.std.proofs.lemmas.List.{drop-drop, drop-map}
+pub use Rattle.dm_link.specs.Places.{kernel_at as kernel_of}
+pub use Rattle.dm_records.proofs.Names.{Bool, IsSome, Option, Pid, Some, ap, arith, common_steps, cond, false, if◌then◌else◌, pid_eq, refl, sym, true, ◌∙◌, ◌≡◌}
 pub use Rattle.dm_records.specs.declared.record.Record.{Record}
-pub use Rattle.dm_room.specs.Room.{HasTaken, Taken, free_blocks, free_slots, with_released, with_reserved}
+pub use Rattle.dm_processor.proofs.Names.{List, Regs, Row, [], drop, drop-append-le, instruction, length, nat_tests, replicate, suc, take, zero, ℕ, ◌*◌, ◌++◌, ◌+◌, ◌-◌, ◌/◌, ◌<◌, ◌^◌, ◌∷◌, ◌≤◌}
+pub use Rattle.dm_room.proofs.Names.{HasTaken, slice_get}
+pub use Rattle.dm_room.specs.Room.{with_released}
 pub use Rattle.dm_wire.proofs.Cursor.{length_marked}
-pub use Rattle.dm_wire.specs.Sent.{Sent, bytes_at}
-pub use Rattle.dm_wire.specs.Wire.{after_mark, is_pair}
+pub use Rattle.dm_wire.proofs.Names.{Sent}
 pub use Rattle.dm_stream.proofs.Follows.{MayCome-stands}
 pub use Rattle.dm_stream.proofs.Lists.{drop-more, get-drop}
+pub use Rattle.dm_stream.proofs.Names.{Ack, Acknowledge, Data, Deliver, DeliverBack, Event, Give, GoAgain, GoOut, OtherAck, OtherData, Receiving, Sending, Stream, TakeKept, cases_Bool, due, given_count, goes_again, happens, inl, inr}
+pub use Rattle.dm_stream.proofs.Names.{is_some, just_put, kept_once, kept_under, max, moved_up, nat_lt, next, outstanding, place, slice_get_within, subst, window, ◌≢◌, ◌⊎◌}
 pub use Rattle.dm_stream.proofs.Places.{place-kept_other, place-kept_same, place-moved_up}
 pub use Rattle.dm_stream.proofs.Together.{Stands-happens, Stands-start}
-pub use Rattle.dm_stream.specs.Packets.{Ack, Data, just_put, load_in}
+pub use Rattle.dm_stream.specs.Packets.{load_in}
 unfoldable pub use Rattle.dm_stream.specs.Packets.{load_at}
-pub use Rattle.dm_stream.specs.Receiving.{Receiving, advanced, after_arrival, after_next, arrival, fresh_receiving, kept_once, kept_under, moved_up, next, place}
-pub use Rattle.dm_stream.specs.Sending.{Sending, due, fresh_sending, given_count, numbered, outstanding, window, with_acked, with_given, with_sent}
-pub use Rattle.dm_stream.specs.Stream.{Acknowledge, Deliver, DeliverBack, Event, Give, GoAgain, GoOut, OtherAck, OtherData, Stream, TakeKept, goes_again, happens}
-pub use Rattle.dm_stream.specs.declared.receiver.Arrived.{Arrived}
-pub use Rattle.dm_stream.specs.declared.receiver.Arrived.TheVariants.{Early, Old}
-pub use Rattle.dm_message.specs.Kinds.{IsKindOfPlain, kind_of}
-pub use Rattle.dm_message.specs.Lawful.{IsLawfulMessage}
+pub use Rattle.dm_stream.specs.Receiving.{advanced}
+pub use Rattle.dm_message.specs.Kinds.{IsKindOfPlain}
+pub use Rattle.dm_linktable.proofs.Names.{Link, Ok, count_by, eqb, length-map, link_at, map, slot_is_behind, ◌&&◌, ◌==◌}
 pub use Rattle.dm_packet.proofs.Coded.{packet_kind_is}
-pub use Rattle.dm_packet.proofs.Field.{IsField, IsField-both, IsField-for, IsField-made, IsField-number, IsField-tested, guard_ok}
 pub use Rattle.dm_packet.proofs.Fields.{machine_is}
+pub use Rattle.dm_packet.proofs.Names.{Addr, All, All-push, IfSome, IsLawfulMessage, IsMachine, IsRoute, Message, MessageKind, MsgId, Opening, Packet, PacketError, PacketKind, What, append-nil, append_assoc, ended, eq-eqb, eqb-true}
+pub use Rattle.dm_packet.proofs.Names.{flat_map, flat_map-cons, kind_of, length-append, machine, message, nat_le, not, number, numbered_message, opening, other_machine, packet_kind, spell_message, version, ◌>>=◌}
 pub use Rattle.dm_packet.proofs.Packets.{packet_again}
-pub use Rattle.dm_packet.specs.Field.{number, ◌>>=◌}
-pub use Rattle.dm_packet.specs.Fields.{machine}
-pub use Rattle.dm_packet.specs.Lawful.{IsRoute}
-pub use Rattle.dm_packet.specs.Packets.{ended, message, numbered_message, opening, other_machine, packet_kind, spell_message, version}
 unfoldable pub use Rattle.dm_packet.specs.Packets.{packet_of, read_rest, spelling}
-pub use Rattle.dm_packet.specs.declared.PacketError.{PacketError}
-pub use Rattle.dm_packet.specs.declared.Packet.{Packet}
-pub use Rattle.dm_packet.specs.declared.front.Opening.{Opening}
-pub use Rattle.dm_packet.specs.declared.front.PacketKind.{PacketKind}
+pub use Rattle.dm_schedule.proofs.Names.{Directive}
+pub use Rattle.dm_process.proofs.Names.{first_on, is_on, without_first_on}
 pub use Rattle.dm_process.specs.Begun.{begun as begun_process}
-pub use Rattle.dm_process.specs.Lawful.{IsLawfulProcess, IsLawfulStatus}
-pub use Rattle.dm_process.specs.Mail.{first_on, is_on, without_first_on}
 pub use Rattle.dm_process.specs.Process.{status_is_runnable}
-pub use Rattle.dm_linkupdate.specs.Notice.{kernel_at, update_of}
+pub use Rattle.dm_linkupdate.proofs.Names.{IsLawfulProcess, IsLawfulStatus, None, Process, Status, applied}
+pub use Rattle.dm_statebytes.proofs.Names.{Direction, IsField, IsField-both, IsField-for, IsField-made, IsField-number, IsField-tested, Shell, guard_ok, length-drop, mask_of, shell_of, spell_slot, spell_status}
 pub use Rattle.dm_statebytes.proofs.Sizes.{numbers_size}
-pub use Rattle.dm_statebytes.specs.Shell.{shell_of}
 unfoldable pub use Rattle.dm_statebytes.specs.Shell.{registers}
-pub use Rattle.dm_statebytes.specs.Statuses.{spell_status}
-pub use Rattle.dm_statebytes.specs.Table.{mask_of, spell_slot}
-pub use Rattle.dm_statebytes.specs.declared.Shell.{Shell}
+pub use Rattle.dm_migrate.proofs.Names.{All-append, All-cons, Arrival, Block, CanMove, Chunk, ComesByPieces, Departure, Err, HasBlock, HasChunk, HasPiece, IsNextPiece, Nothing, PlainWhat, Result, Wanted, after_block, after_chunk, block_of}
+pub use Rattle.dm_migrate.proofs.Names.{chunk_of, coming, is_last, map-append, plain_message, plain_what, pull, restarted, sent_on, state_of, with_piece, with_what}
 pub use Rattle.dm_migrate.proofs.Way.{by_pieces}
 pub use Rattle.dm_migrate.specs.Answer.{IsAskOfProcess}
-pub use Rattle.dm_migrate.specs.Arrival.{Arrival, IsNextPiece, after_block, after_chunk, expected, pull, restarted, with_piece}
-pub use Rattle.dm_migrate.specs.Departure.{CanMove, Departure, all_sent_on, ask_of, frozen}
-pub use Rattle.dm_migrate.specs.Pieces.{HasBlock, HasChunk, block_of, chunk_of, is_last, state_of}
-pub use Rattle.dm_migrate.specs.Way.{ComesByPieces, HasPiece, coming}
-pub use Rattle.dm_migrate.specs.declared.arriving.Wanted.{Wanted}
-pub use Rattle.dm_migrate.specs.declared.arriving.Wanted.TheVariants.{Block, Chunk, Nothing}
-pub use Rattle.dm_onekernel.specs.Boot.{blocks_at, image_is_valid, images_are_valid}
-pub use Rattle.dm_onekernel.specs.declared.boot.BootMachine.{BootMachine}
+pub use Rattle.dm_switchboard.proofs.Names.{ArrayVec, Board, Named, is_general, named_is_behind, plain_board, plain_link, plain_named, switchboard}
 pub use Rattle.dm_switchboard.proofs.Plain.{plain_request}
-pub use Rattle.dm_switchboard.specs.Board.{Board}
+pub use Rattle.dm_procman.proofs.Names.{Boot, BootProcess, IsForManager, IsValid, Managing, Pending, PlainLink, answer_over, at_home, child_named, control_link, manager, message_to, moves_child, pending_is_behind, pending_numbered}
+pub use Rattle.dm_procman.proofs.Names.{plain_child, plain_manager, plain_pending, process_is_valid, processes_are_valid, slice_get-map, starting_at, tells_to_move, ◌||◌}
 pub use Rattle.dm_procman.proofs.Plain.{plain_created, plain_no_room, plain_user}
-pub use Rattle.dm_link.specs.Places.{kernel_at as kernel_of}
-pub use Rattle.dm_procman.specs.Moving.{moves_child, tells_to_move}
-pub use Rattle.dm_procman.specs.Taking.{IsForManager}
-pub use Rattle.dm_procman.specs.declared.moving.MoveError.{MoveError}
-pub use Rattle.dm_laws.proofs.Names.{Alive, Bool, Boot, BootImage, BootProcess, Called, Direction, IsValid, Label, Life, List, Manager, Moving, MsgId, None, OneKernel, Option, Pid, PlainLink, PlainMessage, PlainProcess, PlainStatus}
-pub use Rattle.dm_laws.proofs.Names.{PlainWhat, Ready, Reply, Row, Some, Switchboard, Waiting, Why, [], answer_id, answer_to, ap, arith, bind, cases_Bool, drop, entry, false, false≢true, first_failed, first_life, first_number, id_eq, id_of}
-pub use Rattle.dm_laws.proofs.Names.{if◌then◌else◌, inl, inr, instruction, is_of_memory, is_some, length, life_at, link_at, manager, map, nat_le, nat_lt, nat_tests, option_map, pid_eq, pid_of, plain_link, processes_are_valid, reception}
-pub use Rattle.dm_laws.proofs.Names.{refl, replay, slice_get, start, starting_at, subst, switchboard, sym, take, true, when, with_process, without_message, ℕ, ⊤, ◌&&◌, ◌*◌, ◌++◌, ◌+◌, ◌-◌, ◌==◌, ◌∙◌, ◌∷◌, ◌≡◌, ◌≤◌, ◌⊎◌}
+pub use Rattle.dm_laws.proofs.Names.{Alive, BootImage, Called, Label, Life, Manager, Moving, OneKernel, PlainMessage, PlainProcess, PlainStatus, Ready, Reply, Switchboard, Waiting, Why, answer_id, answer_to, bind, entry, false≢true}
+pub use Rattle.dm_laws.proofs.Names.{first_failed, first_life, first_number, id_eq, id_of, is_of_memory, life_at, option_map, pid_of, reception, replay, start, when, with_process, without_message, ⊤}
 pub use Rattle.dm_laws.proofs.Runs.{reached, received_once}
 pub use Rattle.dm_laws.proofs.Servers.{board_takes, manager_takes}
 pub use Rattle.dm_laws.proofs.Sound.{not_counted}
 pub use Rattle.dm_laws.proofs.Steps.{Completing, after_ran}
-pub use Rattle.dm_datamove.proofs.Services.{length-written}
-pub use Rattle.dm_datamove.specs.Landing.{IsAnswerOf, IsAwaited}
-pub use Rattle.dm_datamove.specs.Serving.{IsWithin}
+pub use Rattle.dm_datamove.proofs.Names.{All-nil, IsAnswerOf, IsAwaited, IsWithin, Landed, Landing, Rest, after_serving, answer, answer_of, answer_with, piece_of, plain_landed, plain_process, plain_status, serving_answer, written_at}
+pub use Rattle.dm_syscall.proofs.Names.{All-drop, Completion, length-written, plain_called, plain_completed, receive_refusals, reply_code, what_is_on}
 pub use Rattle.dm_syscall.specs.Plainly.{plain_sent}
 pub use Rattle.dm_line.proofs.Below.{all_same}
-pub use Rattle.dm_line.specs.Ends.{each_machine, home_with, list_line, memory_lines}
-pub use Rattle.dm_line.specs.Todo.{Two, begin_pass, below, following, here_or_later, in_pass, is_over, next_delivery, next_directive, next_pass, next_turn, or, pairs_of, pairs_with, pass_begun, settles, takes_turn}
+pub use Rattle.dm_line.proofs.Names.{all_below, eqb_tells}
+pub use Rattle.dm_line.specs.Todo.{following, pass_begun}
 pub use Rattle.dm_line.specs.declared.end_line.Doing.{Doing}
-pub use Rattle.dm_line.specs.declared.end_line.EndLine.{EndLine}
 pub use Rattle.dm_line.specs.declared.end_line.Standing.{Standing}
-pub use Rattle.dm_line.specs.declared.pass.Pass.{Pass}
 pub use Rattle.dm_rule.proofs.Bags.{bag_none, cases_zero}
 pub use Rattle.dm_rule.proofs.Groups.{GroupIs, stands_once_always}
 pub use Rattle.dm_rule.proofs.Homes.Lines.{acting_label}
 pub use Rattle.dm_rule.proofs.Letters.{letter_of}
 pub use Rattle.dm_rule.proofs.Moves.Sent.{fits_packet, fits_put}
-pub use Rattle.dm_rule.proofs.Names.{About, Addresses, Again, Child, Directive, Ended, Fault, Forward, Frozen, Gets, Held, Here, HomeStands, Inbox, Incoming, IsIn, IsStep, IsToken, Known, LandsSo, Leads, Line, Link, Load, Made, MessageKind}
-pub use Rattle.dm_rule.proofs.Names.{Moves, Name, NamedLink, Next, Nexts, NothingElse, Nowhere, Of, Over, Owns, Pair, Part, Phase, Place, Point, Queue, Receiver, Regs, Rests, Room, Routes, Says, Sender, ServerSends, Slot, Sound, Spelled}
-pub use Rattle.dm_rule.proofs.Names.{Spot, Stage, StandsAsBag, StandsNowhere, StandsOnce, StandsOutside, StandsRight, Step, Todo, Told, Transmits, Unknown, Untaken, View, actor, addresses_after, after, after_label, after_line, after_packet}
-pub use Rattle.dm_rule.proofs.Names.{after_proto, after_put, after_step, alive-is, all_below, all_of, append-nil, ascends, at_id, at_least, at_machine, at_pair, at_pid, at_record, begins, bind-is, child_number, chunks_of, comes, comes_to}
-pub use Rattle.dm_rule.proofs.Names.{cond, counts, counts_process, drop-append-le, dropped_for, ended_told, filter, first_gives, first_point, first_view, fits, forward_about, forwarded_for, forwards_on, free_room, front_of, front_told}
-pub use Rattle.dm_rule.proofs.Names.{gets, given, goes_out, gone_after, gone_to, group_of, handled, has, has_mail, headed, hears, here_told, id_eq-is, id_eq-same, id_eq-swap, ids_at, is_apart, is_away, is_between, is_counted, is_due}
-pub use Rattle.dm_rule.proofs.Names.{is_early, is_general, is_here, is_kernels, is_quiet, is_restart, is_told_back, kept_from, kernel_after, kernel_hears, kernel_told, known_at, knows, label_of, lands-is, left_true, length-append, less}
-pub use Rattle.dm_rule.proofs.Names.{lines_of, marked, migrates, migrates_child, more, moved, moved_back, next_step, nexts, not, not_server, numbers_from, oldest, outcome, own_gives, own_id, packet_line, pair_is_quiet, pid_eq-is}
-pub use Rattle.dm_rule.proofs.Names.{pid_eq-same, pieces_of, place_of, place_of_child, place_told, plain_kind, process_told, puts, queued_for, receiver_in, receiver_of, repeats, replicate, reply_code, resends, right_true, ring_at}
-pub use Rattle.dm_rule.proofs.Names.{routed_on, sender_in, sends_on, server_told, slice_get_cases, slice_get_within, slots_of, slots_with, spelled, standing, suc, takes, takes_block, takes_chunk, target_of, times, to_kernel, to_of}
-pub use Rattle.dm_rule.proofs.Names.{token_in, told_between, unentered, unmoved, untaken, updates, view_after, when-is, with_pair, without, without_first, without_front, without_id, zero, ◌/◌, ◌<◌, ◌||◌, ◌≢◌}
+pub use Rattle.dm_rule.proofs.Names.{About, Addresses, Again, Child, Ended, Fault, Forward, Frozen, Gets, Held, Here, HomeStands, Inbox, Incoming, IsIn, IsStep, IsToken, Known, LandsSo, Leads, Line, Load, Made, Moves, Name, NamedLink, Next}
+pub use Rattle.dm_rule.proofs.Names.{Nexts, NothingElse, Nowhere, Of, Over, Owns, Pair, Part, Phase, Place, Point, Queue, Receiver, Rests, Room, Routes, Says, Sender, ServerSends, Slot, Sound, Spelled, Spot, Stage, StandsAsBag}
+pub use Rattle.dm_rule.proofs.Names.{StandsNowhere, StandsOnce, StandsOutside, StandsRight, Step, Todo, Told, Transmits, Unknown, Untaken, View, actor, addresses_after, after, after_label, after_line, after_packet, after_proto, after_put}
+pub use Rattle.dm_rule.proofs.Names.{after_step, alive-is, all_of, ascends, at_id, at_least, at_machine, at_pair, at_pid, at_record, begins, bind-is, child_number, chunks_of, comes, comes_to, counts, counts_process, dropped_for, ended_told}
+pub use Rattle.dm_rule.proofs.Names.{filter, first_gives, first_point, first_view, fits, forward_about, forwarded_for, forwards_on, free_room, front_of, front_told, gets, given, goes_out, gone_after, gone_to, group_of, handled, has}
+pub use Rattle.dm_rule.proofs.Names.{has_mail, headed, hears, here_told, id_eq-is, id_eq-same, id_eq-swap, ids_at, is_apart, is_away, is_between, is_counted, is_due, is_early, is_here, is_kernels, is_quiet, is_restart, is_told_back}
+pub use Rattle.dm_rule.proofs.Names.{kept_from, kernel_after, kernel_hears, kernel_told, known_at, knows, label_of, lands-is, left_true, less, lines_of, marked, migrates, migrates_child, more, moved, moved_back, next_step, nexts}
+pub use Rattle.dm_rule.proofs.Names.{not_server, numbers_from, oldest, outcome, own_gives, own_id, packet_line, pair_is_quiet, pid_eq-is, pid_eq-same, pieces_of, place_of, place_of_child, place_told, plain_kind, process_told, puts}
+pub use Rattle.dm_rule.proofs.Names.{queued_for, receiver_in, receiver_of, repeats, resends, right_true, ring_at, routed_on, sender_in, sends_on, server_told, slice_get_cases, slots_of, slots_with, spelled, standing, takes, takes_block}
+pub use Rattle.dm_rule.proofs.Names.{takes_chunk, target_of, times, to_kernel, to_of, token_in, told_between, unentered, unmoved, untaken, updates, view_after, when-is, with_pair, without, without_first, without_front, without_id}
 pub use Rattle.dm_rule.proofs.Pairs.{Pairs, pair_home, pair_stands, pairs_stand_always}
 pub use Rattle.dm_rule.proofs.Pairs.Comes.{less-right, more-is}
 pub use Rattle.dm_rule.proofs.Pairs.Lines.{AllFit, forwarded_pair, held_pair, label_pair, onward, pair_same, proto_pair, queued_pair, stage_pair, taken_pair, touches}
@@ -140,12 +104,9 @@ pub use Rattle.dm_places.proofs.Followed.{among_times, forwarded_mirrors, moves_
 pub use Rattle.dm_places.proofs.Keeps.{of_map, parts, there_of}
 pub use Rattle.dm_places.proofs.Lines.{lines_keep, mirrors_view, moves_label, routed_keeps, told_keeps}
 pub use Rattle.dm_places.proofs.Matches.{Ends, acted_with, answers_match, call_matches, completed_matches, fault_matches, lands_match, ran_matches}
-pub use Rattle.dm_places.proofs.Names.{Addr, ArrayVec, Completion, Format, GroupNeeds, KeepsPlaces, Landed, Landing, Machine, Managing, Message, Mirrors, MirrorsKernel, MirrorsPoint, Named, Pending, Placed, Process, Rest, Status, StepNeeds}
-pub use Rattle.dm_places.proofs.Names.{What, address, after_landing, after_serving, and-both, answer, answer_of, answer_over, answer_with, applied, at_home, behind_count, board_took, call_plainly, child_named, control_link, count_by}
-pub use Rattle.dm_places.proofs.Names.{enclosed, ends_plainly, first_told, goes_on_plainly, gone_answer, is_among, is_own, length-map, manager_took, memory_of, message_to, named_is_behind, not_kernels, or-right, or_second}
-pub use Rattle.dm_places.proofs.Names.{pending_is_behind, pending_numbered, piece_of, placed_start, placed_step, plain_board, plain_called, plain_child, plain_completed, plain_landed, plain_manager, plain_message, plain_named}
-pub use Rattle.dm_places.proofs.Names.{plain_pending, plain_pending_numbered, plain_process, plain_status, plain_what, receive_refusals, sent_all, sent_on, serving_answer, slice_get-map, slot_is_behind, started, started_at, status_plainly}
-pub use Rattle.dm_places.proofs.Names.{what_is_on, with_what, written_at}
+pub use Rattle.dm_places.proofs.Names.{Format, GroupNeeds, KeepsPlaces, Machine, Mirrors, MirrorsKernel, MirrorsPoint, Placed, StepNeeds, address, after_landing, and-both, behind_count, board_took, call_plainly, enclosed, ends_plainly}
+pub use Rattle.dm_places.proofs.Names.{first_told, goes_on_plainly, gone_answer, is_among, is_own, manager_took, memory_of, not_kernels, or-right, or_second, placed_start, placed_step, plain_pending_numbered, sent_all, started, started_at}
+pub use Rattle.dm_places.proofs.Names.{status_plainly}
 pub use Rattle.dm_places.proofs.OwnPuts.{child_place, no_child, own_put_mirrors}
 pub use Rattle.dm_places.proofs.Queues.{calls_with, with_queue}
 pub use Rattle.dm_places.proofs.Serves.{plainly, plainly_is}
@@ -157,23 +118,20 @@ pub use Rattle.dm_places.proofs.Whats.{block_what, create_what, created_what, go
 pub use Rattle.dm_kernel.proofs.Fitting.{managed_fits, user_fits}
 pub use Rattle.dm_kernel.proofs.LawfulRows.{of_known}
 pub use Rattle.dm_kernel.proofs.LawfulStart.{opened_lawful, opened_may}
-pub use Rattle.dm_kernel.proofs.LawfulTurns.{asked_lawful, turn_lawful}
 pub use Rattle.dm_kernel.proofs.Making.{image_fits}
+pub use Rattle.dm_kernel.proofs.Names.{All-head, All-tail, BootMachine, FitsBoardWhat, FitsEnded, FitsHere, FitsKernel, FitsKnown, FitsManager, FitsManagerWhat, FrontMay, Halt, IsLawfulPair, IsLawfulPart, IsLawfulState, IsLawfulTurned}
+pub use Rattle.dm_kernel.proofs.Names.{IsSuch, KernelState, MayHandle, MayRestart, MayTurn, MoveError, Servers, Taken, Turned, accepts, all_sent_on, ask_of, asks_manager, asks_move, blocks_at, blocks_of_image, board_follows, board_handles}
+pub use Rattle.dm_kernel.proofs.Names.{child_of, empty, ended_handles, expected, forwards_and, free_blocks, free_slots, freezes, frozen, frozen_of, gives_piece, handles, here_handles, image_is_valid, images_are_valid, incoming_of}
+pub use Rattle.dm_kernel.proofs.Names.{kernel_at, kernel_handles, links_are_valid, makes, manager_follows, manager_handles, next_pid, opened, own, process_handles, process_named, restarts, restarts_as, room_of, stays, takes_piece}
+pub use Rattle.dm_kernel.proofs.Names.{told_to_move, took_piece, turn, turned, turns, update_of, with_all, with_child, with_here, with_record, with_reserved, without_process}
 pub use Rattle.dm_kernel.proofs.Opening.{room_from}
 pub use Rattle.dm_kernel.proofs.Serving.{call_keeps, ran_keeps}
-pub use Rattle.dm_kernel.specs.Asking.{asks_manager, asks_move, told_to_move}
-pub use Rattle.dm_kernel.specs.Begun.{child_of, empty, opened, room_of, with_all, with_child}
-pub use Rattle.dm_kernel.specs.Carried.{FreezesReceiverWhole, FreezesWhole, KnownIsWhole}
-pub use Rattle.dm_kernel.specs.Coming.{accepts, piece_line, restarts, restarts_as, takes_piece, took_piece, with_expected}
-pub use Rattle.dm_kernel.specs.Departing.{freezes, gives_piece, stays, with_frozen, without_leaving}
-pub use Rattle.dm_kernel.specs.Following.{board_follows, forwards_and, manager_follows}
-pub use Rattle.dm_kernel.specs.Handle.{board_handles, ended_handles, handles, here_handles, kernel_handles, makes, manager_handles, next_pid, process_handles, queued}
-pub use Rattle.dm_kernel.specs.Lawful.{IsLawfulPair, IsLawfulPart, IsLawfulState, IsLawfulTurned}
-pub use Rattle.dm_kernel.specs.May.{FitsBoard, FitsBoardWhat, FitsEnded, FitsHere, FitsKernel, FitsKnown, FitsManager, FitsManagerWhat, FrontMay, IsSuch, MayHandle, MayLeave, MayRestart, MayTurn}
-pub use Rattle.dm_kernel.specs.State.{KernelState, Turned, own, turned, with_here, with_known, without_process}
-pub use Rattle.dm_kernel.specs.Turn.{turn, turns}
-pub use Rattle.dm_kernel.specs.declared.kernel.Servers.{Servers}
-pub use Rattle.dm_kernel.specs.declared.run.Halt.{Halt}
+pub use Rattle.dm_kernel.specs.Carried.{FreezesReceiverWhole, KnownIsWhole}
+pub use Rattle.dm_kernel.specs.Coming.{piece_line, with_expected}
+pub use Rattle.dm_kernel.specs.Departing.{with_frozen, without_leaving}
+pub use Rattle.dm_kernel.specs.Handle.{queued}
+pub use Rattle.dm_kernel.specs.May.{FitsBoard, MayLeave}
+pub use Rattle.dm_kernel.specs.State.{with_known}
 pub use Rattle.dm_rulelaws.proofs.Based.Always.{based_always}
 pub use Rattle.dm_rulelaws.proofs.Based.Constants.{constant_group}
 pub use Rattle.dm_rulelaws.proofs.Based.Groups.{Begins}
@@ -194,10 +152,9 @@ pub use Rattle.dm_rulelaws.proofs.Goes.Servers.{can_handle, pending_is, server_f
 pub use Rattle.dm_rulelaws.proofs.Goes.Serves.{reply_same}
 pub use Rattle.dm_rulelaws.proofs.Goes.Turns.{Droppable, IsFor, droppable_on, dropped_is, queue_drops, user_dropped}
 pub use Rattle.dm_rulelaws.proofs.Names.{AllSayable, InPhases, IsNet, IsNetLine, IsPending, IsRun, LeadsBy, Phased, Sane, Sayable, StandsAsBag-elsewhere, StandsAsBag-one, Target, WhatFits, about_same, agrees, arrives_net, at_record_at}
-pub use Rattle.dm_rulelaws.proofs.Names.{awaits, bag_created, bag_gone, bag_no_space, bag_served, blocks_of_image, common_steps, completing, eq_is, eq_self, goes_between, group_is, has_bytes, has_no_queue, has_nothing_held, hushed}
-pub use Rattle.dm_rulelaws.proofs.Names.{if_some-is, inbox_is, is_dropped, is_fixed, is_of_source, is_put, is_server, kernels_fresh, labels, least_of, length-drop, letters, links_are_valid, machine_of, not_false, not_first, not_true}
-pub use Rattle.dm_rulelaws.proofs.Names.{out_off, outcome_sayable, pair_keeps, part_sane, piece_fits, process_is_valid, process_named, proto_acting, put_at, put_told_off, resends_net, rests_here, rings, sane_line, served_id, stands_right}
-pub use Rattle.dm_rulelaws.proofs.Names.{status_awaits, times-append, token_at, token_is, told_some, why_code, zero_if}
+pub use Rattle.dm_rulelaws.proofs.Names.{awaits, bag_created, bag_gone, bag_no_space, bag_served, completing, eq_is, eq_self, goes_between, group_is, has_bytes, has_no_queue, has_nothing_held, hushed, if_some-is, inbox_is, is_dropped}
+pub use Rattle.dm_rulelaws.proofs.Names.{is_fixed, is_of_source, is_put, is_server, kernels_fresh, labels, least_of, letters, machine_of, not_false, not_first, not_true, out_off, outcome_sayable, pair_keeps, part_sane, piece_fits}
+pub use Rattle.dm_rulelaws.proofs.Names.{proto_acting, put_at, put_told_off, resends_net, rests_here, rings, sane_line, served_id, stands_right, status_awaits, times-append, token_at, token_is, told_some, why_code, zero_if}
 pub use Rattle.dm_rulelaws.proofs.Own.Told.{OwnTold, is_place, is_process, is_target, own_server, own_sort}
 pub use Rattle.dm_rulelaws.proofs.Queued.{IsQueued}
 pub use Rattle.dm_rulelaws.proofs.RunLabels.{after_replay, group_replay, labels-append, replay-append}
@@ -205,22 +162,21 @@ pub use Rattle.dm_rulelaws.proofs.Runs.{Run}
 pub use Rattle.dm_rulelaws.proofs.RunsAlways.{run_always, run_group, run_start}
 pub use Rattle.dm_rulelaws.proofs.Tables.Always.{format_always, tables_always}
 pub use Rattle.dm_node.proofs.Here.{StaysAt, asks_move_stays, turn_stays}
+pub use Rattle.dm_node.proofs.Names.{Acted, Acts, All-get_or, Arrived, Early, FreezesWhole, Goes, MayAct, MayArrive, MayAskMove, NodeState, Old, Out, Sends, Worn, acknowledges, acts, after_arrival, after_next, again, all_out, arrival}
+pub use Rattle.dm_node.proofs.Names.{asked_lawful, before, behind, comes_in, count_out, counts_out, first_out, fresh_receiving, fresh_sender, fresh_sending, get_or_from_slice_get, gives, here, is_worn, lets_next, none_waits, numbered}
+pub use Rattle.dm_node.proofs.Names.{put_line, routes, routes_away, routes_home, sends_due, takes_next, then_, then_acknowledges, tick, turn_lawful, with_acked, with_given, with_message, with_receiver, with_sender, with_sent}
 pub use Rattle.dm_node.proofs.Staying.{MayAfter, arrives_may, turn_may}
-pub use Rattle.dm_node.specs.Acts.{acknowledges, acts, again, all_out, before, comes_in, count_out, counts_out, first_out, gives, is_worn, lets_next, none_waits, put_line, routes, routes_away, routes_home, sends, sends_due, takes_next}
-pub use Rattle.dm_node.specs.Acts.{then_acknowledges, tick}
+pub use Rattle.dm_node.specs.Acts.{sends}
 unfoldable pub use Rattle.dm_node.specs.Acts.{lets_go, takes_kept}
-pub use Rattle.dm_node.specs.May.{FitsLoad, MayAct, MayArrive, MayAskMove}
-pub use Rattle.dm_node.specs.Out.{Acted, Acts, Goes, Worn, behind, then_}
-pub use Rattle.dm_node.specs.State.{NodeState, fresh_sender, here, with_message, with_receiver, with_sender}
-pub use Rattle.dm_node.specs.Wired.{Spoken, says, spoken, with_packet}
-pub use Rattle.dm_node.specs.declared.out.Out.{Out}
-pub use Rattle.dm_node.specs.declared.out.Out.TheVariants.{Sends}
-pub use Rattle.dm_world.specs.Ends.{HasPlainEnd, alive_lines, awaited_lines, come_lines, come_whole, first_awaited, first_had, first_says, held_for, lines_in, names_of, record_lines, record_queue}
-pub use Rattle.dm_world.specs.May.{MayDeliver, MayRead, MayStep}
-pub use Rattle.dm_world.specs.Next.{first_unseen}
-pub use Rattle.dm_world.specs.Readable.{AreReadBack, IsReadable, NodeReads, SenderReads, WiresRead, gave, gave_bytes, gave_read, gave_some}
+pub use Rattle.dm_node.specs.May.{FitsLoad}
+pub use Rattle.dm_node.specs.Wired.{says}
+pub use Rattle.dm_world.proofs.Names.{AreReadBack, EndLine, MayDeliver, MayRead, MayStep, Pass, Said, Spoken, Two, WorldState, acted, after_mark, arrives, awaited_lines, begin_pass, below, bytes_at, delivers, drop_all, each_machine}
+pub use Rattle.dm_world.proofs.Names.{first_awaited, first_had, first_says, first_unseen, gave_bytes, gave_read, gave_some, here_or_later, home_with, in_pass, is_over, is_pair, lines_in, list_line, memory_lines, names_of, next_delivery}
+pub use Rattle.dm_world.proofs.Names.{next_directive, next_pass, next_turn, or, pairs_of, pairs_with, reads, record_lines, record_queue, settles, slice_get_past, spoken, takes_turn, with_packet, world_step}
+pub use Rattle.dm_world.specs.Ends.{HasPlainEnd, alive_lines, come_lines, come_whole, held_for}
+pub use Rattle.dm_world.specs.Readable.{IsReadable, NodeReads, SenderReads, WiresRead, gave}
 pub use Rattle.dm_world.specs.Whole.{AreWhole}
-pub use Rattle.dm_world.specs.World.{Said, WorldState, acted, arrives, delivers, first_world, reads, world_step}
+pub use Rattle.dm_world.specs.World.{first_world}
 pub use Rattle.dm_mirror.specs.Able.{AllMayAct}
 pub use Rattle.dm_mirror.specs.Laws.{EndIsSaid, EndMay, GoodLeads, MailIsSaid, NextIsSaid, PlacesFollow, QuietIsSaid, RunBegins, RunGoesOn, StartStands, StepsStand}
 pub use Rattle.dm_mirror.specs.Local.{ActsLocally, AsLong, DoesSame, IsFresh, NothingComes, PutsFrom, ReadsLocally, SamePacket, marked_by, unnumbered}

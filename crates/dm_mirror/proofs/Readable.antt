@@ -1,6 +1,6 @@
 -- Packets are read again, from the start on and after each directive.
-use Rattle.dm_mirror.proofs.Names.{◌≡◌, ℕ, ◌+◌, List, [], ◌∷◌, refl, subst, Option, None, Some, Result, Err, Packet, Line, PacketError, packet_of, Data, Ack, bytes_at, after_mark, Boot, Step, Turned, Acts, Goes, Worn, StaysAt, asks_move_stays}
-use Rattle.dm_mirror.proofs.Names.{turn_stays, WorldState, Said, acted, delivers, reads, world_step, MayDeliver, MayRead, MayStep, AreReadBack, IsReadable, gave, gave_bytes, gave_read, gave_some}
+use Rattle.dm_mirror.proofs.Names.{◌≡◌, ℕ, ◌+◌, List, [], ◌∷◌, refl, subst, Option, None, Some, Result, Err, Packet, Line, PacketError, packet_of, Data, Ack, bytes_at, after_mark, Boot, Step, Turned, Acts, Goes, Worn, StaysAt}
+use Rattle.dm_mirror.proofs.Names.{asks_move_stays, turn_stays, WorldState, Said, acted, delivers, reads, world_step, MayDeliver, MayRead, MayStep, AreReadBack, IsReadable, gave, gave_bytes, gave_read, gave_some}
 use Rattle.std.specs.declared.result.Result.TheVariants.{Ok}
 use Rattle.dm_kernel.specs.Asking as asking
 use Rattle.dm_kernel.specs.Turn as kernel

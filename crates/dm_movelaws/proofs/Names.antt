@@ -1,14 +1,16 @@
 -- What the proofs of this crate name of what lies below it.
-pub use Rattle.std.proofs.Common.{append_assoc}
 pub use Rattle.std.proofs.Math.Seq.{drop-nil}
 pub use Rattle.std.proofs.lemmas.List.Elements.{filter-append}
+pub use Rattle.dm_processor.proofs.Names.{Bool, List, Row, [], ap, arith, drop, false, instruction, length, nat_tests, refl, suc, sym, take, true, zero, ℕ, ◌*◌, ◌++◌, ◌+◌, ◌-◌, ◌/◌, ◌<◌, ◌∙◌, ◌∷◌, ◌≡◌, ◌≤◌}
+pub use Rattle.dm_linktable.proofs.Names.{Pid, first_empty, link_at, map, pid_eq, subst, ◌&&◌, ◌==◌, ◌≢◌}
+pub use Rattle.dm_schedule.proofs.Names.{append-nil, append_assoc, drop-length, if◌then◌else◌, nat_lt, not}
+pub use Rattle.dm_process.proofs.Names.{slice_get}
 pub use Rattle.dm_onekernel.specs.Pieces.{piece_of}
 pub use Rattle.dm_laws.proofs.Counted.{Sent}
-pub use Rattle.dm_laws.proofs.Names.{Alive, Bool, Boot, BootImage, BootProcess, CallNumber, Called, Copy, Direction, Drop, Ends, IsValid, Label, Life, List, Make, Manager, Move, Moving, MsgId, None, OneKernel, Option, Out, Outputs, Pending}
-pub use Rattle.dm_laws.proofs.Names.{Pid, PlainLink, PlainMessage, PlainProcess, PlainStatus, PlainWhat, Ready, Receive, Replies, Reply, Row, Send, Sends, Some, Waiting, Waits, Why, [], answer_id, answer_to, ap, arith, bind, bool_eq}
-pub use Rattle.dm_laws.proofs.Names.{call_number, cases_Bool, direction_numbered, drop, entry, false, false≢true, first_empty, first_failed, first_life, first_number, id_eq, id_of, if◌then◌else◌, in_bag, inl, inr, instruction, is_of_memory}
-pub use Rattle.dm_laws.proofs.Names.{is_some, length, life_at, link_at, manager, map, nat_le, nat_lt, nat_tests, option_map, pid_eq, pid_of, plain_link, reception, receptions, refl, reg, replay, slice_get, start, subst, switchboard, sym}
-pub use Rattle.dm_laws.proofs.Names.{take, true, with_process, with_sent, without_message, ℕ, ⊤, ◌&&◌, ◌*◌, ◌++◌, ◌+◌, ◌-◌, ◌==◌, ◌∙◌, ◌∷◌, ◌≡◌, ◌≤◌, ◌⊎◌}
+pub use Rattle.dm_laws.proofs.Names.{Alive, Boot, BootImage, BootProcess, CallNumber, Called, Copy, Direction, Drop, Ends, IsValid, Label, Life, Make, Manager, Move, Moving, MsgId, None, OneKernel, Option, Out, Outputs, Pending, PlainLink}
+pub use Rattle.dm_laws.proofs.Names.{PlainMessage, PlainProcess, PlainStatus, PlainWhat, Ready, Receive, Replies, Reply, Send, Sends, Some, Waiting, Waits, Why, answer_id, answer_to, bind, bool_eq, call_number, cases_Bool}
+pub use Rattle.dm_laws.proofs.Names.{direction_numbered, entry, false≢true, first_failed, first_life, first_number, id_eq, id_of, in_bag, inl, inr, is_of_memory, is_some, life_at, manager, nat_le, option_map, pid_of, plain_link, reception}
+pub use Rattle.dm_laws.proofs.Names.{receptions, reg, replay, start, switchboard, with_process, with_sent, without_message, ⊤, ◌⊎◌}
 pub use Rattle.dm_laws.proofs.Runs.{ended_stays, reached}
 pub use Rattle.dm_laws.proofs.Servers.{board_takes, manager_takes}
 pub use Rattle.dm_laws.proofs.Sound.{not_counted}
@@ -35,17 +37,17 @@ pub use Rattle.dm_rule.proofs.Moves.States.{kernels_by, packet_off}
 pub use Rattle.dm_rule.proofs.Names.{About, Addresses, AddressesOn, Again, Answer, Child, Enclosed, Ended, Forward, Frozen, Gets, Held, Here, Holder, Inbox, Incoming, IsIn, IsOn, IsOthers, IsQuiet, IsStep, IsToken, Known, LandsSo, Leads}
 pub use Rattle.dm_rule.proofs.Names.{LifeGrows, Line, Load, MessageKind, Moves, Name, NamedLink, Nexts, NothingElse, Nowhere, Of, Over, Owner, Owns, Pair, Part, Phase, Place, Point, Queue, Ran, Receiver, Rests, Room, Routes, Says, Sender}
 pub use Rattle.dm_rule.proofs.Names.{ServerSends, Slot, Sound, Spares, Spelled, Spot, Stage, StandsNowhere, StandsOutside, StandsRight, Step, Told, Trail, Trails, TrailsAlways, Transmits, Trodden, Unknown, Untaken, View, accepts, actor}
-pub use Rattle.dm_rule.proofs.Names.{addresses_after, after, after_head, after_line, after_proto, after_put, after_step, alive-is, all_follow, along, answer_link, append-nil, ascends, asks_on, at_machine, at_pair, at_record, behind}
-pub use Rattle.dm_rule.proofs.Names.{belongs_to, bind-is, board_finds, board_keeps, board_took, both_true, called, child_links, child_number, chunks_of, comes, comes_to, completes, counts, counts_process, creates, destination, drop-length}
-pub use Rattle.dm_rule.proofs.Names.{drops, enclosed_from, encloses, ended_handles, ended_told, executes, fills_by, filter, first_awaited, first_gives, first_point, first_runnable, first_trails, first_trodden, first_view, follows_up}
-pub use Rattle.dm_rule.proofs.Names.{forward_about, forwarded_for, forwards, forwards_on, free_room, front_of, front_told, gets, given, gives, gives_piece, goes_out, goes_round, gone_to, group_of, handled, handled_first, has_room, headed}
-pub use Rattle.dm_rule.proofs.Names.{hears, held_for, here, here_handles, here_told, holder_eq, id_eq-is, id_eq-same, ids_at, is_apart, is_away, is_behind, is_between, is_counted, is_due, is_early, is_here, is_kernels, is_over, is_pid}
-pub use Rattle.dm_rule.proofs.Names.{is_restart, is_told_back, kernel_after, kernel_handles, kernel_hears, kernel_told, kills, knowing, known_at, knows, label_of, lands-is, leads_to, leaves, left_true, length-append, lines_of, link_to}
-pub use Rattle.dm_rule.proofs.Names.{machine_of, made, manager_answers, manager_sends, manager_tells, manager_took, marked, migrates, migrates_child, moved, moves_to, name_link, names, nexts, not, not_server, outcome, own_gives, own_id}
-pub use Rattle.dm_rule.proofs.Names.{packet_line, pid_eq-is, pid_eq-same, pieces_of, place_of_child, place_told, plain_kind, process_handles, process_told, puts, ran, receiver_in, receiver_of, receives, receives_links, receives_what}
-pub use Rattle.dm_rule.proofs.Names.{released, reply_eq, right_true, routes, says, sender_in, sender_of, sends_on, sends_what, sent_at, sent_off, served_told, server_told, serves_status, serves_what, slice_get_cases, slice_get_within}
-pub use Rattle.dm_rule.proofs.Names.{slot_after, slot_of, spelled, standing, stayed, stops, suc, taken_id, takes_block, takes_chunk, target_of, tells_back, times, to_kernel, to_of, token_in, told_between, trails_after, turns, unmoved}
-pub use Rattle.dm_rule.proofs.Names.{untaken, updated, updated_to, updates, view_after, when-is, why_eq, with_machine, with_pair, with_ring, without_front, without_id, zero, ◌/◌, ◌<◌, ◌||◌, ◌≢◌}
+pub use Rattle.dm_rule.proofs.Names.{addresses_after, after, after_head, after_line, after_proto, after_put, after_step, alive-is, all_follow, along, answer_link, ascends, asks_on, at_machine, at_pair, at_record, behind, belongs_to}
+pub use Rattle.dm_rule.proofs.Names.{bind-is, board_finds, board_keeps, board_took, both_true, called, child_links, child_number, chunks_of, comes, comes_to, completes, counts, counts_process, creates, destination, drops, enclosed_from}
+pub use Rattle.dm_rule.proofs.Names.{encloses, ended_handles, ended_told, executes, fills_by, filter, first_awaited, first_gives, first_point, first_runnable, first_trails, first_trodden, first_view, follows_up, forward_about}
+pub use Rattle.dm_rule.proofs.Names.{forwarded_for, forwards, forwards_on, free_room, front_of, front_told, gets, given, gives, gives_piece, goes_out, goes_round, gone_to, group_of, handled, handled_first, has_room, headed, hears, held_for}
+pub use Rattle.dm_rule.proofs.Names.{here, here_handles, here_told, holder_eq, id_eq-is, id_eq-same, ids_at, is_apart, is_away, is_behind, is_between, is_counted, is_due, is_early, is_here, is_kernels, is_over, is_pid, is_restart}
+pub use Rattle.dm_rule.proofs.Names.{is_told_back, kernel_after, kernel_handles, kernel_hears, kernel_told, kills, knowing, known_at, knows, label_of, lands-is, leads_to, leaves, left_true, length-append, lines_of, link_to, machine_of}
+pub use Rattle.dm_rule.proofs.Names.{made, manager_answers, manager_sends, manager_tells, manager_took, marked, migrates, migrates_child, moved, moves_to, name_link, names, nexts, not_server, outcome, own_gives, own_id, packet_line}
+pub use Rattle.dm_rule.proofs.Names.{pid_eq-is, pid_eq-same, pieces_of, place_of_child, place_told, plain_kind, process_handles, process_told, puts, ran, receiver_in, receiver_of, receives, receives_links, receives_what, released, reply_eq}
+pub use Rattle.dm_rule.proofs.Names.{right_true, routes, says, sender_in, sender_of, sends_on, sends_what, sent_at, sent_off, served_told, server_told, serves_status, serves_what, slice_get_cases, slice_get_within, slot_after, slot_of}
+pub use Rattle.dm_rule.proofs.Names.{spelled, standing, stayed, stops, taken_id, takes_block, takes_chunk, target_of, tells_back, times, to_kernel, to_of, token_in, told_between, trails_after, turns, unmoved, untaken, updated, updated_to}
+pub use Rattle.dm_rule.proofs.Names.{updates, view_after, when-is, why_eq, with_machine, with_pair, with_ring, without_front, without_id, ◌||◌}
 pub use Rattle.dm_rule.proofs.Once.{one_of-same}
 pub use Rattle.dm_rule.proofs.Pairs.Lines.{AllFit, line_view, onward, pair_same, taken_pair, touches}
 pub use Rattle.dm_rule.proofs.Pairs.Migrating.{migrates_fit}

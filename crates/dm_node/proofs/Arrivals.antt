@@ -1,22 +1,8 @@
 -- What comes of a packet that arrives, one message after another.
-use Rattle.std.proofs.Common.{◌≡◌, ℕ, suc, ◌+◌, ◌-◌, ◌<◌, ◌≤◌, Bool, true, false, List, [], ◌∷◌, ◌++◌, refl, sym, ap, subst, inl, inr, ◌∙◌, append_assoc, append-nil, arith}
-use Rattle.std.specs.Prelude.{if◌then◌else◌, is_some}
-use Rattle.std.specs.declared.option.Option.{Option}
-use Rattle.std.specs.declared.option.Option.TheVariants.{None, Some}
-use Rattle.std.proofs.lemmas.Bool.Decides.{eqb_tells}
-use Rattle.dm_message.specs.declared.Message.{Message}
+use Rattle.dm_node.proofs.Names.{◌≡◌, ℕ, suc, ◌+◌, ◌-◌, ◌<◌, ◌≤◌, Bool, true, false, List, [], ◌∷◌, ◌++◌, refl, sym, ap, subst, inl, inr, ◌∙◌, append_assoc, append-nil, arith, if◌then◌else◌, is_some, Option, None, Some, eqb_tells, Message}
+use Rattle.dm_node.proofs.Names.{at_machine, due, window, Receiving, moved_up, next, after_next, Arrived, Node, Out, Says, NodeState, here, with_message, with_receiver, Acted, acknowledges, before, comes, comes_in, lets_go, lets_next}
+use Rattle.dm_node.proofs.Names.{sends_due, takes_kept, takes_next, then_acknowledges, Gave, HasStreams, state_of}
 use Rattle.dm_line.specs.declared.line.Line.TheVariants as line
-use Rattle.dm_line.specs.Sets.{at_machine}
-use Rattle.dm_stream.specs.Sending.{due, window}
-use Rattle.dm_stream.specs.Receiving.{Receiving, moved_up, next, after_next}
-use Rattle.dm_stream.specs.declared.receiver.Arrived.{Arrived}
-use Rattle.dm_node.specs.declared.node.Node.{Node}
-use Rattle.dm_node.specs.declared.out.Out.{Out}
-use Rattle.dm_node.specs.declared.out.Out.TheVariants.{Says}
-use Rattle.dm_node.specs.State.{NodeState, here, with_message, with_receiver}
-use Rattle.dm_node.specs.Out.{Acted}
-use Rattle.dm_node.specs.Acts.{acknowledges, before, comes, comes_in, lets_go, lets_next, sends_due, takes_kept, takes_next, then_acknowledges}
-use Rattle.dm_node.specs.Meets.{Gave, HasStreams, state_of}
 
 -- with these before the rest
 pub gave_before : (after : Node) (old mid new outs : List Out) (a : Acted) → mid ≡ old ++ outs → Gave after mid new a → Gave after old new (before outs a)

@@ -1,16 +1,7 @@
 -- A machine as the boot file has it.
-use Rattle.std.proofs.Common.{◌≡◌, ℕ, suc, Bool, List, length, sym, ap, inl, inr, ◌∙◌, arith}
-use Rattle.std.specs.Prelude.{if◌then◌else◌, replicate}
-use Rattle.std.proofs.lemmas.List.{get_or-replicate, get_or_past}
-use Rattle.std.proofs.lemmas.Bool.Decides.{leb_tells}
-use Rattle.dm_message.specs.declared.Message.{Message}
-use Rattle.dm_stream.specs.Sending.{Sending, fresh_sending}
-use Rattle.dm_stream.specs.Receiving.{Receiving, fresh_receiving}
-use Rattle.dm_onekernel.specs.declared.boot.Boot.{Boot}
-use Rattle.dm_kernel.specs.State.{KernelState}
+use Rattle.dm_node.proofs.Names.{◌≡◌, ℕ, suc, Bool, List, length, sym, ap, inl, inr, ◌∙◌, arith, if◌then◌else◌, replicate, get_or-replicate, get_or_past, leb_tells, Message, Sending, fresh_sending, Receiving, fresh_receiving, Boot}
+use Rattle.dm_node.proofs.Names.{KernelState, fresh_sender, opened, receiver_of, sender_of}
 use Rattle.dm_kernel.specs.Begun as kernel
-use Rattle.dm_node.specs.State.{fresh_sender, opened}
-use Rattle.dm_node.specs.Meets.{receiver_of, sender_of}
 
 sixteen_senders : (numbers c : ℕ) → sender_of (replicate 16 (fresh_sending numbers)) c ≡ fresh_sender numbers c
 sixteen_senders numbers c =

@@ -1,63 +1,22 @@
 -- A kernel stays on its machine, whatever a turn gives.
-use Rattle.std.proofs.Common.{◌≡◌, ℕ, ◌==◌, Bool, true, false, List, [], ◌∷◌, refl, ◌∙◌}
-use Rattle.std.specs.Prelude.{⊤, if◌then◌else◌, slice_get}
-use Rattle.std.specs.declared.option.Option.{Option}
-use Rattle.std.specs.declared.option.Option.TheVariants.{None, Some}
+use Rattle.dm_node.proofs.Names.{◌≡◌, ℕ, ◌==◌, Bool, true, false, List, [], ◌∷◌, refl, ◌∙◌, ⊤, if◌then◌else◌, slice_get, Option, None, Some, Ok, Err, Link, Pid, pid_eq, Message, What, Process, Status, first_on, Here, Frozen, Incoming}
+use Rattle.dm_node.proofs.Names.{Forward, Ended, frozen_of, incoming_of, is_told_back, Asker, kind_of, Arrival, restarted, with_piece, Departure, block_of, chunk_of, bind, has_room_for, Landed, Landing, landing, after_serving}
+use Rattle.dm_node.proofs.Names.{serving_answer, Boot, BootImage, BootProcess, manager, switchboard, MoveError, moves_child, moved_back, Called, Completed, calls, Completion, completion, Servers, asks_manager, asks_move, told_to_move}
+use Rattle.dm_node.proofs.Names.{begins, child_of, empty, with_all, with_child, accepts, restarts, restarts_as, takes_piece, took_piece, gives_piece, leaves, stays, forwards_and, Halt, answers_with, board_handles, board_took, ended_handles}
+use Rattle.dm_node.proofs.Names.{handles, has_room, here_handles, kernel_handles, lands, lands_as, makes, makes_of, manager_handles, manager_took, process_handles, told_board, told_manager, called_with, halts, processor_of, ran, received}
+use Rattle.dm_node.proofs.Names.{received_by, receives, serves, serves_status, with_machine, KernelState, Known, Turned, own_id, with_here, first_runnable, goes_round, turn, here, opened}
 use Rattle.std.specs.declared.result.Result.{Result}
-use Rattle.std.specs.declared.result.Result.TheVariants.{Ok, Err}
-use Rattle.dm_link.specs.declared.Link.{Link}
-use Rattle.dm_link.specs.declared.Pid.{Pid}
-use Rattle.dm_link.specs.Names.{pid_eq}
-use Rattle.dm_message.specs.declared.Message.{Message}
-use Rattle.dm_message.specs.declared.What.{What}
 use Rattle.dm_message.specs.declared.What.TheVariants as what
-use Rattle.dm_process.specs.declared.process.Process.{Process}
-use Rattle.dm_process.specs.declared.process.Status.{Status}
 use Rattle.dm_process.specs.declared.process.Status.TheVariants as status
-use Rattle.dm_process.specs.Mail.{first_on}
-use Rattle.dm_records.specs.declared.record.Record.TheVariants.{Here, Frozen, Incoming, Forward, Ended}
-use Rattle.dm_records.specs.Records.{frozen_of, incoming_of}
-use Rattle.dm_linkupdate.specs.Notice.{is_told_back}
-use Rattle.dm_message.specs.declared.Asker.{Asker}
-use Rattle.dm_message.specs.Kinds.{kind_of}
-use Rattle.dm_migrate.specs.Arrival.{Arrival, restarted, with_piece}
-use Rattle.dm_migrate.specs.Departure.{Departure}
-use Rattle.dm_migrate.specs.Pieces.{block_of, chunk_of, state_of}
-use Rattle.dm_onekernel.specs.Options.{bind}
-use Rattle.dm_room.specs.Room.{has_room as has_room_for}
-use Rattle.dm_datamove.specs.declared.Landed.{Landed}
+use Rattle.dm_migrate.specs.Pieces.{state_of}
 use Rattle.dm_datamove.specs.declared.Landed.TheVariants as landed
-use Rattle.dm_datamove.specs.Landing.{Landing, landing}
-use Rattle.dm_datamove.specs.Serving.{after_serving, serving_answer}
-use Rattle.dm_onekernel.specs.declared.boot.Boot.{Boot}
-use Rattle.dm_onekernel.specs.declared.boot.BootImage.{BootImage}
-use Rattle.dm_onekernel.specs.declared.boot.BootProcess.{BootProcess}
-use Rattle.dm_onekernel.specs.Boot.{manager, switchboard}
-use Rattle.dm_procman.specs.declared.moving.MoveError.{MoveError}
 use Rattle.dm_procman.specs.declared.moving.MoveError.TheVariants as no
-use Rattle.dm_procman.specs.Moving.{moves_child}
 use Rattle.dm_procman.specs.Taking as manage
-use Rattle.dm_line.specs.Sets.{moved_back}
 use Rattle.dm_switchboard.specs.Taking as board
-use Rattle.dm_syscall.specs.declared.Called.{Called}
 use Rattle.dm_syscall.specs.declared.Called.TheVariants as called
-use Rattle.dm_syscall.specs.declared.Completed.{Completed}
 use Rattle.dm_syscall.specs.declared.Completed.TheVariants as completed
-use Rattle.dm_syscall.specs.Calls.{calls}
-use Rattle.dm_syscall.specs.Completing.{Completion, completion}
-use Rattle.dm_kernel.specs.declared.kernel.Servers.{Servers}
-use Rattle.dm_kernel.specs.Asking.{asks_manager, asks_move, told_to_move}
-use Rattle.dm_kernel.specs.Begun.{begins, child_of, empty, with_all, with_child}
-use Rattle.dm_kernel.specs.Coming.{accepts, restarts, restarts_as, takes_piece, took_piece}
-use Rattle.dm_kernel.specs.Departing.{gives_piece, leaves, stays}
-use Rattle.dm_kernel.specs.Following.{forwards_and}
-use Rattle.dm_kernel.specs.declared.run.Halt.{Halt}
 use Rattle.dm_kernel.specs.declared.run.Halt.TheVariants as halt
-use Rattle.dm_kernel.specs.Handle.{answers_with, board_handles, board_took, ended_handles, handles, has_room, here_handles, kernel_handles, lands, lands_as, makes, makes_of, manager_handles, manager_took, process_handles, told_board, told_manager}
-use Rattle.dm_kernel.specs.Serve.{called_with, halts, processor_of, ran, received, received_by, receives, serves, serves_status, with_machine}
-use Rattle.dm_kernel.specs.State.{KernelState, Known, Turned, own_id, with_here}
-use Rattle.dm_kernel.specs.Turn.{first_runnable, goes_round, turn, turns}
-use Rattle.dm_node.specs.State.{here, opened}
+use Rattle.dm_kernel.specs.Turn.{turns}
 
 abbrev pub StaysAt : ℕ → Option Turned → Type 0
 StaysAt m None = ⊤

@@ -1,3 +1,4 @@
+pub mod Names
 pub mod States
 pub mod Parts
 pub mod Arrivals

@@ -1,27 +1,10 @@
 -- The parts of a turn, one after another.
-use Rattle.std.proofs.Common.{◌≡◌, ℕ, suc, ◌≤◌, Bool, true, false, ◌==◌, List, [], ◌∷◌, ◌++◌, length, refl, sym, ap, subst, inl, inr, ◌∙◌, append_assoc, append-nil, arith}
-use Rattle.std.specs.Prelude.{Result, ⊤, if◌then◌else◌}
-use Rattle.std.specs.declared.option.Option.{Option}
-use Rattle.std.specs.declared.option.Option.TheVariants.{None, Some}
-use Rattle.std.specs.declared.result.Result.TheVariants.{Ok, Err}
-use Rattle.std.proofs.lemmas.Bool.Decides.{eqb_tells}
-use Rattle.dm_message.specs.declared.Message.{Message}
-use Rattle.dm_line.specs.declared.line.Line.{Line}
-use Rattle.dm_kernel.specs.declared.kernel.Kernel.{Kernel}
-use Rattle.dm_kernel.specs.declared.part.Part.{Part}
+use Rattle.dm_node.proofs.Names.{◌≡◌, ℕ, suc, ◌≤◌, Bool, true, false, ◌==◌, List, [], ◌∷◌, ◌++◌, length, refl, sym, ap, subst, inl, inr, ◌∙◌, append_assoc, append-nil, arith, Result, ⊤, if◌then◌else◌, Option, None, Some, Ok, Err, eqb_tells}
+use Rattle.dm_node.proofs.Names.{Message, Line, Kernel, Part, KernelState, Turned, Sending, due, with_given, Node, Stop, Out, Says, NodeState, here, with_sender, Acts, Goes, Worn, behind, then_, acts, gives, is_worn, none_waits, routes}
+use Rattle.dm_node.proofs.Names.{routes_away, routes_home, sends_due, turns, Answers, AnswersSome, GaveActs, HasStreams, OrNoMemory, state_of}
 use Rattle.dm_kernel.specs.declared.part.Part.TheVariants as part
-use Rattle.dm_kernel.specs.State.{KernelState, Turned}
 use Rattle.dm_kernel.specs.Meets as kernel
-use Rattle.dm_stream.specs.Sending.{Sending, due, with_given}
-use Rattle.dm_node.specs.declared.node.Node.{Node}
-use Rattle.dm_node.specs.declared.stop.Stop.{Stop}
 use Rattle.dm_node.specs.declared.stop.Stop.TheVariants as stop
-use Rattle.dm_node.specs.declared.out.Out.{Out}
-use Rattle.dm_node.specs.declared.out.Out.TheVariants.{Says}
-use Rattle.dm_node.specs.State.{NodeState, here, with_sender}
-use Rattle.dm_node.specs.Out.{Acts, Goes, Worn, behind, then_}
-use Rattle.dm_node.specs.Acts.{acts, gives, is_worn, none_waits, routes, routes_away, routes_home, sends_due, turns}
-use Rattle.dm_node.specs.Meets.{Answers, AnswersSome, GaveActs, HasStreams, OrNoMemory, state_of}
 
 -- what answers the rest answers the whole
 pub answers_behind : (r : Result Unit Stop) (after : Node) (old mid new : List Out) (outs : List Out) (a : Acts) → mid ≡ old ++ outs → Answers r after mid new a → Answers r after old new (behind outs a)
@@ -45,16 +28,6 @@ then_answers r after between old mid new (Worn x y) go g rest = absurd g
 pub message_routed : (r : Result Unit Stop) (after between : Node) (n : NodeState) (m : Message) (ps : List Part) (old mid new : List Out) → GaveActs between old mid (routes n m)
     → Answers r after mid new (acts (state_of between) ps) → Answers r after old new (acts n (part.Routes m ∷ ps))
 message_routed r after between n m ps old mid new g rest = then_answers r after between old mid new (routes n m) (λ next. acts next ps) g rest
-
--- it can't be routed: neither can the whole
-then_stops : (e : Stop) (after last : Node) (old mid new : List Out) (a : Acts) (go : NodeState → Acts) → Answers (Err e) after old mid a → Answers (Err e) last old new (then_ a go)
-then_stops (stop.NoMemory e) after last old mid new a go g = tt
-then_stops (stop.Worn x y) after last old mid new (Goes a) go g = absurd g
-then_stops (stop.Worn x y) after last old mid new (Worn v w) go g = g
-
-pub message_stops : (e : Stop) (after last : Node) (n : NodeState) (m : Message) (ps : List Part) (old mid new : List Out) → Answers (Err e) after old mid (routes n m)
-    → Answers (Err e) last old new (acts n (part.Routes m ∷ ps))
-message_stops e after last n m ps old mid new g = then_stops e after last old mid new (routes n m) (λ next. acts next ps) g
 
 nothing_left : (n : Node) (outs : List Out) → HasStreams n → Answers (Ok tt) n outs outs (acts (state_of n) [])
 nothing_left n outs h = record { state = refl; streams = h; outs = sym (append-nil outs) }

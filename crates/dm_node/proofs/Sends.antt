@@ -1,41 +1,16 @@
 -- What a machine sends can be encoded, and goes from it to another machine.
-use Rattle.std.proofs.Common.{◌≡◌, ◌≢◌, ℕ, zero, suc, ◌+◌, ◌-◌, ◌<◌, ◌≤◌, Bool, true, false, ◌==◌, List, [], ◌∷◌, refl, sym, subst, inl, inr, arith}
-use Rattle.std.specs.Prelude.{⊤, if◌then◌else◌, nat_lt, slice_get}
-use Rattle.std.specs.List.{All}
-use Rattle.std.specs.declared.option.Option.{Option}
-use Rattle.std.specs.declared.option.Option.TheVariants.{None, Some}
-use Rattle.std.proofs.lemmas.Bool.Decides.{eqb_tells}
-use Rattle.std.proofs.lemmas.List.Elements.{All-append, All-cons, All-drop, All-get_or, All-head, All-nil, All-push, All-tail}
-use Rattle.std.proofs.lemmas.Option.{get_or_from_slice_get, slice_get_within}
-use Rattle.dm_message.specs.declared.Message.{Message}
-use Rattle.dm_link.specs.Lawful.{IsMachine}
-use Rattle.dm_link.specs.declared.Pid.{Pid}
-use Rattle.dm_message.specs.Lawful.{IsLawfulMessage}
+use Rattle.dm_node.proofs.Names.{◌≡◌, ◌≢◌, ℕ, zero, suc, ◌+◌, ◌-◌, ◌<◌, ◌≤◌, Bool, true, false, ◌==◌, List, [], ◌∷◌, refl, sym, subst, inl, inr, arith, ⊤, if◌then◌else◌, nat_lt, slice_get, All, Option, None, Some, eqb_tells, All-append}
+use Rattle.dm_node.proofs.Names.{All-cons, All-drop, All-get_or, All-head, All-nil, All-push, All-tail, get_or_from_slice_get, slice_get_within, Message, IsMachine, Pid, IsLawfulMessage, IsRoute, Load, Data, Ack, Sending, due, numbered}
+use Rattle.dm_node.proofs.Names.{outstanding, window, with_acked, with_given, with_sent, after_arrival, after_next, arrival, next, Arrived, Taken, Old, Early, Boot, images_are_valid, Line, Part, IsLawfulPart, IsLawfulState, IsLawfulTurned}
+use Rattle.dm_node.proofs.Names.{Turned, asked_lawful, turn_lawful, Out, Says, Sends, NodeState, here, with_message, with_receiver, with_sender, Acted, Acts, Goes, Worn, behind, then_, acknowledges, acts, again, all_out, arrives, comes_in}
+use Rattle.dm_node.proofs.Names.{count_out, first_out, gives, is_worn, lets_go, lets_next, none_waits, put_line, routes, routes_away, routes_home, sends_due, takes_kept, takes_next, then_acknowledges, tick, turns, ActsLawfully, IsLawfulOut}
+use Rattle.dm_node.proofs.Names.{MayAct, MayArrive, MayAskMove, MayTurn}
 use Rattle.dm_packet.specs.declared.Packet.TheVariants as packet
-use Rattle.dm_packet.specs.Lawful.{IsRoute}
-use Rattle.dm_stream.specs.Packets.{Load, Data, Ack}
-use Rattle.dm_stream.specs.Sending.{Sending, due, numbered, outstanding, window, with_acked, with_given, with_sent}
-use Rattle.dm_stream.specs.Receiving.{after_arrival, after_next, arrival, next}
-use Rattle.dm_stream.specs.declared.receiver.Arrived.{Arrived}
-use Rattle.dm_stream.specs.declared.receiver.Arrived.TheVariants.{Taken, Old, Early}
-use Rattle.dm_onekernel.specs.declared.boot.Boot.{Boot}
-use Rattle.dm_onekernel.specs.Boot.{images_are_valid}
-use Rattle.dm_line.specs.declared.line.Line.{Line}
 use Rattle.dm_line.specs.declared.line.Line.TheVariants as line
-use Rattle.dm_kernel.specs.declared.part.Part.{Part}
 use Rattle.dm_kernel.specs.declared.part.Part.TheVariants as part
-use Rattle.dm_kernel.specs.Lawful.{IsLawfulPart, IsLawfulState, IsLawfulTurned}
-use Rattle.dm_kernel.specs.State.{Turned}
 use Rattle.dm_kernel.specs.Asking as asking
 use Rattle.dm_kernel.specs.Turn as kernel
-use Rattle.dm_kernel.proofs.LawfulTurns.{asked_lawful, turn_lawful}
-use Rattle.dm_node.specs.declared.out.Out.{Out}
-use Rattle.dm_node.specs.declared.out.Out.TheVariants.{Says, Sends}
-use Rattle.dm_node.specs.State.{NodeState, here, with_message, with_receiver, with_sender}
-use Rattle.dm_node.specs.Out.{Acted, Acts, Goes, Worn, behind, then_}
-use Rattle.dm_node.specs.Acts.{acknowledges, acts, again, all_out, arrives, asks_move, comes_in, count_out, first_out, gives, is_worn, lets_go, lets_next, none_waits, put_line, routes, routes_away, routes_home, sends_due, takes_kept, takes_next, then_acknowledges, tick, turn, turns}
-use Rattle.dm_node.specs.Lawful.{ActsLawfully, IsLawfulOut}
-use Rattle.dm_node.specs.May.{MayAct, MayArrive, MayAskMove, MayTurn}
+use Rattle.dm_node.specs.Acts.{asks_move, turn}
 use Rattle.dm_node.proofs.Here.{StaysAt, asks_move_stays, turn_stays}
 use Rattle.dm_node.proofs.Staying.{MayAfter, routes_may, with_sender_may}
 

@@ -1,28 +1,9 @@
 -- A machine of which one stream has changed, and what comes of a message that is routed.
-use Rattle.std.proofs.Common.{◌≡◌, ℕ, Bool, true, false, ◌==◌, List, [], ◌∷◌, ◌++◌, length, refl, sym, ap, ◌∙◌, subst, append_assoc, inl, inr, eq-eqb}
-use Rattle.std.specs.Prelude.{Result, if◌then◌else◌}
-use Rattle.std.specs.Result.{IsErrAnd}
-use Rattle.std.specs.Vec.{with_items}
-use Rattle.std.proofs.lemmas.Bool.Decides.{eqb_tells}
-use Rattle.std.proofs.lemmas.List.{with_items_is}
-use Rattle.std.proofs.lemmas.Result.{err_from_is_err_and}
-use Rattle.std.specs.declared.option.Option.{Option}
-use Rattle.std.specs.declared.option.Option.TheVariants.{None, Some}
-use Rattle.dm_memory.specs.declared.NoMemory.{NoMemory}
-use Rattle.dm_message.specs.declared.Message.{Message}
-use Rattle.dm_packet.specs.declared.Packet.{Packet}
-use Rattle.dm_stream.specs.Sending.{Sending, due, with_given, with_sent}
-use Rattle.dm_stream.specs.Receiving.{Receiving}
-use Rattle.dm_line.specs.Sets.{at_machine}
-use Rattle.dm_node.specs.declared.node.Node.{Node}
-use Rattle.dm_node.specs.declared.stop.Stop.{Stop}
+use Rattle.dm_node.proofs.Names.{◌≡◌, ℕ, Bool, true, false, ◌==◌, List, [], ◌∷◌, ◌++◌, length, refl, sym, ap, ◌∙◌, subst, append_assoc, inl, inr, eq-eqb, Result, if◌then◌else◌, IsErrAnd, with_items, eqb_tells, with_items_is}
+use Rattle.dm_node.proofs.Names.{err_from_is_err_and, Option, None, Some, NoMemory, Message, Packet, Sending, due, with_given, with_sent, Receiving, at_machine, Node, Stop, Out, Says, Sends, NodeState, here, with_sender, with_receiver}
+use Rattle.dm_node.proofs.Names.{Acted, Acts, Worn, gives, is_worn, none_waits, put_line, routes_away, sends_due, Answers, Gave, GaveActs, HasStreams, receiver_of, sender_of, state_of}
 use Rattle.dm_node.specs.declared.stop.Stop.TheVariants as stop
-use Rattle.dm_node.specs.declared.out.Out.{Out}
-use Rattle.dm_node.specs.declared.out.Out.TheVariants.{Says, Sends}
-use Rattle.dm_node.specs.State.{NodeState, here, with_sender, with_receiver}
-use Rattle.dm_node.specs.Out.{Acted, Acts, Worn, numbered}
-use Rattle.dm_node.specs.Acts.{gives, is_worn, none_waits, put_line, routes_away, sends_due}
-use Rattle.dm_node.specs.Meets.{Answers, Gave, GaveActs, HasStreams, receiver_of, sender_of, state_of}
+use Rattle.dm_node.specs.Out.{numbered}
 
 -- what changes one sender gives the machine with that sender
 pub sender_set : (n : NodeState) (senders : ℕ → Sending Message) (b : ℕ) (s : Sending Message) → ((c : ℕ) → senders c ≡ at_machine n.senders b s c)
@@ -43,28 +24,11 @@ receivers_written n xs e = ap (λ ys. record (state_of n) { receivers = receiver
 pub senders_there : (n : Node) (xs : List (Sending Message)) → HasStreams n → length xs ≡ length n.senders.items → HasStreams (record n { senders = with_items n.senders xs })
 senders_there n xs h e = record { senders = ap length (with_items_is n.senders xs (e ∙ sym n.senders.ok.0)) ∙ e ∙ h.senders; receivers = h.receivers }
 
-pub receivers_there : (n : Node) (xs : List (Receiving Message)) → HasStreams n → length xs ≡ length n.receivers.items → HasStreams (record n { receivers = with_items n.receivers xs })
-receivers_there n xs h e = record { senders = h.senders; receivers = ap length (with_items_is n.receivers xs (e ∙ sym n.receivers.ok.0)) ∙ e ∙ h.receivers }
-
 pub at_same : {X : Type 0} (f : ℕ → X) (b : ℕ) (x : X) → at_machine f b x b ≡ x
 at_same f b x = ap (λ (c : Bool). if c then x else f b) (eq-eqb b b refl)
 
 pub apart : (k l : ℕ) → (k ≡ l → ⊥) → (k == l) ≡ false
 apart k l h = elim (eqb_tells k l) [ inl e ↦ absurd (h e.1) | inr e ↦ e.0 ]
-
--- want of memory answers all
-pub no_memory : (r : Result Unit Stop) (e : NoMemory) (n : Node) (old new : List Out) (a : Acts) → IsErrAnd r (λ s. s ≡ stop.NoMemory e) → Answers r n old new a
-no_memory r e n old new a h = let p = err_from_is_err_and r h in rw (p.1, p.2) tt
-
--- the packet that was due has gone out
-pub due_sent : (n : NodeState) (after : Node) (to : ℕ) (d : Option (ℕ × Message)) (p : Packet) (old new : List Out) → Some p ≡ numbered (here n) to d
-    → state_of after ≡ with_sender n to (with_sent (n.senders to)) → HasStreams after → new ≡ old ++ Sends p ∷ [] → Gave after old new (sends_due n to d)
-due_sent n after to None p old new e state streams outs = absurd (let f : Some p ≡ None = e in cc)
-due_sent n after to (Some q) p old new e state streams outs = record { state = state; streams = streams; outs = cc }
-
--- all numbers are used
-pub worn_out : (n : NodeState) (b : ℕ) (m : Message) (s : Sending Message) → is_worn s ≡ true → routes_away n b m s ≡ Worn (here n) b
-worn_out n b m s e = ap (λ (c : Bool). if c then Worn (here n) b else gives n b m s (none_waits s)) e
 
 -- they aren't
 pub given : (n : NodeState) (b : ℕ) (m : Message) (s : Sending Message) (none : Bool) → is_worn s ≡ false → none_waits s ≡ none → routes_away n b m s ≡ gives n b m s none

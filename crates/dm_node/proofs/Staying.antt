@@ -1,30 +1,11 @@
 -- What the events of a machine count on stays: what waits to be acknowledged can be put into packets.
-use Rattle.std.proofs.Common.{◌≡◌, ℕ, zero, suc, ◌-◌, ◌<◌, Bool, true, false, ◌==◌, List, [], ◌∷◌, sym, subst, inl, inr, arith}
-use Rattle.std.specs.Prelude.{⊤, if◌then◌else◌}
-use Rattle.std.specs.List.{All}
-use Rattle.std.specs.declared.option.Option.{Option}
-use Rattle.std.specs.declared.option.Option.TheVariants.{None, Some}
-use Rattle.std.proofs.lemmas.Bool.Decides.{eqb_tells}
-use Rattle.std.proofs.lemmas.List.Elements.{All-drop, All-head, All-push, All-tail}
-use Rattle.dm_message.specs.declared.Message.{Message}
-use Rattle.dm_message.specs.Lawful.{IsLawfulMessage}
-use Rattle.dm_kernel.specs.declared.part.Part.{Part}
+use Rattle.dm_node.proofs.Names.{◌≡◌, ℕ, zero, suc, ◌-◌, ◌<◌, Bool, true, false, ◌==◌, List, [], ◌∷◌, sym, subst, inl, inr, arith, ⊤, if◌then◌else◌, All, Option, None, Some, eqb_tells, All-drop, All-head, All-push, All-tail, Message}
+use Rattle.dm_node.proofs.Names.{IsLawfulMessage, Part, IsLawfulPart, Turned, Packet, Load, Data, Ack, Sending, due, window, with_acked, with_given, with_sent, Receiving, after_arrival, after_next, arrival, next, Arrived, Taken, Old, Early}
+use Rattle.dm_node.proofs.Names.{Out, NodeState, here, with_message, with_receiver, with_sender, Acted, Acts, Goes, Worn, behind, then_, acts, arrives, arrives_packet, comes_in, gives, is_worn, lets_go, lets_next, none_waits, routes}
+use Rattle.dm_node.proofs.Names.{routes_away, routes_home, sends_due, takes_kept, takes_next, MayAct, MayArrive, MayArrivePacket}
 use Rattle.dm_kernel.specs.declared.part.Part.TheVariants as part
-use Rattle.dm_kernel.specs.Lawful.{IsLawfulPart}
-use Rattle.dm_kernel.specs.State.{Turned}
-use Rattle.dm_packet.specs.declared.Packet.{Packet}
 use Rattle.dm_packet.specs.declared.Packet.TheVariants as packet
-use Rattle.dm_stream.specs.Packets.{Load, Data, Ack}
-use Rattle.dm_stream.specs.Sending.{Sending, due, window, with_acked, with_given, with_sent}
-use Rattle.dm_stream.specs.Receiving.{Receiving, after_arrival, after_next, arrival, next}
-use Rattle.dm_stream.specs.declared.receiver.Arrived.{Arrived}
-use Rattle.dm_stream.specs.declared.receiver.Arrived.TheVariants.{Taken, Old, Early}
-use Rattle.dm_node.specs.declared.out.Out.{Out}
 use Rattle.dm_node.specs.declared.out.Out.TheVariants as out
-use Rattle.dm_node.specs.State.{NodeState, here, with_message, with_receiver, with_sender}
-use Rattle.dm_node.specs.Out.{Acted, Acts, Goes, Worn, behind, then_}
-use Rattle.dm_node.specs.Acts.{acts, arrives, arrives_packet, comes_in, gives, is_worn, lets_go, lets_next, none_waits, routes, routes_away, routes_home, sends_due, takes_kept, takes_next}
-use Rattle.dm_node.specs.May.{MayAct, MayArrive, MayArrivePacket}
 
 abbrev pub MayAfter : Acts → Type 0
 MayAfter (Goes a) = MayAct a.state
@@ -137,7 +118,3 @@ arrives_may n a (Ack k) h =
     let s = with_acked (n.senders a) k in
     let u = (n.senders a).unacked in
     let_go_may window (with_sender n a s) a h.from.0 (with_sender_may n a s h.acts (All-drop IsLawfulMessage (k - (n.senders a).acked) u (h.acts.unacked a h.from.0)))
-
-pub arrives_packet_may : (n : NodeState) (p : Packet) → MayArrivePacket n p → MayAct (arrives_packet n p).state
-arrives_packet_may n (packet.Data from to seq m) h = arrives_may n from (Data seq m) h.0
-arrives_packet_may n (packet.Ack from to count) h = arrives_may n from (Ack count) h.0

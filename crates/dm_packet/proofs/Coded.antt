@@ -1,22 +1,11 @@
 -- Values that a byte stands for, and values that may be absent.
-use Rattle.std.proofs.Common.{◌≡◌, ℕ, ◌<◌, Bool, true, false, cond, eqb, List, [], ◌∷◌, ◌++◌, Option, None, Some, Result, Ok, refl, sym, ap, subst, ◌∙◌, arith, inl, inr}
-use Rattle.std.specs.Prelude.{◌==◌, ◌⊎◌, if◌then◌else◌}
-use Rattle.std.specs.List.{find}
-use Rattle.std.specs.Option.{IfSome}
-use Rattle.std.proofs.lemmas.Bool.{eqb-true}
-use Rattle.dm_message.specs.declared.Outcome.{Outcome}
+use Rattle.dm_packet.proofs.Names.{◌≡◌, ℕ, ◌<◌, Bool, true, false, cond, eqb, List, [], ◌∷◌, ◌++◌, Option, None, Some, Result, Ok, refl, sym, ap, subst, ◌∙◌, arith, inl, inr, ◌==◌, ◌⊎◌, if◌then◌else◌, find, IfSome, eqb-true, Outcome}
+use Rattle.dm_packet.proofs.Names.{MessageKind, all_kinds, kind_numbered, number_of, PacketError, PacketKind, ◌>>=◌, Field, number, bit_of, number_of_packet_kind, packet_kind, packet_kind_numbered, bool_coded, code_of_outcome, coded}
+use Rattle.dm_packet.proofs.Names.{if_coded, message_kind, optional, optional_read, optional_spell, outcome, outcome_coded, yes_or_no}
 use Rattle.dm_message.specs.declared.Outcome.TheVariants as ends
-use Rattle.dm_message.specs.declared.kind.MessageKind.{MessageKind}
 use Rattle.dm_message.specs.declared.kind.MessageKind.TheVariants as kind
-use Rattle.dm_message.specs.Kinds.{all_kinds, kind_numbered, number_of}
-use Rattle.dm_packet.specs.declared.PacketError.{PacketError}
 use Rattle.dm_packet.specs.declared.PacketError.TheVariants as bad
-use Rattle.dm_packet.specs.declared.front.PacketKind.{PacketKind}
 use Rattle.dm_packet.specs.declared.front.PacketKind.TheVariants as packets
-use Rattle.dm_packet.specs.Field.{◌>>=◌, Field, number}
-use Rattle.dm_packet.specs.Fields.{bit_of}
-use Rattle.dm_packet.specs.Packets.{number_of_packet_kind, packet_kind, packet_kind_numbered}
-use Rattle.dm_packet.specs.Whats.{bool_coded, code_of_outcome, coded, if_coded, message_kind, optional, optional_read, optional_spell, outcome, outcome_coded, yes_or_no}
 use Rattle.dm_packet.proofs.Numbers.{IsBytes}
 use Rattle.dm_packet.proofs.Field.{IsField, IsField-number, Took, bind_ok, ok_is, took_same}
 

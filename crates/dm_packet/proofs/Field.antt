@@ -1,15 +1,8 @@
 -- What a field reads is the field that was written, and what was written is read again.
-use Rattle.std.proofs.Common.{◌≡◌, ℕ, zero, suc, ◌^◌, ◌<◌, Bool, true, false, cond, ltb, List, [], ◌∷◌, ◌++◌, length, take, drop, Result, Ok, Err, refl, sym, ap, subst, ◌∙◌, append_assoc, arith}
-use Rattle.std.specs.List.{AllByRecursion, flat_map}
-use Rattle.std.proofs.lemmas.Bool.{ltb-false, le-ltb}
-use Rattle.std.proofs.lemmas.List.{take_at, drop_at, take-append-drop, length-append, length-take}
-use Rattle.std.proofs.lemmas.List.Concat.{flat_map-cons}
-use Rattle.byteorder.specs.Endian.{big_bytes, big_number}
-use Rattle.byteorder.specs.Numbers.{big_from-lt, big_number-reads_back, length-bytes_high_first}
+use Rattle.dm_packet.proofs.Names.{◌≡◌, ℕ, zero, suc, ◌^◌, ◌<◌, Bool, true, false, cond, ltb, List, [], ◌∷◌, ◌++◌, length, take, drop, Result, Ok, Err, refl, sym, ap, subst, ◌∙◌, append_assoc, arith, AllByRecursion, flat_map, ltb-false}
+use Rattle.dm_packet.proofs.Names.{le-ltb, take_at, drop_at, take-append-drop, length-append, length-take, flat_map-cons, big_bytes, big_number, big_from-lt, big_number-reads_back, length-bytes_high_first, PacketError, Missing, ◌>>=◌}
+use Rattle.dm_packet.proofs.Names.{Field, both, counted, made, number, read_times, run, tested, times}
 use Rattle.dm_packet.proofs.Numbers.{IsBytes, IsBytes-drop, bytes_of_number}
-use Rattle.dm_packet.specs.declared.PacketError.{PacketError}
-use Rattle.dm_packet.specs.declared.PacketError.TheVariants.{Missing}
-use Rattle.dm_packet.specs.Field.{◌>>=◌, Field, both, counted, made, number, read_times, run, tested, times}
 
 -- what a field took from the front of some bytes
 pub record Took {X : Type 0} (f : Field X) (Fits : X → Type 0) (bytes : List ℕ) (x : X) (rest : List ℕ) : Type 0 where

@@ -1,20 +1,8 @@
 -- Each field of a packet reads what it spells: names, places, links and bytes.
-use Rattle.std.proofs.Common.{◌≡◌, ℕ, zero, suc, ◌+◌, ◌^◌, ◌<◌, ◌≤◌, Bool, true, false, length, refl, sym, arith}
-use Rattle.std.specs.Prelude.{nat_le, ◌&&◌}
-use Rattle.std.specs.List.{AllByRecursion}
-use Rattle.std.proofs.lemmas.Bool.{and_parts, ltb-true}
-use Rattle.std.proofs.lemmas.Bool.Decides.{nat_tests}
-use Rattle.dm_link.specs.declared.Pid.{Pid}
-use Rattle.dm_link.specs.declared.Addr.{Addr}
-use Rattle.dm_link.specs.declared.Kind.{Kind}
-use Rattle.dm_link.specs.declared.Kind.TheVariants.{General, Reply}
-use Rattle.dm_link.specs.declared.Link.{Link}
-use Rattle.dm_link.specs.Lawful.{IsMachine, IsLawfulAddr, IsLawfulEnclosed}
-use Rattle.dm_packet.specs.declared.PacketError.{PacketError}
+use Rattle.dm_packet.proofs.Names.{◌≡◌, ℕ, zero, suc, ◌+◌, ◌^◌, ◌<◌, ◌≤◌, Bool, true, false, length, refl, sym, arith, nat_le, ◌&&◌, AllByRecursion, and_parts, ltb-true, nat_tests, Pid, Addr, Kind, General, Reply, Link, IsMachine}
+use Rattle.dm_packet.proofs.Names.{IsLawfulAddr, IsLawfulEnclosed, PacketError, both, number, run, tested, times, addr, are_flags, bytes_within, channel, flags, flags_of, len_from, length_within, link, link_of, links, machine}
+use Rattle.dm_packet.proofs.Names.{number_of_flags, parts_of_link, pid, Fits, FitsPid, FitsAddr, FitsLink}
 use Rattle.dm_packet.specs.declared.PacketError.TheVariants as bad
-use Rattle.dm_packet.specs.Field.{both, number, run, tested, times}
-use Rattle.dm_packet.specs.Fields.{addr, are_flags, bytes_within, channel, flags, flags_of, len_from, length_within, link, link_of, links, machine, number_of_flags, parts_of_link, pid}
-use Rattle.dm_packet.specs.Widths.{Fits, FitsPid, FitsAddr, FitsLink}
 use Rattle.dm_packet.proofs.Field.{IsField, IsField-both, IsField-counted, IsField-for, IsField-made, IsField-number, IsField-run, IsField-tested, IsField-times}
 
 -- a number at most so great

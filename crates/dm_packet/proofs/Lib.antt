@@ -1,3 +1,4 @@
+pub mod Names
 pub mod Numbers
 pub mod Field
 pub mod Loop
@@ -8,4 +9,4 @@ pub mod Packets
 pub mod Writes
 pub mod Sizes
 pub mod Worked
-pub mod Limits
+mod WorkedLimits

@@ -1,8 +1,5 @@
 -- Reading one value after the other, as a loop does.
-use Rattle.std.proofs.Common.{◌≡◌, ℕ, suc, ◌-◌, ◌+◌, ◌≤◌, ◌<◌, List, [], ◌∷◌, ◌++◌, Result, Ok, Err, refl, sym, ap, ◌∙◌, append_assoc, arith}
-use Rattle.std.proofs.lemmas.List.{append-nil}
-use Rattle.dm_packet.specs.declared.PacketError.{PacketError}
-use Rattle.dm_packet.specs.Field.{◌>>=◌, read_times}
+use Rattle.dm_packet.proofs.Names.{◌≡◌, ℕ, suc, ◌-◌, ◌+◌, ◌≤◌, ◌<◌, List, [], ◌∷◌, ◌++◌, Result, Ok, Err, refl, sym, ap, ◌∙◌, append_assoc, arith, append-nil, PacketError, ◌>>=◌, read_times}
 
 -- what was read before, and what is still read
 abbrev pub with_front : {X : Type 0} → List X → Result (List X × List ℕ) PacketError → Result (List X × List ℕ) PacketError
@@ -24,10 +21,4 @@ pub fails : {X : Type 0} (read : List ℕ → Result (X × List ℕ) PacketError
 fails read d front count i bytes total lt h so_far =
     let k : count - i ≡ suc (count - (i + 1)) = omega arith in
     let one : with_front front (read_times read (count - i) bytes) ≡ Err d = rw (k, h) refl in
-    sym so_far ∙ one
-
-pub is_done : {X : Type 0} (read : List ℕ → Result (X × List ℕ) PacketError) (front : List X) (count i : ℕ) (bytes : List ℕ) (total : Result (List X × List ℕ) PacketError) → count ≤ i → with_front front (read_times read (count - i) bytes) ≡ total → total ≡ Ok (front, bytes)
-is_done read front count i bytes total le so_far =
-    let k : count - i ≡ 0 = omega arith in
-    let one : with_front front (read_times read (count - i) bytes) ≡ Ok (front, bytes) = rw k (ap (λ xs. Ok (xs, bytes)) (append-nil front)) in
     sym so_far ∙ one

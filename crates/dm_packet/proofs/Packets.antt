@@ -1,29 +1,10 @@
 -- What is read is spelled so, and what is spelled so is read: messages and packets.
-use Rattle.std.proofs.Common.{◌≡◌, ℕ, ◌^◌, ◌<◌, true, eqb, List, [], ◌++◌, length, Result, Ok, Err, refl, sym, ap, subst, ◌∙◌, append_assoc, arith}
-use Rattle.std.specs.Prelude.{◌≢◌, ◌==◌, IfOk, not}
-use Rattle.std.proofs.lemmas.Bool.{eqb-true, eq-eqb}
-use Rattle.std.proofs.lemmas.Bool.Decides.{nat_tests}
-use Rattle.std.proofs.lemmas.List.{append-nil, nil_from_length}
-use Rattle.dm_link.specs.Lawful.{IsMachine}
-use Rattle.dm_message.specs.declared.MsgId.{MsgId}
-use Rattle.dm_message.specs.declared.Message.{Message}
-use Rattle.dm_message.specs.declared.What.{What}
-use Rattle.dm_message.specs.Kinds.{kind_of}
-use Rattle.dm_message.specs.Lawful.{IsLawfulMessage, is_answer}
-use Rattle.dm_packet.specs.declared.PacketError.{PacketError}
+use Rattle.dm_packet.proofs.Names.{◌≡◌, ℕ, ◌^◌, ◌<◌, true, eqb, List, [], ◌++◌, length, Result, Ok, Err, refl, sym, ap, subst, ◌∙◌, append_assoc, arith, ◌≢◌, ◌==◌, IfOk, not, eqb-true, eq-eqb, nat_tests, append-nil, nil_from_length}
+use Rattle.dm_packet.proofs.Names.{IsMachine, MsgId, Message, What, kind_of, IsLawfulMessage, is_answer, PacketError, Packet, Data, Ack, ◌>>=◌, both, number, addr, machine, pid, message_kind, read_what, spell_what, yes_or_no, Head, Opening}
+use Rattle.dm_packet.proofs.Names.{PacketKind, ended, head, head_of, head_parts, id, is_named_right, message, numbered_message, opening, opening_of, other_machine, packet_kind, packet_of, read_ack, read_data, read_message, read_rest}
+use Rattle.dm_packet.proofs.Names.{spell_message, spell_rest, spelling, version, with_head, IsLawfulPacket, IsRoute, Fits, FitsId, FitsMessage, FitsPacket}
 use Rattle.dm_packet.specs.declared.PacketError.TheVariants as bad
-use Rattle.dm_packet.specs.declared.Packet.{Packet}
-use Rattle.dm_packet.specs.declared.Packet.TheVariants.{Data, Ack}
-use Rattle.dm_packet.specs.Field.{◌>>=◌, both, number}
-use Rattle.dm_packet.specs.Fields.{addr, machine, pid}
-use Rattle.dm_packet.specs.Whats.{message_kind, read_what, spell_what, yes_or_no}
-use Rattle.dm_packet.specs.declared.front.Head.{Head}
-use Rattle.dm_packet.specs.declared.front.Opening.{Opening}
-use Rattle.dm_packet.specs.declared.front.PacketKind.{PacketKind}
 use Rattle.dm_packet.specs.declared.front.PacketKind.TheVariants as kinds
-use Rattle.dm_packet.specs.Packets.{ended, head, head_of, head_parts, id, is_named_right, message, numbered_message, opening, opening_of, other_machine, packet_kind, packet_of, read_ack, read_data, read_message, read_rest, spell_message, spell_rest, spelling, version, with_head}
-use Rattle.dm_packet.specs.Lawful.{IsLawfulPacket, IsRoute}
-use Rattle.dm_packet.specs.Widths.{Fits, FitsId, FitsMessage, FitsPacket}
 use Rattle.dm_packet.proofs.Numbers.{IsBytes}
 use Rattle.dm_packet.proofs.Field.{IsField, IsField-both, IsField-for, IsField-made, IsField-number, IsField-tested, Took, bind_ok, guard_ok, ok_is, then_parts, took_same}
 use Rattle.dm_packet.proofs.Fields.{IsSpelledAddr, IsSpelledPid, addr_is, machine_is, pid_is}

@@ -1,22 +1,7 @@
 -- How long packets are.
-use Rattle.std.proofs.Common.{◌≡◌, ℕ, ◌+◌, ◌*◌, ◌≤◌, List, [], ◌∷◌, length, None, Some, Result, Ok, Err, refl, sym, ap, subst, ◌∙◌, arith}
-use Rattle.std.specs.Prelude.{OnOk}
-use Rattle.std.specs.List.{flat_map}
-use Rattle.std.proofs.lemmas.List.{length-append}
-use Rattle.std.proofs.lemmas.List.Concat.{flat_map-cons}
-use Rattle.dm_link.specs.declared.Link.{Link}
-use Rattle.dm_message.specs.declared.What.{What}
+use Rattle.dm_packet.proofs.Names.{◌≡◌, ℕ, ◌+◌, ◌*◌, ◌≤◌, List, [], ◌∷◌, length, None, Some, Result, Ok, Err, refl, sym, ap, subst, ◌∙◌, arith, OnOk, flat_map, length-append, flat_map-cons, Link, What, Message, IsLawfulWhat, PacketError}
+use Rattle.dm_packet.proofs.Names.{Packet, Data, Ack, link, links, IsLawfulPacket, head, head_of, packet_of, spell_message, spelling, spell_what, FitsPacket, FitsWhat}
 use Rattle.dm_message.specs.declared.What.TheVariants as what
-use Rattle.dm_message.specs.declared.Message.{Message}
-use Rattle.dm_message.specs.Lawful.{IsLawfulWhat}
-use Rattle.dm_packet.specs.declared.PacketError.{PacketError}
-use Rattle.dm_packet.specs.declared.Packet.{Packet}
-use Rattle.dm_packet.specs.declared.Packet.TheVariants.{Data, Ack}
-use Rattle.dm_packet.specs.Fields.{link, links}
-use Rattle.dm_packet.specs.Lawful.{IsLawfulPacket}
-use Rattle.dm_packet.specs.Packets.{head, head_of, packet_of, spell_message, spelling}
-use Rattle.dm_packet.specs.Whats.{spell_what}
-use Rattle.dm_packet.specs.Widths.{FitsPacket, FitsWhat}
 use Rattle.dm_packet.proofs.Numbers.{IsBytes}
 use Rattle.dm_packet.proofs.Packets.{packet_takes}
 

@@ -1,28 +1,11 @@
 -- What the messages of each kind carry is read as it is spelled.
-use Rattle.std.proofs.Common.{◌≡◌, ℕ, ◌+◌, ◌^◌, ◌<◌, ◌≤◌, Bool, true, false, eqb, List, [], ◌∷◌, ◌++◌, length, Option, None, Some, Result, Ok, refl, sym, ap, subst, ◌∙◌, arith, inl, inr}
-use Rattle.std.specs.Prelude.{◌↔◌, ◌&&◌, nat_le}
-use Rattle.std.specs.List.{All, AllByRecursion}
-use Rattle.std.specs.Option.{IfSome}
-use Rattle.std.proofs.lemmas.Bool.{and_from, and_parts, eq-eqb, eqb-true, le-leb, leb-true}
-use Rattle.std.proofs.lemmas.Bool.Decides.{nat_tests}
-use Rattle.std.proofs.lemmas.List.Elements.{All-from_recursion, recursion_from_All}
-use Rattle.dm_link.specs.declared.Pid.{Pid}
-use Rattle.dm_link.specs.declared.Link.{Link}
-use Rattle.dm_link.specs.Lawful.{IsMachine, IsLawfulAddr, IsLawfulEnclosed}
-use Rattle.dm_message.specs.declared.Asker.{Asker}
-use Rattle.dm_message.specs.declared.What.{What}
+use Rattle.dm_packet.proofs.Names.{◌≡◌, ℕ, ◌+◌, ◌^◌, ◌<◌, ◌≤◌, Bool, true, false, eqb, List, [], ◌∷◌, ◌++◌, length, Option, None, Some, Result, Ok, refl, sym, ap, subst, ◌∙◌, arith, inl, inr, ◌↔◌, ◌&&◌, nat_le, All, AllByRecursion, IfSome}
+use Rattle.dm_packet.proofs.Names.{and_from, and_parts, eq-eqb, eqb-true, le-leb, leb-true, nat_tests, All-from_recursion, recursion_from_All, Pid, Link, IsMachine, IsLawfulAddr, IsLawfulEnclosed, Asker, What, MessageKind, bool_eq, kind_of}
+use Rattle.dm_packet.proofs.Names.{IsLawfulWhat, IsPiece, IsServer, IsSize, PacketError, ◌>>=◌, Field, both, counted, number, run, addr, bytes_within, channel, links, machine, pid, are_blocks_of, ask, asker, at_most, blocks_of, create}
+use Rattle.dm_packet.proofs.Names.{is_server, memory, optional, outcome, piece_from, pull_block, pull_state, read, read_as, read_what, refuse, spell_what, state, user, write, yes_or_no, Fits, FitsAsker, FitsLink, FitsWhat}
 use Rattle.dm_message.specs.declared.What.TheVariants as what
-use Rattle.dm_message.specs.declared.kind.MessageKind.{MessageKind}
 use Rattle.dm_message.specs.declared.kind.MessageKind.TheVariants as kind
-use Rattle.dm_message.specs.Ids.{bool_eq}
-use Rattle.dm_message.specs.Kinds.{kind_of}
-use Rattle.dm_message.specs.Lawful.{IsLawfulWhat, IsPiece, IsServer, IsSize}
-use Rattle.dm_packet.specs.declared.PacketError.{PacketError}
 use Rattle.dm_packet.specs.declared.PacketError.TheVariants as bad
-use Rattle.dm_packet.specs.Field.{◌>>=◌, Field, both, counted, number, run}
-use Rattle.dm_packet.specs.Fields.{addr, bytes_within, channel, links, machine, pid}
-use Rattle.dm_packet.specs.Whats.{are_blocks_of, ask, asker, at_most, blocks_of, create, is_server, memory, optional, outcome, piece_from, pull_block, pull_state, read, read_as, read_what, refuse, spell_what, state, user, write, yes_or_no}
-use Rattle.dm_packet.specs.Widths.{Fits, FitsAsker, FitsLink, FitsWhat}
 use Rattle.dm_packet.proofs.Numbers.{IsBytes}
 use Rattle.dm_packet.proofs.Field.{IsField, IsField-both, IsField-counted, IsField-for, IsField-made, IsField-number, IsField-run, IsField-tested, bind_ok, ok_is}
 use Rattle.dm_packet.proofs.Fields.{IsSpelledAddr, IsSpelledLink, IsSpelledPid, addr_is, at_most_is, bytes_within_is, channel_is, links_is, machine_is, pid_is, run_is}

@@ -1,17 +1,7 @@
 -- The definitions, computed on worked bytes.
-use Rattle.std.proofs.Common.{◌≡◌, ℕ, false, true, Some, List, [], ◌∷◌, Ok, Err, refl}
-use Rattle.dm_link.specs.declared.Addr.{Addr}
-use Rattle.dm_link.specs.declared.Kind.TheVariants.{Reply}
-use Rattle.dm_link.specs.declared.Link.{Link}
-use Rattle.dm_message.specs.declared.What.{What}
-use Rattle.dm_message.specs.declared.What.TheVariants.{Ask, User}
+use Rattle.dm_packet.proofs.Names.{◌≡◌, ℕ, false, true, Some, List, [], ◌∷◌, Ok, Err, refl, Addr, Reply, Link, What, Ask, User, Answer, Version, Packet, Data, Ack, link, packet_of, read_message, read_rest, spell_message, spelling}
+use Rattle.dm_packet.proofs.Names.{read_what, spell_what}
 use Rattle.dm_message.specs.declared.kind.MessageKind.TheVariants as kind
-use Rattle.dm_packet.specs.declared.PacketError.TheVariants.{Answer, Version}
-use Rattle.dm_packet.specs.declared.Packet.{Packet}
-use Rattle.dm_packet.specs.declared.Packet.TheVariants.{Data, Ack}
-use Rattle.dm_packet.specs.Fields.{link}
-use Rattle.dm_packet.specs.Packets.{packet_of, read_message, read_rest, spell_message, spelling}
-use Rattle.dm_packet.specs.Whats.{read_what, spell_what}
 
 -- from 0.3 at machine 0 to 1.3 at machine 1, the bytes `hi` with code 7, first on its wire
 abbrev hi : Packet

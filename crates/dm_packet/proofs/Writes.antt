@@ -1,13 +1,6 @@
 -- What was put at the end, piece after piece.
-use Rattle.std.proofs.Common.{◌≡◌, ℕ, ◌+◌, ◌<◌, ◌≤◌, List, [], ◌∷◌, ◌++◌, length, get_or, take, sym, ap, subst, ◌∙◌, append_assoc, false, arith}
-use Rattle.std.specs.List.{All, flat_map}
-use Rattle.dm_link.specs.declared.Kind.TheVariants.{General}
-use Rattle.dm_link.specs.declared.Link.{Link}
-use Rattle.std.proofs.lemmas.Grind.{take_at_read}
-use Rattle.std.proofs.lemmas.List.{append-nil, length-append}
-use Rattle.std.proofs.lemmas.List.Concat.{flat_map-append, flat_map-cons}
-use Rattle.std.proofs.lemmas.List.Elements.{All-push}
-use Rattle.std.proofs.lemmas.List.Folds.{length-flat_map-take}
+use Rattle.dm_packet.proofs.Names.{◌≡◌, ℕ, ◌+◌, ◌<◌, ◌≤◌, List, [], ◌∷◌, ◌++◌, length, get_or, take, sym, ap, subst, ◌∙◌, append_assoc, false, arith, All, flat_map, General, Link, take_at_read, append-nil, length-append, flat_map-append}
+use Rattle.dm_packet.proofs.Names.{flat_map-cons, All-push, length-flat_map-take}
 
 -- one piece behind another
 pub then_put : (old mid new a b : List ℕ) → mid ≡ old ++ a → new ≡ mid ++ b → new ≡ old ++ (a ++ b)

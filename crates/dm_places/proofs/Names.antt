@@ -1,62 +1,38 @@
 -- What the proofs of this crate name of what lies below it.
-pub use Rattle.arrayvec.specs.ArrayVec.{ArrayVec}
-pub use Rattle.std.proofs.Common.{count_by}
-pub use Rattle.std.proofs.lemmas.List.{length-map, map-set}
 pub use Rattle.std.proofs.lemmas.List.Sums.{sum_by-cons}
-pub use Rattle.std.proofs.lemmas.Option.{slice_get-map}
-pub use Rattle.std.specs.Prelude.{remove}
-pub use Rattle.dm_link.specs.Places.{relocated, retargeted, retargeted_link}
-pub use Rattle.dm_link.specs.declared.Addr.{Addr}
+pub use Rattle.dm_processor.proofs.Names.{Bool, List, Regs, Row, [], ap, arith, cond, drop, false, length, nat_tests, past, refl, replicate, suc, sym, take, true, zero, ℕ, ◌*◌, ◌++◌, ◌+◌, ◌-◌, ◌/◌, ◌<◌, ◌∙◌, ◌∷◌, ◌≡◌, ◌≤◌}
 unfoldable pub use Rattle.dm_processor.specs.Instructions.{instruction}
-pub use Rattle.dm_message.specs.Plain.{Read, User, Write, plain_message, plain_what, with_what}
-pub use Rattle.dm_message.specs.declared.Message.{Message}
+pub use Rattle.dm_room.proofs.Names.{remove, slice_get}
+pub use Rattle.dm_message.specs.Plain.{Read, Write}
 pub use Rattle.dm_message.specs.declared.Outcome.{Outcome}
-pub use Rattle.dm_message.specs.declared.What.{What}
+pub use Rattle.dm_linktable.proofs.Names.{Link, Pid, count_by, first_empty, is_none, length-map, link_at, map, pid_eq, plain_slot, slot_is_behind, subst, ◌&&◌, ◌==◌}
 pub use Rattle.dm_linktable.proofs.Plain.{plain_map_retargeted}
-pub use Rattle.dm_linktable.specs.Slots.{plain_slot, slot_is_behind}
-pub use Rattle.dm_process.specs.Begun.{begun}
-pub use Rattle.dm_process.specs.Mail.{what_is_on}
-pub use Rattle.dm_process.specs.declared.process.Process.{Process}
-pub use Rattle.dm_process.specs.declared.process.Status.{Status}
-pub use Rattle.dm_linkupdate.specs.Applied.{applied, status_after}
-pub use Rattle.dm_migrate.specs.Departure.{sent_on}
-pub use Rattle.dm_onekernel.specs.Calls.{is_outside, is_reply, make_refusals, move_refusals, send_refusals}
-pub use Rattle.dm_onekernel.specs.Pieces.{piece_of, written_at}
-pub use Rattle.dm_onekernel.specs.Plain.{plain_process, plain_status}
-pub use Rattle.dm_onekernel.specs.Receiving.{receive_refusals}
+pub use Rattle.dm_schedule.proofs.Names.{if◌then◌else◌, nat_lt}
+pub use Rattle.dm_process.proofs.Names.{Message}
+pub use Rattle.dm_linkupdate.proofs.Names.{Addr, None, Option, Process, Some, Status, applied, relocated, retargeted, retargeted_link, status_after}
+pub use Rattle.dm_statebytes.proofs.Names.{Direction, begun, direction_numbered, inl, inr, nat_le, slice_set, ◌⊎◌}
+pub use Rattle.dm_migrate.proofs.Names.{PlainWhat, What, plain_message, plain_what, sent_on, with_what}
 pub use Rattle.dm_onekernel.specs.Start.{memory_of, zero_regs}
 pub use Rattle.dm_onekernel.specs.Step.{Machine, plain_steps}
-pub use Rattle.dm_onekernel.specs.Switchboard.{bytes_eq, goes_over, is_name}
+pub use Rattle.dm_onekernel.specs.Switchboard.{goes_over}
 pub use Rattle.dm_onekernel.specs.declared.boot.Format.{Format}
+pub use Rattle.dm_switchboard.proofs.Names.{ArrayVec, Asked, Named, bytes_eq, is_general, is_name, is_some, named_is_behind, plain_board, plain_link, plain_named, retargeted_named, switchboard}
 pub use Rattle.dm_switchboard.proofs.Plain.{plain_answer, plain_asked, plain_asks, plain_reply}
-pub use Rattle.dm_switchboard.specs.Board.{Named, named_is_behind, plain_board, plain_named, retargeted_named}
-pub use Rattle.dm_switchboard.specs.Taking.{Asked}
+pub use Rattle.dm_procman.proofs.Names.{Boot, BootProcess, IsValid, Managing, MsgId, Pending, PlainLink, Taken, answer_over, at_home, child_named, child_numbered, child_of, control_link, kernel, manager, message_to, pending_is_behind}
+pub use Rattle.dm_procman.proofs.Names.{pending_numbered, plain_child, plain_manager, plain_pending, retargeted_manager, retargeted_pending, slice_get-map, without_pending, ◌||◌}
 pub use Rattle.dm_procman.proofs.Plain.{plain_bear, plain_numbered, plain_pending_numbered, plain_push, plain_without}
-pub use Rattle.dm_procman.specs.Making.{address, answer_over, control_link, message_to}
-pub use Rattle.dm_link.specs.Places.{kernel_at as kernel}
-pub use Rattle.dm_procman.specs.Managing.{Managing, at_home, child_of, pending_is_behind, plain_child, plain_manager, plain_pending, retargeted_manager, retargeted_pending}
-pub use Rattle.dm_procman.specs.Moving.{child_named}
-pub use Rattle.dm_procman.specs.Taking.{Taken, child_numbered, pending_numbered, without_pending}
-pub use Rattle.dm_procman.specs.declared.pending.Pending.{Pending}
+pub use Rattle.dm_procman.specs.Making.{address}
 pub use Rattle.dm_laws.proofs.Equal.{pid_eq-swap}
-pub use Rattle.dm_laws.proofs.Names.{Alive, Bool, Boot, BootImage, BootProcess, CallNumber, Copy, Direction, Drop, Ended, IsValid, Label, Life, List, Make, Manager, Move, Moving, MsgId, None, OneKernel, Option, Pid, PlainLink, PlainMessage}
-pub use Rattle.dm_laws.proofs.Names.{PlainProcess, PlainStatus, PlainWhat, Ready, Receive, Reply, Row, Send, Some, Switchboard, Waiting, Why, [], answer_id, answer_to, ap, arith, bind, call_number, cases_Bool, direction_numbered, drop}
-pub use Rattle.dm_laws.proofs.Names.{false, false≢true, first_empty, first_failed, first_number, id_eq, id_of, if◌then◌else◌, inl, inr, is_some, length, link_at, manager, map, nat_le, nat_lt, nat_tests, option_map, pid_eq, pid_of}
-pub use Rattle.dm_laws.proofs.Names.{plain_link, refl, reg, slice_get, subst, switchboard, sym, take, true, ℕ, ⊤, ◌&&◌, ◌*◌, ◌++◌, ◌+◌, ◌-◌, ◌==◌, ◌∙◌, ◌∷◌, ◌≡◌, ◌≤◌, ◌⊎◌}
+pub use Rattle.dm_laws.proofs.Names.{Alive, BootImage, CallNumber, Copy, Drop, Ended, Label, Life, Make, Manager, Move, Moving, OneKernel, PlainMessage, PlainProcess, PlainStatus, Ready, Receive, Reply, Send, Switchboard, Waiting, Why}
+pub use Rattle.dm_laws.proofs.Names.{answer_id, answer_to, bind, call_number, cases_Bool, false≢true, first_failed, first_number, id_eq, id_of, option_map, pid_of, reg, ⊤}
 pub use Rattle.dm_datamove.proofs.Landings.{ends_plainly, goes_on_plainly}
-pub use Rattle.dm_datamove.specs.Landing.{Landing, landing, plain_landed}
+pub use Rattle.dm_datamove.proofs.Names.{Landed, Landing, Rest, after_serving, answer, answer_of, answer_with, landing, piece_of, plain_landed, plain_process, plain_status, serving_answer, written_at}
 pub use Rattle.dm_datamove.specs.Requests.{address_of, moving, request}
-pub use Rattle.dm_datamove.specs.Serving.{after_serving, answer, answer_of, answer_with, gone_answer, serving_answer}
-pub use Rattle.dm_datamove.specs.declared.Landed.{Landed}
-pub use Rattle.dm_datamove.specs.declared.Rest.{Rest}
+pub use Rattle.dm_datamove.specs.Serving.{gone_answer}
 pub use Rattle.dm_syscall.proofs.Completes.{status_plainly}
+pub use Rattle.dm_syscall.proofs.Names.{Called, Completed, Completion, Done, User, calls, completes, completes_unless, completion, cons_option, emptied, is_outside, is_reply, links_in, make_refusals, map-set, move_refusals, on_mask}
+pub use Rattle.dm_syscall.proofs.Names.{plain_called, plain_completed, receive_refusals, send_refusals, what_is_on}
 pub use Rattle.dm_syscall.proofs.PlainCalls.{call_plainly, first_of, slot_at}
-pub use Rattle.dm_syscall.specs.Calls.{Done, calls}
-pub use Rattle.dm_syscall.specs.Completing.{Completion, completes, completes_unless, completion, plain_completed}
-pub use Rattle.dm_syscall.specs.Plainly.{plain_called}
-pub use Rattle.dm_syscall.specs.Sends.{emptied, links_in}
-pub use Rattle.dm_syscall.specs.declared.Called.{Called}
-pub use Rattle.dm_syscall.specs.declared.Completed.{Completed}
 pub use Rattle.dm_rule.proofs.Homes.Calls.{gives_by, no_gives, or-left, or-right}
 pub use Rattle.dm_rule.proofs.Homes.Lines.{first_none, own_none}
 pub use Rattle.dm_rule.proofs.Homes.Manager.{enclosed_at}
@@ -67,14 +43,14 @@ pub use Rattle.dm_rule.proofs.Homes.Serves.{child_at, gone_lands, nothing_lands,
 pub use Rattle.dm_rule.proofs.Homes.Slots.{emptied_link, past_call, set_link}
 pub use Rattle.dm_rule.proofs.Homes.Steps.{OnlySlots, gives_same, made_is, only_gives_by}
 pub use Rattle.dm_rule.proofs.Letters.{not_kernels}
-pub use Rattle.dm_rule.proofs.Names.{About, Addresses, Again, Answer, Child, Enclosed, Fault, Forward, Frozen, Gets, Here, Holder, Inbox, IsStep, Known, Leads, Line, Link, Load, MessageKind, Name, NamedLink, Of, One, Owner, Owns, Pair}
-pub use Rattle.dm_rule.proofs.Names.{Part, Place, Point, Receiver, Regs, Routes, Says, Sender, Sent, Slot, Sound, Spelled, Spot, Stage, Step, TellsRight, Told, Transmits, Unknown, View, addresses_after, after, after_head, after_label}
-pub use Rattle.dm_rule.proofs.Names.{after_line, after_step, all_follow, answer_link, answers, ascends, at_machine, at_pid, behind, belongs_to, bind-is, board_finds, board_keeps, board_takes, child_from, child_links, child_number, cond}
-pub use Rattle.dm_rule.proofs.Names.{cons_option, enclosed_from, encloses, fills, fills_by, filter_map, first_addresses, first_gives, first_point, first_view, forwarded_for, forwards, gets, given, gives, goes_out, group_of, handled, headed}
-pub use Rattle.dm_rule.proofs.Names.{here, home_of, id_eq-is, id_eq-same, id_eq-swap, is_general, is_kernels, is_none, is_pid, is_told_back, kernel_after, label_of, leads_to, lines_of, link_to, links_at, made, manager_answers}
-pub use Rattle.dm_rule.proofs.Names.{manager_sends, manager_takes, moved, name_link, nth_child, on_mask, outcome, own_gives, own_id, owner_in, owner_of, packet_line, past, pid_eq-is, pid_eq-same, place_in, place_known, place_named}
-pub use Rattle.dm_rule.proofs.Names.{place_of, place_of_child, place_told, plain_kind, puts, receiver_of, receives_links, receives_what, replicate, reply_eq, sends_what, serves_what, slice_set, slot_after, slot_of, slots_of, slots_with}
-pub use Rattle.dm_rule.proofs.Names.{spelled, standing, start-sound, suc, target_of, tells_back, times, unmoved, updated, updated_to, view_after, when-is, why_eq, window, zero, ◌/◌, ◌<◌, ◌||◌}
+pub use Rattle.dm_rule.proofs.Names.{About, Addresses, Again, Answer, Child, Enclosed, Fault, Forward, Frozen, Gets, Here, Holder, Inbox, IsStep, Known, Leads, Line, Load, MessageKind, Name, NamedLink, Of, One, Owner, Owns, Pair, Part}
+pub use Rattle.dm_rule.proofs.Names.{Place, Point, Receiver, Routes, Says, Sender, Sent, Slot, Sound, Spelled, Spot, Stage, Step, TellsRight, Told, Transmits, Unknown, View, addresses_after, after, after_head, after_label, after_line}
+pub use Rattle.dm_rule.proofs.Names.{after_step, all_follow, answer_link, answers, ascends, at_machine, at_pid, behind, belongs_to, bind-is, board_finds, board_keeps, board_takes, child_from, child_links, child_number, enclosed_from}
+pub use Rattle.dm_rule.proofs.Names.{encloses, fills, fills_by, filter_map, first_addresses, first_gives, first_point, first_view, forwarded_for, forwards, gets, given, gives, goes_out, group_of, handled, headed, here, home_of, id_eq-is}
+pub use Rattle.dm_rule.proofs.Names.{id_eq-same, id_eq-swap, is_kernels, is_pid, is_told_back, kernel_after, label_of, leads_to, lines_of, link_to, links_at, made, manager_answers, manager_sends, manager_takes, moved, name_link, nth_child}
+pub use Rattle.dm_rule.proofs.Names.{outcome, own_gives, own_id, owner_in, owner_of, packet_line, pid_eq-is, pid_eq-same, place_in, place_known, place_named, place_of, place_of_child, place_told, plain_kind, puts, receiver_of}
+pub use Rattle.dm_rule.proofs.Names.{receives_links, receives_what, reply_eq, sends_what, serves_what, slot_after, slot_of, slots_of, slots_with, spelled, standing, start-sound, target_of, tells_back, times, unmoved, updated, updated_to}
+pub use Rattle.dm_rule.proofs.Names.{view_after, when-is, why_eq, window}
 pub use Rattle.dm_rule.proofs.Pairs.Moves.{or_first, or_first as or_second}
 pub use Rattle.dm_rule.proofs.Worked.{hi}
 pub use Rattle.dm_rule.specs.Addresses.{board_asks}

@@ -1,8 +1,5 @@
 -- Looking for the first message on a mask.
-use Rattle.std.proofs.Common.{◌≡◌, ℕ, zero, suc, ◌<◌, ◌≤◌, true, false, List, [], ◌∷◌, length, take, Some, None, slice_get, remove, min, refl, ap, arith}
-use Rattle.std.proofs.lemmas.List.Edits.{length-remove}
-use Rattle.dm_message.specs.declared.Message.{Message}
-use Rattle.dm_process.specs.Mail.{first_on, is_on, without_first_on, HasPassed}
+use Rattle.dm_process.proofs.Names.{◌≡◌, ℕ, zero, suc, ◌<◌, ◌≤◌, true, false, List, [], ◌∷◌, length, take, Some, None, slice_get, remove, min, refl, ap, arith, length-remove, Message, first_on, is_on, without_first_on, HasPassed}
 
 -- none before it is on the mask, and it is
 pub found : (mask : ℕ) (queue : List Message) (i : ℕ) (m : Message) → slice_get queue i ≡ Some m → first_on mask (take i queue) ≡ None → is_on mask m ≡ true

@@ -1,11 +1,6 @@
 -- The bytes of a list of blocks, by their places.
-use Rattle.std.proofs.Common.{ℕ, zero, suc, ◌≡◌, ◌+◌, ◌-◌, ◌*◌, ◌<◌, ◌≤◌, List, [], ◌∷◌, ◌++◌, length, take, drop, get_or, replicate, ◌/◌, ◌%◌, zero-add, refl, ap, sym, ◌∙◌, arith}
-use Rattle.std.proofs.Math.ListN.{set, length-set}
-use Rattle.std.proofs.Math.Seq.{take-append-add, drop-append-add}
-use Rattle.std.proofs.lemmas.List.{get_or_append_left, get_or-append-add, set-append_left, set-append_right, take_all, length-take-le, take-append-le, drop-append-le, replicate-append-replicate}
-use Rattle.std.proofs.lemmas.Grind.{common_steps}
-use Rattle.std.specs.List.{concat}
-use Rattle.dm_processor.specs.WholeBlocks.{AreWhole}
+use Rattle.dm_processor.proofs.Names.{ℕ, zero, suc, ◌≡◌, ◌+◌, ◌-◌, ◌*◌, ◌<◌, ◌≤◌, List, [], ◌∷◌, ◌++◌, length, take, drop, get_or, replicate, ◌/◌, ◌%◌, zero-add, refl, ap, sym, ◌∙◌, arith, set, length-set, take-append-add, drop-append-add}
+use Rattle.dm_processor.proofs.Names.{get_or_append_left, get_or-append-add, set-append_left, set-append_right, take_all, length-take-le, take-append-le, drop-append-le, replicate-append-replicate, common_steps, concat, AreWhole}
 
 -- so many blocks of 256 bytes
 pub length-concat : (bs : List (List ℕ)) → AreWhole bs → length (concat bs) ≡ 256 * length bs

@@ -1,8 +1,5 @@
 -- Copying part by part.
-use Rattle.std.proofs.Common.{ℕ, ◌≡◌, ◌+◌, ◌≤◌, List, ◌++◌, length, take, drop, ap, sym, ◌∙◌, arith, length-append}
-use Rattle.std.proofs.Math.Seq.{take-add, take-append_seam, drop-append-add}
-use Rattle.std.proofs.lemmas.List.{length-take-le}
-use Rattle.std.proofs.lemmas.Grind.{common_steps}
+use Rattle.dm_processor.proofs.Names.{ℕ, ◌≡◌, ◌+◌, ◌≤◌, List, ◌++◌, length, take, drop, ap, sym, ◌∙◌, arith, length-append, take-add, take-append_seam, drop-append-add, length-take-le, common_steps}
 
 -- a list that begins with so many elements of another list
 take_seam : (xs ys : List ℕ) (n : ℕ) → length xs ≡ n → take n (xs ++ ys) ≡ xs

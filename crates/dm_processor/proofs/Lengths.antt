@@ -1,15 +1,6 @@
 -- Every instruction keeps the number of the registers and the length of the memory.
-use Rattle.std.proofs.Common.{ℕ, Bool, true, false, cond, ◌≡◌, ◌+◌, ◌≤◌, List, length, slice_index, Option, Some, None, refl, arith}
-use Rattle.std.proofs.Math.ListN.{length-set}
-use Rattle.std.proofs.lemmas.Grind.{common_steps}
-use Rattle.std.proofs.lemmas.Bool.Decides.{nat_tests}
-use Rattle.dm_processor.specs.declared.registers.Regs.{Regs}
-use Rattle.dm_processor.specs.declared.registers.Fault.TheVariants.{UnknownOpcode}
-use Rattle.dm_processor.specs.declared.opcodes.Opcode.{Opcode}
-use Rattle.dm_processor.specs.declared.opcodes.Opcode.TheVariants.{Li, Lih, Mov, Add, Sub, Mul, And, Or, Xor, Shl, Shr, Lw, Sw, Lb, Sb, Jmp, Beq, Bne, Bltu, Sys}
-use Rattle.dm_processor.specs.Opcodes.{opcode_of}
-use Rattle.dm_processor.specs.Instructions.{Row, Faults, effect, instruction, operation_row, word_row, byte_row, with_word, reg}
-use Rattle.dm_processor.specs.Kept.{KeepsLengths}
+use Rattle.dm_processor.proofs.Names.{ℕ, Bool, true, false, cond, ◌≡◌, ◌+◌, ◌≤◌, List, length, slice_index, Option, Some, None, refl, arith, length-set, common_steps, nat_tests, Regs, UnknownOpcode, Opcode, Li, Lih, Mov, Add, Sub, Mul, And}
+use Rattle.dm_processor.proofs.Names.{Or, Xor, Shl, Shr, Lw, Sw, Lb, Sb, Jmp, Beq, Bne, Bltu, Sys, opcode_of, Row, Faults, effect, instruction, operation_row, word_row, byte_row, with_word, reg, KeepsLengths}
 
 -- a word that is written
 length-with_word : (m : List ℕ) (at w : ℕ) → at + 4 ≤ length m → length (with_word m at w) ≡ length m

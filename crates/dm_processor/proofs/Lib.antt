@@ -1,3 +1,4 @@
+pub mod Names
 pub mod Concat
 pub mod Copies
 pub mod Lengths

@@ -1,17 +1,7 @@
 -- Every instruction keeps registers of 32 bits and bytes of 8.
-use Rattle.std.proofs.Common.{ℕ, zero, suc, Bool, true, false, cond, ◌+◌, ◌/◌, ◌%◌, ◌^◌, ◌<◌, List, [], ◌∷◌, ◌++◌, take, drop, get_or, slice_index, Option, Some, None, arith}
-use Rattle.std.proofs.Math.ListN.{set}
-use Rattle.std.proofs.Math.Nat.{div-le_self}
-use Rattle.std.proofs.lemmas.Bool.Decides.{nat_tests}
-use Rattle.std.proofs.lemmas.Nat.{and_le_l, or_of_32, xor_of_32}
-use Rattle.std.specs.Prelude.{bit_and}
-use Rattle.dm_processor.specs.declared.registers.Regs.{Regs}
-use Rattle.dm_processor.specs.declared.registers.Fault.TheVariants.{UnknownOpcode}
-use Rattle.dm_processor.specs.declared.opcodes.Opcode.{Opcode}
-use Rattle.dm_processor.specs.declared.opcodes.Opcode.TheVariants.{Li, Lih, Mov, Add, Sub, Mul, And, Or, Xor, Shl, Shr, Lw, Sw, Lb, Sb, Jmp, Beq, Bne, Bltu, Sys}
-use Rattle.dm_processor.specs.Opcodes.{opcode_of}
-use Rattle.dm_processor.specs.Instructions.{Row, Faults, effect, instruction, operation_row, word_row, byte_row, branch_pc, with_reg, with_word, word_at, word_bytes, past, reg}
-use Rattle.dm_processor.specs.Kept.{AreBytes, AreWords, KeepsRanges}
+use Rattle.dm_processor.proofs.Names.{ℕ, zero, suc, Bool, true, false, cond, ◌+◌, ◌/◌, ◌%◌, ◌^◌, ◌<◌, List, [], ◌∷◌, ◌++◌, take, drop, get_or, slice_index, Option, Some, None, arith, set, div-le_self, nat_tests, and_le_l, or_of_32}
+use Rattle.dm_processor.proofs.Names.{xor_of_32, bit_and, Regs, UnknownOpcode, Opcode, Li, Lih, Mov, Add, Sub, Mul, And, Or, Xor, Shl, Shr, Lw, Sw, Lb, Sb, Jmp, Beq, Bne, Bltu, Sys, opcode_of, Row, Faults, effect, instruction}
+use Rattle.dm_processor.proofs.Names.{operation_row, word_row, byte_row, branch_pc, with_reg, with_word, word_at, word_bytes, past, reg, AreBytes, AreWords, KeepsRanges}
 
 -- a list with another item
 set-range : (xs : List ℕ) (n i v : ℕ) → ((k : ℕ) → get_or xs k 0 < n) → v < n → (k : ℕ) → get_or (set xs i v) k 0 < n

@@ -1,9 +1,5 @@
 -- The number that is read spells the bytes that stood there, and the bytes that are written spell the number.
-use Rattle.std.proofs.Common.{ℕ, suc, ◌≡◌, ◌+◌, ◌*◌, ◌/◌, ◌%◌, ◌^◌, ◌<◌, ◌≤◌, List, [], ◌∷◌, length, take, drop, get_or, drop-cons, refl, ap, sym, ◌∙◌, arith}
-use Rattle.std.proofs.lemmas.Grind.{common_steps}
-use Rattle.byteorder.specs.Endian.{big_number, big_bytes}
-use Rattle.dm_processor.specs.Instructions.{word_at, word_bytes}
-use Rattle.dm_processor.specs.Kept.{AreBytes}
+use Rattle.dm_processor.proofs.Names.{ℕ, suc, ◌≡◌, ◌+◌, ◌*◌, ◌/◌, ◌%◌, ◌^◌, ◌<◌, ◌≤◌, List, [], ◌∷◌, length, take, drop, get_or, drop-cons, refl, ap, sym, ◌∙◌, arith, common_steps, big_number, big_bytes, word_at, word_bytes, AreBytes}
 
 -- the number in four bytes of a memory is the word there
 pub big_number-word_at : (m : List ℕ) (at : ℕ) → big_number 4 (take 4 (drop at m)) ≡ word_at m at

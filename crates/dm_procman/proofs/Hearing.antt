@@ -1,12 +1,6 @@
 -- The messages that are for the manager.
-use Rattle.std.proofs.Common.{◌≡◌, ℕ, refl}
-use Rattle.arrayvec.specs.ArrayVec.{ArrayVec}
-use Rattle.dm_link.specs.declared.Pid.{Pid}
-use Rattle.dm_link.specs.declared.Link.{Link}
-use Rattle.dm_message.specs.declared.What.{What}
+use Rattle.dm_procman.proofs.Names.{◌≡◌, ℕ, refl, ArrayVec, Pid, Link, What, Managing, IsForManager}
 use Rattle.dm_message.specs.declared.What.TheVariants as what
-use Rattle.dm_procman.specs.Managing.{Managing}
-use Rattle.dm_procman.specs.Taking.{IsForManager}
 
 -- what such a message says
 pub data IsHeard (w : What) : Type 0 where

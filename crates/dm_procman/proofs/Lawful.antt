@@ -1,38 +1,12 @@
 -- What the manager keeps and sends is lawful.
-use Rattle.std.proofs.Common.{◌≡◌, ◌≤◌, ℕ, zero, suc, ◌+◌, ◌*◌, Bool, true, false, ◌==◌, ◌&&◌, ◌||◌, nat_lt, nat_le, if◌then◌else◌, List, [], ◌∷◌, ◌++◌, length, map, slice_get, refl, sym, subst, ap, ◌∙◌, arith}
-use Rattle.std.proofs.lemmas.Grind.{common_steps}
-use Rattle.std.proofs.lemmas.List.Elements.{All-map, All-push}
-use Rattle.std.specs.List.{All}
-use Rattle.std.specs.Option.{IfSome}
-use Rattle.std.specs.Prelude.{IfOk, OnErr}
-use Rattle.std.specs.declared.option.Option.{Option}
+use Rattle.dm_procman.proofs.Names.{◌≡◌, ◌≤◌, ℕ, zero, suc, ◌+◌, ◌*◌, Bool, true, false, ◌==◌, ◌&&◌, ◌||◌, nat_lt, nat_le, if◌then◌else◌, List, [], ◌∷◌, ◌++◌, length, map, slice_get, refl, sym, subst, ap, ◌∙◌, arith, common_steps, All-map}
+use Rattle.dm_procman.proofs.Names.{All-push, All, IfSome, IfOk, OnErr, Option, Result, Ok, Err, Pid, Addr, Link, IsMachine, IsLawfulAddr, IsLawfulEnclosed, pid_eq, is_behind, relocated, retargeted, retargeted_link, NoMemory, Message}
+use Rattle.dm_procman.proofs.Names.{MsgId, What, kind_of, IsLawfulMessage, IsLawfulWhat, is_answer, Boot, BootProcess, IsValid, manager, process_is_valid, processes_are_valid, starting_at, switchboard, Pending, IsLawfulManager}
+use Rattle.dm_procman.proofs.Names.{IsLawfulPending, Managing, at_home, child_of, retargeted_manager, retargeted_pending, starting, answer_over, control_link, message_to, kernel, child_named, moves_child, tells_to_move, Taken, answers}
+use Rattle.dm_procman.proofs.Names.{asks_for, bad_request, child_numbered, controls, controls_child, pending_numbered, requests, sends, settled, takes, takes_created, takes_no_room, takes_user, wants_child, with_pending, without_pending}
 use Rattle.std.specs.declared.option.Option.TheVariants.{None, Some}
-use Rattle.std.specs.declared.result.Result.{Result}
-use Rattle.std.specs.declared.result.Result.TheVariants.{Ok, Err}
-use Rattle.dm_link.specs.declared.Pid.{Pid}
-use Rattle.dm_link.specs.declared.Addr.{Addr}
-use Rattle.dm_link.specs.declared.Link.{Link}
-use Rattle.dm_link.specs.Lawful.{IsMachine, IsLawfulAddr, IsLawfulEnclosed}
-use Rattle.dm_link.specs.Names.{pid_eq}
-use Rattle.dm_link.specs.Places.{is_behind, relocated, retargeted, retargeted_link}
-use Rattle.dm_memory.specs.declared.NoMemory.{NoMemory}
-use Rattle.dm_message.specs.declared.Message.{Message}
-use Rattle.dm_message.specs.declared.MsgId.{MsgId}
-use Rattle.dm_message.specs.declared.What.{What}
 use Rattle.dm_message.specs.declared.What.TheVariants as what
-use Rattle.dm_message.specs.Kinds.{kind_of}
-use Rattle.dm_message.specs.Lawful.{IsLawfulMessage, IsLawfulWhat, is_answer}
-use Rattle.dm_onekernel.specs.declared.boot.Boot.{Boot}
-use Rattle.dm_onekernel.specs.declared.boot.BootProcess.{BootProcess}
-use Rattle.dm_onekernel.specs.Boot.{IsValid, manager, process_is_valid, processes_are_valid, starting_at, switchboard}
 use Rattle.dm_procman.specs.declared.moving.MoveError.TheVariants as no
-use Rattle.dm_procman.specs.declared.pending.Pending.{Pending}
-use Rattle.dm_procman.specs.Lawful.{IsLawfulManager, IsLawfulPending}
-use Rattle.dm_procman.specs.Managing.{Managing, at_home, child_of, retargeted_manager, retargeted_pending, starting}
-use Rattle.dm_procman.specs.Making.{answer_over, control_link, message_to}
-use Rattle.dm_link.specs.Places.{kernel_at as kernel}
-use Rattle.dm_procman.specs.Moving.{child_named, moves_child, tells_to_move}
-use Rattle.dm_procman.specs.Taking.{Taken, answers, asks_for, bad_request, child_numbered, controls, controls_child, pending_numbered, requests, sends, settled, takes, takes_created, takes_no_room, takes_user, wants_child, with_pending, without_pending}
 use Rattle.dm_procman.proofs.Hearing.{IsHeard, IsUser, IsCreated, IsNoRoom}
 
 all_head : {X : Type 0} (P : X → Type 0) (x : X) (xs : List X) → All P (x ∷ xs) → P x

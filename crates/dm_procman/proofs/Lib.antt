@@ -1,3 +1,4 @@
+pub mod Names
 pub mod Waiting
 pub mod Following
 pub mod Hearing

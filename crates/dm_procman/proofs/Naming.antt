@@ -1,13 +1,6 @@
 -- The children of the manager are found by their names.
-use Rattle.std.proofs.Common.{◌≡◌, ◌∙◌, ℕ, suc, Bool, true, false, if◌then◌else◌, List, [], ◌∷◌, ◌++◌, length, slice_get, None, Some, map, refl, ap, sym, arith}
-use Rattle.std.specs.declared.option.Option.{Option}
-use Rattle.std.specs.Option.{option_map, option_or}
-use Rattle.dm_link.specs.declared.Pid.{Pid}
-use Rattle.dm_link.specs.declared.Addr.{Addr}
-use Rattle.dm_link.specs.Names.{pid_eq}
-use Rattle.dm_link.specs.Places.{retargeted}
-use Rattle.dm_procman.specs.Moving.{child_named}
-use Rattle.dm_procman.specs.Named.{place_named}
+use Rattle.dm_procman.proofs.Names.{◌≡◌, ◌∙◌, ℕ, suc, Bool, true, false, if◌then◌else◌, List, [], ◌∷◌, ◌++◌, length, slice_get, None, Some, map, refl, ap, sym, arith, Option, option_map, option_or, Pid, Addr, pid_eq, retargeted}
+use Rattle.dm_procman.proofs.Names.{child_named, place_named}
 
 -- one child more has the place behind the others, where its name had none
 pushed : (here : Bool) (o : Option ℕ) (n : ℕ) (last : Bool) → (if here then Some 0 else option_map suc (option_or o (if last then Some n else None)))

@@ -1,31 +1,13 @@
 -- The manager's table and that of the kernel without machines.
-use Rattle.std.proofs.Common.{◌≡◌, ℕ, zero, suc, ◌+◌, ◌*◌, Bool, true, false, ◌==◌, ◌&&◌, nat_lt, if◌then◌else◌, List, [], ◌∷◌, ◌++◌, length, map, refl, sym, ap, ◌∙◌, arith}
-use Rattle.std.proofs.lemmas.List.{length-map}
-use Rattle.std.proofs.lemmas.Option.{slice_get-map}
-use Rattle.std.specs.declared.option.Option.{Option}
+use Rattle.dm_procman.proofs.Names.{◌≡◌, ℕ, zero, suc, ◌+◌, ◌*◌, Bool, true, false, ◌==◌, ◌&&◌, nat_lt, if◌then◌else◌, List, [], ◌∷◌, ◌++◌, length, map, refl, sym, ap, ◌∙◌, arith, length-map, slice_get-map, Option, Result, Ok, Err, IfOk}
+use Rattle.dm_procman.proofs.Names.{option_map, Pid, Addr, Link, retargeted, retargeted_link, PlainLink, plain_link, NoMemory, Message, What, plain_message, plain_what, with_what, Pending, Managing, at_home, plain_child, plain_manager}
+use Rattle.dm_procman.proofs.Names.{plain_pending, retargeted_manager, retargeted_pending, control_link, plain_taken, plainly_taken, Taken, answers, asks_for, bad_request, child_numbered, controls, controls_child, pending_numbered}
+use Rattle.dm_procman.proofs.Names.{requests, settled, takes, takes_created, takes_no_room, takes_user, wants_child, without_pending}
 use Rattle.std.specs.declared.option.Option.TheVariants.{None, Some}
-use Rattle.std.specs.declared.result.Result.{Result}
-use Rattle.std.specs.declared.result.Result.TheVariants.{Ok, Err}
-use Rattle.std.specs.Prelude.{IfOk}
-use Rattle.std.specs.Option.{option_map}
-use Rattle.dm_link.specs.declared.Pid.{Pid}
-use Rattle.dm_link.specs.declared.Addr.{Addr}
-use Rattle.dm_link.specs.declared.Link.{Link}
-use Rattle.dm_link.specs.Places.{retargeted, retargeted_link}
-use Rattle.dm_link.specs.Plain.{PlainLink, plain_link}
-use Rattle.dm_memory.specs.declared.NoMemory.{NoMemory}
-use Rattle.dm_message.specs.declared.Message.{Message}
-use Rattle.dm_message.specs.declared.What.{What}
 use Rattle.dm_message.specs.declared.What.TheVariants as what
 use Rattle.dm_message.specs.Plain as plain
-use Rattle.dm_message.specs.Plain.{plain_message, plain_what, with_what}
 use Rattle.dm_onekernel.specs.Kernel as kernel
 use Rattle.dm_onekernel.specs.Manager as one
-use Rattle.dm_procman.specs.declared.pending.Pending.{Pending}
-use Rattle.dm_procman.specs.Managing.{Managing, at_home, plain_child, plain_manager, plain_pending, retargeted_manager, retargeted_pending}
-use Rattle.dm_procman.specs.Making.{control_link}
-use Rattle.dm_procman.specs.Plainly.{plain_taken, plainly_taken}
-use Rattle.dm_procman.specs.Taking.{Taken, answers, asks_for, bad_request, child_numbered, controls, controls_child, pending_numbered, requests, settled, takes, takes_created, takes_no_room, takes_user, wants_child, without_pending}
 use Rattle.dm_procman.proofs.Hearing.{IsHeard, IsUser, IsCreated, IsNoRoom}
 
 -- a taken message without places
@@ -113,9 +95,6 @@ plain_without n (r ∷ rs) = both (map plain_pending) (r.n == n) rs (r ∷ witho
 -- an answer of the manager that is left with these children and requests
 abbrev plain_answers : List Pid → List kernel.Pending → ℕ → Link → ℕ → List PlainLink → Option one.Took
 plain_answers cs rs sent l code links = Some (one.answers (record { children = cs; pending = rs; sent = sent }) (plain_link l) code links)
-
-plain_control_link : (n n' : ℕ) → n ≡ n' → plain_link (control_link n) ≡ one.control_link n'
-plain_control_link n n' e = ap one.control_link e
 
 pub plain_created : (g : Managing) (n : ℕ) (p : Pid) (o : Option Pending) (t : Taken) → takes_created g n p o ≡ Some t → plainly t ≡ one.takes_created (plain_manager g) n p (option_map plain_pending o)
 plain_created g n p None t e = absurd (cc e)

@@ -1,12 +1,6 @@
 -- The pending request of a number, and where it stands.
-use Rattle.std.proofs.Common.{◌≡◌, ◌<◌, ℕ, zero, suc, true, false, if◌then◌else◌, List, [], ◌∷◌, length, get_or, position, None, Some, refl, rules, ap, ◌∙◌, arith}
-use Rattle.std.proofs.lemmas.Grind.{common_steps}
-use Rattle.std.proofs.lemmas.List.Quantifiers.{position-Some}
-use Rattle.std.specs.List.{remove}
-use Rattle.std.specs.Prelude.{IsSome}
-use Rattle.std.specs.declared.option.Option.{Option}
-use Rattle.dm_procman.specs.declared.pending.Pending.{Pending}
-use Rattle.dm_procman.specs.Taking.{has_number, pending_numbered, without_pending}
+use Rattle.dm_procman.proofs.Names.{◌≡◌, ◌<◌, ℕ, zero, suc, true, false, if◌then◌else◌, List, [], ◌∷◌, length, get_or, position, None, Some, refl, rules, ap, ◌∙◌, arith, common_steps, position-Some, remove, IsSome, Option, Pending}
+use Rattle.dm_procman.proofs.Names.{has_number, pending_numbered, without_pending}
 
 first_found : (n : ℕ) (rs : List Pending) (i : ℕ) (d : Pending) → i < length rs → has_number n (get_or rs i d) ≡ true → ((k : ℕ) → k < i → has_number n (get_or rs k d) ≡ false) → pending_numbered n rs ≡ Some (get_or rs i d)
 first_found n [] i d lt here before = absurd (omega (arith, lt))
@@ -27,9 +21,6 @@ found_there n rs i d h = let p = position-Some (has_number n) rs i d h in first_
 
 pub others_there : (n : ℕ) (rs : List Pending) (i : ℕ) (d : Pending) → position (has_number n) rs ≡ Some i → without_pending n rs ≡ remove rs i
 others_there n rs i d h = let p = position-Some (has_number n) rs i d h in others_kept n rs i d p.0 p.1 p.2
-
-pub within_there : (n : ℕ) (rs : List Pending) (i : ℕ) (d : Pending) → position (has_number n) rs ≡ Some i → i < length rs
-within_there n rs i d h = (position-Some (has_number n) rs i d h).0
 
 pub none_there : (n : ℕ) (rs : List Pending) → position (has_number n) rs ≡ None → pending_numbered n rs ≡ None
 none_there n [] h = refl

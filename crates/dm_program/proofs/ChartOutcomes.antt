@@ -1,40 +1,11 @@
 -- What the status of a run that was drawn says.
-use Rattle.std.proofs.Common.{◌≡◌, ◌⊎◌, inl, inr, ℕ, List, refl}
-use Rattle.std.specs.Prelude.{OnErr, OnOk}
-use Rattle.std.specs.declared.option.Option.{Option}
-use Rattle.std.specs.declared.result.Result.{Result}
-use Rattle.std.specs.declared.result.Result.TheVariants.{Ok, Err}
-use Rattle.dm_onekernel.specs.declared.boot.Boot.{Boot}
-use Rattle.dm_schedule.specs.declared.Directive.{Directive}
-use Rattle.dm_outside.specs.declared.Failed.{Failed}
-use Rattle.dm_outside.specs.Outside.{RoseOrFull, appended}
-use Rattle.dm_run.specs.Appended.{IsCutShort}
-use Rattle.dm_run.specs.Printed.{Lasts, Wears}
-use Rattle.dm_run.proofs.Endings.{worn_same}
-use Rattle.dm_drawing.specs.Pictured.{IsBeforeWorn, IsWhole}
-use Rattle.dm_program.specs.declared.status.Status.{Status}
-use Rattle.dm_program.specs.declared.status.Status.TheVariants.{Done, Usage, ReadFault, NoMemory, WriteFault, BootRefused, ScheduleRefused, TooLong, Worn, TraceRefused}
-use Rattle.dm_program.specs.Charts.{ChartSays, unless_failed}
-use Rattle.dm_program.specs.Status.{BlamesShelf, BlamesSink, IsWant}
-
--- a whole picture was offered
-pub whole_says : {A : Type 0} (b : Boot) (ds : List Directive) (text : List ℕ) (before after : Option (List ℕ)) (r : Result A Failed) → IsWhole b ds text → OnOk r (after ≡ appended before text) → OnErr r (IsCutShort before text after) → ChartSays b ds before after (unless_failed r Done)
-whole_says b ds text before after (Ok x) is all cut = record { text = text; is = is; written = all }
-whole_says b ds text before after (Err e) is all cut = record { text = text; is = inl is; begun = cut }
+use Rattle.dm_program.proofs.Names.{◌≡◌, ◌⊎◌, inl, inr, ℕ, List, refl, OnErr, OnOk, Option, Result, Ok, Err, Boot, Directive, Failed, RoseOrFull, appended, IsCutShort, Lasts, Wears, worn_same, IsBeforeWorn, IsWhole, Status, Done, Usage}
+use Rattle.dm_program.proofs.Names.{ReadFault, NoMemory, WriteFault, BootRefused, ScheduleRefused, TooLong, Worn, TraceRefused, ChartSays, unless_failed, BlamesShelf, BlamesSink, IsWant}
 
 -- one of what comes before a worn pair
 pub worn_says : {A : Type 0} (b : Boot) (ds : List Directive) (text : List ℕ) (from to : ℕ) (before after : Option (List ℕ)) (r : Result A Failed) → IsBeforeWorn b ds text from to → OnOk r (after ≡ appended before text) → OnErr r (IsCutShort before text after) → ChartSays b ds before after (unless_failed r (Worn from to))
 worn_says b ds text from to before after (Ok x) is all cut = record { text = text; is = is; written = all }
 worn_says b ds text from to before after (Err e) is all cut = record { text = text; is = inr (from, to, is); begun = cut }
-
--- and whom it blames
-pub whole_blames : {A : Type 0} (old new : ℕ) (r : Result A Failed) → OnOk r (new ≡ old) → OnErr r (RoseOrFull old new) → BlamesSink old new (unless_failed r Done)
-whole_blames old new (Ok x) steady fault = steady
-whole_blames old new (Err e) steady fault = fault
-
-pub worn_blames : {A : Type 0} (from to old new : ℕ) (r : Result A Failed) → OnOk r (new ≡ old) → OnErr r (RoseOrFull old new) → BlamesSink old new (unless_failed r (Worn from to))
-worn_blames from to old new (Ok x) steady fault = steady
-worn_blames from to old new (Err e) steady fault = fault
 
 -- it never blames the shelf
 pub chart_shelf : (b : Boot) (ds : List Directive) (before after : Option (List ℕ)) (old new : ℕ) (s : Status) → ChartSays b ds before after s → new ≡ old → BlamesShelf old new s

@@ -1,20 +1,10 @@
 -- Files come to one thing: whether the trace is good is a function of them, where no read and no write fails and memory is there.
-use Rattle.std.proofs.Common.{◌≡◌, ◌⊎◌, inl, inr, ℕ, Bool, true, false, List, length, refl, ap, ap₂, sym, subst, ◌∙◌, cond, nat_lt}
-use Rattle.std.specs.declared.option.Option.{Option}
-use Rattle.std.specs.declared.option.Option.TheVariants.{None, Some}
-use Rattle.dm_onekernel.specs.declared.boot.Boot.{Boot}
-use Rattle.dm_outside.specs.Outside.{RoseOrFull, appended}
-use Rattle.dm_check.specs.declared.fault.TraceFault.{TraceFault}
-use Rattle.dm_check.specs.Faults.{number_of_fault}
-use Rattle.dm_check.specs.Good.{good_verdict}
-use Rattle.dm_check.specs.Judge.{Verdict, Open, Ended, Refused, verdict}
-use Rattle.dm_program.specs.declared.status.Status.{Status}
-use Rattle.dm_program.specs.declared.status.Status.TheVariants.{Done, Usage, ReadFault, NoMemory, WriteFault, BootRefused, ScheduleRefused, TooLong, Worn, TraceRefused}
+use Rattle.dm_program.proofs.Names.{◌≡◌, ◌⊎◌, inl, inr, ℕ, Bool, true, false, List, length, refl, ap, ap₂, sym, subst, ◌∙◌, cond, nat_lt, Option, Some, Boot, RoseOrFull, appended, TraceFault, number_of_fault, good_verdict, Verdict, Open}
+use Rattle.dm_program.proofs.Names.{verdict, Status, Done, Usage, ReadFault, NoMemory, WriteFault, BootRefused, ScheduleRefused, TooLong, Worn, TraceRefused, CheckSays, GivesGood, GivesRefused, HasTrace, NoTrace, good_line, most_trace}
+use Rattle.dm_program.proofs.Names.{IsLonger, AfterBoot, BlamesShelf, BlamesSink, IsWant}
+use Rattle.std.specs.declared.option.Option.TheVariants.{None}
+use Rattle.dm_check.specs.Judge.{Ended, Refused}
 use Rattle.dm_program.specs.declared.status.Input.TheVariants as input
-use Rattle.dm_program.specs.Checks.{CheckSays, GivesGood, GivesRefused, HasTrace, NoTrace, good_line, most_trace}
-use Rattle.dm_program.specs.Files.{IsLonger}
-use Rattle.dm_program.specs.Inputs.{AfterBoot}
-use Rattle.dm_program.specs.Status.{BlamesShelf, BlamesSink, IsWant}
 use Rattle.dm_program.proofs.Outcomes.{Files, boot_part, above, not_above, long_boot, refused_boot, said_boot, want_or_not, some_one, same_boot}
 
 -- what the bytes of a trace come to

@@ -1,30 +1,9 @@
 -- What the status of a drill says.
-use Rattle.std.proofs.Common.{◌≡◌, ◌⊎◌, inl, inr, ℕ, List, [], ◌∷◌, refl}
-use Rattle.std.specs.Prelude.{OnOk}
-use Rattle.std.specs.declared.option.Option.{Option}
-use Rattle.std.specs.declared.option.Option.TheVariants.{Some}
-use Rattle.std.specs.declared.result.Result.{Result}
-use Rattle.std.specs.declared.result.Result.TheVariants.{Ok, Err}
-use Rattle.dm_onekernel.specs.declared.boot.Boot.{Boot}
-use Rattle.dm_schedule.specs.declared.Directive.{Directive}
+use Rattle.dm_program.proofs.Names.{◌≡◌, ◌⊎◌, inl, inr, ℕ, List, [], ◌∷◌, refl, OnOk, Option, Some, Result, Ok, Err, Boot, Directive, World, RoseOrFull, Stop, IsFor, Lasts, Wears, worn_same, IsDrawn, Drill, Ended, Status, Done, Usage}
+use Rattle.dm_program.proofs.Names.{ReadFault, NoMemory, WriteFault, BootRefused, ScheduleRefused, TooLong, Worn, TraceRefused, DrilledSays, BlamesShelf, BlamesSink, IsWant, ended_with, All, All-nil, All-cons, All-head, All-tail}
 use Rattle.dm_schedule.specs.declared.Directive.TheVariants as directive
 use Rattle.dm_schedule.specs.declared.Step.TheVariants as step
-use Rattle.dm_world.specs.declared.world.World.{World}
-use Rattle.dm_outside.specs.Outside.{RoseOrFull}
-use Rattle.dm_run.specs.declared.stop.Stop.{Stop}
 use Rattle.dm_run.specs.declared.stop.Stop.TheVariants as stop
-use Rattle.dm_run.specs.Coming.{IsFor}
-use Rattle.dm_run.specs.Printed.{Lasts, Wears}
-use Rattle.dm_run.proofs.Endings.{worn_same}
-use Rattle.dm_draw.specs.Directives.{IsDrawn}
-use Rattle.dm_drill.specs.declared.drill.Drill.{Drill}
-use Rattle.dm_drill.specs.Drilled.{Ended}
-use Rattle.dm_program.specs.declared.status.Status.{Status}
-use Rattle.dm_program.specs.declared.status.Status.TheVariants.{Done, Usage, ReadFault, NoMemory, WriteFault, BootRefused, ScheduleRefused, TooLong, Worn, TraceRefused}
-use Rattle.dm_program.specs.Drills.{DrilledSays}
-use Rattle.dm_program.specs.Status.{BlamesShelf, BlamesSink, IsWant, ended_with}
-use Rattle.std.specs.List.{All}
-use Rattle.std.proofs.lemmas.List.Elements.{All-nil, All-cons, All-head, All-tail}
 
 -- what is drawn for so many machines can be done on them
 for_machines : (machines : ℕ) (d : Directive) → IsDrawn machines d → IsFor machines d

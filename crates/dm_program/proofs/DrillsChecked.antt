@@ -1,37 +1,9 @@
 -- What `drill --trace` writes of its groups, `check` finds good.
-use Rattle.std.proofs.Common.{◌≡◌, ◌≤◌, ◌==◌, nat_lt, ℕ, zero, suc, Bool, true, false, List, [], ◌∷◌, ◌++◌, length, append-nil, ap, sym, subst, ◌∙◌, arith}
-use Rattle.std.specs.Prelude.{if◌then◌else◌}
-use Rattle.std.specs.List.{All}
-use Rattle.std.proofs.lemmas.List.Elements.{All-nil, All-cons, All-append}
-use Rattle.std.specs.declared.option.Option.{Option}
-use Rattle.std.specs.declared.option.Option.TheVariants.{Some}
-use Rattle.dm_onekernel.specs.declared.boot.Boot.{Boot}
-use Rattle.dm_schedule.specs.declared.Directive.{Directive}
-use Rattle.dm_line.specs.declared.line.Line.{Line}
-use Rattle.dm_line.specs.Todo.{Todo}
-use Rattle.dm_rule.specs.Point.{Point}
-use Rattle.dm_text.specs.Fits.{LineFits}
-use Rattle.dm_text.specs.Text.{text_of_lines}
-use Rattle.dm_mirror.specs.Run.{IsGood, joined}
-use Rattle.dm_mirror.specs.Todo.{IsDirective}
-use Rattle.dm_outside.specs.Outside.{appended}
-use Rattle.dm_world.specs.declared.world.World.{World}
-use Rattle.dm_run.proofs.Stepping.{are_directives}
-use Rattle.dm_check.specs.Judge.{Open, verdict}
-use Rattle.dm_check.specs.Laws.{HasHome}
-use Rattle.dm_check.proofs.Runs.{beginnings_open}
-use Rattle.dm_draw.specs.Boot.{boot_of}
-use Rattle.dm_draw.specs.Directives.{deliver_drawn, directive_drawn, directives_drawn, migrate_drawn, round_drawn, state_behind, tick_drawn, turn_drawn}
-use Rattle.dm_draw.specs.Draw.{drawn, stepped}
-use Rattle.dm_draw.proofs.Drawing.{drawn_next, drawn_none}
-use Rattle.dm_draw.proofs.Within.{boot_machines, directives_fit, drawn_below}
-use Rattle.dm_drill.specs.declared.drill.Drill.{Drill}
-use Rattle.dm_drill.specs.Counts.{totals_of}
-use Rattle.dm_drill.specs.Drilled.{IsWhole, IsWorn, text_shown}
-use Rattle.dm_drill.specs.Summary.{summary}
-use Rattle.dm_program.specs.DrillWords.{IsWithin}
-use Rattle.dm_program.specs.Drills.{directives_of}
-use Rattle.dm_program.specs.Laws.{DrillsCheck, IsGoodDrill, IsGoodWornDrill}
+use Rattle.dm_program.proofs.Names.{◌≡◌, ◌≤◌, ◌==◌, nat_lt, ℕ, zero, suc, Bool, true, false, List, [], ◌∷◌, ◌++◌, length, append-nil, ap, sym, subst, ◌∙◌, arith, if◌then◌else◌, All, All-nil, All-cons, All-append, Option, Some, Boot}
+use Rattle.dm_program.proofs.Names.{Directive, Line, Todo, Point, LineFits, text_of_lines, IsGood, joined, IsDirective, appended, World, are_directives, Open, verdict, HasHome, beginnings_open, boot_of, deliver_drawn, directive_drawn}
+use Rattle.dm_program.proofs.Names.{directives_drawn, migrate_drawn, round_drawn, state_behind, tick_drawn, turn_drawn, drawn, stepped, drawn_next, drawn_none, boot_machines, directives_fit, drawn_below, Drill, totals_of, IsWorn}
+use Rattle.dm_program.proofs.Names.{text_shown, summary, IsWithin, directives_of, DrillsCheck, IsGoodDrill, IsGoodWornDrill}
+use Rattle.dm_drill.specs.Drilled.{IsWhole}
 use Rattle.dm_program.proofs.Drills.{all_for}
 
 -- a process that is to move is at home on one of the machines

@@ -1,23 +1,8 @@
 -- What the status of a run says.
-use Rattle.std.proofs.Common.{◌≡◌, ◌⊎◌, inl, inr, ℕ, List, refl}
-use Rattle.std.specs.Prelude.{OnOk}
-use Rattle.std.specs.declared.option.Option.{Option}
-use Rattle.std.specs.declared.option.Option.TheVariants.{Some}
-use Rattle.std.specs.declared.result.Result.{Result}
-use Rattle.std.specs.declared.result.Result.TheVariants.{Ok, Err}
-use Rattle.dm_onekernel.specs.declared.boot.Boot.{Boot}
-use Rattle.dm_schedule.specs.declared.Directive.{Directive}
-use Rattle.dm_world.specs.declared.world.World.{World}
-use Rattle.dm_outside.specs.Outside.{RoseOrFull}
-use Rattle.dm_run.specs.declared.stop.Stop.{Stop}
+use Rattle.dm_program.proofs.Names.{◌≡◌, ◌⊎◌, inl, inr, ℕ, List, refl, OnOk, Option, Some, Result, Ok, Err, Boot, Directive, World, RoseOrFull, Stop, Blames, Lasts, Wears, worn_same, Status, Done, Usage, ReadFault, NoMemory, WriteFault}
+use Rattle.dm_program.proofs.Names.{BootRefused, ScheduleRefused, TooLong, Worn, TraceRefused, RunSays, BlamesShelf, BlamesSink, IsWant, ended_with}
 use Rattle.dm_run.specs.declared.stop.Stop.TheVariants as stop
-use Rattle.dm_run.specs.Coming.{Blames, Ended}
-use Rattle.dm_run.specs.Printed.{Lasts, Wears}
-use Rattle.dm_run.proofs.Endings.{worn_same}
-use Rattle.dm_program.specs.declared.status.Status.{Status}
-use Rattle.dm_program.specs.declared.status.Status.TheVariants.{Done, Usage, ReadFault, NoMemory, WriteFault, BootRefused, ScheduleRefused, TooLong, Worn, TraceRefused}
-use Rattle.dm_program.specs.Runs.{RunSays}
-use Rattle.dm_program.specs.Status.{BlamesShelf, BlamesSink, IsWant, ended_with}
+use Rattle.dm_run.specs.Coming.{Ended}
 
 -- what a run comes to
 pub run_says : (A : Type 0) (b : Boot) (ds : List Directive) (before after : Option (List ℕ)) (w : World) (r : Result A Stop) → Ended b ds before after w r → OnOk r (Lasts b ds) → RunSays b ds before after (Some w) (ended_with r)

@@ -1,25 +1,10 @@
 -- What is said of files, and how the program ends that has said it.
-use Rattle.std.proofs.Common.{◌≡◌, ◌⊎◌, inl, inr, ℕ, List, length, refl, ap, sym, subst, ◌∙◌}
-use Rattle.std.specs.declared.option.Option.{Option}
-use Rattle.std.specs.declared.option.Option.TheVariants.{None, Some}
-use Rattle.dm_memory.specs.declared.NoMemory.{NoMemory as TheNoMemory}
-use Rattle.dm_onekernel.specs.declared.boot.Boot.{Boot}
-use Rattle.std.specs.Prelude.{Vec}
-use Rattle.std.specs.declared.alloc.Global.{Global}
-use Rattle.dm_onekernel.specs.Boot.{IsValid}
-use Rattle.dm_boot.specs.declared.rules.BootRule.{BootRule}
-use Rattle.dm_boot.specs.Rules.{rule_number}
-use Rattle.dm_explain.specs.declared.explain.BootTold.{BootTold}
+use Rattle.dm_program.proofs.Names.{◌≡◌, ◌⊎◌, inl, inr, ℕ, List, length, refl, ap, sym, subst, ◌∙◌, Option, Some, TheNoMemory, Boot, Vec, Global, IsValid, BootRule, rule_number, BootTold, IsToldValid, RoseOrFull, Status, Done, Usage}
+use Rattle.dm_program.proofs.Names.{ReadFault, NoMemory, WriteFault, BootRefused, ScheduleRefused, TooLong, Worn, TraceRefused, AsksFiles, AsksNamed, BeforeRun, NoInputs, SaysInputs, TellsFiles, TellsRead, TellsSchedule, TellsSystem, Wrote}
+use Rattle.dm_program.proofs.Names.{NoBoot, NoDirectives, NoFiles, SaysBoot, BlamesShelf, BlamesSink, IsWant}
+use Rattle.std.specs.declared.option.Option.TheVariants.{None}
 use Rattle.dm_explain.specs.declared.explain.BootTold.TheVariants as told_as
-use Rattle.dm_explain.specs.Explained.{IsToldValid}
-use Rattle.dm_outside.specs.Outside.{RoseOrFull}
-use Rattle.dm_program.specs.declared.status.Status.{Status}
-use Rattle.dm_program.specs.declared.status.Status.TheVariants.{Done, Usage, ReadFault, NoMemory, WriteFault, BootRefused, ScheduleRefused, TooLong, Worn, TraceRefused}
 use Rattle.dm_program.specs.declared.status.Input.TheVariants as input
-use Rattle.dm_program.specs.Asked.{AsksFiles}
-use Rattle.dm_program.specs.Explains.{AsksNamed, BeforeRun, NoInputs, SaysInputs, TellsFiles, TellsRead, TellsSchedule, TellsSystem, Wrote}
-use Rattle.dm_program.specs.Inputs.{NoBoot, NoDirectives, NoFiles, SaysBoot}
-use Rattle.dm_program.specs.Status.{BlamesShelf, BlamesSink, IsWant}
 use Rattle.dm_program.proofs.Outcomes.{Files, boot_part, long_boot, never_sink, no_files, outcome, refused_boot, said_boot, said_files, want_or_not}
 
 -- memory may lack
@@ -68,13 +53,6 @@ pub wrote_shelf : (files : Option Files) (boot : List ℕ) (schedule : Option (L
 wrote_shelf files boot schedule text before after old new k k' due s h w e = elim w [
   | inl a ↦ subst (λ (x : Status). BlamesShelf old new x) (sym a.ends) (due_shelf files boot schedule text old new due h e)
   | inr b ↦ subst (λ (x : Status). BlamesShelf old new x) (sym b.ends) e
-]
-
--- it never ends as a read that failed
-pub never_read : (files : Option Files) (boot : List ℕ) (schedule : Option (List ℕ)) (text : List ℕ) (before after : Option (List ℕ)) (k k' : ℕ) (due s t : Status) → TellsFiles files boot schedule due text → Wrote due text before after k k' s → s ≡ t → (TellsFiles files boot schedule t text → ⊥) → (WriteFault ≡ t → ⊥) → ⊥
-never_read files boot schedule text before after k k' due s t h w e none other = elim w [
-  | inl a ↦ none (subst (λ (x : Status). TellsFiles files boot schedule x text) (sym a.ends ∙ e) h)
-  | inr b ↦ other (sym b.ends ∙ e)
 ]
 
 says_boot : (files : Option Files) (boot : List ℕ) (b : Boot) (text : List ℕ) → TellsSystem files boot b text → SaysBoot files boot b
@@ -190,9 +168,6 @@ system_told files boot b text told is h =
 pub system_says : (files : Option Files) (boot : List ℕ) (b : Boot) (text : Vec ℕ Global) (told : BootTold) → told ≡ told_as.System b text → TellsRead files boot told → SaysBoot files boot b
 system_says files boot b text told is h = says_boot files boot b text.items (system_told files boot b text told is h)
 
-pub system_valid : (b : Boot) (text : Vec ℕ Global) (told : BootTold) → told ≡ told_as.System b text → IsToldValid told → IsValid b
-system_valid b text told is h = let k : IsToldValid (told_as.System b text) = subst IsToldValid is h in k
-
 -- no file was asked for but the boot file
 pub asks_boot : {S : Type 0} (asked : S → List ℕ → S → Type 0) (files : Option Files) (boot : List ℕ) (schedule : Option (List ℕ)) (old new : S) → asked old boot new → AsksNamed asked files boot schedule old new
 asks_boot asked files boot None old new h = h
@@ -215,33 +190,3 @@ no_system files boot (Some schedule) old new (TooLong input.Schedule) h = absurd
 no_system files boot (Some schedule) old new (TooLong input.Trace) h = absurd h
 no_system files boot (Some schedule) old new (Worn from to) h = absurd h
 no_system files boot (Some schedule) old new (TraceRefused line why) h = absurd h
-
--- a schedule is said behind a system
-pub both_told : (files : Option Files) (boot schedule : List ℕ) (b : Boot) (first : List ℕ) (due : Status) (text : List ℕ) → TellsSystem files boot b first → TellsSchedule files schedule (length b.machines) first due text → TellsFiles files boot (Some schedule) due text
-both_told files boot schedule b first Done text s h = record { system = b; first = first; boot_told = s; schedule_told = h }
-both_told files boot schedule b first (ScheduleRefused line why) text s h = record { system = b; first = first; boot_told = s; schedule_told = h }
-both_told files boot schedule b first Usage text s h = absurd h.tells
-both_told files boot schedule b first (ReadFault i) text s h = absurd h.tells
-both_told files boot schedule b first (NoMemory lack) text s h = absurd h.tells
-both_told files boot schedule b first WriteFault text s h = absurd h.tells
-both_told files boot schedule b first (BootRefused number place) text s h = absurd h.tells
-both_told files boot schedule b first (TooLong i) text s h = absurd h.tells
-both_told files boot schedule b first (Worn from to) text s h = absurd h.tells
-both_told files boot schedule b first (TraceRefused line why) text s h = absurd h.tells
-
--- and where it can't be had, that is why
-pub none_behind : (files : Option Files) (boot schedule : List ℕ) (b : Boot) (old new : ℕ) (s : Status) → SaysBoot files boot b → NoDirectives files schedule (length b.machines) old new s → NoFiles files boot schedule old new s
-none_behind files boot schedule b old new Done says h = absurd h
-none_behind files boot schedule b old new Usage says h = absurd h
-none_behind files boot schedule b old new (ReadFault input.Boot) says h = absurd h
-none_behind files boot schedule b old new (ReadFault input.Schedule) says h = record { b = b; says = says; holds = h }
-none_behind files boot schedule b old new (ReadFault input.Trace) says h = absurd h
-none_behind files boot schedule b old new (NoMemory lack) says h = tt
-none_behind files boot schedule b old new WriteFault says h = absurd h
-none_behind files boot schedule b old new (BootRefused number place) says h = absurd h
-none_behind files boot schedule b old new (ScheduleRefused line why) says h = record { b = b; says = says; holds = h }
-none_behind files boot schedule b old new (TooLong input.Boot) says h = absurd h
-none_behind files boot schedule b old new (TooLong input.Schedule) says h = record { b = b; says = says; holds = h }
-none_behind files boot schedule b old new (TooLong input.Trace) says h = absurd h
-none_behind files boot schedule b old new (Worn from to) says h = absurd h
-none_behind files boot schedule b old new (TraceRefused line why) says h = absurd h

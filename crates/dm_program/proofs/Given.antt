@@ -1,27 +1,21 @@
 -- Words that the command line takes ask for something.
-use Rattle.std.proofs.Common.{◌≡◌, ◌<◌, ◌&&◌, ◌||◌, ◌⊎◌, Bool, true, false, not, ℕ, zero, suc, List, [], ◌∷◌, ◌++◌, length, length-append, refl, ap, ap₂, sym, subst, ◌∙◌, inl, inr, arith, cond, codes, None, Some, is_some, option_map, if◌then◌else◌, drop}
-use Rattle.std.specs.Prelude.{⊤, encode_utf8, find, fold, option_and_then, slice_get}
-use Rattle.std.specs.declared.option.Option.{Option}
-use Rattle.std.specs.Option.{option_map_or}
-use Rattle.std.specs.Str.{bytes_eq, chars}
-use Rattle.clap.specs.Lexer.{long_of, short_of}
-use Rattle.clap.specs.Facts.{explicit_source, unwrap_or_range}
-use Rattle.clap.specs.Walk.{Held, Names, Outcome, Row, Rule, Step, Text, Waiting, Walk, action_of, answers_to, after_flag, after_step, arg_by_id, arg_by_index, arg_by_long, arg_by_short, at_row, attached_value, bundle_met, bundle_step, default_rows, finished, first_of, flag_met, idle, is_empty, is_pending, has_row, long_met, long_or_other, more_values, most_values, next, nothing_held, option, option_met, option_word, plain, plain_word, positional, positional_held, pushed, reacted, reading_by, refused, settled, settled_rows, short_met, short_or_plain, stop_after, subcommand, subcommand_met, subcommand_or_other, takes_several, takes_values, to_positional, trailing, used, used_as, used_by_id, value, values_or_missing, waits, walk, walk_from, walked, walked_from, with_default, with_values, without, word_met, done}
-use Rattle.clap.specs.Kinds.{Kinds, check_kinds, or_else, range_kinds}
-use Rattle.clap.specs.Takes.{is_given}
-use Rattle.clap.specs.Faults.{action_fault, bundle_step_fault, check_fault, defaults_fault, entered_fault, fault_of, flag_word_fault, flags_fault, level_fault, long_fault, option_fault, other_fault, positional_fault, react_fault, settle_fault, short_fault, step_fault, stray_fault, use_fault, walk_fault, word_fault}
-use Rattle.clap.specs.Simple.{Shape, argument_words, built, entered, label_of, names_of as labels_of, rows_at, subcommand_of}
+use Rattle.dm_program.proofs.Names.{◌≡◌, ◌<◌, ◌&&◌, ◌||◌, ◌⊎◌, Bool, true, false, not, ℕ, zero, suc, List, [], ◌∷◌, ◌++◌, length, length-append, refl, ap, ap₂, sym, subst, ◌∙◌, inl, inr, arith, cond, codes, None, is_some, option_map}
+use Rattle.dm_program.proofs.Names.{if◌then◌else◌, drop, ⊤, encode_utf8, find, fold, option_and_then, slice_get, Option, option_map_or, bytes_eq, chars, long_of, short_of, explicit_source, unwrap_or_range, Held, Names, Outcome, Row, Rule}
+use Rattle.dm_program.proofs.Names.{Step, Waiting, Walk, action_of, answers_to, after_flag, after_step, arg_by_id, arg_by_index, arg_by_long, arg_by_short, at_row, attached_value, bundle_met, bundle_step, default_rows, finished, first_of}
+use Rattle.dm_program.proofs.Names.{flag_met, idle, is_empty, is_pending, has_row, long_met, long_or_other, more_values, most_values, next, nothing_held, option, option_met, option_word, plain, plain_word, positional, positional_held}
+use Rattle.dm_program.proofs.Names.{pushed, reacted, reading_by, refused, settled, settled_rows, short_met, short_or_plain, stop_after, subcommand, subcommand_met, subcommand_or_other, takes_several, takes_values, to_positional, trailing}
+use Rattle.dm_program.proofs.Names.{used, used_as, used_by_id, value, values_or_missing, waits, walk, walk_from, walked, walked_from, with_default, with_values, without, word_met, done, check_kinds, or_else, range_kinds, is_given}
+use Rattle.dm_program.proofs.Names.{action_fault, bundle_step_fault, check_fault, defaults_fault, entered_fault, flag_word_fault, flags_fault, level_fault, long_fault, option_fault, other_fault, positional_fault, react_fault, settle_fault}
+use Rattle.dm_program.proofs.Names.{short_fault, step_fault, stray_fault, use_fault, walk_fault, word_fault, Shape, argument_words, built, entered, label_of, labels_of, rows_at, ValueSource, DefaultValue, CommandLine, Reading, drawn_by}
+use Rattle.dm_program.proofs.Names.{lines_of, machines_of, seed_of, trace_of, explaining, both, Request, Chart, Check, Explain, Run, run_command, AreTaken, IsTaken, demosmp, request_at, request_of}
+use Rattle.std.proofs.Common.{Some}
+use Rattle.clap.specs.Walk.{Text}
+use Rattle.clap.specs.Kinds.{Kinds}
+use Rattle.clap.specs.Faults.{fault_of}
+use Rattle.clap.specs.Simple.{subcommand_of}
 use Rattle.clap.specs.declared.builder.action.ArgAction.TheVariants as action
 use Rattle.clap.specs.declared.error.kind.ErrorKind.TheVariants as kind
-use Rattle.clap.specs.declared.parser.matches.ValueSource.{ValueSource}
-use Rattle.clap.specs.declared.parser.matches.ValueSource.TheVariants.{DefaultValue, CommandLine}
-use Rattle.clap.specs.declared.builder.value_parser.Reading.{Reading}
-use Rattle.dm_program.specs.DrillWords.{drawn_by, lines_of, machines_of, seed_of, trace_of}
-use Rattle.dm_program.specs.ExplainWords.{explaining}
-use Rattle.dm_program.specs.FileWords.{both}
-use Rattle.dm_program.specs.Request.{Request, Chart, Check, Drill, Explain, Run}
-use Rattle.dm_program.specs.RunWords.{run_command}
-use Rattle.dm_program.specs.Words.{AreTaken, IsTaken, demosmp, request_at, request_of}
+use Rattle.dm_program.specs.Request.{Drill}
 
 -- where two steps pass, each does
 both_pass : (a b : Kinds) → or_else a b ≡ [] → (a ≡ []) × (b ≡ [])

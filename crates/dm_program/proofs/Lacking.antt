@@ -1,19 +1,9 @@
 -- What the program promises where memory lacks before anything was done, or the words ask for nothing.
-use Rattle.std.proofs.Common.{◌≡◌, inl, inr, ℕ, List, refl, sym, subst}
-use Rattle.std.specs.declared.option.Option.{Option}
-use Rattle.std.specs.declared.option.Option.TheVariants.{None, Some}
-use Rattle.dm_memory.specs.declared.NoMemory.{NoMemory as TheNoMemory}
-use Rattle.dm_draw.specs.Boot.{boot_of}
-use Rattle.dm_drill.specs.Drilled.{IsOfFirst}
-use Rattle.dm_drill.proofs.Going.{nothing_drilled}
-use Rattle.dm_program.specs.declared.status.Status.TheVariants.{Usage, NoMemory}
-use Rattle.dm_program.specs.declared.words.WordsError.{WordsError}
+use Rattle.dm_program.proofs.Names.{◌≡◌, inl, inr, ℕ, List, refl, sym, subst, Option, Some, TheNoMemory, boot_of, IsOfFirst, nothing_drilled, Usage, NoMemory, WordsError, directives_of, Outside, ProgramMeets, Request, Chart, Check, Explain}
+use Rattle.dm_program.proofs.Names.{Run, IsWant, status_of_no}
+use Rattle.std.specs.declared.option.Option.TheVariants.{None}
 use Rattle.dm_program.specs.declared.words.WordsError.TheVariants as why
-use Rattle.dm_program.specs.Drills.{directives_of}
-use Rattle.dm_program.specs.Outside.{Outside}
-use Rattle.dm_program.specs.Program.{ProgramMeets}
-use Rattle.dm_program.specs.Request.{Request, Chart, Check, Drill, Explain, Run}
-use Rattle.dm_program.specs.Status.{IsWant, status_of_no}
+use Rattle.dm_program.specs.Request.{Drill}
 use Rattle.dm_program.proofs.ExplainOutcomes.{asks_nothing, wants_memory}
 
 -- nothing was done

@@ -1,4 +1,5 @@
 pub mod Names
+pub mod CommandWords
 pub mod Given
 pub mod Reading
 pub mod Schedules

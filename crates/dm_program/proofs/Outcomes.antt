@@ -1,23 +1,11 @@
 -- Files say one thing: why there is no run is a function of them, where no read fails and memory is there.
-use Rattle.std.proofs.Common.{◌≡◌, ◌⊎◌, inl, inr, ◌≤◌, ◌<◌, ℕ, true, false, List, length, refl, ap, ap₂, sym, subst, ◌∙◌, cond, nat_lt, arith}
-use Rattle.std.proofs.lemmas.Bool.Decides.{nat_tests}
-use Rattle.std.specs.declared.option.Option.{Option}
-use Rattle.std.specs.declared.option.Option.TheVariants.{None, Some}
-use Rattle.std.specs.declared.result.Result.{Result}
-use Rattle.std.specs.declared.result.Result.TheVariants.{Ok, Err}
-use Rattle.dm_onekernel.specs.declared.boot.Boot.{Boot}
-use Rattle.dm_boot.specs.declared.rules.BootRule.{BootRule}
-use Rattle.dm_boot.specs.Rules.{rule_number}
+use Rattle.dm_program.proofs.Names.{◌≡◌, ◌⊎◌, inl, inr, ◌≤◌, ◌<◌, ℕ, true, false, List, length, refl, ap, ap₂, sym, subst, ◌∙◌, cond, nat_lt, arith, nat_tests, Option, Some, Result, Ok, Err, Boot, BootRule, rule_number, Directive, Schedule}
+use Rattle.dm_program.proofs.Names.{Accepted, Refused, RoseOrFull, Status, Done, Usage, ReadFault, NoMemory, WriteFault, BootRefused, ScheduleRefused, TooLong, Worn, TraceRefused, AcceptsFiles, AfterBoot, HasFile, NoFiles, RefusesBoot}
+use Rattle.dm_program.proofs.Names.{RefusesSchedule, SaysBoot, SaysDirectives, SaysFiles, most_boot, most_schedule, IsLonger, BlamesSink, IsWant}
+use Rattle.std.specs.declared.option.Option.TheVariants.{None}
 use Rattle.dm_boot.specs.Boot.{boot_of}
-use Rattle.dm_schedule.specs.declared.Directive.{Directive}
-use Rattle.dm_schedule.specs.Schedule.{Schedule, Accepted, Refused, directives_of, number_of_fault}
-use Rattle.dm_outside.specs.Outside.{RoseOrFull}
-use Rattle.dm_program.specs.declared.status.Status.{Status}
-use Rattle.dm_program.specs.declared.status.Status.TheVariants.{Done, Usage, ReadFault, NoMemory, WriteFault, BootRefused, ScheduleRefused, TooLong, Worn, TraceRefused}
+use Rattle.dm_schedule.specs.Schedule.{directives_of, number_of_fault}
 use Rattle.dm_program.specs.declared.status.Input.TheVariants as input
-use Rattle.dm_program.specs.Inputs.{AcceptsFiles, AfterBoot, HasFile, NoFiles, RefusesBoot, RefusesSchedule, SaysBoot, SaysDirectives, SaysFiles, most_boot, most_schedule}
-use Rattle.dm_program.specs.Files.{IsLonger}
-use Rattle.dm_program.specs.Status.{BlamesSink, IsWant}
 
 abbrev pub Files : Type 0
 Files = List ℕ → Option (List ℕ)

@@ -1,10 +1,7 @@
 -- A file that is read piece by piece.
-use Rattle.std.proofs.Common.{◌≡◌, ℕ, ◌+◌, ◌-◌, ◌≤◌, List, ◌++◌, length, take, drop, ap, sym, subst, ◌∙◌, append_assoc, length-append, arith, None, Some}
-use Rattle.std.proofs.lemmas.List.{take-append-drop, length-take-le, length-drop, drop-drop}
-use Rattle.std.specs.declared.option.Option.{Option}
-use Rattle.std.specs.declared.result.Result.TheVariants.{Ok}
-use Rattle.dm_outside.specs.Outside.{ReadsFile, ReadsTold}
-use Rattle.dm_program.specs.Files.{StartsSo, SoFar}
+use Rattle.dm_program.proofs.Names.{◌≡◌, ℕ, ◌+◌, ◌-◌, ◌≤◌, List, ◌++◌, length, take, drop, ap, sym, subst, ◌∙◌, append_assoc, length-append, arith, None, take-append-drop, length-take-le, length-drop, drop-drop, Option, Ok, ReadsFile}
+use Rattle.dm_program.proofs.Names.{ReadsTold, StartsSo, SoFar}
+use Rattle.std.proofs.Common.{Some}
 
 -- the bytes after those that were read, once more were read
 pub rest_after : (content bytes into : List ℕ) (n : ℕ) → take n into ≡ take n (drop (length bytes) content) → n ≤ length content - length bytes → content ≡ bytes ++ drop (length bytes) content → content ≡ (bytes ++ take n into) ++ drop (length (bytes ++ take n into)) content

@@ -1,24 +1,7 @@
 -- What `run` writes, `check` finds good.
-use Rattle.std.proofs.Common.{◌≡◌, ◌⊎◌, inl, inr, ℕ, Bool, true, false, List, [], ◌++◌, length, ap, sym, subst, ◌∙◌, append-nil}
-use Rattle.std.specs.List.{All}
-use Rattle.std.specs.declared.option.Option.{Option}
-use Rattle.std.specs.declared.option.Option.TheVariants.{Some}
-use Rattle.dm_onekernel.specs.declared.boot.Boot.{Boot}
-use Rattle.dm_schedule.specs.declared.Directive.{Directive}
-use Rattle.dm_line.specs.declared.line.Line.{Line}
-use Rattle.dm_mirror.specs.Run.{IsGood}
-use Rattle.dm_outside.specs.Outside.{appended}
-use Rattle.dm_check.specs.Good.{good_verdict}
-use Rattle.dm_check.specs.Judge.{verdict}
-use Rattle.dm_check.specs.Laws.{HasHome}
-use Rattle.dm_check.proofs.Runs.{beginnings_open, runs_ended}
+use Rattle.dm_program.proofs.Names.{◌≡◌, ◌⊎◌, inl, inr, ℕ, Bool, true, false, List, [], ◌++◌, length, ap, sym, subst, ◌∙◌, append-nil, All, Option, Some, Boot, Directive, Line, IsGood, appended, good_verdict, verdict, HasHome}
+use Rattle.dm_program.proofs.Names.{beginnings_open, runs_ended, Status, Accepts, GivesGood, HasTrace, AcceptsFiles, SaysBoot, SaysDirectives, IsKept, RunsCheck, SaysItIs, WornRunsCheck, Outside, NeverFails, IsWant}
 use Rattle.dm_run.specs.Printed.{IsWhole, IsWorn}
-use Rattle.dm_program.specs.declared.status.Status.{Status}
-use Rattle.dm_program.specs.Checks.{Accepts, GivesGood, HasTrace}
-use Rattle.dm_program.specs.Inputs.{AcceptsFiles, SaysBoot, SaysDirectives}
-use Rattle.dm_program.specs.Laws.{IsKept, RunsCheck, SaysItIs, WornRunsCheck}
-use Rattle.dm_program.specs.Outside.{Outside, NeverFails}
-use Rattle.dm_program.specs.Status.{IsWant}
 use Rattle.dm_program.proofs.Schedules.{are_read}
 
 -- the directives of a schedule name processes that are at home on machines that there are

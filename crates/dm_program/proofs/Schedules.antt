@@ -1,28 +1,12 @@
 -- What the directives of a schedule are that is accepted.
-use Rattle.std.proofs.Common.{◌≡◌, ◌≢◌, ◌≤◌, ◌<◌, ℕ, suc, ◌+◌, ◌==◌, Bool, true, false, ◌&&◌, nat_lt, nat_le, if◌then◌else◌, List, [], ◌∷◌, length, refl, subst, arith}
-use Rattle.std.specs.Prelude.{⊤}
-use Rattle.std.specs.List.{All}
-use Rattle.std.proofs.lemmas.List.Elements.{All-nil, All-cons}
-use Rattle.std.proofs.lemmas.Bool.Decides.{nat_tests}
-use Rattle.std.specs.declared.option.Option.{Option}
-use Rattle.std.specs.declared.option.Option.TheVariants.{None, Some}
-use Rattle.std.specs.declared.result.Result.{Result}
-use Rattle.std.specs.declared.result.Result.TheVariants.{Ok, Err}
-use Rattle.dm_link.specs.declared.Pid.{Pid}
+use Rattle.dm_program.proofs.Names.{◌≡◌, ◌≢◌, ◌≤◌, ◌<◌, ℕ, suc, ◌+◌, ◌==◌, Bool, true, false, ◌&&◌, nat_lt, nat_le, if◌then◌else◌, List, [], ◌∷◌, length, refl, subst, arith, ⊤, All, All-nil, All-cons, nat_tests, Option, Some, Result, Ok}
+use Rattle.dm_program.proofs.Names.{Err, Pid, Directive, LineFault, SameMachine, WrongCount, Keyword, Turn, Tick, Deliver, Migrate, Round, Spin, Settle, keyword_of, operands, Operand, Machine, Process, Packet, Rounds, lines, words}
+use Rattle.dm_program.proofs.Names.{onto_first, ends_line, is_return, line_ends, number_of, process_of, Value, Values, value_of, values_of, within, ◌>>=◌, Schedule, Accepted, Refused, made, directive_of, begins_comment, line_directive}
+use Rattle.dm_program.proofs.Names.{also, with_line, lines_from, IsFor, HasHome}
+use Rattle.std.specs.declared.option.Option.TheVariants.{None}
 use Rattle.dm_schedule.specs.declared.Step.TheVariants as step
-use Rattle.dm_schedule.specs.declared.Directive.{Directive}
 use Rattle.dm_schedule.specs.declared.Directive.TheVariants as directive
-use Rattle.dm_schedule.specs.declared.LineFault.{LineFault}
-use Rattle.dm_schedule.specs.declared.LineFault.TheVariants.{SameMachine, WrongCount}
-use Rattle.dm_schedule.specs.declared.keywords.Keyword.{Keyword}
-use Rattle.dm_schedule.specs.declared.keywords.Keyword.TheVariants.{Turn, Tick, Deliver, Migrate, Round, Spin, Settle}
-use Rattle.dm_schedule.specs.Keywords.{keyword_of, operands, Operand, Machine, Process, Packet, Rounds}
-use Rattle.dm_schedule.specs.Lines.{lines, words, onto_first, ends_line, is_return, line_ends}
-use Rattle.dm_schedule.specs.Numbers.{number_of, process_of}
-use Rattle.dm_schedule.specs.Operands.{Value, Values, value_of, values_of, within, ◌>>=◌}
-use Rattle.dm_schedule.specs.Schedule.{Schedule, Accepted, Refused, made, directive_of, begins_comment, line_directive, also, with_line, lines_from, directives_of}
-use Rattle.dm_run.specs.Coming.{IsFor}
-use Rattle.dm_check.specs.Laws.{HasHome}
+use Rattle.dm_schedule.specs.Schedule.{directives_of}
 
 -- a directive for so many machines, whose process is at home on one of them
 abbrev IsFit : ℕ → Directive → Type 0

@@ -1,18 +1,7 @@
 -- Whose read failed.
-use Rattle.std.proofs.Common.{◌≡◌, ℕ, List, subst, sym}
-use Rattle.std.proofs.lemmas.Bool.{false≢true}
-use Rattle.std.specs.Result.{IfErr, IsErr, IsErrAnd}
-use Rattle.std.specs.declared.result.Result.TheVariants.{Ok, Err}
-use Rattle.std.specs.declared.option.Option.{Option}
-use Rattle.std.specs.declared.result.Result.{Result}
-use Rattle.dm_outside.specs.Outside.{RoseOrFull}
-use Rattle.dm_program.specs.declared.status.Input.{Input}
+use Rattle.dm_program.proofs.Names.{◌≡◌, ℕ, List, subst, sym, false≢true, IfErr, IsErr, IsErrAnd, Ok, Err, Option, Result, RoseOrFull, Input, Status, AsksBoth, FailsSecond, NoBytes, NoDirectives}
 use Rattle.dm_program.specs.declared.status.Input.TheVariants as input
-use Rattle.dm_program.specs.declared.status.Status.{Status}
 use Rattle.dm_program.specs.declared.status.Status.TheVariants as status
-use Rattle.dm_program.specs.Asked.{AsksBoth, FailsSecond}
-use Rattle.dm_program.specs.Checks.{NoBytes}
-use Rattle.dm_program.specs.Inputs.{NoDirectives}
 
 -- what holds of the one error holds of the error there is
 if_err : {A E : Type 0} (r : Result A E) (e : E) (P : E → Type 0) → IsErr r × IsErrAnd r (λ y. y ≡ e) → P e → IfErr r P

@@ -1,13 +1,5 @@
 -- A process that has a record keeps one where a record is set.
-use Rattle.std.specs.Prelude.{◌≡◌, Bool, true, false, cond, if◌then◌else◌, IsSome}
-use Rattle.std.proofs.Common.{◌∙◌, ap, arith, refl, rules, sym}
-use Rattle.std.proofs.lemmas.Grind.{common_steps}
-use Rattle.std.specs.BTreeMap.{is_at}
-use Rattle.std.specs.declared.option.Option.{Option}
-use Rattle.std.specs.declared.option.Option.TheVariants.{Some}
-use Rattle.dm_link.specs.declared.Pid.{Pid}
-use Rattle.dm_link.specs.Names.{pid_cmp, pid_eq}
-use Rattle.dm_records.specs.Records.{in_place}
+use Rattle.dm_records.proofs.Names.{◌≡◌, Bool, true, false, cond, if◌then◌else◌, IsSome, ◌∙◌, ap, arith, refl, rules, sym, common_steps, is_at, Option, Some, Pid, pid_cmp, pid_eq, in_place}
 
 one_of : {R : Type 0} (same : Bool) (x : R) (o : Option R) → IsSome o → IsSome (if same then Some x else o)
 one_of true x o s = search rules

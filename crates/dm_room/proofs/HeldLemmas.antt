@@ -1,9 +1,5 @@
 -- What is taken is what is held.
-use Rattle.std.proofs.Common.{◌≡◌, ℕ, zero, suc, ◌+◌, ◌<◌, ◌≤◌, List, [], ◌∷◌, length, sum, remove, slice_get, Some, refl, arith}
-use Rattle.std.proofs.lemmas.Bool.Decides.{nat_tests}
-use Rattle.std.proofs.lemmas.Grind.{common_steps}
-use Rattle.dm_room.specs.Room.{HasTaken, IsWithin}
-use Rattle.dm_room.specs.Held.{Use, Event, happens, run, start, IsExact}
+use Rattle.dm_room.proofs.Names.{◌≡◌, ℕ, zero, suc, ◌+◌, ◌<◌, ◌≤◌, List, [], ◌∷◌, length, sum, remove, slice_get, Some, refl, arith, nat_tests, common_steps, HasTaken, IsWithin, Use, Event, happens, run, start, IsExact}
 
 -- one element less
 sum-remove : (xs : List ℕ) (i x : ℕ) → slice_get xs i ≡ Some x → sum (remove xs i) + x ≡ sum xs

@@ -1,25 +1,22 @@
 -- What the proofs of this crate name of what lies below it.
-pub use Rattle.std.proofs.Common.{eq-eqb, eqb-true, lit<, not, suc, zero, ◌%◌, ◌<◌, ◌||◌, ◌≢◌}
-pub use Rattle.std.proofs.Math.Seq.{drop-length}
+pub use Rattle.std.proofs.Common.{eq-eqb, eqb-true, lit<, ◌||◌}
 pub use Rattle.std.proofs.lemmas.Bool.{cases_eq, or_cases, or_left, or_right}
-pub use Rattle.std.proofs.lemmas.List.{append-nil, drop-append-le, length-append}
+pub use Rattle.std.proofs.lemmas.List.{length-append}
 pub use Rattle.std.proofs.lemmas.Option.{slice_get_cases, slice_get_within}
-pub use Rattle.std.specs.List.{cons_option, position_or_len}
-pub use Rattle.std.specs.Option.{is_none}
-pub use Rattle.std.specs.Prelude.{cond, filter, filter_map, replicate, slice_index, slice_set, ◌/◌}
+pub use Rattle.std.specs.List.{cons_option}
+pub use Rattle.std.specs.Prelude.{filter, filter_map, slice_set}
 pub use Rattle.dm_link.specs.Names.{Place, place_of}
 pub use Rattle.dm_link.specs.declared.Kind.TheVariants.{General}
-pub use Rattle.dm_link.specs.declared.Link.{Link}
-pub use Rattle.dm_processor.specs.Instructions.{past}
+pub use Rattle.dm_processor.proofs.Names.{Bool, List, Opcode, Regs, Row, [], ap, arith, cond, drop, drop-append-le, false, length, nat_tests, opcode_of, past, refl, replicate, slice_index, suc, sym, take, true, zero, ℕ, ◌%◌, ◌*◌, ◌++◌, ◌+◌}
+pub use Rattle.dm_processor.proofs.Names.{◌-◌, ◌/◌, ◌<◌, ◌∙◌, ◌∷◌, ◌≡◌, ◌≤◌}
 unfoldable pub use Rattle.dm_processor.specs.Instructions.{instruction}
-pub use Rattle.dm_processor.specs.Opcodes.{opcode_of}
-pub use Rattle.dm_processor.specs.declared.opcodes.Opcode.{Opcode}
 pub use Rattle.dm_processor.specs.declared.registers.Fault.{Fault}
-pub use Rattle.dm_processor.specs.declared.registers.Regs.{Regs}
 pub use Rattle.dm_message.specs.Kinds.{plain_kind}
 pub use Rattle.dm_message.specs.declared.kind.MessageKind.{MessageKind}
-pub use Rattle.dm_schedule.specs.declared.Directive.{Directive}
+pub use Rattle.dm_linktable.proofs.Names.{Link, Pid, first_empty, is_none, link_at, map, pid_eq, subst, ◌&&◌, ◌==◌, ◌≢◌}
+pub use Rattle.dm_schedule.proofs.Names.{Directive, append-nil, drop-length, if◌then◌else◌, nat_lt, not, position_or_len}
 pub use Rattle.dm_schedule.specs.declared.Step.{Step}
+pub use Rattle.dm_process.proofs.Names.{slice_get}
 pub use Rattle.dm_process.specs.Mail.{on_mask}
 pub use Rattle.dm_onekernel.specs.Boot.{is_general, slots_of}
 pub use Rattle.dm_onekernel.specs.Codes.{reply_code, reply_eq, why_eq}
@@ -32,18 +29,17 @@ pub use Rattle.dm_laws.proofs.Entered.{Entered, Made, asks, counts, is_counted, 
 pub use Rattle.dm_laws.proofs.Equal.{id_eq-is, id_eq-same, id_eq-swap, pid_eq-is, pid_eq-same}
 pub use Rattle.dm_laws.proofs.Grown.{LifeGrows}
 pub use Rattle.dm_laws.proofs.Movers.{sent_at, sent_off, stayed}
-pub use Rattle.dm_laws.proofs.Names.{Alive, Bool, Boot, BootImage, BootProcess, CallNumber, Called, Direction, Ends, IsValid, Label, Life, List, Manager, Moving, MsgId, None, OneKernel, Option, Outputs, Pending, Pid, PlainLink}
-pub use Rattle.dm_laws.proofs.Names.{PlainMessage, PlainProcess, PlainStatus, PlainWhat, Ready, Replies, Reply, Row, Sends, Some, Waiting, Waits, Why, [], answer_id, answer_to, ap, arith, begun, bind, cases_Bool, direction_numbered, drop}
-pub use Rattle.dm_laws.proofs.Names.{entry, false, false≢true, first_empty, first_failed, first_life, first_number, id_eq, id_of, if◌then◌else◌, in_bag, inl, inr, is_of_memory, is_some, length, life_at, link_at, manager, map, nat_le}
-pub use Rattle.dm_laws.proofs.Names.{nat_lt, nat_tests, option_map, pid_eq, pid_of, plain_link, processes_are_valid, reception, refl, reg, slice_get, start, starting_at, subst, switchboard, sym, take, true, when, with_process, with_sent}
-pub use Rattle.dm_laws.proofs.Names.{without_message, ℕ, ⊤, ◌&&◌, ◌*◌, ◌++◌, ◌+◌, ◌-◌, ◌==◌, ◌∙◌, ◌∷◌, ◌≡◌, ◌≤◌, ◌⊎◌}
+pub use Rattle.dm_laws.proofs.Names.{Alive, Boot, BootImage, BootProcess, CallNumber, Called, Direction, Ends, IsValid, Label, Life, Manager, Moving, MsgId, None, OneKernel, Option, Outputs, Pending, PlainLink, PlainMessage, PlainProcess}
+pub use Rattle.dm_laws.proofs.Names.{PlainStatus, PlainWhat, Ready, Replies, Reply, Sends, Some, Waiting, Waits, Why, answer_id, answer_to, begun, bind, cases_Bool, direction_numbered, entry, false≢true, first_failed, first_life}
+pub use Rattle.dm_laws.proofs.Names.{first_number, id_eq, id_of, in_bag, inl, inr, is_of_memory, is_some, life_at, manager, nat_le, option_map, pid_of, plain_link, processes_are_valid, reception, reg, start, starting_at, switchboard, when}
+pub use Rattle.dm_laws.proofs.Names.{with_process, with_sent, without_message, ⊤, ◌⊎◌}
 pub use Rattle.dm_laws.proofs.Runs.{after_step, start-sound}
 pub use Rattle.dm_laws.proofs.Servers.{ServerSends}
 pub use Rattle.dm_laws.proofs.Services.{LandsSo, lands-is}
 pub use Rattle.dm_laws.proofs.Sound.{Sound, counts_process, not_server}
 pub use Rattle.dm_laws.proofs.Steps.{Nexts, alive-is, bind-is, nexts, when-is}
 pub use Rattle.dm_line.proofs.Below.{all_of_each, both_true, each_of_all, left_true, right_true}
-pub use Rattle.dm_line.specs.Each.{all_below}
+pub use Rattle.dm_line.proofs.Names.{all_below}
 pub use Rattle.dm_line.specs.Sets.{at_id, at_machine, at_pair, at_pid, at_record, moved_back, without, without_front, without_id}
 pub use Rattle.dm_line.specs.Todo.{Next, Todo, all_of}
 pub use Rattle.dm_line.specs.declared.line.Line.{Line}

@@ -1,9 +1,11 @@
 -- What the proofs of this crate name of what lies below it.
-pub use Rattle.std.proofs.Common.{min}
-pub use Rattle.std.proofs.lemmas.Grind.{common_steps}
-pub use Rattle.std.proofs.lemmas.List.{length-drop, length-map, length-replicate, length-take}
+pub use Rattle.std.proofs.lemmas.List.{length-drop, length-replicate, length-take}
 pub use Rattle.dm_processor.proofs.Lengths.{instruction-lengths}
-pub use Rattle.dm_processor.specs.Kept.{KeepsLengths}
+pub use Rattle.dm_processor.proofs.Names.{Bool, KeepsLengths, List, Regs, Row, [], ap, arith, common_steps, drop, false, instruction, length, nat_tests, refl, replicate, suc, sym, take, true, zero, ℕ, ◌*◌, ◌++◌, ◌+◌, ◌-◌, ◌/◌, ◌<◌, ◌∙◌}
+pub use Rattle.dm_processor.proofs.Names.{◌∷◌, ◌≡◌, ◌≤◌}
+pub use Rattle.dm_linktable.proofs.Names.{Link, Pid, first_empty, length-map, link_at, map, pid_eq, subst, ◌&&◌, ◌==◌, ◌≢◌}
+pub use Rattle.dm_schedule.proofs.Names.{if◌then◌else◌, nat_lt, not}
+pub use Rattle.dm_process.proofs.Names.{min, slice_get}
 pub use Rattle.dm_onekernel.specs.Boot.{area_is_empty, area_is_within, blocks_of_image, controls_child, leads_somewhere, leads_to_process, leads_to_server, link_is_valid, links_are_valid, memory_size, process_is_valid, process_named}
 pub use Rattle.dm_onekernel.specs.Codes.{why_code}
 pub use Rattle.dm_onekernel.specs.Pieces.{written_at}
@@ -15,11 +17,10 @@ pub use Rattle.dm_laws.proofs.Counted.{is_piece, pending_of}
 pub use Rattle.dm_laws.proofs.Equal.{pid_eq-swap}
 pub use Rattle.dm_laws.proofs.Grown.{Grown}
 pub use Rattle.dm_laws.proofs.Movers.{One, came, out_at, out_off}
-pub use Rattle.dm_laws.proofs.Names.{Alive, Bool, Boot, BootImage, BootProcess, CallNumber, Called, Direction, Ended, Ends, IsValid, Label, Life, List, Manager, Moving, MsgId, None, OneKernel, Option, Outputs, Pending, Pid, PlainLink}
-pub use Rattle.dm_laws.proofs.Names.{PlainMessage, PlainProcess, PlainStatus, PlainWhat, Ready, Replies, Reply, Row, Sends, Some, Switchboard, Waiting, Waits, Why, [], answer_id, answer_to, ap, arith, begun, bind, cases_Bool}
-pub use Rattle.dm_laws.proofs.Names.{direction_numbered, drop, entry, false, false≢true, first_empty, first_failed, first_life, first_number, id_eq, id_of, if◌then◌else◌, in_bag, inl, inr, instruction, is_of_memory, is_some, length}
-pub use Rattle.dm_laws.proofs.Names.{life_at, link_at, manager, map, nat_le, nat_lt, nat_tests, option_map, pid_eq, pid_of, plain_link, processes_are_valid, reception, refl, reg, replay, slice_get, start, starting_at, subst, switchboard}
-pub use Rattle.dm_laws.proofs.Names.{sym, take, true, when, with_process, with_sent, without_message, ℕ, ⊤, ◌&&◌, ◌*◌, ◌++◌, ◌+◌, ◌-◌, ◌==◌, ◌∙◌, ◌∷◌, ◌≡◌, ◌≤◌, ◌⊎◌}
+pub use Rattle.dm_laws.proofs.Names.{Alive, Boot, BootImage, BootProcess, CallNumber, Called, Direction, Ended, Ends, IsValid, Label, Life, Manager, Moving, MsgId, None, OneKernel, Option, Outputs, Pending, PlainLink, PlainMessage}
+pub use Rattle.dm_laws.proofs.Names.{PlainProcess, PlainStatus, PlainWhat, Ready, Replies, Reply, Sends, Some, Switchboard, Waiting, Waits, Why, answer_id, answer_to, begun, bind, cases_Bool, direction_numbered, entry, false≢true}
+pub use Rattle.dm_laws.proofs.Names.{first_failed, first_life, first_number, id_eq, id_of, in_bag, inl, inr, is_of_memory, is_some, life_at, manager, nat_le, option_map, pid_of, plain_link, processes_are_valid, reception, reg, replay}
+pub use Rattle.dm_laws.proofs.Names.{start, starting_at, switchboard, when, with_process, with_sent, without_message, ⊤, ◌⊎◌}
 pub use Rattle.dm_laws.proofs.Servers.{ended-is}
 pub use Rattle.dm_laws.proofs.Steps.{Runs, completing}
 pub use Rattle.dm_rule.proofs.Bags.{BagStep, bag_call, bag_created, bag_dropped, bag_end, bag_gone, bag_no_space, bag_out, bag_ran, bag_receive, bag_refuse, bag_sends, bag_served, bag_took, bag_wait, board_id, id_in, if_some-is, landed_id}
@@ -40,18 +41,18 @@ pub use Rattle.dm_rule.proofs.Lives.{Kept, grown_none}
 pub use Rattle.dm_rule.proofs.Moves.Lists.{both_lists, both_times, first_off, flip_zero, under_way, without_all, without_at, zero_cases}
 pub use Rattle.dm_rule.proofs.Moves.Sent.{least_of, sent_way}
 pub use Rattle.dm_rule.proofs.Moves.States.{front_kernels, front_one, front_way, not_first}
-pub use Rattle.dm_rule.proofs.Names.{About, Addresses, Again, Answer, AreStill, Child, Enclosed, Forward, Frozen, Gets, Held, Here, Holder, Inbox, Incoming, IsIn, IsStep, IsStill, Known, LandsSo, Leads, LifeGrows, Line, Link, Load, Made}
-pub use Rattle.dm_rule.proofs.Names.{MessageKind, Moves, Name, NamedLink, Next, Nexts, NothingElse, Of, Owner, Owns, Pair, Part, Phase, Place, Point, Queue, Receiver, Regs, Rests, Routes, Says, Sender, ServerSends, Slot, Sound, Spelled}
-pub use Rattle.dm_rule.proofs.Names.{Spot, Stage, StandsAsBag, StandsNowhere, StandsOutside, StandsRight, Step, Todo, Told, Transmits, Unknown, Untaken, View, accepts, after, after_head, after_label, after_line, after_proto, after_put}
+pub use Rattle.dm_rule.proofs.Names.{About, Addresses, Again, Answer, AreStill, Child, Enclosed, Forward, Frozen, Gets, Held, Here, Holder, Inbox, Incoming, IsIn, IsStep, IsStill, Known, LandsSo, Leads, LifeGrows, Line, Load, Made}
+pub use Rattle.dm_rule.proofs.Names.{MessageKind, Moves, Name, NamedLink, Next, Nexts, NothingElse, Of, Owner, Owns, Pair, Part, Phase, Place, Point, Queue, Receiver, Rests, Routes, Says, Sender, ServerSends, Slot, Sound, Spelled, Spot}
+pub use Rattle.dm_rule.proofs.Names.{Stage, StandsAsBag, StandsNowhere, StandsOutside, StandsRight, Step, Todo, Told, Transmits, Unknown, Untaken, View, accepts, after, after_head, after_label, after_line, after_proto, after_put}
 pub use Rattle.dm_rule.proofs.Names.{after_stage, after_step, after_taken, alive-is, all_follow, answer_link, are_for_home, are_home, ascends, asks_on, at_id, at_machine, at_pair, at_record, begins, behind, bind-is, board_finds}
 pub use Rattle.dm_rule.proofs.Names.{board_keeps, board_takes, child_from, child_number, chunks_of, comes, cons_option, counts, dropped_for, enclosed_of, ended, ended_told, filter, filter_map, first_gives, first_point, first_view, fits}
 pub use Rattle.dm_rule.proofs.Names.{follows_up, forward_about, forwarded_for, forwards, forwards_on, free_room, front_of, front_told, gets, given, gives, gives_piece, goes_out, gone_to, group_of, handled, handled_first, headed, hears}
 pub use Rattle.dm_rule.proofs.Names.{held_for, here_told, holder_eq, id_eq-is, id_eq-same, is_apart, is_away, is_behind, is_between, is_counted, is_early, is_for_home, is_general, is_here, is_kernels, is_restart, is_told_back, kernel_after}
 pub use Rattle.dm_rule.proofs.Names.{kernel_hears, kernel_told, kills, known_at, knows, label_of, lands, lands-is, leaves, length-append, lines_of, link_to, links_in, manager_takes, marked, migrates, migrates_child, moved, moved_back}
-pub use Rattle.dm_rule.proofs.Names.{moves_to, name_link, names, next_step, nexts, not, not_server, oldest, on_mask, outcome, own_gives, own_id, owner_in, owner_of, packet_line, pid_eq-is, pid_eq-same, pieces_of, place_known}
-pub use Rattle.dm_rule.proofs.Names.{place_of_child, place_told, plain_kind, process_told, puts, queued_for, receiver_in, receiver_of, replicate, reply_code, reply_eq, request_id, right_true, ring_at, routed_on, sender_in, sender_of}
-pub use Rattle.dm_rule.proofs.Names.{sends_on, sent_at, served_told, server_told, serves_what, slice_set, slot_of, slots_of, slots_with, spelled, standing, start-sound, stayed, suc, taken_id, takes_block, takes_chunk, target_of, tells_back}
-pub use Rattle.dm_rule.proofs.Names.{times, to_kernel, to_of, told_between, unentered, unmoved, untaken, updated, updated_to, updates, view_after, when-is, why_eq, with_machine, without, without_front, without_id, zero, ◌/◌, ◌<◌, ◌||◌, ◌≢◌}
+pub use Rattle.dm_rule.proofs.Names.{moves_to, name_link, names, next_step, nexts, not_server, oldest, on_mask, outcome, own_gives, own_id, owner_in, owner_of, packet_line, pid_eq-is, pid_eq-same, pieces_of, place_known, place_of_child}
+pub use Rattle.dm_rule.proofs.Names.{place_told, plain_kind, process_told, puts, queued_for, receiver_in, receiver_of, reply_code, reply_eq, request_id, right_true, ring_at, routed_on, sender_in, sender_of, sends_on, sent_at, served_told}
+pub use Rattle.dm_rule.proofs.Names.{server_told, serves_what, slice_set, slot_of, slots_of, slots_with, spelled, standing, start-sound, stayed, taken_id, takes_block, takes_chunk, target_of, tells_back, times, to_kernel, to_of}
+pub use Rattle.dm_rule.proofs.Names.{told_between, unentered, unmoved, untaken, updated, updated_to, updates, view_after, when-is, why_eq, with_machine, without, without_front, without_id, ◌||◌}
 pub use Rattle.dm_rule.proofs.Once.{one_of}
 pub use Rattle.dm_rule.proofs.Pairs.Moves.{or_first}
 pub use Rattle.dm_rule.proofs.Phases.Always.{Phased, phased_group, phased_start}

@@ -1,48 +1,12 @@
 -- A run goes on, group by group, and comes to its end.
-use Rattle.std.proofs.Common.{◌≡◌, ◌<◌, inl, inr, ℕ, true, nat_le, List, [], ◌∷◌, ◌++◌, length, take, drop, refl, ap, ◌∙◌, sym, subst, append_assoc, arith}
-use Rattle.std.proofs.lemmas.Bool.Decides.{nat_tests}
-use Rattle.std.proofs.lemmas.List.{append-nil, take-append-drop}
-use Rattle.std.specs.List.{All}
-use Rattle.std.specs.Prelude.{OnOk}
-use Rattle.std.proofs.lemmas.List.Elements.{All-nil, All-append}
-use Rattle.std.specs.declared.option.Option.{Option}
-use Rattle.std.specs.declared.option.Option.TheVariants.{None, Some}
-use Rattle.std.specs.declared.result.Result.{Result}
-use Rattle.std.specs.declared.result.Result.TheVariants.{Ok, Err}
-use Rattle.dm_onekernel.specs.declared.boot.Boot.{Boot}
-use Rattle.dm_onekernel.specs.Boot.{IsValid}
-use Rattle.dm_schedule.specs.declared.Step.{Step}
-use Rattle.dm_schedule.specs.declared.Directive.{Directive}
-use Rattle.dm_line.specs.declared.end_line.EndLine.{EndLine}
-use Rattle.dm_line.specs.declared.line.Line.{Line}
+use Rattle.dm_run.proofs.Names.{◌≡◌, ◌<◌, inl, inr, ℕ, true, nat_le, List, [], ◌∷◌, ◌++◌, length, take, drop, refl, ap, ◌∙◌, sym, subst, append_assoc, arith, nat_tests, append-nil, take-append-drop, All, OnOk, All-nil, All-append, Option}
+use Rattle.dm_run.proofs.Names.{None, Some, Result, Ok, Err, Boot, IsValid, Step, Directive, EndLine, Line, Todo, Next, all_of, Leads, Point, first_point, ends_settled, is_at_rest, ends_at_rest, ends_quiet, EndFits, HidesNothing, LineFits}
+use Rattle.dm_run.proofs.Names.{text, text_of_ends, text_of_lines, World, MayStep, IsWorld, state_of, next_step, MayEnd, AreWhole, AreReadBack, gave, WorldState, Said, Says, WornOut, first_world, world_step, GoesOn, RunStands, joined}
+use Rattle.dm_run.proofs.Names.{Stands, IsDirective, RunGoes, appended, Stop, NoMemory, WriteFault, Worn, IsOfFirst, IsOver, HasCome, Offered, Came, Ended}
 use Rattle.dm_rule.specs.Ends as rule_ends
-use Rattle.dm_line.specs.Todo.{Todo, Next, all_of}
 use Rattle.dm_rule.specs.Worn as worn_as
-use Rattle.dm_rule.specs.Laws.{Leads}
-use Rattle.dm_rule.specs.Point.{Point, first_point}
-use Rattle.dm_settlelaws.specs.Passes.{ends_settled, is_at_rest}
-use Rattle.dm_settlelaws.proofs.EndsAtRest.{ends_at_rest}
-use Rattle.dm_settlelaws.proofs.EndsQuiet.{ends_quiet}
-use Rattle.dm_text.specs.Fits.{EndFits, HidesNothing, LineFits}
-use Rattle.dm_text.specs.Text.{text, text_of_ends, text_of_lines}
-use Rattle.dm_world.specs.declared.world.World.{World}
-use Rattle.dm_world.specs.May.{MayStep}
-use Rattle.dm_world.specs.Meets.{IsWorld, state_of}
-use Rattle.dm_world.specs.Next.{next_step}
 use Rattle.dm_world.specs.Ends as world_ends
-use Rattle.dm_world.specs.Ends.{MayEnd}
-use Rattle.dm_world.specs.Whole.{AreWhole}
-use Rattle.dm_world.specs.Readable.{AreReadBack, gave}
-use Rattle.dm_world.specs.World.{WorldState, Said, Says, WornOut, first_world, world_step}
-use Rattle.dm_mirror.specs.Run.{GoesOn, RunStands, joined}
-use Rattle.dm_mirror.specs.Stands.{Stands}
-use Rattle.dm_mirror.specs.Todo.{IsDirective}
-use Rattle.dm_mirror.specs.Laws.{RunGoes}
-use Rattle.dm_outside.specs.Outside.{appended}
-use Rattle.dm_run.specs.declared.stop.Stop.{Stop}
-use Rattle.dm_run.specs.declared.stop.Stop.TheVariants.{NoMemory, WriteFault, Worn}
-use Rattle.dm_run.specs.Printed.{IsOfFirst, IsOver, IsWorn}
-use Rattle.dm_run.specs.Coming.{HasCome, Offered, Came, Ended}
+use Rattle.dm_run.specs.Printed.{IsWorn}
 use Rattle.dm_run.proofs.Writing.{appended_twice, some_left}
 use Rattle.dm_run.proofs.Laws.{end_may, run_begins, run_goes_on, next_is_said, end_is_said, machines_stay}
 use Rattle.dm_run.proofs.Finals.{end_hides}
@@ -95,10 +59,6 @@ goes b ds t before after w n valid h is = run_goes_on b ds h.groups h.end h.left
 -- the next directive may be done
 pub may_go : (b : Boot) (ds : List Directive) (t : Todo) (before after : Option (List ℕ)) (w : WorldState) (n : Next) → IsValid b → HasCome b ds t before after w → next_step (length b.machines) w t ≡ Some n → MayStep b w n.step
 may_go b ds t before after w n valid h is = (goes b ds t before after w n valid h is).may
-
--- the lines at the end can be said
-pub may_end : (b : Boot) (ds : List Directive) (t : Todo) (before after : Option (List ℕ)) (w : WorldState) → IsValid b → HasCome b ds t before after w → MayEnd (length b.machines) w
-may_end b ds t before after w valid h = end_may b h.stands.steps w h.end valid h.stands.leads h.stands.stands
 
 -- a group was printed
 pub record Grown (b : Boot) (ds : List Directive) (left : Todo) (gs : List (List Line)) (ls : List Line) (u : WorldState) : Type 0 where

@@ -1,25 +1,11 @@
 -- Each elementary directive counts as one.
-use Rattle.std.proofs.Common.{◌≡◌, ◌≤◌, ◌<◌, ℕ, zero, suc, ◌+◌, ◌*◌, ◌^◌, List, [], ◌∷◌, ap, sym, arith}
-use Rattle.std.specs.declared.option.Option.{Option}
-use Rattle.std.specs.declared.option.Option.TheVariants.{None, Some}
-use Rattle.std.specs.declared.result.Result.{Result}
-use Rattle.std.specs.declared.result.Result.TheVariants.{Ok, Err}
-use Rattle.dm_packet.specs.declared.Packet.{Packet}
+use Rattle.dm_run.proofs.Names.{◌≡◌, ◌≤◌, ◌<◌, ℕ, zero, suc, ◌+◌, ◌*◌, ◌^◌, List, [], ◌∷◌, ap, sym, arith, Option, None, Some, Result, Ok, Err, Packet, PacketError, packet_of, bytes_at, after_mark, Boot, Step, Line, Data, Ack, Acts, Goes}
+use Rattle.dm_run.proofs.Names.{MeetsSome, IsWornOut, WorldState, Said, Happened, Says, WornOut, acted, turned, delivers, reads, world_step}
 use Rattle.dm_packet.specs.declared.Packet.TheVariants as packet
-use Rattle.dm_packet.specs.declared.PacketError.{PacketError}
-use Rattle.dm_packet.specs.Packets.{packet_of}
-use Rattle.dm_wire.specs.Sent.{bytes_at}
-use Rattle.dm_wire.specs.Wire.{after_mark}
-use Rattle.dm_onekernel.specs.declared.boot.Boot.{Boot}
-use Rattle.dm_schedule.specs.declared.Step.{Step}
 use Rattle.dm_schedule.specs.declared.Step.TheVariants as step
-use Rattle.dm_line.specs.declared.line.Line.{Line}
 use Rattle.dm_line.specs.declared.line.Line.TheVariants as line
-use Rattle.dm_stream.specs.Packets.{Data, Ack}
-use Rattle.dm_node.specs.Out.{Acts, Goes, Worn}
+use Rattle.dm_node.specs.Out.{Worn}
 use Rattle.dm_node.specs.Acts as node
-use Rattle.dm_world.specs.Meets.{MeetsSome, IsWornOut}
-use Rattle.dm_world.specs.World.{WorldState, Said, Happened, Says, WornOut, acted, turned, delivers, reads, world_step}
 
 abbrev nothing : WorldState → Step → Said
 nothing w e = record { state = record w { groups = w.groups + 1 }; lines = line.Head e ∷ line.Nothing ∷ [] }

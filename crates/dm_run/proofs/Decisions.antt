@@ -1,15 +1,6 @@
 -- The rule decides whether a run comes to its end, and between which machines it is worn.
-use Rattle.std.proofs.Common.{◌≡◌, ◌≤◌, ℕ, zero, suc, ◌⊎◌, inl, inr, List, [], ◌∷◌, length, ap, ◌∙◌, sym, arith}
-use Rattle.std.specs.declared.option.Option.TheVariants.{None, Some}
-use Rattle.dm_onekernel.specs.declared.boot.Boot.{Boot}
-use Rattle.dm_line.specs.declared.line.Line.{Line}
-use Rattle.dm_line.specs.Todo.{Two, Todo, Next}
-use Rattle.dm_rule.specs.Good.{next_step, IsRun}
-use Rattle.dm_rule.specs.Point.{Point}
-use Rattle.dm_rule.specs.Parts.{Spelled}
-use Rattle.dm_rule.specs.Rule.{group_of}
-use Rattle.dm_rule.specs.Worn.{IsWorn, worn_in}
-use Rattle.dm_rulelaws.proofs.Decided.{shorter_begins}
+use Rattle.dm_run.proofs.Names.{◌≡◌, ◌≤◌, ℕ, zero, suc, ◌⊎◌, inl, inr, List, [], ◌∷◌, length, ap, ◌∙◌, sym, arith, None, Some, Boot, Line, Two, Todo, Next, IsRun, Point, Spelled, group_of, IsWorn, worn_in, shorter_begins}
+use Rattle.dm_rule.specs.Good.{next_step}
 use Rattle.dm_run.proofs.Full.{group_over}
 
 -- a run stands before a directive that would be worn

@@ -1,20 +1,5 @@
 -- What the end of a run says.
-use Rattle.std.proofs.Common.{◌≡◌, ◌⊎◌, inl, inr, ℕ, List, refl}
-use Rattle.std.specs.Prelude.{OnOk}
-use Rattle.std.specs.declared.option.Option.{Option}
-use Rattle.std.specs.declared.option.Option.TheVariants.{Some}
-use Rattle.std.specs.declared.result.Result.{Result}
-use Rattle.std.specs.declared.result.Result.TheVariants.{Ok, Err}
-use Rattle.dm_onekernel.specs.declared.boot.Boot.{Boot}
-use Rattle.dm_schedule.specs.declared.Directive.{Directive}
-use Rattle.dm_line.specs.declared.line.Line.{Line}
-use Rattle.dm_line.specs.Todo.{all_of}
-use Rattle.dm_rule.specs.Point.{first_point}
-use Rattle.dm_world.specs.declared.world.World.{World}
-use Rattle.dm_run.specs.declared.stop.Stop.{Stop}
-use Rattle.dm_run.specs.declared.stop.Stop.TheVariants.{NoMemory, WriteFault, Worn}
-use Rattle.dm_run.specs.Printed.{IsWhole, Lasts, Wears, WearsAfter}
-use Rattle.dm_run.specs.Coming.{Ended}
+use Rattle.dm_run.proofs.Names.{◌≡◌, ◌⊎◌, inl, inr, ℕ, List, refl, OnOk, Option, Some, Result, Ok, Err, Boot, Directive, Line, all_of, first_point, World, Stop, NoMemory, WriteFault, Worn, IsWhole, Lasts, Wears, WearsAfter, Ended}
 use Rattle.dm_run.proofs.Decisions.{Wearing, ends_once, wears_once}
 
 wearing : (b : Boot) (ds : List Directive) (groups : List (List Line)) (from to : ℕ) (w : WearsAfter b ds groups from to) → Wearing b w.end w.left from to

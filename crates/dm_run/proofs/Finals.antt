@@ -1,40 +1,12 @@
 -- The lines at the end hide nothing: no process and no server has a link to a kernel.
-use Rattle.std.proofs.Common.{◌≡◌, ◌<◌, ℕ, zero, suc, ◌+◌, ◌*◌, ◌/◌, ◌==◌, Bool, true, false, if◌then◌else◌, List, [], ◌∷◌, ◌++◌, length, take, drop, refl, arith}
-use Rattle.std.specs.Prelude.{⊤}
-use Rattle.std.specs.List.{All}
-use Rattle.std.specs.Option.{IfSome}
-use Rattle.std.proofs.lemmas.List.Elements.{All-nil, All-cons, All-append, All-head, All-tail}
-use Rattle.std.specs.declared.option.Option.{Option}
-use Rattle.std.specs.declared.option.Option.TheVariants.{None, Some}
-use Rattle.dm_link.specs.declared.Addr.{Addr}
-use Rattle.dm_link.specs.declared.Link.{Link}
-use Rattle.dm_link.specs.declared.Pid.{Pid}
-use Rattle.dm_link.specs.Names.{pid_of}
-use Rattle.dm_message.specs.declared.MsgId.{MsgId}
-use Rattle.dm_process.specs.declared.process.Process.{Process}
-use Rattle.dm_process.specs.Lawful.{SlotIsLawful}
-use Rattle.dm_processor.specs.declared.registers.Regs.{Regs}
-use Rattle.dm_records.specs.declared.record.Record.TheVariants.{Here, Frozen, Incoming, Forward, Ended}
-use Rattle.dm_switchboard.specs.Board.{Named}
-use Rattle.dm_switchboard.specs.Lawful.{IsLawfulNamed}
-use Rattle.dm_procman.specs.declared.pending.Pending.{Pending}
-use Rattle.dm_onekernel.specs.Boot.{first_number, switchboard, manager}
-use Rattle.dm_kernel.specs.State.{Known}
-use Rattle.dm_kernel.specs.declared.kernel.Servers.{Servers}
-use Rattle.dm_kernel.specs.Lawful.{IsLawfulKnown, IsLawfulPair, IsLawfulState}
-use Rattle.dm_migrate.specs.Arrival.{Arrival, restarted}
-use Rattle.dm_migrate.specs.declared.arriving.Wanted.{Wanted}
-use Rattle.dm_migrate.specs.declared.arriving.Wanted.TheVariants.{Chunk, Block, Nothing}
-use Rattle.dm_line.specs.declared.end_line.EndLine.{EndLine}
+use Rattle.dm_run.proofs.Names.{◌≡◌, ◌<◌, ℕ, zero, suc, ◌+◌, ◌*◌, ◌/◌, ◌==◌, Bool, true, false, if◌then◌else◌, List, [], ◌∷◌, ◌++◌, length, take, drop, refl, arith, ⊤, All, IfSome, All-nil, All-cons, All-append, All-head, All-tail, Option}
+use Rattle.dm_run.proofs.Names.{None, Some, Addr, Link, Pid, pid_of, MsgId, Process, SlotIsLawful, Regs, Here, Frozen, Incoming, Forward, Named, IsLawfulNamed, Pending, first_number, switchboard, manager, Known, Servers, IsLawfulKnown}
+use Rattle.dm_run.proofs.Names.{IsLawfulPair, IsLawfulState, Arrival, restarted, Wanted, Chunk, Block, Nothing, EndLine, Standing, or, trimmed, block_line, memory_lines, each_machine, home_with, list_line, HidesNothing, WorldState}
+use Rattle.dm_run.proofs.Names.{of_known}
+use Rattle.dm_records.specs.declared.record.Record.TheVariants.{Ended}
 use Rattle.dm_line.specs.declared.end_line.EndLine.TheVariants as end
-use Rattle.dm_line.specs.declared.end_line.Standing.{Standing}
 use Rattle.dm_line.specs.declared.end_line.Standing.TheVariants as standing
-use Rattle.dm_line.specs.Todo.{or}
-use Rattle.dm_line.specs.Ends.{trimmed, block_line, memory_lines, each_machine, home_with, list_line}
-use Rattle.dm_text.specs.Fits.{HidesNothing}
-use Rattle.dm_world.specs.World.{WorldState}
 use Rattle.dm_world.specs.Ends as ends
-use Rattle.dm_kernel.proofs.LawfulRows.{of_known}
 use Rattle.dm_run.proofs.Restarted.{SlotHides, TableHides, restarted_hides}
 
 abbrev Hide : List EndLine → Type 0

@@ -1,33 +1,13 @@
 -- A group that routes a message between two machines that count as many as they may leaves them with one more.
-use Rattle.std.proofs.Common.{◌≡◌, ◌≤◌, ◌<◌, ℕ, ◌+◌, ◌==◌, Bool, true, false, not, filter, ◌&&◌, nat_le, if◌then◌else◌, List, [], ◌∷◌, ◌++◌, length, refl, ap, ◌∙◌, sym, subst, arith}
-use Rattle.std.proofs.lemmas.Bool.Decides.{nat_tests}
-use Rattle.std.proofs.lemmas.List.{length-append}
-use Rattle.std.specs.declared.option.Option.{Option}
-use Rattle.std.specs.declared.option.Option.TheVariants.{None, Some}
-use Rattle.dm_link.specs.declared.Pid.{Pid}
-use Rattle.dm_message.specs.declared.MsgId.{MsgId}
-use Rattle.dm_message.specs.declared.kind.MessageKind.{MessageKind}
+use Rattle.dm_run.proofs.Names.{◌≡◌, ◌≤◌, ◌<◌, ℕ, ◌+◌, ◌==◌, Bool, true, false, not, filter, ◌&&◌, nat_le, if◌then◌else◌, List, [], ◌∷◌, ◌++◌, length, refl, ap, ◌∙◌, sym, subst, arith, nat_tests, length-append, Option, None, Some, Pid}
+use Rattle.dm_run.proofs.Names.{MsgId, MessageKind, Stage, Boot, Label, OneKernel, bind, bind-is, Step, Line, at_pair, View, Pair, Told, About, view_after, after_label, receiver_of, Point, label_of, kernel_after, after_line, after, moved}
+use Rattle.dm_run.proofs.Names.{Part, Spelled, lines_of, behind, spelled, group_of, outcome, headed, Two, or, is_full, full_pair, worn_in}
 use Rattle.dm_message.specs.declared.kind.MessageKind.TheVariants as kind
-use Rattle.dm_line.specs.declared.line.Stage.{Stage}
-use Rattle.dm_onekernel.specs.declared.boot.Boot.{Boot}
-use Rattle.dm_onekernel.specs.declared.label.Label.{Label}
 use Rattle.dm_onekernel.specs.declared.label.Label.TheVariants as label
-use Rattle.dm_onekernel.specs.Kernel.{OneKernel}
-use Rattle.dm_onekernel.specs.Options.{bind}
-use Rattle.dm_laws.proofs.Steps.{bind-is}
-use Rattle.dm_schedule.specs.declared.Step.{Step}
 use Rattle.dm_schedule.specs.declared.Step.TheVariants as directive
-use Rattle.dm_line.specs.declared.line.Line.{Line}
 use Rattle.dm_line.specs.declared.line.Line.TheVariants as line
 use Rattle.dm_line.specs.declared.line.Stage.TheVariants as stage
-use Rattle.dm_line.specs.Sets.{at_pair}
 use Rattle.dm_rule.specs.View as view
-use Rattle.dm_rule.specs.View.{View, Pair, Told, About, view_after, after_label, receiver_of}
-use Rattle.dm_rule.specs.Point.{Point, label_of, kernel_after, after_line, after, moved}
-use Rattle.dm_rule.specs.Parts.{Part, Spelled, lines_of, behind, spelled}
-use Rattle.dm_rule.specs.Rule.{group_of, outcome, headed}
-use Rattle.dm_line.specs.Todo.{Two, or}
-use Rattle.dm_rule.specs.Worn.{is_full, full_pair, worn_in}
 
 -- the view after lines
 abbrev pub views : View → List Line → View
@@ -89,10 +69,6 @@ set_rises f a b p h c d = go (a == c) (b == d) refl refl
     go true true e k = subst (λ (m : ℕ). length (f m d).ids ≤ length p.ids) (eq_num a c e) (subst (λ (n : ℕ). length (f a n).ids ≤ length p.ids) (eq_num b d k) h)
     go true false e k = omega arith
     go false y e k = omega arith
-
-pair_of_taken : (v : View) (b : ℕ) (o : Option MsgId) → (view.taken_id v b o).pair ≡ v.pair
-pair_of_taken v b None = refl
-pair_of_taken v b (Some i) = refl
 
 pair_of_queued : (v : View) (i : MsgId) (o : Option Pid) → (view.queued_for v i o).pair ≡ v.pair
 pair_of_queued v i None = refl

@@ -1,12 +1,5 @@
 -- What holds of every run of the machines.
-use Rattle.std.proofs.Common.{◌≡◌, List, length}
-use Rattle.dm_onekernel.specs.declared.boot.Boot.{Boot}
-use Rattle.dm_onekernel.specs.Boot.{IsValid}
-use Rattle.dm_schedule.specs.declared.Step.{Step}
-use Rattle.dm_rule.specs.Laws.{Leads}
-use Rattle.dm_rule.specs.Point.{Point, first_point}
-use Rattle.dm_mirror.specs.Laws.{EndMay, NextIsSaid, EndIsSaid, RunBegins, RunGoesOn}
-use Rattle.dm_mirror.specs.Ran.{RanBegins, RanGoesOn, RunIsRan}
+use Rattle.dm_run.proofs.Names.{◌≡◌, List, length, Boot, IsValid, Step, Leads, Point, first_point, EndMay, NextIsSaid, EndIsSaid, RunBegins, RunGoesOn, RanBegins, RanGoesOn, RunIsRan}
 use Rattle.dm_mirror.proofs.Given as given
 use Rattle.dm_mirror.proofs.Going as going
 use Rattle.dm_mirror.proofs.Next as next

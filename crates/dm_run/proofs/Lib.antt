@@ -1,3 +1,4 @@
+pub mod Names
 pub mod Writing
 pub mod Laws
 pub mod Full

@@ -1,25 +1,8 @@
 -- The links that state bytes spell hide nothing: none leads to a kernel.
-use Rattle.std.proofs.Common.{◌≡◌, ℕ, zero, suc, ◌/◌, ◌%◌, ◌==◌, Bool, true, false, List, [], ◌∷◌, length, refl, sym, ap, subst}
-use Rattle.std.specs.Prelude.{⊤, if◌then◌else◌}
-use Rattle.std.specs.List.{All}
-use Rattle.std.proofs.lemmas.List.Elements.{All-nil, All-cons}
-use Rattle.std.specs.declared.option.Option.{Option}
-use Rattle.std.specs.declared.option.Option.TheVariants.{None, Some}
-use Rattle.std.specs.declared.result.Result.{Result}
-use Rattle.std.specs.declared.result.Result.TheVariants.{Ok, Err}
-use Rattle.dm_link.specs.declared.Link.{Link}
-use Rattle.dm_process.specs.declared.process.Process.{Process}
-use Rattle.dm_packet.specs.declared.PacketError.{PacketError}
+use Rattle.dm_run.proofs.Names.{◌≡◌, ℕ, zero, suc, ◌/◌, ◌%◌, ◌==◌, Bool, true, false, List, [], ◌∷◌, length, refl, sym, ap, subst, ⊤, if◌then◌else◌, All, All-nil, All-cons, Option, None, Some, Result, Ok, Err, Link, Process, PacketError}
+use Rattle.dm_run.proofs.Names.{Field, ◌>>=◌, both, number, LinkParts, addr, channel, flags, len_from, link, link_of, optional_read, bind_ok, ok_is, StateBytesError, Shell, Front, by_rule, ended, front, read_shell, shell, shell_of_bytes}
+use Rattle.dm_run.proofs.Names.{shell_with, mask, read_slots, slots, table, Arrival, restarted, revived, revived_from}
 use Rattle.dm_packet.specs.declared.PacketError.TheVariants as bad
-use Rattle.dm_packet.specs.Field.{Field, ◌>>=◌, both, number}
-use Rattle.dm_packet.specs.Fields.{LinkParts, addr, channel, flags, len_from, link, link_of}
-use Rattle.dm_packet.specs.Whats.{optional_read}
-use Rattle.dm_packet.proofs.Field.{bind_ok, ok_is}
-use Rattle.dm_statebytes.specs.declared.StateBytesError.{StateBytesError}
-use Rattle.dm_statebytes.specs.declared.Shell.{Shell}
-use Rattle.dm_statebytes.specs.Shell.{Front, by_rule, ended, front, read_shell, shell, shell_of_bytes, shell_with}
-use Rattle.dm_statebytes.specs.Table.{mask, read_slots, slots, table}
-use Rattle.dm_migrate.specs.Arrival.{Arrival, restarted, revived, revived_from}
 
 -- what a slot holds, if anything, leads to no kernel
 abbrev pub SlotHides : Option Link → Type 0

@@ -1,42 +1,10 @@
 -- Each group of a directive leaves less of it: so a directive ends, a settle too.
-use Rattle.std.proofs.Common.{◌≡◌, ◌≤◌, ◌<◌, ℕ, zero, suc, ◌+◌, ◌*◌, ◌^◌, nat_le, true, List, [], ◌∷◌, ◌++◌, length, refl, ap, ◌∙◌, sym, subst, inl, inr, arith}
-use Rattle.std.proofs.lemmas.Bool.Decides.{nat_tests}
-use Rattle.std.specs.declared.option.Option.{Option}
-use Rattle.std.specs.declared.option.Option.TheVariants.{Some}
-use Rattle.dm_onekernel.specs.declared.boot.Boot.{Boot}
-use Rattle.dm_onekernel.specs.Boot.{IsValid}
-use Rattle.dm_schedule.specs.declared.Step.{Step}
+use Rattle.dm_run.proofs.Names.{◌≡◌, ◌≤◌, ◌<◌, ℕ, zero, suc, ◌+◌, ◌*◌, ◌^◌, nat_le, true, List, [], ◌∷◌, ◌++◌, length, refl, ap, ◌∙◌, sym, subst, inl, inr, arith, nat_tests, Option, Some, Boot, IsValid, Step, Directive, Line, Round, Settle}
+use Rattle.dm_run.proofs.Names.{sum_below, Next, Todo, all_of, IsKept, IsStep, Leads, Spelled, Point, first_point, group_of, View, stands_once_always, turns_left, IsSettleStep, turns_in, turns_left_few, turns_fall, Cursor, One, Passing}
+use Rattle.dm_run.proofs.Names.{Place, Packets, Turns, End, Falls, IsSettling, SettleGoes, left, room, room_of, todo_of, turns_at, turns_of, has_mail, is_quiet, next_step, undelivered, WorldState, Said, Says, WornOut, world_step, GoesOn}
+use Rattle.dm_run.proofs.Names.{RunStands, RunGoes, Stands, machines_stay, next_fits, undelivered_said, mail_is_said, HasCome, IsAfter, rounds_of}
 use Rattle.dm_schedule.specs.declared.Step.TheVariants as step
-use Rattle.dm_schedule.specs.declared.Directive.{Directive}
-use Rattle.dm_line.specs.declared.line.Line.{Line}
-use Rattle.dm_line.specs.declared.pass.Pass.TheVariants.{Round, Settle}
-use Rattle.dm_line.specs.Each.{sum_below}
-use Rattle.dm_line.specs.Todo.{Next, Todo, all_of}
-use Rattle.dm_rule.specs.Good.{IsKept}
-use Rattle.dm_rule.specs.Laws.{IsStep, Leads}
-use Rattle.dm_rule.specs.Parts.{Spelled}
-use Rattle.dm_rule.specs.Point.{Point, first_point}
-use Rattle.dm_rule.specs.Rule.{group_of}
-use Rattle.dm_rule.specs.View.{View}
-use Rattle.dm_rule.proofs.Groups.{stands_once_always}
 use Rattle.dm_settlelaws.specs.Left as settle
-use Rattle.dm_settlelaws.specs.Left.{turns_left}
-use Rattle.dm_settlelaws.specs.Passes.{IsSettleStep, turns_in}
-use Rattle.dm_settlelaws.proofs.Few.{turns_left_few}
-use Rattle.dm_settlelaws.proofs.TurnsFall.{turns_fall}
-use Rattle.dm_world.specs.declared.cursor.Cursor.{Cursor}
-use Rattle.dm_world.specs.declared.cursor.Cursor.TheVariants.{One, Passing}
-use Rattle.dm_world.specs.declared.cursor.Place.{Place}
-use Rattle.dm_world.specs.declared.cursor.Place.TheVariants.{Packets, Turns, End}
-use Rattle.dm_world.specs.Cursor.{Falls, IsSettling, SettleGoes, left, room, room_of, todo_of, turns_at, turns_of}
-use Rattle.dm_world.specs.Next.{has_mail, is_quiet, next_step, undelivered}
-use Rattle.dm_world.specs.World.{WorldState, Said, Says, WornOut, world_step}
-use Rattle.dm_mirror.specs.Run.{GoesOn, RunStands}
-use Rattle.dm_mirror.specs.Laws.{RunGoes}
-use Rattle.dm_mirror.specs.Stands.{Stands}
-use Rattle.dm_mirror.proofs.Next.{machines_stay, next_fits, undelivered_said}
-use Rattle.dm_mirror.proofs.QuietSaid.{mail_is_said}
-use Rattle.dm_run.specs.Coming.{HasCome, IsAfter, rounds_of}
 use Rattle.dm_run.proofs.Counted.{counts}
 use Rattle.dm_run.proofs.Laws.{run_goes_on}
 use Rattle.dm_run.proofs.Stepping.{Follows}

@@ -1,31 +1,8 @@
 -- One more elementary directive of a directive.
-use Rattle.std.proofs.Common.{◌≡◌, ◌≢◌, ◌≤◌, ◌<◌, ℕ, ◌+◌, nat_le, true, List, [], ◌∷◌, length, drop, get_or, add-one, refl, ap, ◌∙◌, sym, subst, arith}
-use Rattle.std.proofs.lemmas.Bool.Decides.{nat_tests}
-use Rattle.std.proofs.lemmas.List.{drop_all}
-use Rattle.std.proofs.Math.Seq.{drop-cons}
-use Rattle.std.specs.List.{All}
-use Rattle.std.proofs.lemmas.List.Elements.{All-nil, All-cons, All-head, All-tail}
-use Rattle.std.specs.declared.option.Option.{Option}
-use Rattle.std.specs.declared.option.Option.TheVariants.{None, Some}
-use Rattle.std.proofs.lemmas.Bool.{false≢true}
-use Rattle.std.specs.Result.{IsErr, IsErrAnd}
-use Rattle.std.specs.declared.result.Result.{Result}
-use Rattle.std.specs.declared.result.Result.TheVariants.{Ok, Err}
-use Rattle.dm_world.specs.declared.world.World.{World}
-use Rattle.dm_run.specs.declared.stop.Stop.{Stop}
-use Rattle.dm_onekernel.specs.declared.boot.Boot.{Boot}
-use Rattle.dm_onekernel.specs.Boot.{IsValid}
-use Rattle.dm_schedule.specs.declared.Step.{Step}
-use Rattle.dm_schedule.specs.declared.Directive.{Directive}
+use Rattle.dm_run.proofs.Names.{◌≡◌, ◌≢◌, ◌≤◌, ◌<◌, ℕ, ◌+◌, nat_le, true, List, [], ◌∷◌, length, drop, get_or, add-one, refl, ap, ◌∙◌, sym, subst, arith, nat_tests, drop_all, drop-cons, All, All-nil, All-cons, All-head, All-tail, Option}
+use Rattle.dm_run.proofs.Names.{None, Some, false≢true, IsErr, IsErrAnd, Result, Ok, Err, World, Stop, Boot, IsValid, Step, Directive, Todo, Next, all_of, Cursor, NextIs, todo_of, MayStep, next_step, WorldState, IsDirective, Blames}
+use Rattle.dm_run.proofs.Names.{BlamesBy, Came, Ended, HasCome, IsAfter, IsFor, Stopped}
 use Rattle.dm_schedule.specs.declared.Directive.TheVariants as directive
-use Rattle.dm_line.specs.Todo.{Todo, Next, all_of}
-use Rattle.dm_world.specs.declared.cursor.Cursor.{Cursor}
-use Rattle.dm_world.specs.Cursor.{NextIs, todo_of}
-use Rattle.dm_world.specs.May.{MayStep}
-use Rattle.dm_world.specs.Next.{next_step}
-use Rattle.dm_world.specs.World.{WorldState}
-use Rattle.dm_mirror.specs.Todo.{IsDirective}
-use Rattle.dm_run.specs.Coming.{Blames, BlamesBy, Came, Ended, HasCome, IsAfter, IsFor, Stopped}
 use Rattle.dm_run.proofs.Comes.{comes_as, may_go}
 use Rattle.dm_run.proofs.Counted.{counts}
 
@@ -70,10 +47,6 @@ stops_on a b d first w u start now after c next e s same come follows stops ds r
 pub came_err : {A : Type 0} (b : Boot) (ds : List Directive) (t : Todo) (before after : Option (List ℕ)) (u : World) (r : Result A Stop) (e : Stop) → IsErr r × IsErrAnd r (λ y. y ≡ e) → Stopped b ds before after (Some u) e → Came b ds t before after u r
 came_err b ds t before after u (Ok x) e h p = absurd (false≢true h.0)
 came_err b ds t before after u (Err y) e h p = subst (λ (x : Stop). Stopped b ds before after (Some u) x) (sym h.1) p
-
-pub ended_err : {A : Type 0} (b : Boot) (ds : List Directive) (before after : Option (List ℕ)) (u : World) (r : Result A Stop) (e : Stop) → IsErr r × IsErrAnd r (λ y. y ≡ e) → Stopped b ds before after (Some u) e → Ended b ds before after u r
-ended_err b ds before after u (Ok x) e h p = absurd (false≢true h.0)
-ended_err b ds before after u (Err y) e h p = subst (λ (x : Stop). Stopped b ds before after (Some u) x) (sym h.1) p
 
 -- where no step of a directive is left, the run stands before the directives behind it
 pub none_on : (a b : Boot) (d : Directive) (first w : WorldState) (start now : Option (List ℕ)) (c : Cursor) → a ≡ b → Brought b d first w start now c → ((rest : List Directive) → NextIs (length a.machines) w c rest None) → (ds rest : List Directive) (before : Option (List ℕ)) → HasCome b ds (all_of (d ∷ rest)) before start first → HasCome b ds (all_of rest) before now w

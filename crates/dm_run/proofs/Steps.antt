@@ -1,40 +1,11 @@
 -- A world is stepped, directive by directive.
-use Rattle.std.proofs.Common.{◌≡◌, ℕ, inl, inr, false, List, [], ◌∷◌, ◌++◌, length, refl, ap, ◌∙◌, sym, subst}
-use Rattle.std.specs.declared.option.Option.TheVariants.{Some}
-use Rattle.std.specs.List.{All}
-use Rattle.std.specs.declared.option.Option.{Option}
-use Rattle.std.specs.Result.{IfErr, IsErr, IsErrAnd}
-use Rattle.std.specs.declared.result.Result.{Result}
-use Rattle.std.specs.declared.result.Result.TheVariants.{Ok, Err}
-use Rattle.std.proofs.lemmas.Bool.{false≢true}
-use Rattle.dm_onekernel.specs.declared.boot.Boot.{Boot}
-use Rattle.dm_onekernel.specs.Boot.{IsValid}
-use Rattle.dm_schedule.specs.declared.Step.{Step}
-use Rattle.dm_schedule.specs.declared.Directive.{Directive}
-use Rattle.dm_line.specs.declared.end_line.EndLine.{EndLine}
-use Rattle.dm_line.specs.declared.line.Line.{Line}
-use Rattle.dm_line.specs.Todo.{Todo, all_of}
+use Rattle.dm_run.proofs.Names.{◌≡◌, ℕ, inl, inr, false, List, [], ◌∷◌, ◌++◌, length, refl, ap, ◌∙◌, sym, subst, Some, All, Option, IfErr, IsErr, IsErrAnd, Result, Ok, Err, false≢true, Boot, IsValid, Step, Directive, EndLine, Line, Todo}
+use Rattle.dm_run.proofs.Names.{all_of, IsStep, Point, first_point, IsWorn, HidesNothing, OrNoMemory, World, MayEnd, MayStep, Answers, IsWorld, state_of, AreReadBack, gave, AreWhole, WorldState, Said, Says, WornOut, first_world, world_step}
+use Rattle.dm_run.proofs.Names.{GoesOn, RunStands, Ran, RanGoes, IsDirective, HasCome, IsFor, IsRunning, RanOn, RunsOn, StopsWorn}
 use Rattle.dm_rule.specs.Ends as rule_ends
-use Rattle.dm_rule.specs.Laws.{IsStep}
-use Rattle.dm_rule.specs.Point.{Point, first_point}
-use Rattle.dm_rule.specs.Worn.{IsWorn}
-use Rattle.dm_text.specs.Fits.{HidesNothing}
 use Rattle.dm_node.specs.declared.stop.Stop.{Stop}
 use Rattle.dm_node.specs.declared.stop.Stop.TheVariants as stop
-use Rattle.dm_node.specs.Meets.{OrNoMemory}
-use Rattle.dm_world.specs.declared.world.World.{World}
 use Rattle.dm_world.specs.Ends as world_ends
-use Rattle.dm_world.specs.Ends.{MayEnd}
-use Rattle.dm_world.specs.May.{MayStep}
-use Rattle.dm_world.specs.Meets.{Answers, IsWorld, state_of}
-use Rattle.dm_world.specs.Readable.{AreReadBack, gave}
-use Rattle.dm_world.specs.Whole.{AreWhole}
-use Rattle.dm_world.specs.World.{WorldState, Said, Says, WornOut, first_world, world_step}
-use Rattle.dm_mirror.specs.Run.{GoesOn, RunStands}
-use Rattle.dm_mirror.specs.Ran.{Ran, RanGoes}
-use Rattle.dm_mirror.specs.Todo.{IsDirective}
-use Rattle.dm_run.specs.Coming.{HasCome, IsFor}
-use Rattle.dm_run.specs.Running.{IsRunning, RanOn, RunsOn, StopsWorn}
 use Rattle.dm_run.proofs.Comes.{stands_hide}
 use Rattle.dm_run.proofs.Counted.{worn_out}
 use Rattle.dm_run.proofs.Laws.{end_is_said, end_may, ran_begins, ran_goes_on, run_is_ran}

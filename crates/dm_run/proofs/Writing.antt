@@ -1,8 +1,6 @@
 -- Bytes that are written piece by piece.
-use Rattle.std.proofs.Common.{◌≡◌, ℕ, ◌+◌, ◌-◌, ◌<◌, ◌≤◌, List, ◌++◌, length, take, drop, refl, ap, sym, ◌∙◌, append_assoc, arith, None, Some}
-use Rattle.std.proofs.lemmas.List.{take-append-drop, take-take, drop-take, take_rest, length-append, length-drop}
-use Rattle.std.specs.declared.option.Option.{Option}
-use Rattle.dm_outside.specs.Outside.{appended}
+use Rattle.dm_run.proofs.Names.{◌≡◌, ℕ, ◌+◌, ◌-◌, ◌<◌, ◌≤◌, List, ◌++◌, length, take, drop, refl, ap, sym, ◌∙◌, append_assoc, arith, take-append-drop, take-take, drop-take, take_rest, length-append, length-drop, Option, appended}
+use Rattle.std.proofs.Common.{None, Some}
 
 -- two pieces, one after the other
 pub take_both : (bytes : List ℕ) (done n : ℕ) → take done bytes ++ take n (drop done bytes) ≡ take (done + n) bytes
@@ -32,7 +30,3 @@ within_rest bytes done n below w = omega (arith, ap length (take_rest bytes done
 -- something is left where fewer than all were taken
 pub some_left : (bytes : List ℕ) (n : ℕ) → n < length bytes → 0 < length (drop n bytes)
 some_left bytes n fewer = omega (arith, length-drop n bytes)
-
--- and so there is, with more behind it
-pub some_left_before : (bytes more : List ℕ) (n : ℕ) → n < length bytes → 0 < length (drop n bytes ++ more)
-some_left_before bytes more n fewer = omega (arith, length-drop n bytes, length-append (drop n bytes) more)

@@ -1,13 +1,18 @@
 -- What the proofs of this crate name of what lies below it.
 unfoldable pub use Rattle.dm_stream.specs.Packets.{load_at}
-pub use Rattle.dm_laws.proofs.Names.{Bool, Boot, IsValid, List, MsgId, None, Option, Pid, Some, [], ap, arith, cases_Bool, drop, false, false≢true, if◌then◌else◌, inl, inr, is_some, length, map, nat_le, nat_lt, nat_tests, option_map, refl}
-pub use Rattle.dm_laws.proofs.Names.{replay, slice_get, subst, sym, true, ℕ, ⊤, ◌&&◌, ◌++◌, ◌+◌, ◌-◌, ◌==◌, ◌∙◌, ◌∷◌, ◌≡◌, ◌≤◌, ◌⊎◌}
-pub use Rattle.dm_line.specs.declared.pass.Pass.TheVariants.{Round}
-pub use Rattle.dm_rule.proofs.Names.{Again, AreStill, Directive, IsStep, IsStill, Leads, Line, Load, MessageKind, Next, Owns, Pair, Part, Point, Routes, Says, Sent, Spelled, Step, Todo, Transmits, View, actor, after, after_head, after_line}
-pub use Rattle.dm_rule.proofs.Names.{after_packet, after_put, all_of, append-nil, at_least, at_pair, bind-is, filter, first_point, gone_after, group_of, has_mail, is_quiet, marked, marked_at, moved, next_step, not, oldest, routed_on}
-pub use Rattle.dm_rule.proofs.Names.{spelled, suc, view_after, window, with_pair, zero, ◌<◌, ◌≢◌}
+pub use Rattle.dm_packet.proofs.Names.{All, Bool, List, Message, MessageKind, MsgId, Pid, [], ap, append-nil, arith, drop, false, if◌then◌else◌, inl, inr, length, nat_le, nat_tests, not, refl, spelling, subst, suc, sym, true, zero, ℕ, ◌&&◌}
+pub use Rattle.dm_packet.proofs.Names.{◌++◌, ◌+◌, ◌-◌, ◌<◌, ◌==◌, ◌∙◌, ◌∷◌, ◌≡◌, ◌≢◌, ◌≤◌, ◌⊎◌}
+pub use Rattle.dm_schedule.proofs.Names.{Directive, map, nat_lt}
+pub use Rattle.dm_switchboard.proofs.Names.{None, Option, is_some, slice_get}
+pub use Rattle.dm_procman.proofs.Names.{Boot, IsValid}
+pub use Rattle.dm_laws.proofs.Names.{Some, cases_Bool, false≢true, option_map, replay, ⊤}
+pub use Rattle.dm_syscall.proofs.Names.{All-nil}
+pub use Rattle.dm_rule.proofs.Names.{Again, AreStill, IsStep, IsStill, Leads, Line, Load, Next, Owns, Pair, Part, Point, Routes, Says, Sent, Spelled, Step, Todo, Transmits, View, actor, after, after_head, after_line, after_packet}
+pub use Rattle.dm_rule.proofs.Names.{after_put, all_of, at_least, at_pair, bind-is, filter, first_point, gone_after, group_of, has_mail, is_quiet, marked, marked_at, moved, next_step, oldest, routed_on, spelled, view_after, window}
+pub use Rattle.dm_rule.proofs.Names.{with_pair}
 pub use Rattle.dm_rule.specs.Worn.{IsWorn}
-pub use Rattle.dm_places.proofs.Names.{Message, Placed}
+pub use Rattle.dm_places.proofs.Names.{Placed}
+pub use Rattle.dm_kernel.proofs.Names.{All-head, All-tail}
 pub use Rattle.dm_rulelaws.proofs.Decided.{shorter_begins}
 pub use Rattle.dm_rulelaws.proofs.Names.{IsNetLine, IsRun, LeadsBy, group_is, is_put, labels}
 pub use Rattle.dm_rulelaws.proofs.RunsAlways.{goes_on_always, receives_in_order}
@@ -18,18 +23,17 @@ pub use Rattle.dm_settlelaws.proofs.FewPuts.{few_puts}
 pub use Rattle.dm_settlelaws.proofs.Grows.{one_longer}
 pub use Rattle.dm_settlelaws.proofs.LeftFalls.{left_falls}
 pub use Rattle.dm_settlelaws.proofs.Less.{Falls, by_left}
-pub use Rattle.dm_settlelaws.proofs.Names.{All, All-nil, IsKept, IsLess, IsSettleStep, Left, Pass, Settle, SettlesBy, Two, begin_pass, below, count-append, first_undelivered, group_after, here_or_later, in_pass, is_over, leads_append, left}
-pub use Rattle.dm_settlelaws.proofs.Names.{next, next_delivery, next_directive, next_pass, next_turn, pairs_of, pass_begun, passes_quiet, quiet_passes, says_put, says_view, settles, stands_once_always, takes_turn, transmits_view}
-pub use Rattle.dm_settlelaws.proofs.Names.{undelivered}
+pub use Rattle.dm_settlelaws.proofs.Names.{IsKept, IsLess, IsSettleStep, Left, Pass, Settle, SettlesBy, Two, begin_pass, below, count-append, first_undelivered, group_after, here_or_later, in_pass, is_over, leads_append, left, next}
+pub use Rattle.dm_settlelaws.proofs.Names.{next_delivery, next_directive, next_pass, next_turn, pairs_of, pass_begun, passes_quiet, quiet_passes, says_put, says_view, settles, stands_once_always, takes_turn, transmits_view, undelivered}
 pub use Rattle.dm_settlelaws.proofs.PassHas.{settles_always}
 pub use Rattle.dm_node.specs.Out.{packet_of}
+pub use Rattle.dm_world.proofs.Names.{Round, WorldState, bytes_at, is_pair}
 pub use Rattle.dm_mirror.proofs.Deliver.Events.{mark_next}
 pub use Rattle.dm_mirror.proofs.Deliver.Outs.{bytes_marked}
 pub use Rattle.dm_mirror.proofs.Going.{leads_last}
 pub use Rattle.dm_mirror.proofs.Local.{acts_locally}
 pub use Rattle.dm_mirror.proofs.Machines.{machines_group, plainly_is, some_machine}
-pub use Rattle.dm_mirror.proofs.Names.{All-head, All-tail, AreMessages, GoesOn, History, IsDirective, IsTodo, IsTwo, PairStands, PutsFrom, Stands, StandsWith, WorldState, bytes_at, bytes_of, following, full_pair, is_full, is_pair, joined}
-pub use Rattle.dm_mirror.proofs.Names.{line_of, load_of, marked_by, received_once, spelling, worn_in}
+pub use Rattle.dm_mirror.proofs.Names.{AreMessages, GoesOn, History, IsDirective, IsTodo, IsTwo, PairStands, PutsFrom, Stands, StandsWith, bytes_of, following, full_pair, is_full, joined, line_of, load_of, marked_by, received_once, worn_in}
 pub use Rattle.dm_mirror.proofs.Next.{IsBelow, all_below, all_pairs, next_fits}
 pub use Rattle.dm_mirror.proofs.Staying.{kernel_stays}
 pub use Rattle.dm_mirror.specs.Run.{IsGood}

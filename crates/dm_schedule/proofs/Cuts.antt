@@ -1,12 +1,6 @@
 -- Cutting a text at its line feeds, and a line at its blanks.
-use Rattle.std.proofs.Common.{ℕ, zero, suc, Bool, true, false, not, ◌==◌, ◌&&◌, nat_lt, ◌≡◌, ◌+◌, ◌-◌, ◌<◌, ◌≤◌, List, [], ◌∷◌, length, take, drop, get_or, length-drop, add-zero, refl, ap, sym, ◌∙◌, arith}
-use Rattle.std.specs.List.{position, position_or_len}
-use Rattle.std.specs.Prelude.{Some, None, if◌then◌else◌}
-use Rattle.std.proofs.lemmas.List.{take_all, length-take-le, get_or-drop}
-use Rattle.std.proofs.lemmas.Bool.Decides.{nat_tests}
-use Rattle.std.proofs.Math.Seq.{drop-length}
-use Rattle.std.proofs.lemmas.List.Quantifiers.{position-Some}
-use Rattle.dm_schedule.specs.Lines.{ends_line, is_return, line_ends, lines, is_blank, pieces, words, onto_first}
+use Rattle.dm_schedule.proofs.Names.{ℕ, zero, suc, Bool, true, false, not, ◌==◌, ◌&&◌, nat_lt, ◌≡◌, ◌+◌, ◌-◌, ◌<◌, ◌≤◌, List, [], ◌∷◌, length, take, drop, get_or, length-drop, add-zero, refl, ap, sym, ◌∙◌, arith, position, position_or_len}
+use Rattle.dm_schedule.proofs.Names.{Some, None, if◌then◌else◌, take_all, length-take-le, get_or-drop, nat_tests, drop-length, position-Some, ends_line, is_return, line_ends, lines, is_blank, pieces, words, onto_first}
 
 -- by the first item, where the first that passes would stand behind the end
 none_passes-first : (test : ℕ → Bool) (x : ℕ) (xs : List ℕ) (k : ℕ) (b : Bool) → test x ≡ b → length (x ∷ xs) ≤ position_or_len test (x ∷ xs) → k < length (x ∷ xs) → (length xs ≤ position_or_len test xs → (k : ℕ) → k < length xs → test (get_or xs k 0) ≡ false) → test (get_or (x ∷ xs) k 0) ≡ false

@@ -1,21 +1,11 @@
 -- Directives that were read, and the lines that follow.
-use Rattle.std.proofs.Common.{ℕ, ◌+◌, ◌≡◌, List, [], ◌∷◌, ◌++◌, refl, ap, sym, append_assoc}
-use Rattle.std.specs.Prelude.{Option, Some, None, Ok, Err, option_to_list}
-use Rattle.std.proofs.lemmas.List.{append-nil}
-use Rattle.dm_schedule.specs.declared.Directive.{Directive}
-use Rattle.dm_schedule.specs.declared.LineFault.{LineFault}
-use Rattle.dm_schedule.specs.Lines.{words}
-use Rattle.dm_schedule.specs.Schedule.{Schedule, Accepted, Refused, also, line_directive, lines_from}
+use Rattle.dm_schedule.proofs.Names.{ℕ, ◌+◌, ◌≡◌, List, [], ◌∷◌, ◌++◌, refl, ap, sym, append_assoc, Option, Some, None, Ok, Err, option_to_list, append-nil, Directive, LineFault, words, Schedule, Accepted, Refused, also, line_directive}
+use Rattle.dm_schedule.proofs.Names.{lines_from}
 
 -- some directives, and then those that follow
 abbrev pub before : List Directive → Schedule → Schedule
 before ds (Accepted more) = Accepted (ds ++ more)
 before ds (Refused line fault) = Refused line fault
-
--- nothing was read yet
-pub before_none : (rest : Schedule) → before [] rest ≡ rest
-before_none (Accepted more) = refl
-before_none (Refused line fault) = refl
 
 -- one more directive that was read
 pub before_also : (ds : List Directive) (d : Directive) (rest : Schedule) → before ds (also d rest) ≡ before (ds ++ d ∷ []) rest

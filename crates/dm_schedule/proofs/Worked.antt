@@ -1,11 +1,7 @@
 -- The definitions, computed on worked texts, for two machines.
-use Rattle.std.proofs.Common.{◌≡◌, ℕ, List, [], ◌∷◌, ◌++◌, map, codes, refl}
+use Rattle.dm_schedule.proofs.Names.{◌≡◌, ℕ, List, [], ◌∷◌, ◌++◌, map, codes, refl, keyword_of, lines, words, number_of, process_of, Schedule, Accepted, Refused, directive_of, directives_of, line_directive, lines_from, number_of_fault}
 use Rattle.dm_schedule.specs.declared.Directive.TheVariants as directive
 use Rattle.dm_schedule.specs.declared.Step.TheVariants as step
-use Rattle.dm_schedule.specs.Keywords.{keyword_of}
-use Rattle.dm_schedule.specs.Lines.{lines, words}
-use Rattle.dm_schedule.specs.Numbers.{number_of, process_of}
-use Rattle.dm_schedule.specs.Schedule.{Schedule, Accepted, Refused, directive_of, directives_of, line_directive, lines_from, number_of_fault}
 
 -- the first bad line and the number of what is wrong there; 0 and 0 where there is none
 abbrev refusal : Schedule → ℕ × ℕ

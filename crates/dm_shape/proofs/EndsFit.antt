@@ -1,22 +1,10 @@
 -- Each line at the end of a run has the shape of its row.
-use Rattle.std.proofs.Common.{◌≡◌, ℕ, zero, suc, ◌^◌, ◌<◌, ◌≤◌, Bool, true, false, ◌&&◌, List, [], ◌∷◌, ◌++◌, length, map, refl, ap, sym, ◌∙◌, arith}
-use Rattle.std.specs.Prelude.{codes}
-use Rattle.std.specs.Fmt.{decimal}
-use Rattle.std.specs.List.{All, list_all}
-use Rattle.dm_link.specs.declared.Link.{Link}
-use Rattle.dm_link.specs.declared.Pid.{Pid}
-use Rattle.dm_message.specs.declared.MsgId.{MsgId}
+use Rattle.dm_shape.proofs.Names.{◌≡◌, ℕ, zero, suc, ◌^◌, ◌<◌, ◌≤◌, Bool, true, false, ◌&&◌, List, [], ◌∷◌, ◌++◌, length, map, refl, ap, sym, ◌∙◌, arith, codes, decimal, All, list_all, Link, Pid, MsgId, EndLine, end_words, link_words}
+use Rattle.dm_shape.proofs.Names.{EndFits, LinkFits, PidFits, IdFits, IsWord, id_word, pid_word, IsFull, ends_so, fit, is_row, link_sorts, numbers, row_of, is_of}
 use Rattle.dm_line.specs.declared.end_line.Doing.TheVariants as doing
-use Rattle.dm_line.specs.declared.end_line.EndLine.{EndLine}
 use Rattle.dm_line.specs.declared.end_line.EndLine.TheVariants as end
-use Rattle.dm_text.specs.Ends.{end_words, link_words}
-use Rattle.dm_text.specs.Fits.{EndFits, LinkFits, PidFits, IdFits, IsWord}
-use Rattle.dm_text.specs.Words.{id_word, pid_word}
 use Rattle.dm_shape.specs.declared.shape.Shape.TheVariants as shape
 use Rattle.dm_shape.specs.declared.sort.Sort.TheVariants as sort
-use Rattle.dm_shape.specs.Full.{IsFull}
-use Rattle.dm_shape.specs.Shapes.{ends_so, fit, is_row, link_sorts, numbers, row_of}
-use Rattle.dm_shape.specs.Sorts.{is_of}
 use Rattle.dm_shape.proofs.Listed.{has_row, listed}
 use Rattle.dm_shape.proofs.WordsFit.{machine_fits, number_fits, process_fits, message_fits, groups_fit, small_fits, why_fits, at_fits, moves_fits, code_fits, channel_fits, area_fits, ended_fits, ready_fits, waiting_fits, moving_fits, standing_fits, go_fits, link_kind_fits, rights_fit, direction_fits, block_fits, name_fits}
 

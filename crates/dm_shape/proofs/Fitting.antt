@@ -1,15 +1,7 @@
 -- Words of a line, one by one.
-use Rattle.std.proofs.Common.{◌≡◌, ℕ, suc, ◌+◌, ◌<◌, Bool, true, false, ◌&&◌, List, [], ◌∷◌, length, drop, drop-cons, get_or, refl, ap, sym, ◌∙◌, arith, Bor, Some, None}
-use Rattle.std.specs.List.{list_all}
-use Rattle.std.specs.Option.{option_map}
-use Rattle.std.specs.declared.option.Option.{Option}
-use Rattle.dm_text.specs.Reading.{pieces}
-use Rattle.dm_shape.specs.declared.sort.Sort.{Sort}
+use Rattle.dm_shape.proofs.Names.{◌≡◌, ℕ, suc, ◌+◌, ◌<◌, Bool, true, false, ◌&&◌, List, [], ◌∷◌, length, drop, drop-cons, get_or, refl, ap, sym, ◌∙◌, arith, Bor, Some, None, list_all, option_map, Option, pieces, Sort, behind, ends_so, fit}
+use Rattle.dm_shape.proofs.Names.{is_of, alone}
 use Rattle.dm_shape.specs.declared.sort.Sort.TheVariants as sort
-use Rattle.dm_shape.specs.Pieces.{behind}
-use Rattle.dm_shape.specs.Shapes.{ends_so, fit}
-use Rattle.dm_shape.specs.Sorts.{is_of}
-use Rattle.dm_shape.specs.Words.{alone}
 use Rattle.dm_shape.proofs.NamesRead.{some_piece}
 
 -- what stands behind a piece

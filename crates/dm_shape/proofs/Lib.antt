@@ -1,3 +1,4 @@
+pub mod Names
 pub mod Decimal
 pub mod PiecesAt
 pub mod NamesRead

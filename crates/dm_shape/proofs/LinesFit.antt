@@ -1,14 +1,10 @@
 -- Each line of a group has the shape of its row.
-use Rattle.std.proofs.Common.{◌≡◌, true, refl}
+use Rattle.dm_shape.proofs.Names.{◌≡◌, true, refl, Line, LineFits, words, is_row, row_of}
 use Rattle.dm_onekernel.specs.declared.label.Label.TheVariants as label
 use Rattle.dm_schedule.specs.declared.Step.TheVariants as step
-use Rattle.dm_line.specs.declared.line.Line.{Line}
 use Rattle.dm_line.specs.declared.line.Line.TheVariants as line
 use Rattle.dm_line.specs.declared.line.Load.TheVariants as load
-use Rattle.dm_text.specs.Fits.{LineFits}
-use Rattle.dm_text.specs.Text.{words}
 use Rattle.dm_shape.specs.declared.shape.Shape.TheVariants as shape
-use Rattle.dm_shape.specs.Shapes.{is_row, row_of}
 use Rattle.dm_shape.proofs.Listed.{has_row, listed}
 use Rattle.dm_shape.proofs.WordsFit.{machine_fits, number_fits, packet_fits, process_fits, message_fits, small_fits, short_fits, reply_fits, why_fits, kind_fits, stage_fits, six_fits, data_fits, ack_fits}
 

@@ -1,9 +1,6 @@
 -- A row of the table is among all rows.
-use Rattle.std.proofs.Common.{◌≡◌, ℕ, zero, suc, Bool, true, false, ◌||◌, List, [], ◌∷◌, refl, ap, ◌∙◌, Some}
-use Rattle.std.specs.List.{list_any, slice_get}
-use Rattle.dm_shape.specs.declared.shape.Shape.{Shape}
+use Rattle.dm_shape.proofs.Names.{◌≡◌, ℕ, zero, suc, Bool, true, false, ◌||◌, List, [], ◌∷◌, refl, ap, ◌∙◌, Some, list_any, slice_get, Shape, is_row, row_of, shapes}
 use Rattle.dm_shape.specs.declared.shape.Shape.TheVariants as shape
-use Rattle.dm_shape.specs.Shapes.{is_row, row_of, shapes}
 
 or_true : (a b : Bool) → b ≡ true → (a || b) ≡ true
 or_true true b e = refl

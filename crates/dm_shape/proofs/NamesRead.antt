@@ -1,22 +1,12 @@
 -- Names read piece by piece: what stands behind the first separator has no other one, where it can be read.
-use Rattle.std.proofs.Common.{◌≡◌, ℕ, zero, suc, ◌+◌, ◌-◌, ◌*◌, ◌^◌, ◌<◌, ◌≤◌, ◌==◌, nat_le, Bool, true, false, ◌&&◌, ◌||◌, if◌then◌else◌, List, [], ◌∷◌, ◌++◌, length, refl, ap, sym, ◌∙◌, subst, arith, Some, None}
-use Rattle.std.specs.declared.option.Option.{Option}
-use Rattle.std.proofs.lemmas.Bool.Decides.{nat_tests}
-use Rattle.dm_link.specs.declared.Pid.{Pid}
-use Rattle.dm_link.specs.Names.{pid_of}
-use Rattle.dm_message.specs.declared.MsgId.{MsgId}
-use Rattle.dm_text.specs.Reading.{◌<*>◌, longer, pieces, number_after, below, is_padded, read_number, read_u8, read_u32, read_pid, pid_in, named, numbered, id_in}
-use Rattle.dm_text.proofs.Pieces.{free, free-append, pieces-free}
+use Rattle.dm_shape.proofs.Names.{◌≡◌, ℕ, zero, suc, ◌+◌, ◌-◌, ◌*◌, ◌^◌, ◌<◌, ◌≤◌, ◌==◌, nat_le, Bool, true, false, ◌&&◌, ◌||◌, if◌then◌else◌, List, [], ◌∷◌, ◌++◌, length, refl, ap, sym, ◌∙◌, subst, arith, Some, None, Option, nat_tests}
+use Rattle.dm_shape.proofs.Names.{Pid, pid_of, MsgId, ◌<*>◌, longer, pieces, number_after, below, is_padded, read_number, read_u8, read_u32, read_pid, pid_in, named, numbered, id_in, free, free-append, pieces-free}
 
 -- nothing comes of nothing
 pub of_none : {A B : Type 0} (o : Option (A → B)) (x : Option A) → x ≡ None → (o <*> x) ≡ None
 of_none None x e = refl
 of_none (Some f) None e = refl
 of_none (Some f) (Some x) e = absurd (cc)
-
-pub from_none : {A B : Type 0} (o : Option (A → B)) (x : Option A) → o ≡ None → (o <*> x) ≡ None
-from_none None x e = refl
-from_none (Some f) x e = absurd (cc)
 
 -- a byte is no digit
 abbrev pub IsApart : ℕ → Type 0

@@ -1,34 +1,11 @@
 -- Printed lines have shapes, and heads are read as what they are.
-use Rattle.std.proofs.Common.{◌≡◌, ℕ, Bool, true, false, if◌then◌else◌, List, [], ◌∷◌, ◌++◌, refl, ap, sym, ◌∙◌, subst, Some, None}
-use Rattle.std.specs.Prelude.{codes, is_some}
-use Rattle.std.specs.List.{list_any}
-use Rattle.std.specs.Str.{bytes_eq}
-use Rattle.std.specs.declared.option.Option.{Option}
-use Rattle.std.proofs.lemmas.List.{append_cancel_right}
-use Rattle.std.proofs.lemmas.Slice.Eq.{bytes_eq-Decides}
-use Rattle.dm_link.specs.declared.Pid.{Pid}
-use Rattle.dm_schedule.specs.declared.Step.{Step}
+use Rattle.dm_shape.proofs.Names.{◌≡◌, ℕ, Bool, true, false, if◌then◌else◌, List, [], ◌∷◌, ◌++◌, refl, ap, sym, ◌∙◌, subst, Some, None, codes, is_some, list_any, bytes_eq, Option, append_cancel_right, bytes_eq-Decides, Pid, Step, Line}
+use Rattle.dm_shape.proofs.Names.{EndLine, end_words, LineFits, EndFits, StepFits, head_words, ◌<*>◌, pieces, read_u8, read_u64, read_pid, is, of1, of2, of3, words, spaced, spelled, text, end_text, end_words_are, words-are, line_bytes}
+use Rattle.dm_shape.proofs.Names.{spelled_bytes, pieces_of_words, read_u8_back, read_u64_back, read_pid_back, AreWords, IsFull, head_in, head_named, head_of, IsLine, LinesHaveShapes, EndsHaveShapes, HeadsHaveShapes, HeadsAreRead, has_shape}
+use Rattle.dm_shape.proofs.Names.{is_of_shape, is_row, row_of, shapes, is_of}
 use Rattle.dm_schedule.specs.declared.Step.TheVariants as step
-use Rattle.dm_line.specs.declared.line.Line.{Line}
 use Rattle.dm_line.specs.declared.line.Line.TheVariants as line
-use Rattle.dm_line.specs.declared.end_line.EndLine.{EndLine}
-use Rattle.dm_text.specs.Ends.{end_words}
-use Rattle.dm_text.specs.Fits.{LineFits, EndFits, StepFits}
-use Rattle.dm_text.specs.Labels.{head_words}
-use Rattle.dm_text.specs.Reading.{◌<*>◌, pieces, read_u8, read_u64, read_pid}
-use Rattle.dm_text.specs.Rows.{is, of1, of2, of3}
-use Rattle.dm_text.specs.Text.{words, spaced, spelled, text, end_text}
-use Rattle.dm_text.proofs.EndsBack.{end_words_are}
-use Rattle.dm_text.proofs.LineBack.{words-are}
-use Rattle.dm_text.proofs.LinesBack.{line_bytes, spelled_bytes, pieces_of_words}
-use Rattle.dm_text.proofs.Names.{read_u8_back, read_u64_back, read_pid_back}
-use Rattle.dm_text.proofs.Pieces.{AreWords}
 use Rattle.dm_shape.specs.declared.shape.Shape.TheVariants as shape
-use Rattle.dm_shape.specs.Full.{IsFull}
-use Rattle.dm_shape.specs.Heads.{head_in, head_named, head_of}
-use Rattle.dm_shape.specs.Laws.{IsLine, LinesHaveShapes, EndsHaveShapes, HeadsHaveShapes, HeadsAreRead}
-use Rattle.dm_shape.specs.Shapes.{has_shape, is_of_shape, is_row, row_of, shapes}
-use Rattle.dm_shape.specs.Sorts.{is_of}
 use Rattle.dm_shape.proofs.EndsFit.{end_has_row}
 use Rattle.dm_shape.proofs.LinesFit.{line_has_row}
 use Rattle.dm_shape.proofs.Listed.{has_row, listed}

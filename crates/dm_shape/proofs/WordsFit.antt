@@ -1,40 +1,18 @@
 -- The words that lines are printed with are of their sorts.
-use Rattle.std.proofs.Common.{◌≡◌, ◌≢◌, ℕ, zero, suc, ◌+◌, ◌-◌, ◌*◌, ◌/◌, ◌%◌, ◌^◌, ◌<◌, ◌≤◌, ◌==◌, nat_lt, nat_le, nat_eq, Bool, true, false, not, ◌&&◌, List, [], ◌∷◌, ◌++◌, length, drop, get_or, refl, ap, sym, ◌∙◌, arith, Some}
-use Rattle.std.specs.Prelude.{codes, is_some}
-use Rattle.std.specs.Fmt.{decimal}
-use Rattle.std.specs.List.{All, list_all, ends_with}
+use Rattle.dm_shape.proofs.Names.{◌≡◌, ◌≢◌, ℕ, zero, suc, ◌+◌, ◌-◌, ◌*◌, ◌/◌, ◌%◌, ◌^◌, ◌<◌, ◌≤◌, ◌==◌, nat_lt, nat_le, nat_eq, Bool, true, false, not, ◌&&◌, List, [], ◌∷◌, ◌++◌, length, drop, get_or, refl, ap, sym, ◌∙◌, arith, Some, codes}
+use Rattle.dm_shape.proofs.Names.{is_some, decimal, All, list_all, ends_with, nat_tests, Pid, Kind, MsgId, MessageKind, word_of, Direction, FromArea, IntoArea, reply_code, why_code, Reply, Why, Load, Stage, Standing, standing_word}
+use Rattle.dm_shape.proofs.Names.{direction_word, go_word, hex, hex_digit, kind_word, rights_word, PidFits, IdFits, IsByte, read_number, stage_word, pid_word, id_word, read_u8_back, read_u32_back, read_u64_back, read_u128_back}
+use Rattle.dm_shape.proofs.Names.{read_pid_back, read_id_back, is_digit, spells, is_block, is_of, choose}
 use lib.Pointwise.{pointwise}
-use Rattle.std.proofs.lemmas.Bool.Decides.{nat_tests}
-use Rattle.dm_link.specs.declared.Pid.{Pid}
-use Rattle.dm_link.specs.declared.Kind.{Kind}
 use Rattle.dm_link.specs.declared.Kind.TheVariants as kind_
-use Rattle.dm_message.specs.declared.MsgId.{MsgId}
-use Rattle.dm_message.specs.declared.kind.MessageKind.{MessageKind}
 use Rattle.dm_message.specs.declared.kind.MessageKind.TheVariants as kind
-use Rattle.dm_message.specs.Kinds.{word_of}
-use Rattle.dm_process.specs.declared.process.Direction.{Direction}
-use Rattle.dm_process.specs.declared.process.Direction.TheVariants.{FromArea, IntoArea}
 use Rattle.dm_processor.specs.declared.registers.Fault.TheVariants as fault
-use Rattle.dm_onekernel.specs.Codes.{reply_code, why_code}
-use Rattle.dm_onekernel.specs.declared.label.Reply.{Reply}
 use Rattle.dm_onekernel.specs.declared.label.Reply.TheVariants as reply
-use Rattle.dm_onekernel.specs.declared.label.Why.{Why}
 use Rattle.dm_onekernel.specs.declared.label.Why.TheVariants as why
-use Rattle.dm_line.specs.declared.line.Load.{Load}
-use Rattle.dm_line.specs.declared.line.Stage.{Stage}
 use Rattle.dm_line.specs.declared.line.Stage.TheVariants as stage
-use Rattle.dm_line.specs.declared.end_line.Standing.{Standing}
 use Rattle.dm_line.specs.declared.end_line.Standing.TheVariants as standing
-use Rattle.dm_text.specs.Ends.{standing_word, direction_word, go_word, hex, hex_digit, kind_word, rights_word}
-use Rattle.dm_text.specs.Fits.{PidFits, IdFits, IsByte}
-use Rattle.dm_text.specs.Reading.{read_number}
-use Rattle.dm_text.specs.Text.{stage_word}
-use Rattle.dm_text.specs.Words.{pid_word, id_word}
-use Rattle.dm_text.proofs.Names.{read_u8_back, read_u32_back, read_u64_back, read_u128_back, read_pid_back, read_id_back}
 use Rattle.dm_shape.specs.declared.choice.Choice.TheVariants as choice
 use Rattle.dm_shape.specs.declared.sort.Sort.TheVariants as sort
-use Rattle.dm_shape.specs.Sorts.{is_digit, spells, is_block, is_of}
-use Rattle.dm_shape.specs.Shapes.{choose}
 
 pub machine_fits : (m : ℕ) → m < 2 ^ 8 → is_of sort.Machine (decimal m) ≡ true
 unfolding is_of

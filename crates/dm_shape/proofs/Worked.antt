@@ -1,11 +1,6 @@
 -- Texts that are lines, and texts that are none.
-use Rattle.std.proofs.Common.{◌≡◌, true, false, refl, Some, None}
-use Rattle.std.specs.Prelude.{codes}
+use Rattle.dm_shape.proofs.Names.{◌≡◌, true, false, refl, Some, None, codes, pieces, read_number, read_pid, read_id, head_of, has_shape, is_of_shape, is_of}
 use Rattle.dm_schedule.specs.declared.Step.TheVariants as step
-use Rattle.dm_text.specs.Reading.{pieces, read_number, read_pid, read_id}
-use Rattle.dm_shape.specs.Heads.{head_of}
-use Rattle.dm_shape.specs.Shapes.{has_shape, is_of_shape}
-use Rattle.dm_shape.specs.Sorts.{is_of}
 
 line_1 : has_shape (codes "lacks 0.3 300 0") ≡ true
 unfolding has_shape is_of_shape is_of pieces read_number read_pid read_id

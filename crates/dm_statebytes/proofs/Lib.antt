@@ -1,3 +1,4 @@
+pub mod Names
 pub mod Statuses
 pub mod Tables
 pub mod Shells

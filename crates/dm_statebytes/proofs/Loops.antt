@@ -1,21 +1,7 @@
 -- Reading and writing place by place, as the loops of the code do.
-use Rattle.std.proofs.Common.{◌≡◌, ℕ, suc, ◌+◌, ◌-◌, ◌/◌, ◌%◌, ◌^◌, ◌<◌, ◌≤◌, true, false, eqb, List, [], ◌∷◌, ◌++◌, length, set, take, drop, Option, None, Some, Result, Ok, Err, refl, sym, ap, subst, ◌∙◌, append_assoc, arith}
-use Rattle.std.specs.Prelude.{◌==◌}
-use Rattle.std.specs.List.{All, flat_map}
-use Rattle.std.proofs.Math.Nat.{pow-le-pow_right}
-use Rattle.std.proofs.lemmas.Bool.{eq-eqb}
-use Rattle.std.proofs.lemmas.Bool.Decides.{nat_tests}
-use Rattle.std.proofs.lemmas.Grind.{common_steps, take_at_read}
-use Rattle.std.proofs.lemmas.List.{append-nil, length-drop, take_all, take_more_set}
-use Rattle.dm_link.specs.declared.Link.{Link}
-use Rattle.dm_linktable.specs.Slots.{link_at}
-use Rattle.dm_packet.specs.declared.PacketError.{PacketError}
-use Rattle.dm_packet.specs.Field.{◌>>=◌}
-use Rattle.dm_packet.specs.Fields.{link}
-use Rattle.dm_packet.proofs.Loop.{with_front}
-use Rattle.dm_packet.proofs.Writes.{all_next, pieces_next, then_put}
-use Rattle.dm_statebytes.specs.Table.{mask_of, read_slots, slot, spell_slot}
-use Rattle.dm_statebytes.specs.Widths.{FitsSlot}
+use Rattle.dm_statebytes.proofs.Names.{◌≡◌, ℕ, suc, ◌+◌, ◌-◌, ◌/◌, ◌%◌, ◌^◌, ◌<◌, ◌≤◌, true, false, eqb, List, [], ◌∷◌, ◌++◌, length, set, take, drop, Option, None, Some, Result, Ok, Err, refl, sym, ap, subst, ◌∙◌, append_assoc, arith}
+use Rattle.dm_statebytes.proofs.Names.{◌==◌, All, flat_map, pow-le-pow_right, eq-eqb, nat_tests, common_steps, take_at_read, append-nil, length-drop, take_all, take_more_set, Link, link_at, PacketError, ◌>>=◌, link, with_front, all_next}
+use Rattle.dm_statebytes.proofs.Names.{pieces_next, then_put, mask_of, read_slots, slot, spell_slot, FitsSlot}
 use Rattle.dm_statebytes.proofs.Tables.{mask_of-lt}
 
 pub front_none : {X : Type 0} (read : Result (List X × List ℕ) PacketError) → with_front [] read ≡ read
@@ -61,13 +47,6 @@ slot_empty cap place left table rest total lt even so_far =
     let next = slots_next (take place table) cap place left rest None rest total lt found so_far.0 in
     let grown : take (place + 1) table ≡ take place table ++ None ∷ [] = (take_at_read table place None (omega (arith, so_far.1))).1 ∙ ap (λ o. take place table ++ o ∷ []) (so_far.2 place (omega arith)) in
     (rw grown next, so_far.1, λ s le. so_far.2 s (omega arith))
-
-pub slots_done : (cap place left : ℕ) (table : List (Option Link)) (rest : List ℕ) (total : Result (List (Option Link) × List ℕ) PacketError) → cap ≤ place → ReadUpTo cap total table place left rest → total ≡ Ok (table, rest)
-slots_done cap place left table rest total le so_far =
-    let none : cap - place ≡ 0 = omega arith in
-    let all : take place table ≡ table = take_all place table (omega (arith, so_far.1)) in
-    let one : with_front (take place table) (read_slots (cap - place) left rest) ≡ Ok (table, rest) = rw (none, all) (ap (λ xs. Ok (xs, rest)) (append-nil table)) in
-    sym so_far.0 ∙ one
 
 -- the links up to a slot, and its own
 pub slot_written : (table : List (Option Link)) (i : ℕ) (old now new : List ℕ) (o : Option Link) → i < length table → link_at table i ≡ o → FitsSlot o → now ≡ old ++ flat_map spell_slot (take i table) → All FitsSlot (take i table) → new ≡ now ++ spell_slot o

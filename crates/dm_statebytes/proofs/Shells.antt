@@ -1,30 +1,9 @@
 -- A process is read as it is spelled.
-use Rattle.std.proofs.Common.{◌≡◌, ℕ, ◌*◌, ◌^◌, ◌<◌, ◌≤◌, true, eqb, List, [], ◌∷◌, ◌++◌, length, Option, None, Some, Result, Ok, Err, refl, sym, ap, subst, ◌∙◌, arith}
-use Rattle.std.specs.Prelude.{◌⊎◌, ◌==◌, IfOk}
-use Rattle.std.specs.List.{AllByRecursion}
-use Rattle.std.proofs.lemmas.Bool.{eqb-true, eq-eqb}
-use Rattle.std.proofs.lemmas.List.{append-nil, nil_from_length}
-use Rattle.std.proofs.lemmas.List.Elements.{All-from_recursion, recursion_from_All}
-use Rattle.dm_link.specs.declared.Link.{Link}
-use Rattle.dm_processor.specs.declared.registers.Regs.{Regs}
-use Rattle.dm_process.specs.Lawful.{SlotIsLawful}
-use Rattle.dm_packet.specs.declared.PacketError.{PacketError}
+use Rattle.dm_statebytes.proofs.Names.{◌≡◌, ℕ, ◌*◌, ◌^◌, ◌<◌, ◌≤◌, true, eqb, List, [], ◌∷◌, ◌++◌, length, Option, None, Some, Result, Ok, Err, refl, sym, ap, subst, ◌∙◌, arith, ◌⊎◌, ◌==◌, IfOk, AllByRecursion, eqb-true, eq-eqb, append-nil}
+use Rattle.dm_statebytes.proofs.Names.{nil_from_length, All-from_recursion, recursion_from_All, Link, Regs, SlotIsLawful, PacketError, ◌>>=◌, both, number, pid, yes_or_no, Fits, IsBytes, IsField, IsField-both, IsField-for, IsField-made}
+use Rattle.dm_statebytes.proofs.Names.{IsField-number, IsField-tested, IsField-times, bind_ok, guard_ok, IsSpelledPid, length_within_is, pid_is, yes_or_no_is, StateBytesError, Shell, IsLawfulShell, Front, blocks, by_rule, ended, front}
+use Rattle.dm_statebytes.proofs.Names.{front_of, registers, regs, shell, shell_of_bytes, shell_with, spelling, version, status, table, FitsShell, FitsSlot}
 use Rattle.dm_packet.specs.declared.PacketError.TheVariants as bad
-use Rattle.dm_packet.specs.Field.{◌>>=◌, both, number}
-use Rattle.dm_packet.specs.Fields.{pid}
-use Rattle.dm_packet.specs.Whats.{yes_or_no}
-use Rattle.dm_packet.specs.Widths.{Fits}
-use Rattle.dm_packet.proofs.Numbers.{IsBytes}
-use Rattle.dm_packet.proofs.Field.{IsField, IsField-both, IsField-for, IsField-made, IsField-number, IsField-tested, IsField-times, bind_ok, guard_ok}
-use Rattle.dm_packet.proofs.Fields.{IsSpelledPid, length_within_is, pid_is}
-use Rattle.dm_packet.proofs.Coded.{yes_or_no_is}
-use Rattle.dm_statebytes.specs.declared.StateBytesError.{StateBytesError}
-use Rattle.dm_statebytes.specs.declared.Shell.{Shell}
-use Rattle.dm_statebytes.specs.Lawful.{IsLawfulShell}
-use Rattle.dm_statebytes.specs.Shell.{Front, blocks, by_rule, ended, front, front_of, registers, regs, shell, shell_of_bytes, shell_with, spelling, version}
-use Rattle.dm_statebytes.specs.Statuses.{status}
-use Rattle.dm_statebytes.specs.Table.{table}
-use Rattle.dm_statebytes.specs.Widths.{FitsShell, FitsSlot}
 use Rattle.dm_statebytes.proofs.Statuses.{IsSpelledStatus, status_is}
 use Rattle.dm_statebytes.proofs.Tables.{IsSpelledTable, SlotIsSpelled, table_is}
 

@@ -1,20 +1,6 @@
 -- How long the state bytes of a process are.
-use Rattle.std.proofs.Common.{◌≡◌, ℕ, ◌+◌, ◌*◌, ◌≤◌, List, [], ◌∷◌, ◌++◌, length, Option, None, Some, Result, Ok, Err, sym, ap, subst, ◌∙◌, arith, inl, inr}
-use Rattle.std.specs.Prelude.{◌⊎◌, OnOk}
-use Rattle.std.specs.List.{flat_map}
-use Rattle.std.proofs.lemmas.List.{length-append}
-use Rattle.std.proofs.lemmas.List.Concat.{flat_map-cons}
-use Rattle.dm_link.specs.declared.Link.{Link}
-use Rattle.dm_process.specs.declared.process.Status.{Status}
-use Rattle.dm_process.specs.declared.process.Status.TheVariants.{Ready, Waiting, Moving}
-use Rattle.dm_packet.specs.Field.{number}
-use Rattle.dm_packet.proofs.Numbers.{IsBytes}
-use Rattle.dm_statebytes.specs.declared.StateBytesError.{StateBytesError}
-use Rattle.dm_statebytes.specs.declared.Shell.{Shell}
-use Rattle.dm_statebytes.specs.Lawful.{IsLawfulShell}
-use Rattle.dm_statebytes.specs.Shell.{front, front_of, registers, shell_of_bytes, spelling}
-use Rattle.dm_statebytes.specs.Statuses.{spell_status}
-use Rattle.dm_statebytes.specs.Table.{mask_of, spell_slot}
+use Rattle.dm_statebytes.proofs.Names.{◌≡◌, ℕ, ◌+◌, ◌*◌, ◌≤◌, List, [], ◌∷◌, ◌++◌, length, Option, None, Some, Result, Ok, Err, sym, ap, subst, ◌∙◌, arith, inl, inr, ◌⊎◌, OnOk, flat_map, length-append, flat_map-cons, Link, Status, Ready}
+use Rattle.dm_statebytes.proofs.Names.{Waiting, Moving, number, IsBytes, StateBytesError, Shell, IsLawfulShell, front, front_of, registers, shell_of_bytes, spelling, spell_status, mask_of, spell_slot}
 use Rattle.dm_statebytes.proofs.Shells.{shell_takes}
 
 slot_size : (o : Option Link) → length (spell_slot o) ≤ 24

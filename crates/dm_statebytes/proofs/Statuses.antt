@@ -1,27 +1,10 @@
 -- A status is read as it is spelled.
-use Rattle.std.proofs.Common.{◌≡◌, ℕ, ◌+◌, ◌<◌, ◌≤◌, true, List, ◌++◌, None, Some, Result, Ok, refl, ap, arith, append_assoc, ◌∙◌}
-use Rattle.std.specs.Prelude.{nat_le, ◌==◌, if◌then◌else◌}
-use Rattle.std.proofs.lemmas.Bool.Decides.{nat_tests}
-use Rattle.dm_link.specs.declared.Addr.{Addr}
-use Rattle.dm_process.specs.Directions.{direction_numbered, number_of_direction}
-use Rattle.dm_process.specs.Lawful.{IsLawfulStatus}
-use Rattle.dm_process.specs.declared.process.Direction.{Direction}
-use Rattle.dm_process.specs.declared.process.Direction.TheVariants.{FromArea, IntoArea}
-use Rattle.dm_process.specs.declared.process.Status.{Status}
-use Rattle.dm_process.specs.declared.process.Status.TheVariants.{Ready, Waiting, Moving}
-use Rattle.dm_packet.specs.declared.PacketError.{PacketError}
+use Rattle.dm_statebytes.proofs.Names.{◌≡◌, ℕ, ◌+◌, ◌<◌, ◌≤◌, true, List, ◌++◌, None, Some, Result, Ok, refl, ap, arith, append_assoc, ◌∙◌, nat_le, ◌==◌, if◌then◌else◌, nat_tests, Addr, direction_numbered, number_of_direction}
+use Rattle.dm_statebytes.proofs.Names.{IsLawfulStatus, Direction, FromArea, IntoArea, Status, Ready, Waiting, Moving, PacketError, ◌>>=◌, both, number, addr, Fits, IsBytes, IsField, IsField-both, IsField-for, IsField-number, IsField-tested}
+use Rattle.dm_statebytes.proofs.Names.{Took, bind_ok, took_same, then_parts, IsSpelledAddr, addr_is, coded_is, none_left, one_or_later, StatusKind, cap_from, direction, is_left, left_from, moving, number_of_status_kind, read_status}
+use Rattle.dm_statebytes.proofs.Names.{spell_status, status, status_kind, status_kind_numbered, waiting, FitsStatus}
 use Rattle.dm_packet.specs.declared.PacketError.TheVariants as bad
-use Rattle.dm_packet.specs.Field.{◌>>=◌, both, number}
-use Rattle.dm_packet.specs.Fields.{addr}
-use Rattle.dm_packet.specs.Widths.{Fits}
-use Rattle.dm_packet.proofs.Numbers.{IsBytes}
-use Rattle.dm_packet.proofs.Field.{IsField, IsField-both, IsField-for, IsField-number, IsField-tested, Took, bind_ok, took_same, then_parts}
-use Rattle.dm_packet.proofs.Fields.{IsSpelledAddr, addr_is}
-use Rattle.dm_packet.proofs.Coded.{coded_is, none_left, one_or_later}
-use Rattle.dm_statebytes.specs.declared.status.StatusKind.{StatusKind}
 use Rattle.dm_statebytes.specs.declared.status.StatusKind.TheVariants as kinds
-use Rattle.dm_statebytes.specs.Statuses.{cap_from, direction, is_left, left_from, moving, number_of_status_kind, read_status, spell_status, status, status_kind, status_kind_numbered, waiting}
-use Rattle.dm_statebytes.specs.Widths.{FitsStatus}
 
 -- the bytes that stand for a kind of status or a direction
 

@@ -1,20 +1,8 @@
 -- A table is read as it is spelled.
-use Rattle.std.proofs.Common.{◌≡◌, ℕ, zero, suc, ◌+◌, ◌*◌, ◌/◌, ◌%◌, ◌^◌, ◌<◌, Bool, true, false, eqb, List, [], ◌∷◌, ◌++◌, length, Option, None, Some, Ok, refl, sym, ap, subst, ◌∙◌, append_assoc, arith, inl, inr}
-use Rattle.std.specs.Prelude.{◌⊎◌, ◌==◌, nat_lt}
-use Rattle.std.specs.List.{AllByRecursion, flat_map}
-use Rattle.std.specs.Option.{IfSome}
-use Rattle.std.proofs.Math.Nat.{mod-eq_of_lt, pow-succ'}
-use Rattle.std.proofs.lemmas.Bool.{ltb-true, lt-ltb}
-use Rattle.std.proofs.lemmas.List.Concat.{flat_map-cons}
-use Rattle.std.proofs.lemmas.Nat.{mod-pow-add, mod_below}
-use Rattle.dm_link.specs.declared.Link.{Link}
+use Rattle.dm_statebytes.proofs.Names.{◌≡◌, ℕ, zero, suc, ◌+◌, ◌*◌, ◌/◌, ◌%◌, ◌^◌, ◌<◌, Bool, true, false, eqb, List, [], ◌∷◌, ◌++◌, length, Option, None, Some, Ok, refl, sym, ap, subst, ◌∙◌, append_assoc, arith, inl, inr, ◌⊎◌, ◌==◌}
+use Rattle.dm_statebytes.proofs.Names.{nat_lt, AllByRecursion, flat_map, IfSome, mod-eq_of_lt, pow-succ', ltb-true, lt-ltb, flat_map-cons, mod-pow-add, mod_below, Link, ◌>>=◌, both, number, bit_of, link, IsBytes, IsField, IsField-both}
+use Rattle.dm_statebytes.proofs.Names.{IsField-for, IsField-made, IsField-number, IsField-tested, Took, bind_ok, took_same, then_parts, IsSpelledLink, link_is, held, mask, mask_of, read_slots, slot, slots, spell_slot, table}
 use Rattle.dm_packet.specs.declared.PacketError.TheVariants as bad
-use Rattle.dm_packet.specs.Field.{◌>>=◌, both, number}
-use Rattle.dm_packet.specs.Fields.{bit_of, link}
-use Rattle.dm_packet.proofs.Numbers.{IsBytes}
-use Rattle.dm_packet.proofs.Field.{IsField, IsField-both, IsField-for, IsField-made, IsField-number, IsField-tested, Took, bind_ok, took_same, then_parts}
-use Rattle.dm_packet.proofs.Fields.{IsSpelledLink, link_is}
-use Rattle.dm_statebytes.specs.Table.{held, mask, mask_of, read_slots, slot, slots, spell_slot, table}
 
 abbrev pub SlotIsSpelled : Option Link → Type 0
 SlotIsSpelled o = IfSome o IsSpelledLink

@@ -1,12 +1,8 @@
 -- The definitions, computed on worked bytes.
-use Rattle.std.proofs.Common.{◌≡◌, ℕ, true, false, List, [], ◌∷◌, ◌++◌, replicate, slice_set, Option, None, Some, Result, Ok, Err, refl}
-use Rattle.dm_link.specs.declared.Kind.TheVariants.{General, Reply}
-use Rattle.dm_process.specs.declared.process.Direction.TheVariants.{IntoArea}
-use Rattle.dm_process.specs.declared.process.Status.TheVariants.{Ready, Waiting, Moving}
-use Rattle.dm_statebytes.specs.declared.StateBytesError.{StateBytesError}
+use Rattle.dm_statebytes.proofs.Names.{◌≡◌, ℕ, true, false, List, [], ◌∷◌, ◌++◌, slice_set, Option, None, Some, Result, Ok, Err, refl, General, Reply, IntoArea, Ready, Waiting, Moving, StateBytesError, Shell, registers, shell_of_bytes}
+use Rattle.dm_statebytes.proofs.Names.{spelling}
+use Rattle.std.proofs.Common.{replicate}
 use Rattle.dm_statebytes.specs.declared.StateBytesError.TheVariants as carry
-use Rattle.dm_statebytes.specs.declared.Shell.{Shell}
-use Rattle.dm_statebytes.specs.Shell.{registers, shell_of_bytes, spelling}
 
 -- process 0.3 of one block and 32 slots without links, which has not executed anything yet
 abbrev fresh : Shell

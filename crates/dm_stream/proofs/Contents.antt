@@ -1,11 +1,6 @@
 -- What stands at both ends and under way is what was given.
-use Rattle.std.proofs.Common.{◌≡◌, ◌≢◌, ℕ, ◌+◌, ◌-◌, ◌<◌, ◌≤◌, List, length, take, drop, slice_get, Option, Some, append-nil, arith}
-use Rattle.std.proofs.lemmas.Bool.Decides.{nat_tests}
-use Rattle.std.proofs.lemmas.Grind.{common_steps}
-use Rattle.std.proofs.lemmas.List.{take-append-le}
-use Rattle.dm_stream.specs.Receiving.{place, kept_once}
-use Rattle.dm_stream.specs.Packets.{Data, load_at}
-use Rattle.dm_stream.specs.Stream.{Stream, Event, Deliver, happens, arrives}
+use Rattle.dm_stream.proofs.Names.{◌≡◌, ◌≢◌, ℕ, ◌+◌, ◌-◌, ◌<◌, ◌≤◌, List, length, take, drop, slice_get, Option, Some, append-nil, arith, nat_tests, common_steps, take-append-le, place, kept_once, Data, load_at, Stream, Event, Deliver}
+use Rattle.dm_stream.proofs.Names.{happens, arrives}
 use Rattle.dm_stream.proofs.Lists.{get-longer, take-next, get-drop, drop-more}
 use Rattle.dm_stream.proofs.Packets.{load-pushed, load-marked}
 use Rattle.dm_stream.proofs.Places.{place-moved_up, place-kept_same, place-kept_other}

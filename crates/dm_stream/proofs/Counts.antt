@@ -1,12 +1,5 @@
 -- The counts of a stream are in order, and what was sent has numbers within them.
-use Rattle.std.proofs.Common.{◌≡◌, ℕ, ◌+◌, ◌<◌, ◌≤◌, length, Some, arith}
-use Rattle.std.proofs.lemmas.Bool.Decides.{nat_tests}
-use Rattle.std.proofs.lemmas.Grind.{common_steps}
-use Rattle.std.proofs.lemmas.Option.{slice_get_within}
-use Rattle.dm_stream.specs.Sending.{given_count, window}
-use Rattle.dm_stream.specs.Receiving.{place}
-use Rattle.dm_stream.specs.Packets.{Data, Ack, load_at}
-use Rattle.dm_stream.specs.Stream.{Stream, Event, happens}
+use Rattle.dm_stream.proofs.Names.{◌≡◌, ℕ, ◌+◌, ◌<◌, ◌≤◌, length, Some, arith, nat_tests, common_steps, slice_get_within, given_count, window, place, Data, Ack, load_at, Stream, Event, happens}
 use Rattle.dm_stream.proofs.Packets.{load-pushed, load-marked}
 use Rattle.dm_stream.proofs.Places.{place-moved_up, place-kept_same, place-kept_other}
 

@@ -1,13 +1,6 @@
 -- What follows where the relation stands.
-use Rattle.std.proofs.Common.{◌≡◌, nat_lt, ℕ, ◌∙◌, ◌-◌, ◌<◌, ◌≤◌, List, length, take, slice_get, None, inl, inr, arith}
-use Rattle.std.proofs.lemmas.Bool.{cases_Bool}
-use Rattle.std.proofs.lemmas.Bool.Decides.{nat_tests}
-use Rattle.std.proofs.lemmas.List.{take_all}
-use Rattle.dm_stream.specs.Sending.{due}
-use Rattle.dm_stream.specs.Receiving.{next}
-use Rattle.dm_stream.specs.Packets.{Data, Ack, delivered_at, HasData}
-use Rattle.dm_stream.specs.Stream.{Stream}
-use Rattle.dm_stream.specs.Order.{IsThere, Stands, MayCome, IsUnderWayOrThere, IsAnswered, IsAnswerHeard, IsAtRest, IsAllDelivered, IsAllThere}
+use Rattle.dm_stream.proofs.Names.{◌≡◌, nat_lt, ℕ, ◌∙◌, ◌-◌, ◌<◌, ◌≤◌, List, length, take, slice_get, None, inl, inr, arith, cases_Bool, nat_tests, take_all, due, next, Data, Ack, delivered_at, HasData, Stream, IsThere, Stands, MayCome}
+use Rattle.dm_stream.proofs.Names.{IsUnderWayOrThere, IsAnswered, IsAnswerHeard, IsAtRest, IsAllDelivered, IsAllThere}
 use Rattle.dm_stream.proofs.Lists.{front-none}
 use Rattle.dm_stream.proofs.Packets.{load-within}
 

@@ -1,18 +1,11 @@
 -- Lists that grow at the end.
-use Rattle.std.proofs.Common.{◌≡◌, ℕ, zero, suc, ◌+◌, ◌-◌, List, [], ◌∷◌, ◌++◌, length, take, drop, slice_get, Some, None, is_some, if◌then◌else◌, refl, ap, arith, inl, inr, ◌⊎◌}
+use Rattle.dm_stream.proofs.Names.{◌≡◌, ℕ, zero, suc, ◌+◌, ◌-◌, List, [], ◌∷◌, ◌++◌, length, take, drop, slice_get, Some, None, is_some, if◌then◌else◌, refl, ap, arith, inl, inr, ◌⊎◌}
 
 -- what stood in the list stands there still
 pub get-longer : {X : Type 0} (xs ys : List X) (k : ℕ) → slice_get (xs ++ ys) k ≡ (if is_some (slice_get xs k) then slice_get xs k else slice_get ys (k - length xs))
 get-longer [] ys k = grind arith
 get-longer (y ∷ xs) ys zero = refl
 get-longer (y ∷ xs) ys (suc k) = grind (arith, get-longer xs ys k)
-
--- what stands in the longer list stood there, or is the last
-pub get-pushed : {X : Type 0} (xs : List X) (y : X) (k : ℕ) (x : X) → slice_get (xs ++ y ∷ []) k ≡ Some x → (slice_get xs k ≡ Some x) ⊎ (y ≡ x)
-get-pushed [] y zero x e = inr cc
-get-pushed [] y (suc k) x e = cc
-get-pushed (z ∷ xs) y zero x e = inl e
-get-pushed (z ∷ xs) y (suc k) x e = get-pushed xs y k x e
 
 -- one more is taken
 pub take-next : {X : Type 0} (xs : List X) (n : ℕ) (x : X) → slice_get xs n ≡ Some x → take (n + 1) xs ≡ take n xs ++ x ∷ []

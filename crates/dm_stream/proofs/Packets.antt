@@ -1,6 +1,5 @@
 -- Packets that are put and marked, place by place.
-use Rattle.std.proofs.Common.{◌≡◌, ℕ, zero, suc, ◌<◌, true, List, [], ◌∷◌, ◌++◌, length, Some, refl, inl, inr, ◌⊎◌, arith}
-use Rattle.dm_stream.specs.Packets.{Load, Packet, just_put, marked, load_at, delivered_at}
+use Rattle.dm_stream.proofs.Names.{◌≡◌, ℕ, zero, suc, ◌<◌, true, List, [], ◌∷◌, ◌++◌, length, Some, refl, inl, inr, ◌⊎◌, arith, Load, Packet, just_put, marked, load_at, delivered_at}
 
 module _ {M : Type 0} where
   -- a packet of the longer list was there, or is the last

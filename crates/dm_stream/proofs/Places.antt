@@ -1,6 +1,5 @@
 -- What a receiver keeps, place by place.
-use Rattle.std.proofs.Common.{◌≡◌, ◌≢◌, ℕ, zero, suc, ◌<◌, List, [], ◌∷◌, ◌++◌, length, slice_set, Option, None, refl, arith}
-use Rattle.dm_stream.specs.Receiving.{place, moved_up, once, kept_once}
+use Rattle.dm_stream.proofs.Names.{◌≡◌, ◌≢◌, ℕ, zero, suc, ◌<◌, List, [], ◌∷◌, ◌++◌, length, slice_set, Option, None, refl, arith, place, moved_up, once, kept_once}
 
 place-pushed : {X : Type 0} (xs : List (Option X)) (i : ℕ) → place (xs ++ None ∷ []) i ≡ place xs i
 place-pushed [] zero = refl

@@ -1,11 +1,7 @@
 -- What went out was sent, what has come is there, and what was heard is acknowledged.
-use Rattle.std.proofs.Common.{◌≡◌, ◌≢◌, ◌∙◌, sym, subst, ℕ, ◌+◌, ◌-◌, ◌<◌, ◌≤◌, nat_lt, max, Bool, true, false, List, [], ◌∷◌, ◌++◌, length, Option, Some, None, is_some, refl, inl, inr, ◌⊎◌, arith}
-use Rattle.std.proofs.lemmas.Bool.{cases_Bool, cases_eq}
-use Rattle.std.proofs.lemmas.Bool.Decides.{nat_tests}
-use Rattle.dm_stream.specs.Sending.{Sending, due, outstanding}
-use Rattle.dm_stream.specs.Receiving.{place}
-use Rattle.dm_stream.specs.Packets.{Load, Data, Ack, Packet, just_put, marked, load_at, delivered_at, HasData, HasHeard}
-use Rattle.dm_stream.specs.Stream.{Stream, Event, Give, GoOut, GoAgain, Deliver, TakeKept, Acknowledge, DeliverBack, OtherAck, OtherData, happens, is_worn, gives, data_packet, goes_out, goes_again, arrives, hears}
+use Rattle.dm_stream.proofs.Names.{◌≡◌, ◌≢◌, ◌∙◌, sym, subst, ℕ, ◌+◌, ◌-◌, ◌<◌, ◌≤◌, nat_lt, max, Bool, true, false, List, [], ◌∷◌, ◌++◌, length, Option, Some, None, is_some, refl, inl, inr, ◌⊎◌, arith, cases_Bool, cases_eq, nat_tests}
+use Rattle.dm_stream.proofs.Names.{Sending, due, outstanding, place, Load, Data, Ack, Packet, just_put, marked, load_at, delivered_at, HasData, HasHeard, Stream, Event, Give, GoOut, GoAgain, Deliver, TakeKept, Acknowledge, DeliverBack}
+use Rattle.dm_stream.proofs.Names.{OtherAck, OtherData, happens, is_worn, gives, data_packet, goes_out, goes_again, arrives, hears}
 use Rattle.dm_stream.proofs.Counts.{Within}
 use Rattle.dm_stream.proofs.Packets.{load-marked, load-longer, load-last, come-pushed, delivered-pushed, delivered-marked, delivered-stays, delivered-here}
 use Rattle.dm_stream.proofs.Places.{place-moved_up, place-kept_same, place-kept_other}

@@ -1,14 +1,7 @@
 -- All that stands of a stream, together, and what follows.
-use Rattle.std.proofs.Common.{◌≡◌, sym, nat_lt, ℕ, ◌∙◌, ◌+◌, ◌-◌, ◌^◌, ◌<◌, ◌≤◌, true, List, [], ◌∷◌, length, slice_get, Option, Some, None, is_some, refl, inl, inr, arith}
-use Rattle.std.specs.Prelude.{IsSome}
-use Rattle.std.proofs.lemmas.Bool.{cases_Bool}
-use Rattle.std.proofs.lemmas.Bool.Decides.{nat_tests}
-use Rattle.std.proofs.lemmas.Grind.{common_steps}
-use Rattle.std.proofs.lemmas.Option.{gets}
-use Rattle.dm_stream.specs.Receiving.{Receiving, place, kept_under}
-use Rattle.dm_stream.specs.Packets.{Load, Data, Ack, marked, load_at, HasCome}
-use Rattle.dm_stream.specs.Stream.{Stream, Event, Give, GoOut, GoAgain, Deliver, TakeKept, Acknowledge, DeliverBack, OtherAck, OtherData, happens, arrives, run, start}
-use Rattle.dm_stream.specs.Order.{IsThere, Stands}
+use Rattle.dm_stream.proofs.Names.{◌≡◌, sym, nat_lt, ℕ, ◌∙◌, ◌+◌, ◌-◌, ◌^◌, ◌<◌, ◌≤◌, true, List, [], ◌∷◌, length, slice_get, Option, Some, None, is_some, refl, inl, inr, arith, IsSome, cases_Bool, nat_tests, common_steps, gets, Receiving}
+use Rattle.dm_stream.proofs.Names.{place, kept_under, Load, Data, Ack, marked, load_at, HasCome, Stream, Event, Give, GoOut, GoAgain, Deliver, TakeKept, Acknowledge, DeliverBack, OtherAck, OtherData, happens, arrives, run, start, IsThere}
+use Rattle.dm_stream.proofs.Names.{Stands}
 use Rattle.dm_stream.proofs.Counts as counts
 use Rattle.dm_stream.proofs.Counts.{Counts, Within}
 use Rattle.dm_stream.proofs.Packets.{load-marked, load-none}
@@ -101,9 +94,6 @@ module _ {M : Type 0} where
   -- a message at a place is kept under its number
   under-place : (r : Receiving M) (i : ℕ) (m : M) → place r.kept i ≡ Some m → kept_under r (r.count + i) ≡ Some m
   under-place r i m is = grind (arith, nat_tests)
-
-  place-under : (r : Receiving M) (n : ℕ) (m : M) → kept_under r n ≡ Some m → (r.count ≤ n) × (place r.kept (n - r.count) ≡ Some m)
-  place-under r n m is = grind (arith, nat_tests)
 
   there-kept : (w : Stream M) (n : ℕ) → IsThere w n → w.receiver.count ≤ n → is_some (place w.receiver.kept (n - w.receiver.count)) ≡ true
   there-kept w n (inl lt) le = absurd (omega arith)

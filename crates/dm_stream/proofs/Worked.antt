@@ -1,9 +1,5 @@
 -- Worked cases of the definitions: each computes.
-use Rattle.std.proofs.Common.{◌≡◌, ℕ, List, [], ◌∷◌, length, None, Some, refl}
-use Rattle.dm_stream.specs.Sending.{due, outstanding}
-use Rattle.dm_stream.specs.Receiving.{kept_under}
-use Rattle.dm_stream.specs.Packets.{Ack, load_at}
-use Rattle.dm_stream.specs.Stream.{Event, Give, GoOut, Deliver, TakeKept, Acknowledge, DeliverBack, OtherAck, run, start}
+use Rattle.dm_stream.proofs.Names.{◌≡◌, ℕ, List, [], ◌∷◌, length, None, Some, refl, due, outstanding, kept_under, Ack, load_at, Event, Give, GoOut, Deliver, TakeKept, Acknowledge, DeliverBack, OtherAck, run, start}
 
 -- two messages, whose packets come as 1, 0, 1: the first is kept, the second lets both be taken, the third is old
 abbrev reordered : List (Event ℕ)

@@ -1,13 +1,7 @@
 -- The entries of the map of names, and the list of names.
-use Rattle.std.proofs.Common.{◌≡◌, ℕ, true, false, ◌==◌, List, [], ◌∷◌, ◌++◌, Option, None, Some, refl, sym, ap, ◌∙◌, nat_eq, is_some, arith}
-use Rattle.std.specs.Cmp.Lexicographic.{pointwise}
-use Rattle.std.specs.Map.{lookup}
-use Rattle.arrayvec.specs.ArrayVec.{ArrayVec}
-use Rattle.dm_link.specs.declared.Link.{Link}
-use Rattle.dm_onekernel.specs.Switchboard.{bytes_eq}
+use Rattle.dm_switchboard.proofs.Names.{◌≡◌, ℕ, true, false, ◌==◌, List, [], ◌∷◌, ◌++◌, Some, refl, sym, ap, ◌∙◌, nat_eq, is_some, arith, pointwise, lookup, ArrayVec, Link, bytes_eq, Named, listed, named, Asked, link_named, registers_new}
+use Rattle.std.proofs.Common.{Option, None}
 use Rattle.dm_switchboard.specs.declared.reply.Reply.TheVariants as reply
-use Rattle.dm_switchboard.specs.Board.{Named, listed, named}
-use Rattle.dm_switchboard.specs.Taking.{Asked, link_named, registers_new}
 
 eq_sym : (a b : ℕ) → (a == b) ≡ (b == a)
 eq_sym a b = grind arith

@@ -1,13 +1,6 @@
 -- Entries that are told one by one are all told.
-use Rattle.std.proofs.Common.{◌≡◌, ℕ, zero, suc, ◌+◌, ◌≤◌, if◌then◌else◌, [], ◌∷◌, length, map, count_by, slice_get, Some, refl, ap, arith}
-use Rattle.std.proofs.lemmas.Grind.{common_steps}
-use Rattle.arrayvec.specs.ArrayVec.{ArrayVec}
-use Rattle.indexmap.specs.Layout.{set_value_at}
-use Rattle.dm_link.specs.declared.Pid.{Pid}
-use Rattle.dm_link.specs.declared.Link.{Link}
-use Rattle.dm_link.specs.Places.{is_behind, retargeted_link}
-use Rattle.dm_switchboard.specs.Board.{listed, named_is_behind, retargeted_named}
-use Rattle.dm_switchboard.specs.Following.{Entries, behind_at, counted, followed, told_at}
+use Rattle.dm_switchboard.proofs.Names.{◌≡◌, ℕ, zero, suc, ◌+◌, ◌≤◌, if◌then◌else◌, [], ◌∷◌, length, map, count_by, slice_get, Some, refl, ap, arith, common_steps, ArrayVec, set_value_at, Pid, Link, is_behind, retargeted_link, listed}
+use Rattle.dm_switchboard.proofs.Names.{named_is_behind, retargeted_named, Entries, behind_at, counted, followed, told_at}
 
 pub told_set : (p : Pid) (m c n : ℕ) (es : Entries) (e : ArrayVec ℕ × Link) → slice_get es n ≡ Some e → set_value_at es n (retargeted_link p m c e.1) ≡ told_at p m c n es
 told_set p m c n [] e h = refl

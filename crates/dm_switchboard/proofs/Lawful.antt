@@ -1,32 +1,11 @@
 -- What the switchboard keeps and gives is lawful.
-use Rattle.std.proofs.Common.{◌≡◌, ◌≤◌, ℕ, suc, Bool, true, false, ◌==◌, if◌then◌else◌, List, [], ◌∷◌, length, map, refl, sym, subst, arith}
-use Rattle.std.proofs.lemmas.Grind.{common_steps}
-use Rattle.std.proofs.lemmas.List.Elements.{All-map, All-push}
-use Rattle.std.specs.List.{All}
-use Rattle.std.specs.Option.{IfSome}
-use Rattle.std.specs.Prelude.{IfOk, OnErr}
-use Rattle.std.specs.declared.option.Option.{Option}
-use Rattle.std.specs.declared.option.Option.TheVariants.{None, Some}
-use Rattle.std.specs.declared.result.Result.{Result}
-use Rattle.std.specs.declared.result.Result.TheVariants.{Ok, Err}
-use Rattle.arrayvec.specs.ArrayVec.{ArrayVec}
-use Rattle.dm_link.specs.declared.Pid.{Pid}
-use Rattle.dm_link.specs.declared.Addr.{Addr}
-use Rattle.dm_link.specs.declared.Link.{Link}
-use Rattle.dm_link.specs.Lawful.{IsMachine, IsLawfulAddr, IsLawfulEnclosed}
-use Rattle.dm_link.specs.Places.{is_behind, relocated, retargeted_link}
-use Rattle.dm_memory.specs.declared.NoMemory.{NoMemory}
-use Rattle.dm_message.specs.declared.Message.{Message}
+use Rattle.dm_switchboard.proofs.Names.{◌≡◌, ◌≤◌, ℕ, suc, Bool, true, false, ◌==◌, if◌then◌else◌, List, [], ◌∷◌, length, map, refl, sym, subst, arith, common_steps, All-map, All-push, All, IfSome, IfOk, OnErr, Option, None, Result, Ok, Err}
+use Rattle.dm_switchboard.proofs.Names.{ArrayVec, Pid, Addr, Link, IsMachine, IsLawfulAddr, IsLawfulEnclosed, is_behind, relocated, retargeted_link, NoMemory, Message, IsLawfulMessage, IsLawfulWhat, is_general, bytes_eq, is_name, Took}
+use Rattle.dm_switchboard.proofs.Names.{Reply, Board, Named, retargeted_named, IsLawfulBoard, IsLawfulNamed, Asked, Taken, answer_over, asks, asks_to_look_up, asks_to_register, bad_request, found_or_unknown, link_named, links_of_reply}
+use Rattle.dm_switchboard.proofs.Names.{looks_up, registers, registers_new, takes_request}
+use Rattle.std.specs.declared.option.Option.TheVariants.{Some}
 use Rattle.dm_message.specs.declared.What.TheVariants as what
-use Rattle.dm_message.specs.Lawful.{IsLawfulMessage, IsLawfulWhat}
-use Rattle.dm_onekernel.specs.Boot.{is_general}
-use Rattle.dm_onekernel.specs.Switchboard.{bytes_eq, is_name}
-use Rattle.dm_switchboard.specs.declared.Took.{Took}
-use Rattle.dm_switchboard.specs.declared.reply.Reply.{Reply}
 use Rattle.dm_switchboard.specs.declared.reply.Reply.TheVariants as reply
-use Rattle.dm_switchboard.specs.Board.{Board, Named, retargeted_named}
-use Rattle.dm_switchboard.specs.Lawful.{IsLawfulBoard, IsLawfulNamed}
-use Rattle.dm_switchboard.specs.Taking.{Asked, Taken, answer_over, asks, asks_to_look_up, asks_to_register, bad_request, found_or_unknown, link_named, links_of_reply, looks_up, registers, registers_new, takes_request}
 
 all_head : {X : Type 0} (P : X → Type 0) (x : X) (xs : List X) → All P (x ∷ xs) → P x
 all_head P x xs h = h 0 x (omega arith)

@@ -1,29 +1,11 @@
 -- The switchboard's table and that of the kernel without machines.
-use Rattle.std.proofs.Common.{◌≡◌, ℕ, ◌+◌, Bool, true, false, ◌==◌, if◌then◌else◌, List, [], ◌∷◌, ◌++◌, map, refl, sym, ap, ◌∙◌, arith}
-use Rattle.std.specs.declared.option.Option.{Option}
-use Rattle.std.specs.declared.option.Option.TheVariants.{None, Some}
-use Rattle.std.specs.declared.result.Result.{Result}
-use Rattle.std.specs.declared.result.Result.TheVariants.{Ok, Err}
-use Rattle.std.specs.Prelude.{IfOk}
-use Rattle.std.specs.Option.{option_map}
-use Rattle.arrayvec.specs.ArrayVec.{ArrayVec}
-use Rattle.dm_link.specs.declared.Pid.{Pid}
-use Rattle.dm_link.specs.declared.Link.{Link}
-use Rattle.dm_link.specs.Places.{retargeted_link}
-use Rattle.dm_link.specs.Plain.{plain_link}
-use Rattle.dm_memory.specs.declared.NoMemory.{NoMemory}
-use Rattle.dm_message.specs.declared.Message.{Message}
+use Rattle.dm_switchboard.proofs.Names.{◌≡◌, ℕ, ◌+◌, Bool, true, false, ◌==◌, if◌then◌else◌, List, [], ◌∷◌, ◌++◌, map, refl, sym, ap, ◌∙◌, arith, Option, None, Result, Ok, Err, IfOk, option_map, ArrayVec, Pid, Link, retargeted_link}
+use Rattle.dm_switchboard.proofs.Names.{plain_link, NoMemory, Message, plain_message, plain_what, with_what, is_general, switchboard, bytes_eq, is_name, Took, Reply, Board, Named, plain_board, plain_named, retargeted_named, plain_taken}
+use Rattle.dm_switchboard.proofs.Names.{plainly_taken, Asked, Taken, answer_over, asks, asks_to_look_up, asks_to_register, bad_request, found_or_unknown, link_named, looks_up, registers, registers_new, takes_request}
+use Rattle.std.specs.declared.option.Option.TheVariants.{Some}
 use Rattle.dm_message.specs.declared.What.TheVariants as what
-use Rattle.dm_message.specs.Plain.{plain_message, plain_what, with_what}
-use Rattle.dm_onekernel.specs.Boot.{is_general, switchboard}
 use Rattle.dm_onekernel.specs.Switchboard as one
-use Rattle.dm_onekernel.specs.Switchboard.{bytes_eq, is_name}
-use Rattle.dm_switchboard.specs.declared.Took.{Took}
-use Rattle.dm_switchboard.specs.declared.reply.Reply.{Reply}
 use Rattle.dm_switchboard.specs.declared.reply.Reply.TheVariants as reply
-use Rattle.dm_switchboard.specs.Board.{Board, Named, plain_board, plain_named, retargeted_named}
-use Rattle.dm_switchboard.specs.Plainly.{plain_taken, plainly_taken}
-use Rattle.dm_switchboard.specs.Taking.{Asked, Taken, answer_over, asks, asks_to_look_up, asks_to_register, bad_request, found_or_unknown, link_named, looks_up, registers, registers_new, takes_request}
 
 abbrev pub plain_reply : Reply → one.Answer
 plain_reply reply.Registered = one.Registered

@@ -1,43 +1,12 @@
 -- How a receive ends, without places and lawfully.
-use Rattle.std.proofs.Common.{◌≡◌, ◌∙◌, ℕ, zero, suc, ◌+◌, ◌≤◌, Bool, true, false, List, [], ◌∷◌, length, map, take, drop, Some, None, slice_get, refl, ap, sym, arith, if◌then◌else◌}
-use Rattle.std.specs.Prelude.{◌&&◌}
-use Rattle.std.specs.List.{All}
-use Rattle.std.specs.Option.{IfSome}
-use Rattle.std.proofs.Math.ListN.{length-set}
-use Rattle.std.proofs.lemmas.List.{length-map, map-set}
-use Rattle.std.proofs.lemmas.List.Elements.{All-append, All-drop, All-set, All-take}
-use Rattle.std.proofs.lemmas.Bool.Decides.{nat_tests}
-use Rattle.std.specs.declared.option.Option.{Option}
-use Rattle.dm_link.specs.declared.Addr.{Addr}
-use Rattle.dm_link.specs.declared.Link.{Link}
-use Rattle.dm_link.specs.Lawful.{IsLawfulEnclosed}
-use Rattle.dm_link.specs.Names.{pid_eq}
-use Rattle.dm_link.specs.Plain.{PlainLink, plain_link}
-use Rattle.dm_linktable.specs.Slots.{first_empty, plain_slot}
-use Rattle.dm_linktable.proofs.Names.{pid_eq_self}
-use Rattle.dm_message.specs.declared.Message.{Message}
-use Rattle.dm_message.specs.declared.MsgId.{MsgId}
-use Rattle.dm_message.specs.declared.What.{What}
+use Rattle.dm_syscall.proofs.Names.{◌≡◌, ◌∙◌, ℕ, zero, suc, ◌+◌, ◌≤◌, Bool, true, false, List, [], ◌∷◌, length, map, take, drop, Some, None, slice_get, refl, ap, sym, arith, if◌then◌else◌, ◌&&◌, All, IfSome, length-set, length-map, map-set}
+use Rattle.dm_syscall.proofs.Names.{All-append, All-drop, All-set, All-take, nat_tests, Option, Addr, Link, IsLawfulEnclosed, pid_eq, PlainLink, plain_link, first_empty, plain_slot, pid_eq_self, Message, MsgId, What, IsLawfulMessage}
+use Rattle.dm_syscall.proofs.Names.{IsLawfulWhat, PlainMessage, User, plain_message, Process, Status, IsLawfulProcess, IsLawfulStatus, SlotIsLawful, on_mask, what_is_on, Reply, reply_code, bind, written_at, plain_process, plain_status}
+use Rattle.dm_syscall.proofs.Names.{Ready, receive_refusals, received_regs, first_failed, length-written, Completed, Completion, IsAwaited, Placed, completes, completes_unless, completion, place_into, place_links, plain_completed, receives}
+use Rattle.dm_syscall.proofs.Names.{refusal}
 use Rattle.dm_message.specs.declared.What.TheVariants as what
-use Rattle.dm_message.specs.Lawful.{IsLawfulMessage, IsLawfulWhat}
-use Rattle.dm_message.specs.Plain.{PlainMessage, User, plain_message}
-use Rattle.dm_process.specs.declared.process.Process.{Process}
-use Rattle.dm_process.specs.declared.process.Status.{Status}
 use Rattle.dm_process.specs.declared.process.Status.TheVariants as status
-use Rattle.dm_process.specs.Lawful.{IsLawfulProcess, IsLawfulStatus, SlotIsLawful}
-use Rattle.dm_process.specs.Mail.{on_mask, what_is_on}
-use Rattle.dm_onekernel.specs.declared.label.Reply.{Reply}
-use Rattle.dm_onekernel.specs.Codes.{reply_code}
-use Rattle.dm_onekernel.specs.Options.{bind}
-use Rattle.dm_onekernel.specs.Pieces.{written_at}
-use Rattle.dm_onekernel.specs.Plain.{plain_process, plain_status}
-use Rattle.dm_onekernel.specs.PlainProcess.{Ready}
 use Rattle.dm_onekernel.specs.Receiving as kernel
-use Rattle.dm_onekernel.specs.Receiving.{receive_refusals, received_regs}
-use Rattle.dm_onekernel.specs.Refusals.{first_failed}
-use Rattle.dm_datamove.proofs.Services.{length-written}
-use Rattle.dm_syscall.specs.declared.Completed.{Completed}
-use Rattle.dm_syscall.specs.Completing.{Completion, IsAwaited, Placed, completes, completes_unless, completion, place_into, place_links, plain_completed, receives, refusal}
 use Rattle.dm_syscall.proofs.PlainCalls.{first_of}
 
 abbrev plain_placed : Placed → kernel.Placed

@@ -1,37 +1,12 @@
 -- What a call leaves and gives is lawful.
-use Rattle.std.proofs.Common.{◌≡◌, ◌∙◌, ℕ, zero, suc, ◌+◌, ◌<◌, ◌≤◌, Bool, true, false, ◌==◌, List, [], ◌∷◌, length, take, drop, Some, None, refl, arith, if◌then◌else◌}
-use Rattle.std.specs.List.{All, cons_option}
-use Rattle.std.proofs.Math.ListN.{set, length-set}
-use Rattle.std.proofs.lemmas.List.Elements.{All-cons, All-nil, All-set}
-use Rattle.std.proofs.lemmas.Grind.{common_steps}
-use Rattle.std.proofs.lemmas.Bool.Decides.{nat_tests}
-use Rattle.std.specs.declared.option.Option.{Option}
-use Rattle.dm_link.specs.declared.Link.{Link}
-use Rattle.dm_link.specs.Lawful.{IsLawfulEnclosed}
-use Rattle.dm_link.specs.Plain.{plain_link}
-use Rattle.dm_linktable.specs.Slots.{first_empty, link_at, plain_slot}
-use Rattle.dm_process.specs.declared.process.Process.{Process}
-use Rattle.dm_process.specs.declared.process.Direction.{Direction}
-use Rattle.dm_process.specs.declared.process.Status.{Status}
+use Rattle.dm_syscall.proofs.Names.{◌≡◌, ◌∙◌, ℕ, zero, suc, ◌+◌, ◌<◌, ◌≤◌, Bool, true, false, ◌==◌, List, [], ◌∷◌, length, take, drop, Some, None, refl, arith, if◌then◌else◌, All, cons_option, set, length-set, All-cons, All-nil, All-set}
+use Rattle.dm_syscall.proofs.Names.{common_steps, nat_tests, Option, Link, IsLawfulEnclosed, plain_link, first_empty, link_at, plain_slot, Process, Direction, Status, direction_numbered, IsLawfulProcess, IsLawfulStatus, SlotIsLawful, Regs}
+use Rattle.dm_syscall.proofs.Names.{Reply, reply_code, plain_process, PlainProcess, reg, setting, first_failed, CallNumber, Exit, Out, Make, Copy, Drop, Send, Receive, Move, Unknown, call_number, holds_reply, is_outside, is_reply}
+use Rattle.dm_syscall.proofs.Names.{make_refusals, move_refusals, send_refusals, Rest, IsRest, IsLawfulLanding, asks_lawfully, asks, emptied, links_in, Done, after_send, begins, calls, copies, does_call, drops, listed, makes, message_over}
+use Rattle.dm_syscall.proofs.Names.{moves, moves_bytes, moves_over, own_link, puts_link, replied, sends, unless_refused, waits, whole, IsLawfulCalled}
 use Rattle.dm_process.specs.declared.process.Status.TheVariants as status
-use Rattle.dm_process.specs.Directions.{direction_numbered}
-use Rattle.dm_process.specs.Lawful.{IsLawfulProcess, IsLawfulStatus, SlotIsLawful}
-use Rattle.dm_processor.specs.declared.registers.Regs.{Regs}
-use Rattle.dm_onekernel.specs.declared.label.Reply.{Reply}
 use Rattle.dm_onekernel.specs.declared.label.Reply.TheVariants as reply
-use Rattle.dm_onekernel.specs.Codes.{reply_code}
-use Rattle.dm_onekernel.specs.Plain.{plain_process}
-use Rattle.dm_onekernel.specs.PlainProcess.{PlainProcess, reg, setting}
-use Rattle.dm_onekernel.specs.Refusals.{first_failed}
-use Rattle.dm_onekernel.specs.Calls.{CallNumber, Exit, Out, Make, Copy, Drop, Send, Receive, Move, Unknown, call_number, holds_reply, is_outside, is_reply, make_refusals, move_refusals, send_refusals}
-use Rattle.dm_datamove.specs.declared.Rest.{Rest}
-use Rattle.dm_datamove.specs.Requests.{IsRest}
-use Rattle.dm_datamove.proofs.Landings.{IsLawfulLanding, asks_lawfully}
-use Rattle.dm_datamove.specs.Landing.{asks}
 use Rattle.dm_syscall.specs.declared.Called.TheVariants as called
-use Rattle.dm_syscall.specs.Sends.{emptied, links_in}
-use Rattle.dm_syscall.specs.Calls.{Done, after_send, begins, calls, copies, does_call, drops, listed, makes, message_over, moves, moves_bytes, moves_over, own_link, puts_link, replied, sends, unless_refused, waits, whole}
-use Rattle.dm_syscall.specs.Plainly.{IsLawfulCalled}
 
 pub record IsLawfulDone (d : Done) : Type 0 where
   pub called : IsLawfulCalled d.called

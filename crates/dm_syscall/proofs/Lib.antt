@@ -1,5 +1,5 @@
+pub mod Names
 pub mod PlainCalls
 pub mod LawfulCalls
 pub mod Receives
 pub mod Completes
-pub mod Tested

@@ -1,34 +1,14 @@
 -- Each call, without places, is that of the kernel without machines.
-use Rattle.std.proofs.Common.{◌≡◌, ◌∙◌, ℕ, ◌+◌, Bool, true, false, ◌==◌, List, [], ◌∷◌, map, Some, None, refl, ap, sym, arith, if◌then◌else◌}
-use Rattle.std.specs.List.{cons_option, position_or_len}
-use Rattle.std.specs.Prelude.{take, drop}
-use Rattle.std.proofs.Math.ListN.{set, get_or-map}
-use Rattle.std.proofs.lemmas.List.{map-set}
-use Rattle.std.proofs.lemmas.Grind.{common_steps}
-use Rattle.std.specs.declared.option.Option.{Option}
-use Rattle.std.specs.Option.{is_none}
-use Rattle.dm_link.specs.declared.Link.{Link}
-use Rattle.dm_link.specs.Plain.{PlainLink, plain_link}
-use Rattle.dm_linktable.specs.Slots.{first_empty, link_at, plain_slot}
+use Rattle.dm_syscall.proofs.Names.{◌≡◌, ◌∙◌, ℕ, ◌+◌, Bool, true, false, ◌==◌, List, [], ◌∷◌, map, Some, None, refl, ap, sym, arith, if◌then◌else◌, cons_option, position_or_len, take, drop, set, get_or-map, map-set, common_steps, Option}
+use Rattle.dm_syscall.proofs.Names.{is_none, Link, PlainLink, plain_link, first_empty, link_at, plain_slot, Process, Direction, direction_numbered, Reply, reply_code, plain_process, reg, setting, first_failed, CallNumber, Exit, Out, Make}
+use Rattle.dm_syscall.proofs.Names.{Copy, Drop, Send, Receive, Move, Unknown, call_number, holds_reply, is_outside, is_reply, make_refusals, move_refusals, send_refusals, without_replies, Called, emptied, links_in, Done, after_send, begins}
+use Rattle.dm_syscall.proofs.Names.{calls, copies, does_call, drops, listed, makes, message_over, moves, moves_bytes, moves_over, own_link, puts_link, sends, unless_refused, waits, whole, plain_called}
 use Rattle.dm_message.specs.Plain as what
-use Rattle.dm_process.specs.declared.process.Process.{Process}
-use Rattle.dm_process.specs.declared.process.Direction.{Direction}
 use Rattle.dm_process.specs.declared.process.Direction.TheVariants as direction
-use Rattle.dm_process.specs.Directions.{direction_numbered}
-use Rattle.dm_onekernel.specs.declared.label.Reply.{Reply}
 use Rattle.dm_onekernel.specs.declared.label.Reply.TheVariants as reply
-use Rattle.dm_onekernel.specs.Codes.{reply_code}
-use Rattle.dm_onekernel.specs.Plain.{plain_process}
-use Rattle.dm_onekernel.specs.PlainProcess.{reg, setting}
-use Rattle.dm_onekernel.specs.Refusals.{first_failed}
 use Rattle.dm_onekernel.specs.Calls as kernel
 use Rattle.dm_onekernel.specs.Pieces as pieces
-use Rattle.dm_onekernel.specs.Calls.{CallNumber, Exit, Out, Make, Copy, Drop, Send, Receive, Move, Unknown, call_number, holds_reply, is_outside, is_reply, make_refusals, move_refusals, send_refusals, without_replies}
-use Rattle.dm_syscall.specs.declared.Called.{Called}
 use Rattle.dm_syscall.specs.declared.Called.TheVariants as called
-use Rattle.dm_syscall.specs.Sends.{emptied, links_in}
-use Rattle.dm_syscall.specs.Calls.{Done, after_send, begins, calls, copies, does_call, drops, listed, makes, message_over, moves, moves_bytes, moves_over, own_link, puts_link, sends, unless_refused, waits, whole}
-use Rattle.dm_syscall.specs.Plainly.{plain_called}
 
 -- what a call comes to, without places
 abbrev plain : Done → Option kernel.Called

@@ -1,22 +1,7 @@
 -- How a receive ends: its links one by one, and all of it.
-use Rattle.std.proofs.Common.{◌≡◌, ◌∙◌, ℕ, ◌+◌, ◌<◌, List, [], ◌∷◌, length, map, drop, get_or, Some, None, refl, ap, sym, add-one, arith}
-use Rattle.std.specs.List.{count_by}
-use Rattle.std.proofs.Math.Seq.{drop-cons}
-use Rattle.std.proofs.lemmas.Grind.{common_steps}
-use Rattle.std.specs.declared.option.Option.{Option}
-use Rattle.std.specs.Option.{is_none}
-use Rattle.dm_link.specs.declared.Link.{Link}
-use Rattle.dm_link.specs.Plain.{plain_link}
-use Rattle.dm_linktable.specs.Slots.{first_empty, plain_slot}
-use Rattle.dm_message.specs.declared.MsgId.{MsgId}
-use Rattle.dm_message.specs.declared.What.{What}
+use Rattle.dm_syscall.proofs.Names.{◌≡◌, ◌∙◌, ℕ, ◌+◌, ◌<◌, List, [], ◌∷◌, length, map, drop, get_or, Some, None, refl, ap, sym, add-one, arith, count_by, drop-cons, common_steps, Option, is_none, Link, plain_link, first_empty, plain_slot}
+use Rattle.dm_syscall.proofs.Names.{MsgId, What, Process, Reply, plain_process, receive_refusals, first_failed, Completion, Placed, completes, completes_unless, place_into, place_links, receives}
 use Rattle.dm_message.specs.declared.What.TheVariants as what
-use Rattle.dm_process.specs.declared.process.Process.{Process}
-use Rattle.dm_onekernel.specs.declared.label.Reply.{Reply}
-use Rattle.dm_onekernel.specs.Plain.{plain_process}
-use Rattle.dm_onekernel.specs.Receiving.{receive_refusals}
-use Rattle.dm_onekernel.specs.Refusals.{first_failed}
-use Rattle.dm_syscall.specs.Completing.{Completion, Placed, completes, completes_unless, place_into, place_links, receives}
 
 -- as many slots are empty without places
 pub free_plainly : (table : List (Option Link)) → count_by is_none (map plain_slot table) ≡ count_by is_none table

@@ -1,31 +1,12 @@
 -- Lines at the end of a run, read back from their words.
-use Rattle.std.proofs.Common.{◌≡◌, ℕ, suc, ◌+◌, ◌^◌, ◌<◌, ◌==◌, Bool, true, false, List, [], ◌∷◌, ◌++◌, length, take, map, refl, ap, sym, ◌∙◌, arith, Some, None}
-use Rattle.std.specs.List.{All}
-use Rattle.std.specs.Fmt.{decimal}
-use Rattle.std.proofs.lemmas.Bool.{eq-eqb}
-use Rattle.std.proofs.lemmas.List.{get_or_push, length_push}
-use Rattle.std.proofs.Math.Seq.{take-append_seam}
-use Rattle.dm_link.specs.declared.Kind.{Kind}
-use Rattle.dm_link.specs.declared.Kind.TheVariants.{General, Reply}
-use Rattle.dm_link.specs.declared.Link.{Link}
-use Rattle.dm_link.specs.declared.Pid.{Pid}
-use Rattle.dm_message.specs.declared.MsgId.{MsgId}
-use Rattle.dm_process.specs.declared.process.Direction.{Direction}
-use Rattle.dm_process.specs.declared.process.Direction.TheVariants.{FromArea, IntoArea}
+use Rattle.dm_text.proofs.Names.{◌≡◌, ℕ, suc, ◌+◌, ◌^◌, ◌<◌, ◌==◌, Bool, true, false, List, [], ◌∷◌, ◌++◌, length, take, map, refl, ap, sym, ◌∙◌, arith, Some, None, All, decimal, eq-eqb, get_or_push, length_push, take-append_seam, Kind}
+use Rattle.dm_text.proofs.Names.{General, Reply, Link, Pid, MsgId, Direction, FromArea, IntoArea, EndLine, Standing, id_word, end_words, link_words, kind_word, rights_word, standing_word, direction_word, go_word, read_standing}
+use Rattle.dm_text.proofs.Names.{read_direction, read_go, read_link_kind, read_rights, read_link, link_from, registers_from, read_u32, read_id, all_read, end_of_words, line_of_words, IdFits, IsWord, LinkFits, EndFits}
 use Rattle.dm_line.specs.declared.end_line.Doing.TheVariants as doing
-use Rattle.dm_line.specs.declared.end_line.EndLine.{EndLine}
 use Rattle.dm_line.specs.declared.end_line.EndLine.TheVariants as end
-use Rattle.dm_line.specs.declared.end_line.Standing.{Standing}
 use Rattle.dm_line.specs.declared.end_line.Standing.TheVariants as standing
-use Rattle.dm_text.specs.Words.{id_word}
-use Rattle.dm_text.specs.Ends.{end_words, link_words, kind_word, rights_word, standing_word, direction_word, go_word}
-use Rattle.dm_text.specs.EndsOf.{read_standing, read_direction, read_go, read_link_kind, read_rights, read_link, link_from, registers_from}
-use Rattle.dm_text.specs.Reading.{read_u32, read_id}
-use Rattle.dm_text.specs.Rows.{all_read}
-use Rattle.dm_text.specs.LinesOf.{end_of_words, line_of_words}
-use Rattle.dm_text.specs.Fits.{IdFits, IsWord, LinkFits, EndFits}
 use Rattle.dm_text.proofs.Pieces.{above, AreWords}
-use Rattle.dm_text.proofs.Names.{below_u128, word_decimal, read_u8_back, read_u32_back, read_u128_back, word_pid, read_pid_back, word_id, read_id_back, word_why, read_why_back}
+use Rattle.dm_text.proofs.WordsBack.{below_u128, word_decimal, read_u8_back, read_u32_back, read_u128_back, word_pid, read_pid_back, word_id, read_id_back, word_why, read_why_back}
 use Rattle.dm_text.proofs.Fields.{word_u8, word_u32}
 use Rattle.dm_text.proofs.Lists.{all_back, all_words, words-append}
 use Rattle.dm_text.proofs.Hex.{word_hex, read_hex_back}

@@ -1,12 +1,8 @@
 -- Numbers as words, and the steps of a migration, read back.
-use Rattle.std.proofs.Common.{◌≡◌, ℕ, ◌^◌, ◌<◌, true, refl, arith, Some}
-use Rattle.std.specs.Fmt.{decimal}
-use Rattle.dm_line.specs.declared.line.Stage.{Stage}
+use Rattle.dm_text.proofs.Names.{◌≡◌, ℕ, ◌^◌, ◌<◌, true, refl, arith, Some, decimal, Stage, read_stage, stage_word}
 use Rattle.dm_line.specs.declared.line.Stage.TheVariants as stage
-use Rattle.dm_text.specs.GroupsOf.{read_stage}
-use Rattle.dm_text.specs.Text.{stage_word}
 use Rattle.dm_text.proofs.Pieces.{above}
-use Rattle.dm_text.proofs.Names.{below_u8, below_u16, below_u32, below_u64, word_decimal}
+use Rattle.dm_text.proofs.WordsBack.{below_u8, below_u16, below_u32, below_u64, word_decimal}
 
 pub word_u8 : (n : ℕ) → n < 2 ^ 8 → above 32 (decimal n) ≡ true
 word_u8 n h = word_decimal 32 n (omega arith) (below_u8 n h)

@@ -1,10 +1,5 @@
 -- Bytes in hexadecimal, read back.
-use Rattle.std.proofs.Common.{◌≡◌, ℕ, suc, ◌/◌, ◌%◌, ◌^◌, ◌<◌, nat_lt, true, List, [], ◌∷◌, refl, ap, arith, Some}
-use Rattle.std.specs.List.{All}
-use Rattle.std.proofs.lemmas.Bool.Decides.{nat_tests}
-use Rattle.dm_text.specs.Ends.{hex, hex_digit}
-use Rattle.dm_text.specs.EndsOf.{hex_value, read_hex}
-use Rattle.dm_text.specs.Fits.{IsByte}
+use Rattle.dm_text.proofs.Names.{◌≡◌, ℕ, suc, ◌/◌, ◌%◌, ◌^◌, ◌<◌, nat_lt, true, List, [], ◌∷◌, refl, ap, arith, Some, All, nat_tests, hex, hex_digit, hex_value, read_hex, IsByte}
 use Rattle.dm_text.proofs.Pieces.{above}
 
 hex_value_back : (n : ℕ) → n < 16 → hex_value (hex_digit n) ≡ Some n

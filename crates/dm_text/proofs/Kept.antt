@@ -1,11 +1,6 @@
 -- What a text keeps of its beginning.
-use Rattle.std.proofs.Common.{◌≡◌, ℕ, List, [], ◌∷◌, ◌++◌, length, take, refl, ap, sym, ◌∙◌, append_assoc}
-use Rattle.std.specs.Prelude.{OnErr}
-use Rattle.std.specs.declared.result.Result.{Result}
-use Rattle.std.specs.declared.result.Result.TheVariants.{Ok, Err}
-use Rattle.dm_text.specs.Written.{Keeps}
+use Rattle.dm_text.proofs.Names.{◌≡◌, ℕ, List, [], ◌∷◌, ◌++◌, length, take, refl, ap, sym, ◌∙◌, append_assoc, OnErr, Result, Ok, Err, Keeps, spaced}
 use Rattle.dm_text.proofs.Spacing.{spaced-append}
-use Rattle.dm_text.specs.Text.{spaced}
 
 pub keeps-front : (a x b : List ℕ) → Keeps (a ++ x) b → Keeps a b
 keeps-front [] x b h = refl

@@ -1,15 +1,10 @@
 -- Heads of groups and steps of the kernel without machines, read back from their words.
-use Rattle.std.proofs.Common.{◌≡◌, refl, arith, Some}
-use Rattle.dm_onekernel.specs.declared.label.Label.{Label}
+use Rattle.dm_text.proofs.Names.{◌≡◌, refl, arith, Some, Label, Step, head_words, label_words, line_of_words, StepFits, LabelFits}
 use Rattle.dm_onekernel.specs.declared.label.Label.TheVariants as label
-use Rattle.dm_schedule.specs.declared.Step.{Step}
 use Rattle.dm_schedule.specs.declared.Step.TheVariants as step
 use Rattle.dm_line.specs.declared.line.Line.TheVariants as line
-use Rattle.dm_text.specs.Labels.{head_words, label_words}
-use Rattle.dm_text.specs.LinesOf.{line_of_words}
-use Rattle.dm_text.specs.Fits.{StepFits, LabelFits}
 use Rattle.dm_text.proofs.Pieces.{AreWords}
-use Rattle.dm_text.proofs.Names.{read_u8_back, read_u16_back, read_u32_back, read_u64_back, word_pid, read_pid_back, word_id, read_id_back, word_reply, read_reply_back, word_why, read_why_back}
+use Rattle.dm_text.proofs.WordsBack.{read_u8_back, read_u16_back, read_u32_back, read_u64_back, word_pid, read_pid_back, word_id, read_id_back, word_reply, read_reply_back, word_why, read_why_back}
 use Rattle.dm_text.proofs.Fields.{word_u8, word_u16, word_u32, word_u64}
 
 pub head_words_are : (x : Step) → StepFits x → AreWords (head_words x)

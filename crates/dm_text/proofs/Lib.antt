@@ -1,3 +1,4 @@
+pub mod Names
 pub mod EndsBack
 pub mod Fields
 pub mod Hex
@@ -7,7 +8,7 @@ pub mod LineBack
 pub mod Lines
 pub mod LinesBack
 pub mod Lists
-pub mod Names
+pub mod WordsBack
 pub mod Numbers
 pub mod Pieces
 pub mod Spacing

@@ -1,13 +1,9 @@
 -- Each line read back from its words.
-use Rattle.std.proofs.Common.{◌≡◌, refl, arith, Some}
-use Rattle.dm_line.specs.declared.line.Line.{Line}
+use Rattle.dm_text.proofs.Names.{◌≡◌, refl, arith, Some, Line, words, line_of_words, LineFits}
 use Rattle.dm_line.specs.declared.line.Line.TheVariants as line
 use Rattle.dm_line.specs.declared.line.Load.TheVariants as load
-use Rattle.dm_text.specs.Text.{words}
-use Rattle.dm_text.specs.LinesOf.{line_of_words}
-use Rattle.dm_text.specs.Fits.{LineFits}
 use Rattle.dm_text.proofs.Pieces.{AreWords}
-use Rattle.dm_text.proofs.Names.{read_u8_back, read_u16_back, read_u32_back, read_u64_back, word_pid, read_pid_back, word_id, read_id_back, word_kind, read_kind_back}
+use Rattle.dm_text.proofs.WordsBack.{read_u8_back, read_u16_back, read_u32_back, read_u64_back, word_pid, read_pid_back, word_id, read_id_back, word_kind, read_kind_back}
 use Rattle.dm_text.proofs.Fields.{word_u8, word_u16, word_u32, word_u64, word_stage, read_stage_back}
 use Rattle.dm_text.proofs.LabelsBack.{head_words_are, head_back, label_words_are, label_back}
 

@@ -1,9 +1,5 @@
 -- The text of lists of lines.
-use Rattle.std.proofs.Common.{◌≡◌, ℕ, ◌+◌, ◌<◌, List, [], ◌∷◌, ◌++◌, length, take, get_or, refl, ap, sym, ◌∙◌, append_assoc}
-use Rattle.std.proofs.lemmas.List.{append-nil, take_more}
-use Rattle.dm_line.specs.declared.end_line.EndLine.{EndLine}
-use Rattle.dm_line.specs.declared.line.Line.{Line}
-use Rattle.dm_text.specs.Text.{text, end_text, text_of_lines, text_of_ends}
+use Rattle.dm_text.proofs.Names.{◌≡◌, ℕ, ◌+◌, ◌<◌, List, [], ◌∷◌, ◌++◌, length, take, get_or, refl, ap, sym, ◌∙◌, append_assoc, append-nil, take_more, EndLine, Line, text, end_text, text_of_lines, text_of_ends}
 
 lines-one : (l : Line) → text_of_lines (l ∷ []) ≡ text l
 unfolding text_of_lines

@@ -1,8 +1,5 @@
 -- Words of lists, read back.
-use Rattle.std.proofs.Common.{◌≡◌, ℕ, suc, true, List, [], ◌∷◌, ◌++◌, map, refl, arith, Some}
-use Rattle.std.specs.List.{All}
-use Rattle.std.specs.declared.option.Option.{Option}
-use Rattle.dm_text.specs.Rows.{all_read}
+use Rattle.dm_text.proofs.Names.{◌≡◌, ℕ, suc, true, List, [], ◌∷◌, ◌++◌, map, refl, arith, Some, All, Option, all_read}
 use Rattle.dm_text.proofs.Pieces.{above, AreWords}
 
 first_of : {X : Type 0} (P : X → Type 0) (x : X) (xs : List X) → All P (x ∷ xs) → P x

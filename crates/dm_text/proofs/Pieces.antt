@@ -1,7 +1,5 @@
 -- The pieces of texts that are put together of words.
-use Rattle.std.proofs.Common.{◌≡◌, ℕ, ◌<◌, ◌≤◌, ◌==◌, nat_lt, Bool, true, false, if◌then◌else◌, List, [], ◌∷◌, ◌++◌, refl, arith}
-use Rattle.std.proofs.lemmas.Bool.{ne_eqb, eq-eqb, ltb-true, lt-ltb}
-use Rattle.dm_text.specs.Reading.{pieces}
+use Rattle.dm_text.proofs.Names.{◌≡◌, ℕ, ◌<◌, ◌≤◌, ◌==◌, nat_lt, Bool, true, false, if◌then◌else◌, List, [], ◌∷◌, ◌++◌, refl, arith, ne_eqb, eq-eqb, ltb-true, lt-ltb, pieces}
 
 -- the byte isn't in the text
 abbrev pub free : ℕ → List ℕ → Bool
@@ -65,21 +63,7 @@ pieces-next sep (b ∷ bs) rest h =
     let t : (b == sep ≡ false) × (free sep bs ≡ true) = if_free (b == sep) (free sep bs) h in
     rw (t.0, pieces-next sep bs rest t.1) refl
 
--- words with a space between
-abbrev pub spaced : List ℕ → List (List ℕ) → List ℕ
-spaced w [] = w
-spaced w (v ∷ vs) = w ++ 32 ∷ spaced v vs
-
 -- the words have neither spaces nor line feeds
 abbrev pub AreWords : List (List ℕ) → Type 0
 AreWords [] = Unit {0}
 AreWords (w ∷ ws) = (above 32 w ≡ true) × AreWords ws
-
-pub pieces-spaced : (w : List ℕ) (ws : List (List ℕ)) → AreWords (w ∷ ws) → pieces 32 (spaced w ws) ≡ w ∷ ws
-pieces-spaced w [] h = pieces-free 32 w (free-above 32 w h.0)
-pieces-spaced w (v ∷ vs) h = rw (pieces-next 32 w (spaced v vs) (free-above 32 w h.0), pieces-spaced v vs h.1) refl
-
-pub free-spaced : (w : List ℕ) (ws : List (List ℕ)) → AreWords (w ∷ ws) → free 10 (spaced w ws) ≡ true
-free-spaced w [] h = free-above 10 w (above-le 10 32 w (omega arith) h.0)
-free-spaced w (v ∷ vs) h =
-    free-append 10 w (32 ∷ spaced v vs) (free-above 10 w (above-le 10 32 w (omega arith) h.0)) (free-spaced v vs h.1)

@@ -1,9 +1,5 @@
 -- Words with spaces between, one more at a time.
-use Rattle.std.proofs.Common.{◌≡◌, ℕ, ◌+◌, ◌<◌, List, [], ◌∷◌, ◌++◌, ◌/◌, ◌%◌, length, take, get_or, map, refl, ap, sym, ◌∙◌, append_assoc}
-use Rattle.std.specs.Prelude.{codes}
-use Rattle.std.proofs.lemmas.List.{append-nil, take_more}
-use Rattle.dm_text.specs.Ends.{hex, hex_digit}
-use Rattle.dm_text.specs.Text.{spaced}
+use Rattle.dm_text.proofs.Names.{◌≡◌, ℕ, ◌+◌, ◌<◌, List, [], ◌∷◌, ◌++◌, ◌/◌, ◌%◌, length, take, get_or, map, refl, ap, sym, ◌∙◌, append_assoc, codes, append-nil, take_more, hex, hex_digit, spaced}
 
 pub spaced-append : (a b : List (List ℕ)) → spaced (a ++ b) ≡ spaced a ++ spaced b
 spaced-append [] b = refl
@@ -25,10 +21,6 @@ spaced-more f before into new xs i d h e n =
     ∙ ap (λ t. before ++ t) (sym (spaced-append (map f (take i xs)) (f (get_or xs i d) ∷ [])))
     ∙ ap (λ t. before ++ spaced t) (sym (map-append f (take i xs) (get_or xs i d ∷ [])))
     ∙ ap (λ t. before ++ spaced (map f t)) (sym (take_more xs i d h))
-
--- no word yet
-pub spaced-none : {X : Type 0} → (f : X → List ℕ) (before : List ℕ) (xs : List X) → before ≡ before ++ spaced (map f (take 0 xs))
-spaced-none f before xs = sym (append-nil before)
 
 hex-append : (a b : List ℕ) → hex (a ++ b) ≡ hex a ++ hex b
 hex-append [] b = refl

@@ -1,12 +1,7 @@
 -- Worked lines, and texts that spell no lines.
-use Rattle.std.proofs.Common.{◌≡◌, [], ◌∷◌, refl, Some, None, true, false}
-use Rattle.std.specs.Prelude.{codes}
-use Rattle.std.specs.Fmt.{digits}
-use Rattle.dm_link.specs.Names.{pid_of}
+use Rattle.dm_text.proofs.Names.{◌≡◌, [], ◌∷◌, refl, Some, None, true, false, codes, digits, pid_of, id_of, IntoArea, text, end_text, text_of_lines, pieces, read_number, line_of, end_of, lines_of, trace_of}
 use Rattle.dm_link.specs.declared.Kind.TheVariants as link
-use Rattle.dm_message.specs.Ids.{id_of}
 use Rattle.dm_message.specs.declared.kind.MessageKind.TheVariants as kind
-use Rattle.dm_process.specs.declared.process.Direction.TheVariants.{IntoArea}
 use Rattle.dm_onekernel.specs.declared.label.Label.TheVariants as label
 use Rattle.dm_onekernel.specs.declared.label.Reply.TheVariants as reply
 use Rattle.dm_schedule.specs.declared.Step.TheVariants as step
@@ -15,9 +10,6 @@ use Rattle.dm_line.specs.declared.end_line.EndLine.TheVariants as end
 use Rattle.dm_line.specs.declared.line.Line.TheVariants as line
 use Rattle.dm_line.specs.declared.line.Load.TheVariants as load
 use Rattle.dm_line.specs.declared.end_line.Standing.TheVariants as standing
-use Rattle.dm_text.specs.Text.{text, end_text, text_of_lines}
-use Rattle.dm_text.specs.Reading.{pieces, read_number}
-use Rattle.dm_text.specs.LinesOf.{line_of, end_of, lines_of, trace_of}
 
 delivered : text_of_lines (line.Head (step.Deliver 0 1 0) ∷ line.Taken 0 1 0 ∷ line.Packet 1 0 0 (load.Ack 1) ∷ []) ≡ codes "deliver 0 1 0\ntaken 0 1 0\npacket 1 0 0 ack 1\n"
 unfolding text_of_lines digits

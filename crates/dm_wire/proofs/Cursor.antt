@@ -1,8 +1,6 @@
 -- The cursor stands at the first packet that wasn't delivered.
-use Rattle.std.proofs.Common.{◌≡◌, ℕ, zero, suc, ◌<◌, ◌≤◌, true, false, List, [], ◌∷◌, ◌++◌, length, slice_set, get_or, ap, position, Some, None, refl, arith}
-use Rattle.std.specs.List.{position_or_len}
-use Rattle.std.proofs.lemmas.Bool.Decides.{nat_tests}
-use Rattle.dm_wire.specs.Sent.{Sent, is_unseen, just_put, seen_at, marked, with_mark, IsCursor}
+use Rattle.dm_wire.proofs.Names.{◌≡◌, ℕ, zero, suc, ◌<◌, ◌≤◌, true, false, List, [], ◌∷◌, ◌++◌, length, slice_set, get_or, ap, position, Some, None, refl, arith, position_or_len, nat_tests, Sent, is_unseen, just_put, seen_at, marked}
+use Rattle.dm_wire.proofs.Names.{with_mark, IsCursor}
 
 first-unseen : (xs : List Sent) (k : ℕ) → k ≤ length xs → ((j : ℕ) → j < k → seen_at xs j ≡ true) → seen_at xs k ≡ false → position_or_len is_unseen xs ≡ k
 first-unseen [] k within below here = omega arith
@@ -16,13 +14,6 @@ unseen_here xs k h lt = rw (first-unseen xs k h.within h.below h.here) (grind (a
 -- all are marked
 pub none_unseen : (xs : List Sent) (k : ℕ) → IsCursor xs k → length xs ≤ k → position is_unseen xs ≡ None
 none_unseen xs k h le = rw (first-unseen xs k h.within h.below h.here) (grind (arith, nat_tests))
-
--- one more packet, which isn't delivered
-pub seen_at_put : (xs : List Sent) (bytes : List ℕ) (j : ℕ) → seen_at (xs ++ just_put bytes ∷ []) j ≡ seen_at xs j
-seen_at_put [] bytes zero = refl
-seen_at_put [] bytes (suc j) = refl
-seen_at_put (x ∷ xs) bytes zero = refl
-seen_at_put (x ∷ xs) bytes (suc j) = seen_at_put xs bytes j
 
 -- what was delivered stays so
 pub seen_at_marked : (xs : List Sent) (k j : ℕ) → seen_at xs j ≡ true → seen_at (marked xs k) j ≡ true

@@ -1,39 +1,12 @@
 -- A directive touches one machine, and puts packets on that machine's wires alone.
-use Rattle.std.proofs.Common.{◌≡◌, ◌≢◌, ℕ, zero, suc, ◌<◌, ◌≤◌, Bool, true, false, ◌==◌, List, [], ◌∷◌, length, refl, sym, ap, subst, ◌∙◌, inl, inr, arith}
-use Rattle.std.specs.Prelude.{Result, ⊤, if◌then◌else◌, ◌&&◌, map}
-use Rattle.std.specs.List.{All}
-use Rattle.std.specs.declared.option.Option.{Option}
-use Rattle.std.specs.declared.option.Option.TheVariants.{None, Some}
-use Rattle.std.specs.declared.result.Result.TheVariants.{Ok, Err}
-use Rattle.std.proofs.lemmas.Bool.Decides.{eqb_tells}
-use Rattle.std.proofs.lemmas.List.Elements.{All-head, All-tail}
-use Rattle.dm_message.specs.declared.Message.{Message}
-use Rattle.dm_packet.specs.declared.Packet.{Packet}
+use Rattle.dm_world.proofs.Names.{◌≡◌, ◌≢◌, ℕ, zero, suc, ◌<◌, ◌≤◌, Bool, true, false, ◌==◌, List, [], ◌∷◌, length, refl, sym, ap, subst, ◌∙◌, inl, inr, arith, Result, ⊤, if◌then◌else◌, ◌&&◌, map, All, Option, None, Some, Ok, Err}
+use Rattle.dm_world.proofs.Names.{eqb_tells, All-head, All-tail, Message, Packet, PacketError, packet_of, Load, Data, Ack, Sent, bytes_at, marked, after_mark, is_pair, Boot, images_are_valid, Line, at_machine, Step, Out, ActsLawfully}
+use Rattle.dm_world.proofs.Names.{IsFrom, IsLawfulOut, MayArrive, Acted, Acts, Goes, Worn, NodeState, here, spoken, with_packet, arrives_lawfully, asks_lawfully, ticks_lawfully, turns_lawfully, ActsAlone, acts_on, bytes_of, MayDeliver}
+use Rattle.dm_world.proofs.Names.{MayRead, MayStep, MeetsSome, Happened, Says, WorldState, WornOut, acted, arrives, delivers, reads, turned, world_step}
 use Rattle.dm_packet.specs.declared.Packet.TheVariants as packet
-use Rattle.dm_packet.specs.declared.PacketError.{PacketError}
-use Rattle.dm_packet.specs.Packets.{packet_of}
-use Rattle.dm_stream.specs.Packets.{Load, Data, Ack}
-use Rattle.dm_wire.specs.Sent.{Sent, bytes_at, marked}
-use Rattle.dm_wire.specs.Wire.{after_mark, is_pair}
-use Rattle.dm_onekernel.specs.declared.boot.Boot.{Boot}
-use Rattle.dm_onekernel.specs.Boot.{images_are_valid}
-use Rattle.dm_line.specs.declared.line.Line.{Line}
-use Rattle.dm_line.specs.Sets.{at_machine}
-use Rattle.dm_schedule.specs.declared.Step.{Step}
 use Rattle.dm_schedule.specs.declared.Step.TheVariants as step
-use Rattle.dm_node.specs.declared.out.Out.{Out}
 use Rattle.dm_node.specs.declared.out.Out.TheVariants as out
 use Rattle.dm_node.specs.Acts as node
-use Rattle.dm_node.specs.Lawful.{ActsLawfully, IsFrom, IsLawfulOut}
-use Rattle.dm_node.specs.May.{MayArrive}
-use Rattle.dm_node.specs.Out.{Acted, Acts, Goes, Worn}
-use Rattle.dm_node.specs.State.{NodeState, here}
-use Rattle.dm_node.specs.Wired.{spoken, with_packet}
-use Rattle.dm_node.proofs.Sends.{arrives_lawfully, asks_lawfully, ticks_lawfully, turns_lawfully}
-use Rattle.dm_world.specs.Local.{ActsAlone, acts_on, bytes_of}
-use Rattle.dm_world.specs.May.{MayDeliver, MayRead, MayStep}
-use Rattle.dm_world.specs.Meets.{MeetsSome}
-use Rattle.dm_world.specs.World.{Happened, Says, WorldState, WornOut, acted, arrives, delivers, reads, turned, world_step}
 
 -- packets of machine m go on its wires
 elsewhere : {X : Type 0} (from to a c : ℕ) (x y : X) → from ≢ a → (if is_pair from to a c then x else y) ≡ y

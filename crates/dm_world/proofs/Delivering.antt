@@ -1,22 +1,8 @@
 -- A packet is delivered.
-use Rattle.std.proofs.Common.{◌≡◌, ℕ, ◌<◌, List, length, refl, sym, ap, subst, ◌∙◌}
-use Rattle.std.specs.Prelude.{Result, option_map, slice_get}
-use Rattle.std.specs.declared.option.Option.{Option}
-use Rattle.std.specs.declared.option.Option.TheVariants.{None, Some}
-use Rattle.std.specs.declared.result.Result.TheVariants.{Ok}
-use Rattle.std.proofs.lemmas.Option.{slice_get_within}
-use Rattle.dm_packet.specs.declared.Packet.{Packet}
+use Rattle.dm_world.proofs.Names.{◌≡◌, ℕ, ◌<◌, List, length, refl, sym, ap, subst, ◌∙◌, Result, option_map, slice_get, Option, None, Some, Ok, slice_get_within, Packet, PacketError, packet_of, Data, Ack, Sent, bytes_at, after_mark, Step}
+use Rattle.dm_world.proofs.Names.{MayArrivePacket, MayDeliver, MayRead, sent_by, Says, WorldState, acted, delivers, reads}
 use Rattle.dm_packet.specs.declared.Packet.TheVariants as packet
-use Rattle.dm_packet.specs.declared.PacketError.{PacketError}
-use Rattle.dm_packet.specs.Packets.{packet_of}
-use Rattle.dm_stream.specs.Packets.{Data, Ack}
-use Rattle.dm_wire.specs.Sent.{Sent, bytes_at}
-use Rattle.dm_wire.specs.Wire.{after_mark}
-use Rattle.dm_schedule.specs.declared.Step.{Step}
 use Rattle.dm_node.specs.Acts as node
-use Rattle.dm_node.specs.May.{MayArrivePacket}
-use Rattle.dm_world.specs.May.{MayDeliver, MayRead, sent_by}
-use Rattle.dm_world.specs.World.{Says, WorldState, acted, delivers, reads}
 
 -- the packet that may arrive comes from the pair's sender, and what it carries comes to its receiver
 pub record Arriving (w : WorldState) (e : Step) (a c k : ℕ) (p : Packet) : Type 0 where

@@ -1,21 +1,8 @@
 -- What is left of a list from a place on, bytes up to the last that isn't 0, and the first machine that says something.
-use Rattle.std.proofs.Common.{◌≡◌, ℕ, zero, suc, ◌+◌, ◌<◌, ◌≤◌, Bool, true, false, ◌==◌, if◌then◌else◌, List, [], ◌∷◌, ◌++◌, length, take, drop, get_or, refl, sym, ap, subst, ◌∙◌, inl, inr, arith, append-nil, append_assoc, drop-cons}
-use Rattle.std.proofs.Math.Seq.{take-suc}
-use Rattle.std.specs.Prelude.{slice_get}
-use Rattle.std.specs.List.{All}
-use Rattle.std.specs.declared.option.Option.{Option}
-use Rattle.std.specs.declared.option.Option.TheVariants.{None, Some}
-use Rattle.std.proofs.lemmas.Bool.Decides.{eqb_tells, nat_tests}
-use Rattle.std.proofs.lemmas.Option.{get_or_from_slice_get, slice_get-get_or, slice_get_within}
-use Rattle.dm_message.specs.declared.Message.{Message}
-use Rattle.dm_message.specs.declared.MsgId.{MsgId}
-use Rattle.dm_switchboard.specs.Board.{Named}
-use Rattle.dm_switchboard.specs.Lawful.{IsLawfulNamed}
-use Rattle.dm_line.specs.declared.end_line.EndLine.{EndLine}
+use Rattle.dm_world.proofs.Names.{◌≡◌, ℕ, zero, suc, ◌+◌, ◌<◌, ◌≤◌, Bool, true, false, ◌==◌, if◌then◌else◌, List, [], ◌∷◌, ◌++◌, length, take, drop, get_or, refl, sym, ap, subst, ◌∙◌, inl, inr, arith, append-nil, append_assoc, drop-cons}
+use Rattle.dm_world.proofs.Names.{take-suc, slice_get, All, Option, None, Some, eqb_tells, nat_tests, get_or_from_slice_get, slice_get-get_or, slice_get_within, Message, MsgId, Named, IsLawfulNamed, EndLine, or, before_zeros, trimmed}
+use Rattle.dm_world.proofs.Names.{SaysSome, first_says, lines_in, name_lines, names_of}
 use Rattle.dm_line.specs.declared.end_line.EndLine.TheVariants as end
-use Rattle.dm_line.specs.Todo.{or}
-use Rattle.dm_line.specs.Ends.{before_zeros, trimmed}
-use Rattle.dm_world.specs.Ends.{SaysSome, first_says, lines_in, name_lines, names_of}
 
 drop_at : {X : Type 0} (xs : List X) (i : ℕ) (x : X) → slice_get xs i ≡ Some x → drop i xs ≡ x ∷ drop (i + 1) xs
 drop_at xs i x e =
@@ -88,14 +75,6 @@ pub found : (f : ℕ → Option (List EndLine)) (m n : ℕ) (said : Bool) (o : O
 found f m n said None old mid new none h is yes_ same says_ = cc
 found f m n said (Some ls) old mid new none h is yes_ same says_ =
     says_.1 ∙ ap (λ l. l ++ ls) same ∙ ap (λ o. old ++ lines_in o) (sym (first_stays f m n ls h none is))
-
--- it isn't, so the search goes on
-pub not_found : (f : ℕ → Option (List EndLine)) (m : ℕ) (said : Bool) (o : Option (List EndLine)) (mid new : List EndLine) → first_says f m ≡ None → o ≡ f m → said ≡ false → SaysSome said mid new o
-    → (first_says f (m + 1) ≡ None) × (new ≡ mid)
-not_found f m said None mid new none is no_ says_ =
-    let next : m + 1 ≡ suc m = omega arith in
-    (ap (first_says f) next ∙ ap (λ o. or o (f m)) none ∙ sym is, says_.1)
-not_found f m said (Some ls) mid new none is no_ says_ = cc
 
 -- machine m is the first, and so it is said whether there is one
 pub found_some : (f : ℕ → Option (List EndLine)) (m n : ℕ) (said : Bool) (o : Option (List EndLine)) (old mid new : List EndLine) → first_says f m ≡ None → m < n → o ≡ f m → said ≡ true → mid ≡ old

@@ -1,36 +1,12 @@
 -- Each step of a directive leaves fewer steps.
-use Rattle.std.proofs.Common.{◌≡◌, ℕ, zero, suc, ◌+◌, ◌-◌, ◌*◌, ◌^◌, ◌<◌, ◌≤◌, Bool, true, false, ◌==◌, List, [], ◌∷◌, ◌++◌, length, refl, sym, ap, subst, ◌∙◌, inl, inr, arith, mul-suc}
-use Rattle.std.specs.Prelude.{Result, ⊤, ◌&&◌, if◌then◌else◌, option_map}
-use Rattle.std.specs.declared.option.Option.{Option}
-use Rattle.std.specs.declared.option.Option.TheVariants.{None, Some}
-use Rattle.std.specs.declared.result.Result.TheVariants.{Ok, Err}
-use Rattle.std.proofs.lemmas.Bool.Decides.{eqb_tells, leb_tells}
-use Rattle.std.proofs.lemmas.Option.{slice_get_cases}
-use Rattle.dm_packet.specs.declared.Packet.{Packet}
+use Rattle.dm_world.proofs.Names.{◌≡◌, ℕ, zero, suc, ◌+◌, ◌-◌, ◌*◌, ◌^◌, ◌<◌, ◌≤◌, Bool, true, false, ◌==◌, List, [], ◌∷◌, ◌++◌, length, refl, sym, ap, subst, ◌∙◌, inl, inr, arith, mul-suc, Result, ⊤, ◌&&◌, if◌then◌else◌, option_map}
+use Rattle.dm_world.proofs.Names.{Option, None, Some, Ok, Err, eqb_tells, leb_tells, slice_get_cases, Packet, PacketError, packet_of, Data, Ack, Sent, bytes_at, just_put, marked, after_mark, is_pair, Boot, Step, Out, Acted, Acts, Goes}
+use Rattle.dm_world.proofs.Names.{Worn, spoken, with_packet, sum_below, Pass, Round, Settle, Cursor, One, Passing, Place, Packets, Turns, End, Falls, IsFresh, LeavesFewer, LeavesNoMore, SettleGoes, TakesTurn, room, room_of, seen_count}
+use Rattle.dm_world.proofs.Names.{turns_at, turns_of, first_unseen, Happened, Said, Says, WorldState, WornOut, acted, delivers, reads, turned, world_step}
 use Rattle.dm_packet.specs.declared.Packet.TheVariants as packet
-use Rattle.dm_packet.specs.declared.PacketError.{PacketError}
-use Rattle.dm_packet.specs.Packets.{packet_of}
-use Rattle.dm_stream.specs.Packets.{Data, Ack}
-use Rattle.dm_wire.specs.Sent.{Sent, bytes_at, just_put, marked}
-use Rattle.dm_wire.specs.Wire.{after_mark, is_pair}
-use Rattle.dm_onekernel.specs.declared.boot.Boot.{Boot}
-use Rattle.dm_schedule.specs.declared.Step.{Step}
 use Rattle.dm_schedule.specs.declared.Step.TheVariants as step
-use Rattle.dm_node.specs.declared.out.Out.{Out}
 use Rattle.dm_node.specs.declared.out.Out.TheVariants as out
 use Rattle.dm_node.specs.Acts as node
-use Rattle.dm_node.specs.Out.{Acted, Acts, Goes, Worn}
-use Rattle.dm_node.specs.Wired.{spoken, with_packet}
-use Rattle.dm_line.specs.Each.{sum_below}
-use Rattle.dm_line.specs.declared.pass.Pass.{Pass}
-use Rattle.dm_line.specs.declared.pass.Pass.TheVariants.{Round, Settle}
-use Rattle.dm_world.specs.declared.cursor.Cursor.{Cursor}
-use Rattle.dm_world.specs.declared.cursor.Cursor.TheVariants.{One, Passing}
-use Rattle.dm_world.specs.declared.cursor.Place.{Place}
-use Rattle.dm_world.specs.declared.cursor.Place.TheVariants.{Packets, Turns, End}
-use Rattle.dm_world.specs.Cursor.{Falls, IsFresh, LeavesFewer, LeavesNoMore, SettleGoes, TakesTurn, room, room_of, seen_count, turns_at, turns_of}
-use Rattle.dm_world.specs.Next.{first_unseen}
-use Rattle.dm_world.specs.World.{Happened, Said, Says, WorldState, WornOut, acted, delivers, reads, turned, world_step}
 
 abbrev one_if : Bool → ℕ
 one_if t = if t then 1 else 0
@@ -280,30 +256,3 @@ turn_falls n w (Round j) m k h =
     let within = h.within in
     counted_fewer n w (Passing (Round j) (Turns m)) (Passing (Round j) (Turns (k + 1))) (step.Turn k) (omega (arith, from, within))
 turn_falls n w Settle m k h = (tt, (h.within, h.takes, counted_no_more n w (Passing Settle (Turns m)) (Passing Settle (Turns (k + 1))) (step.Turn k) (omega arith)))
-
--- from a place where as many turns are left, or more
-fewer_from : (n : ℕ) (w : WorldState) (c d after : Cursor) (e : Step) → turns_of n c ≤ turns_of n d → LeavesFewer n w c e after → LeavesFewer n w d e after
-fewer_from n w c d after e h f b s is = let g = f b s is in omega (arith, g, h)
-
-no_more_from : (n : ℕ) (w : WorldState) (c d after : Cursor) (e : Step) → turns_of n c ≤ turns_of n d → LeavesNoMore n w c e after → LeavesNoMore n w d e after
-no_more_from n w c d after e h f b s is = let g = f b s is in omega (arith, g, h)
-
-settle_from : (n : ℕ) (w : WorldState) (x y : Place) (e : Step) (after : Cursor) → SettleGoes n w (Passing Settle x) e after → SettleGoes n w (Passing Settle y) e after
-settle_from n w x y (step.Turn m) after h = (h.0, h.1, no_more_from n w (Passing Settle x) (Passing Settle y) after (step.Turn m) (omega arith) h.2)
-settle_from n w x y (step.Deliver a b k) after h = (h.0, fewer_from n w (Passing Settle x) (Passing Settle y) after (step.Deliver a b k) (omega arith) h.1)
-settle_from n w x y (step.Tick m) after h = absurd h
-settle_from n w x y (step.Migrate p m) after h = absurd h
-
-pub falls_from : (n : ℕ) (w : WorldState) (p : Pass) (x y : Place) (e : Step) (after : Cursor) → turns_at n x ≤ turns_at n y → Falls n w (Passing p x) e after → Falls n w (Passing p y) e after
-falls_from n w (Round k) x y e after h f = fewer_from n w (Passing (Round k) x) (Passing (Round k) y) after e (omega (arith, h)) f
-falls_from n w Settle x y e after h f = (f.0, settle_from n w x y e after f.1)
-
--- the first of one round more
-one_round : (n k : ℕ) → 0 < k → n + n * (k - 1) ≡ n * k
-one_round n zero some = absurd (omega (arith, some))
-one_round n (suc j) some = ap (λ (i : ℕ). n + n * i) (let e : suc j - 1 ≡ j = omega arith in e) ∙ (let e : n + n * j ≡ n * suc j = omega (arith, mul-suc n j) in e)
-
-pub next_round_falls : (n : ℕ) (w : WorldState) (k from to : ℕ) (e : Step) (after : Cursor) → 0 < k → Falls n w (Passing (Round (k - 1)) (Packets from to)) e after → Falls n w (Passing (Round k) End) e after
-next_round_falls n w k from to e after some f =
-    let all = one_round n k some in
-    fewer_from n w (Passing (Round (k - 1)) (Packets from to)) (Passing (Round k) End) after e (omega (arith, all)) f

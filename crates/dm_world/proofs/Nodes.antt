@@ -1,36 +1,12 @@
 -- The machines of the code: one of them acts, and the others stay.
-use Rattle.std.proofs.Common.{◌≡◌, ◌≢◌, ℕ, suc, ◌+◌, ◌<◌, ◌≤◌, Bool, List, [], ◌∷◌, ◌++◌, length, refl, sym, ap, subst, ◌∙◌, inl, inr, arith, length-set, get_or, get_or-set_same, get_or-set_other, length-append}
-use Rattle.std.proofs.Math.Seq.{get_or-append_seam}
-use Rattle.std.proofs.lemmas.List.{get_or_append_left}
-use Rattle.std.proofs.Math.ListN.{set}
-use Rattle.std.specs.Prelude.{◌⊎◌, if◌then◌else◌, slice_get, slice_index_or}
-use Rattle.std.specs.List.{All}
-use Rattle.std.specs.declared.option.Option.{Option}
-use Rattle.std.specs.declared.option.Option.TheVariants.{None, Some}
-use Rattle.std.specs.declared.result.Result.TheVariants.{Err}
-use Rattle.std.proofs.lemmas.Bool.Decides.{eqb_tells, leb_tells}
-use Rattle.std.proofs.lemmas.Bool.{leb-true}
-use Rattle.std.proofs.lemmas.List.Elements.{All-weaker}
-use Rattle.std.proofs.lemmas.Option.{get_or_from_slice_get, slice_get-get_or, slice_get_cases, slice_get_past, slice_get_within}
-use Rattle.dm_onekernel.specs.declared.boot.Boot.{Boot}
-use Rattle.dm_packet.specs.declared.Packet.{Packet}
+use Rattle.dm_world.proofs.Names.{◌≡◌, ◌≢◌, ℕ, suc, ◌+◌, ◌<◌, ◌≤◌, Bool, List, [], ◌∷◌, ◌++◌, length, refl, sym, ap, subst, ◌∙◌, inl, inr, arith, length-set, get_or, get_or-set_same, get_or-set_other, length-append, get_or-append_seam}
+use Rattle.dm_world.proofs.Names.{get_or_append_left, set, ◌⊎◌, if◌then◌else◌, slice_get, slice_index_or, All, Option, None, Some, Err, eqb_tells, leb_tells, leb-true, All-weaker, get_or_from_slice_get, slice_get-get_or, slice_get_cases}
+use Rattle.dm_world.proofs.Names.{slice_get_past, slice_get_within, Boot, Packet, Data, Ack, at_machine, Node, Stop, Out, NodeState, here, opened, Acted, Acts, Goes, Worn, arrives_packet, MayArrivePacket, arrives_lawfully, ActsLawfully}
+use Rattle.dm_world.proofs.Names.{IsLawfulOut, AnswersSome, Gave, GaveSome, World, ActedAt, ActedSome, AreNodes, IsNode, IsSendable, IsWorld, TurnAnswers, node_in, node_or}
 use Rattle.dm_packet.specs.declared.Packet.TheVariants as packet
-use Rattle.dm_stream.specs.Packets.{Data, Ack}
-use Rattle.dm_line.specs.Sets.{at_machine}
-use Rattle.dm_node.specs.declared.node.Node.{Node}
-use Rattle.dm_node.specs.declared.stop.Stop.{Stop}
 use Rattle.dm_node.specs.declared.stop.Stop.TheVariants as stop
-use Rattle.dm_node.specs.declared.out.Out.{Out}
 use Rattle.dm_node.specs.declared.out.Out.TheVariants as out
-use Rattle.dm_node.specs.State.{NodeState, here, opened}
-use Rattle.dm_node.specs.Out.{Acted, Acts, Goes, Worn}
-use Rattle.dm_node.specs.Acts.{arrives_packet}
-use Rattle.dm_node.specs.May.{MayArrivePacket}
-use Rattle.dm_node.proofs.Sends.{arrives_lawfully}
-use Rattle.dm_node.specs.Lawful.{ActsLawfully, IsLawfulOut}
-use Rattle.dm_node.specs.Meets.{AnswersSome, Gave, GaveSome, state_of}
-use Rattle.dm_world.specs.declared.world.World.{World}
-use Rattle.dm_world.specs.Meets.{ActedAt, ActedSome, AreNodes, IsNode, IsSendable, IsWorld, TurnAnswers, node_in, node_or}
+use Rattle.dm_node.specs.Meets.{state_of}
 
 -- a list with one place written
 pub set_get_same : {X : Type 0} (xs : List X) (i : ℕ) (v : X) → i < length xs → slice_get (set xs i v) i ≡ Some v
@@ -205,10 +181,6 @@ all_opened b nodes h m =
       | inl r ↦ node_there b nodes m r.0 r.2 ∙ h m r.0 r.2
       | inr r ↦ node_past b nodes m r.1
     ]
-
--- there is a machine, and there are at most 16
-pub some_machine : (w : World) → IsWorld w → 0 < length w.boot.machines
-some_machine w h = leb-true 1 (length w.boot.machines) h.valid.some_machines
 
 pub few_machines : (w : World) → IsWorld w → length w.boot.machines ≤ 16
 few_machines w h = leb-true (length w.boot.machines) 16 h.valid.few_machines

@@ -1,18 +1,8 @@
 -- The pairs of machines, passed one after the other.
-use Rattle.std.proofs.Common.{◌≡◌, ◌≢◌, ℕ, zero, suc, ◌+◌, ◌<◌, ◌≤◌, Bool, true, false, List, [], ◌∷◌, ◌++◌, length, drop, refl, sym, ap, ◌∙◌, inl, inr, arith, length-append}
-use Rattle.std.specs.Prelude.{if◌then◌else◌, cond, not, position}
-use Rattle.std.specs.List.{position_from}
-use Rattle.std.specs.declared.option.Option.{Option}
-use Rattle.std.specs.declared.option.Option.TheVariants.{None, Some}
-use Rattle.std.proofs.lemmas.Bool.Decides.{eqb_tells, leb_tells}
-use Rattle.std.proofs.lemmas.Iterator.Adapters.{position_from-zero}
-use Rattle.std.proofs.lemmas.List.{drop-append-le, drop_all, drop_at}
-use Rattle.dm_wire.specs.Sent.{Sent, is_unseen}
+use Rattle.dm_world.proofs.Names.{◌≡◌, ◌≢◌, ℕ, zero, suc, ◌+◌, ◌<◌, ◌≤◌, Bool, true, false, List, [], ◌∷◌, ◌++◌, length, drop, refl, sym, ap, ◌∙◌, inl, inr, arith, length-append, if◌then◌else◌, cond, not, position, position_from, Option}
+use Rattle.dm_world.proofs.Names.{None, Some, eqb_tells, leb_tells, position_from-zero, drop-append-le, drop_all, drop_at, Sent, is_unseen, Two, below, here_or_later, next_delivery, pairs_of, pairs_with, pairs_at, row_at, first_unseen}
+use Rattle.dm_world.proofs.Names.{undelivered, WorldState}
 use Rattle.dm_schedule.specs.declared.Step.TheVariants as step
-use Rattle.dm_line.specs.Todo.{Two, below, here_or_later, next_delivery, pairs_of, pairs_with}
-use Rattle.dm_world.specs.Cursor.{pairs_at, row_at}
-use Rattle.dm_world.specs.Next.{first_unseen, undelivered}
-use Rattle.dm_world.specs.World.{WorldState}
 
 -- the machines, ascending
 pub length-below : (n : ℕ) → length (below n) ≡ n

@@ -1,25 +1,9 @@
 -- What a machine gave is read again as it was put.
-use Rattle.std.proofs.Common.{◌≡◌, ℕ, List, ◌∷◌, sym, ap, subst, ◌∙◌}
-use Rattle.std.specs.Prelude.{option_map}
-use Rattle.std.specs.declared.option.Option.{Option}
-use Rattle.std.specs.declared.option.Option.TheVariants.{None, Some}
-use Rattle.std.specs.declared.result.Result.TheVariants.{Ok}
-use Rattle.dm_packet.specs.declared.Packet.{Packet}
+use Rattle.dm_world.proofs.Names.{◌≡◌, ℕ, List, ◌∷◌, sym, ap, subst, ◌∙◌, option_map, Option, None, Some, Ok, Packet, packet_of, spelling, Data, Ack, bytes_at, Boot, Line, Node, Out, Sends, Acts, Goes, Worn, MayDeliver, MayRead, sent_by}
+use Rattle.dm_world.proofs.Names.{ActedSome, AreReadBack, gave_bytes, gave_read, gave_some, WorldState}
 use Rattle.dm_packet.specs.declared.Packet.TheVariants as packet
-use Rattle.dm_packet.specs.Packets.{packet_of, spelling}
-use Rattle.dm_stream.specs.Packets.{Data, Ack}
-use Rattle.dm_wire.specs.Sent.{bytes_at}
-use Rattle.dm_onekernel.specs.declared.boot.Boot.{Boot}
-use Rattle.dm_line.specs.declared.line.Line.{Line}
-use Rattle.dm_node.specs.declared.node.Node.{Node}
-use Rattle.dm_node.specs.declared.out.Out.{Out}
-use Rattle.dm_node.specs.declared.out.Out.TheVariants.{Says, Sends}
+use Rattle.dm_node.specs.declared.out.Out.TheVariants.{Says}
 use Rattle.dm_node.specs.Acts as node
-use Rattle.dm_node.specs.Out.{Acts, Goes, Worn}
-use Rattle.dm_world.specs.May.{MayDeliver, MayRead, sent_by}
-use Rattle.dm_world.specs.Meets.{ActedSome}
-use Rattle.dm_world.specs.Readable.{AreReadBack, gave_bytes, gave_read, gave_some}
-use Rattle.dm_world.specs.World.{WorldState}
 use Rattle.dm_world.proofs.Delivering.{may_read, read_bytes}
 
 -- where what is left is read back, all is

@@ -1,20 +1,11 @@
 -- What a machine gives is said, one after the other.
-use Rattle.std.proofs.Common.{◌≡◌, ℕ, List, [], ◌∷◌, ◌++◌, refl, sym, ap, subst, ◌∙◌, append_assoc, append-nil}
-use Rattle.dm_packet.specs.declared.Packet.{Packet}
-use Rattle.dm_wire.specs.Sent.{Sent}
-use Rattle.dm_line.specs.declared.line.Line.{Line}
-use Rattle.dm_node.specs.declared.out.Out.{Out}
-use Rattle.dm_node.specs.declared.out.Out.TheVariants.{Says, Sends}
-use Rattle.dm_node.specs.Wired.{Spoken, packet_line, spoken, with_packet}
-use Rattle.dm_world.specs.Meets.{Spoke}
+use Rattle.dm_world.proofs.Names.{◌≡◌, ℕ, List, [], ◌∷◌, ◌++◌, refl, sym, ap, subst, ◌∙◌, append_assoc, append-nil, Packet, Sent, Line, Out, Sends, Spoken, packet_line, spoken, with_packet, Spoke}
+use Rattle.dm_node.specs.declared.out.Out.TheVariants.{Says}
 
 -- behind these lines it comes to the same as that behind those
 pub record Leads (old : List Line) (all : Spoken) (now : List Line) (rest : Spoken) : Type 0 where
   pub lines : old ++ all.lines ≡ now ++ rest.lines
   pub wires : (a c : ℕ) → all.wires a c ≡ rest.wires a c
-
-pub leads_here : (old : List Line) (all : Spoken) → Leads old all old all
-leads_here old all = record { lines = refl; wires = λ a c. refl }
 
 pub leads_line : (old now next : List Line) (all : Spoken) (wires : ℕ → ℕ → List Sent) (l : Line) (outs items : List Out) → items ≡ Says l ∷ outs → next ≡ now ++ l ∷ []
     → Leads old all now (spoken wires items) → Leads old all next (spoken wires outs)
@@ -36,8 +27,3 @@ leads_packet old now next all wires after p l outs items is said e put h =
           ∙ ap (λ xs. xs ++ (spoken (with_packet wires p) outs).lines) (sym e);
       wires = k.wires;
     })
-
-pub leads_end : (old now : List Line) (all : Spoken) (wires : ℕ → ℕ → List Sent) (items : List Out) → items ≡ [] → Leads old all now (spoken wires items) → Spoke old now wires all
-leads_end old now all wires items none h =
-    let k : Leads old all now (spoken wires []) = subst (λ xs. Leads old all now (spoken wires xs)) none h in
-    record { lines = sym (append-nil now) ∙ sym k.lines; wires = λ a c. sym (k.wires a c) }

@@ -1,32 +1,10 @@
 -- A machine has acted, and what it gave is said: that is the world's step.
-use Rattle.std.proofs.Common.{◌≡◌, ℕ, ◌+◌, List, [], ◌∷◌, length, sym, ap, subst, ◌∙◌}
-use Rattle.std.specs.Prelude.{Vec}
-use Rattle.std.specs.Vec.{with_items}
-use Rattle.std.proofs.lemmas.List.{with_items_is}
-use Rattle.std.specs.declared.alloc.Global.{Global}
-use Rattle.std.specs.declared.option.Option.{Option}
-use Rattle.std.specs.declared.option.Option.TheVariants.{None, Some}
-use Rattle.std.specs.declared.result.Result.TheVariants.{Err}
-use Rattle.dm_packet.specs.declared.Packet.{Packet}
-use Rattle.dm_wire.specs.Sent.{Sent, bytes_at}
-use Rattle.dm_wire.specs.Wire.{after_mark, packets_on}
-use Rattle.dm_onekernel.specs.declared.boot.Boot.{Boot}
-use Rattle.dm_onekernel.specs.Boot.{IsValid}
-use Rattle.dm_line.specs.declared.line.Line.{Line}
+use Rattle.dm_world.proofs.Names.{◌≡◌, ℕ, ◌+◌, List, [], ◌∷◌, length, sym, ap, subst, ◌∙◌, Vec, with_items, with_items_is, Global, Option, None, Some, Err, Packet, Sent, bytes_at, after_mark, packets_on, Boot, IsValid, Line, Step, Node}
+use Rattle.dm_world.proofs.Names.{Stop, Out, arrives_packet, Acted, Acts, Goes, Worn, IsWornSome, spoken, World, ActedAt, ActedSome, Answers, AreNodes, IsWorld, IsWornOut, Meets, MeetsSome, TurnAnswers, node_in, state_of, Says, WorldState}
+use Rattle.dm_world.proofs.Names.{WornOut, acted, delivers, turned}
 use Rattle.dm_line.specs.declared.line.Line.TheVariants as line
-use Rattle.dm_schedule.specs.declared.Step.{Step}
-use Rattle.dm_node.specs.declared.node.Node.{Node}
-use Rattle.dm_node.specs.declared.stop.Stop.{Stop}
 use Rattle.dm_node.specs.declared.stop.Stop.TheVariants as stop
-use Rattle.dm_node.specs.declared.out.Out.{Out}
 use Rattle.dm_node.specs.declared.out.Out.TheVariants as out
-use Rattle.dm_node.specs.Acts.{arrives_packet}
-use Rattle.dm_node.specs.Out.{Acted, Acts, Goes, Worn}
-use Rattle.dm_node.specs.Meets.{IsWornSome}
-use Rattle.dm_node.specs.Wired.{spoken}
-use Rattle.dm_world.specs.declared.world.World.{World}
-use Rattle.dm_world.specs.Meets.{ActedAt, ActedSome, Answers, AreNodes, IsWorld, IsWornOut, Meets, MeetsSome, TurnAnswers, node_in, state_of}
-use Rattle.dm_world.specs.World.{Says, WorldState, WornOut, acted, delivers, turned}
 use Rattle.dm_world.proofs.Delivering.{Arriving}
 
 -- what one directive makes of the world, but for its machines
@@ -80,16 +58,6 @@ acted_size b xs ys m outs (Some (Worn from to)) h = absurd h
 -- what is written into the machines stands there
 pub written : (v : Vec Node Global) (ys : List Node) → length ys ≡ length v.items → (with_items v ys).items ≡ ys
 written v ys e = with_items_is v ys (e ∙ sym v.ok.0)
-
--- a turn would let two machines count one message too many
-pub worn : (from to : ℕ) (w : WorldState) (e : Step) (m : ℕ) (o : Option Acts) → IsWornSome from to o → IsWornOut from to (turned w e m o)
-worn from to w e m None h = absurd h
-worn from to w e m (Some (Goes a)) h = absurd h
-worn from to w e m (Some (Worn x y)) h = λ i. WornOut (h.0 i) (h.1 i)
-
-pub turn_stops : (s : Stop) (b : Boot) (xs ys : List Node) (now w : WorldState) (e : Step) (m : ℕ) (o : Option Acts) → TurnAnswers (Err s) b xs ys m o → Answers (Err s) now (turned w e m o)
-turn_stops (stop.Worn from to) b xs ys now w e m o h = worn from to w e m o h
-turn_stops (stop.NoMemory f) b xs ys now w e m o h = tt
 
 -- there was no such packet
 pub found_nothing : (old now : World) (e : Step) (a c k : ℕ) (outs : List Out) (said : List Line) → outs ≡ out.Says line.Nothing ∷ [] → now.nodes ≡ old.nodes

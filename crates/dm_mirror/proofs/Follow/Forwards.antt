@@ -1,9 +1,9 @@
 -- A message for a process that has gone on follows it, and its sender may be told.
-use Rattle.dm_mirror.proofs.Names.{◌≡◌, ◌≢◌, ℕ, ◌+◌, ◌≤◌, Bool, true, false, List, [], ◌∷◌, map, refl, ap, ◌∙◌, sym, subst, is_some, arith, if◌then◌else◌, Option, None, Some, false≢true, Pid, pid_of, place_of, update_of}
-use Rattle.dm_mirror.proofs.Names.{Message, MsgId, What, Record, Line, MessageKind, id_eq, id_of, kind_of, plain_kind, PlainMessage, PlainWhat, plain_message, plain_what, with_what, incoming_of, sent_on, Boot, manager, OneKernel, bind}
-use Rattle.dm_mirror.proofs.Names.{forwards_and, KernelState, id_eq-same, id_eq-swap, Addresses, Receiver, Sender, is_told_back, unmoved, forwards_on, process_told, Point, moved, at_machine, Spot, Queue, Held, StandsOnce, standing, About}
-use Rattle.dm_mirror.proofs.Names.{Known, Forward, Told, forward_about, forwarded_for, handled, own_id, receiver_of, stands_right, WhatFits, is_fixed, own_sort, Run, Placed, Mirrors, free_off, plain_sent_on, forwarded_mirrors}
-use Rattle.dm_mirror.proofs.Names.{moves_forwarded, update_gets, parts, mirrors_view, AllOwnStand, OwnStands, KnownStands, AllRecords, Wants}
+use Rattle.dm_mirror.proofs.Names.{◌≡◌, ◌≢◌, ℕ, ◌+◌, ◌≤◌, Bool, true, false, List, [], ◌∷◌, map, refl, ap, ◌∙◌, sym, subst, is_some, arith, if◌then◌else◌, Option, None, Some, false≢true, Pid, pid_of, place_of, update_of, Message, MsgId}
+use Rattle.dm_mirror.proofs.Names.{What, Record, Line, MessageKind, id_eq, id_of, kind_of, plain_kind, PlainMessage, PlainWhat, plain_message, plain_what, with_what, incoming_of, sent_on, Boot, manager, OneKernel, bind, forwards_and}
+use Rattle.dm_mirror.proofs.Names.{KernelState, id_eq-same, id_eq-swap, Addresses, Receiver, Sender, is_told_back, unmoved, forwards_on, process_told, Point, moved, at_machine, Spot, Queue, Held, StandsOnce, standing, About, Known, Forward}
+use Rattle.dm_mirror.proofs.Names.{Told, forward_about, forwarded_for, handled, own_id, receiver_of, stands_right, WhatFits, is_fixed, own_sort, Run, Placed, Mirrors, free_off, plain_sent_on, forwarded_mirrors, moves_forwarded, update_gets}
+use Rattle.dm_mirror.proofs.Names.{parts, mirrors_view, AllOwnStand, OwnStands, KnownStands, AllRecords, Wants}
 use Rattle.dm_kernel.specs.declared.part.Part.{Part}
 use Rattle.dm_kernel.specs.State as machine
 use Rattle.dm_kernel.specs.State.{with_sent}

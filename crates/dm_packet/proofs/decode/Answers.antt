@@ -1,5 +1,4 @@
-use Rattle.std.proofs.Common.{ap, ◌∙◌, arith}
-use Rattle.dm_packet.specs.Packets.{packet_of}
+use Rattle.dm_packet.proofs.Names.{ap, ◌∙◌, arith, packet_of}
 use Rattle.dm_packet.proofs.Packets.{is_found, packet_again}
 use Rattle.dm_packet.proofs.Sizes.{is_short}
 use Rattle.dm_packet.proofs.decode.Goals as goal

@@ -1,7 +1,5 @@
 -- The directives so far, and behind them what the lines that are left say, are all.
-use Rattle.std.proofs.Common.{◌≡◌, ◌+◌, ◌≤◌, length}
-use Rattle.dm_schedule.specs.Lines.{lines}
-use Rattle.dm_schedule.specs.Schedule.{lines_from, directives_of}
+use Rattle.dm_schedule.proofs.Names.{◌≡◌, ◌+◌, ◌≤◌, length, lines, lines_from, directives_of}
 use Rattle.dm_schedule.proofs.Following.{before}
 use Rattle.dm_schedule.proofs.read_schedule.Given as goal
 

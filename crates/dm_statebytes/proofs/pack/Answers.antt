@@ -1,8 +1,4 @@
-use Rattle.std.proofs.Common.{◌≡◌, ℕ, List, ◌++◌, length, sym, ap, subst, ◌∙◌, append_assoc, arith}
-use Rattle.std.specs.List.{flat_map}
-use Rattle.dm_packet.specs.Field.{number}
-use Rattle.dm_statebytes.specs.Shell.{front, front_of, shell_of, shell_of_bytes, spelling}
-use Rattle.dm_statebytes.specs.Table.{mask_of, spell_slot}
+use Rattle.dm_statebytes.proofs.Names.{◌≡◌, ℕ, List, ◌++◌, length, sym, ap, subst, ◌∙◌, append_assoc, arith, flat_map, number, front, front_of, shell_of, shell_of_bytes, spelling, mask_of, spell_slot}
 use Rattle.dm_statebytes.proofs.Lawful.{shell_is_lawful}
 use Rattle.dm_statebytes.proofs.Shells.{shell_again}
 use Rattle.dm_statebytes.proofs.Sizes.{IsSize, front_size, lawful_size}

@@ -1,5 +1,4 @@
-use Rattle.std.proofs.Common.{ap, ◌∙◌, arith}
-use Rattle.dm_statebytes.specs.Shell.{shell_of_bytes}
+use Rattle.dm_statebytes.proofs.Names.{ap, ◌∙◌, arith, shell_of_bytes}
 use Rattle.dm_statebytes.proofs.Shells.{is_found, shell_again}
 use Rattle.dm_statebytes.proofs.Sizes.{is_short}
 use Rattle.dm_statebytes.proofs.unpack.Goals as goal

@@ -1,8 +1,5 @@
 -- No lines are left.
-use Rattle.std.proofs.Common.{◌≡◌, ◌∙◌, ap, sym, length, arith}
-use Rattle.std.proofs.lemmas.Bool.Decides.{nat_tests}
-use Rattle.dm_asm.specs.Assembled.{with_lines}
-use Rattle.dm_asm.specs.Labels.{place_in}
+use Rattle.dm_asm.proofs.Names.{◌≡◌, ◌∙◌, ap, sym, length, arith, nat_tests, with_lines, place_in}
 use Rattle.dm_asm.proofs.Cuts.{lines-none}
 use Rattle.dm_asm.proofs.assembler.all_lines.Goals as goal
 

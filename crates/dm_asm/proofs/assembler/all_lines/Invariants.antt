@@ -1,8 +1,5 @@
 -- The image so far, and behind it the lines that are left, are all.
-use Rattle.std.proofs.Common.{◌≡◌, ◌+◌, ◌≤◌, [], length}
-use Rattle.dm_asm.specs.Assembled.{with_lines}
-use Rattle.dm_asm.specs.Labels.{place_in}
-use Rattle.dm_asm.specs.Lines.{lines}
+use Rattle.dm_asm.proofs.Names.{◌≡◌, ◌+◌, ◌≤◌, [], length, with_lines, place_in, lines}
 use Rattle.dm_asm.proofs.assembler.all_lines.Given as goal
 
 abbrev pub invariant-loop-rest : goal.invariant-loop-rest

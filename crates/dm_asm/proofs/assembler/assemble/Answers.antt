@@ -1,6 +1,5 @@
 -- The lines with the table of the labels give what the text means.
-use Rattle.std.proofs.Common.{◌∙◌, ℕ, List, Vec, Global, Ok, ap, sym}
-use Rattle.dm_asm.specs.Assembled.{assembled}
+use Rattle.dm_asm.proofs.Names.{◌∙◌, ℕ, List, Vec, Global, Ok, ap, sym, assembled}
 use Rattle.dm_asm.proofs.Meant.{meant, refused_alike}
 use Rattle.dm_asm.proofs.assembler.assemble.Goals as goal
 

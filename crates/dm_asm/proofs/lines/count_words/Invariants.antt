@@ -1,6 +1,5 @@
 -- The words so far and the words that are left are all.
-use Rattle.std.proofs.Common.{◌≡◌, ◌+◌, ◌≤◌, length}
-use Rattle.dm_asm.specs.Lines.{words}
+use Rattle.dm_asm.proofs.Names.{◌≡◌, ◌+◌, ◌≤◌, length, words}
 use Rattle.dm_asm.proofs.lines.count_words.Given as goal
 
 abbrev pub invariant-loop-behind : goal.invariant-loop-behind

@@ -1,7 +1,5 @@
 -- A text is cut at its first line feed.
-use Rattle.std.proofs.Common.{◌+◌, sym, length}
-use Rattle.std.proofs.Math.Seq.{drop-length}
-use Rattle.dm_asm.specs.Lines.{lines, ends_line}
+use Rattle.dm_asm.proofs.Names.{◌+◌, sym, length, drop-length, lines, ends_line}
 use Rattle.dm_asm.proofs.Cuts.{cut-position, cut-whole, take_rest}
 use Rattle.dm_asm.proofs.lines.first_line.Goals as goal
 

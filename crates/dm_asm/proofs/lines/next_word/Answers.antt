@@ -1,5 +1,5 @@
 -- There are only separators.
-use Rattle.std.proofs.Common.{sym}
+use Rattle.dm_asm.proofs.Names.{sym}
 use Rattle.dm_asm.proofs.Cuts.{words-none}
 use Rattle.dm_asm.proofs.lines.next_word.Goals as goal
 

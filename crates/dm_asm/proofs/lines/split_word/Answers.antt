@@ -1,7 +1,5 @@
 -- The words begin behind the separators, and the first ends at the next.
-use Rattle.std.proofs.Common.{◌+◌, ◌-◌, ◌<◌, ◌∷◌, ◌∙◌, ap, sym, length, take, drop, length-drop, not, arith}
-use Rattle.std.proofs.lemmas.List.{length-take-le}
-use Rattle.dm_asm.specs.Lines.{words, separates}
+use Rattle.dm_asm.proofs.Names.{◌+◌, ◌-◌, ◌<◌, ◌∷◌, ◌∙◌, ap, sym, length, take, drop, length-drop, not, arith, length-take-le, words, separates}
 use Rattle.dm_asm.proofs.Cuts.{words-start, words-first, words-whole, start_is_word, take_rest, place_below}
 use Rattle.dm_asm.proofs.lines.split_word.Goals as goal
 

@@ -1,5 +1,5 @@
 -- The comment begins at the first semicolon.
-use Rattle.std.proofs.Common.{sym}
+use Rattle.dm_asm.proofs.Names.{sym}
 use Rattle.dm_asm.proofs.Cuts.{comment-position, comment-whole}
 use Rattle.dm_asm.proofs.lines.uncommented.Goals as goal
 

@@ -1,5 +1,5 @@
 -- One digit is read.
-use Rattle.std.proofs.Common.{◌∙◌, arith}
+use Rattle.dm_asm.proofs.Names.{◌∙◌, arith}
 use Rattle.dm_asm.proofs.Digits.{digit-read}
 use Rattle.dm_asm.proofs.numbers.digits_value.Goals as goal
 

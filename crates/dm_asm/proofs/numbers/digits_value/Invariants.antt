@@ -1,7 +1,5 @@
 -- The digits that are left go on from the value so far.
-use Rattle.std.proofs.Common.{◌≡◌, ◌≤◌, ◌^◌, min, drop}
-use Rattle.std.specs.Prelude.{option_map}
-use Rattle.dm_asm.specs.Numbers.{going_on}
+use Rattle.dm_asm.proofs.Names.{◌≡◌, ◌≤◌, ◌^◌, min, drop, option_map, going_on}
 use Rattle.dm_asm.proofs.numbers.digits_value.Given as goal
 
 abbrev pub invariant-loop-c : goal.invariant-loop-c

@@ -1,8 +1,5 @@
 -- One byte more, a byte that is refused, or no more.
-use Rattle.std.proofs.Common.{◌∙◌, ap, sym}
-use Rattle.dm_asm.specs.Lines.{words}
-use Rattle.dm_asm.specs.Refusals.{behind}
-use Rattle.dm_asm.specs.Statements.{listed_bytes}
+use Rattle.dm_asm.proofs.Names.{◌∙◌, ap, sym, words, behind, listed_bytes}
 use Rattle.dm_asm.proofs.Meant.{listed-more, listed-none, listed-refused}
 use Rattle.dm_asm.proofs.statements.add_listed.Goals as goal
 

@@ -1,8 +1,5 @@
 -- The bytes so far, and behind them those that are left, are all.
-use Rattle.std.proofs.Common.{◌≡◌, length}
-use Rattle.dm_asm.specs.Lines.{words}
-use Rattle.dm_asm.specs.Refusals.{behind}
-use Rattle.dm_asm.specs.Statements.{listed_bytes}
+use Rattle.dm_asm.proofs.Names.{◌≡◌, length, words, behind, listed_bytes}
 use Rattle.dm_asm.proofs.statements.add_listed.Given as goal
 
 abbrev pub invariant-loop-word : goal.invariant-loop-word

@@ -1,6 +1,4 @@
-use Rattle.std.proofs.Common.{◌≡◌, drop, map}
-use Rattle.toml.specs.View.{view}
-use Rattle.dm_boot.specs.Rules.{first_broken, rule_of}
+use Rattle.dm_boot.proofs.Names.{◌≡◌, drop, map, view, first_broken, rule_of}
 use Rattle.dm_boot.proofs.checks.first_broken.Given as goal
 
 abbrev pub invariant-loop-rule : goal.invariant-loop-rule

@@ -1,7 +1,4 @@
-use Rattle.std.proofs.Common.{◌≡◌, drop}
-use Rattle.toml.specs.View.{items_view, view}
-use Rattle.dm_boot.specs.Tables.{first_failing}
-use Rattle.dm_boot.specs.Rules.{keeps, rule_of}
+use Rattle.dm_boot.proofs.Names.{◌≡◌, drop, items_view, view, first_failing, keeps, rule_of}
 use Rattle.dm_boot.proofs.checks.first_failing.Given as goal
 
 abbrev pub invariant-loop-i : goal.invariant-loop-i

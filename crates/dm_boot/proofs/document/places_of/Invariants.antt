@@ -1,8 +1,4 @@
-use Rattle.std.proofs.Common.{◌≡◌, ℕ, List, drop}
-use Rattle.std.specs.Option.{option_or}
-use Rattle.toml.specs.View.{items_view}
-use Rattle.dm_boot.specs.Named.{place_in}
-use Rattle.dm_boot.specs.Tables.{place_from, place_of}
+use Rattle.dm_boot.proofs.Names.{◌≡◌, ℕ, List, drop, option_or, items_view, place_in, place_from, place_of}
 use Rattle.dm_boot.proofs.document.places_of.Given as goal
 
 -- what is found so far, or else among those that are left, is what is found among all

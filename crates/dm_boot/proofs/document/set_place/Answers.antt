@@ -1,9 +1,5 @@
 -- A name that has no place gets this one.
-use Rattle.std.proofs.Common.{◌≡◌, ◌∙◌, ℕ, true, None, List, ap, sym}
-use Rattle.std.proofs.lemmas.Map.Text.{btree_map_updates_str}
-use Rattle.std.proofs.lemmas.Slice.Eq.{bytes_eq-Decides}
-use Rattle.std.specs.Str.{bytes_eq}
-use Rattle.dm_boot.specs.Named.{place_in}
+use Rattle.dm_boot.proofs.Names.{◌≡◌, ◌∙◌, ℕ, true, None, List, ap, sym, btree_map_updates_str, bytes_eq-Decides, bytes_eq, place_in}
 use Rattle.dm_boot.proofs.Named.{is_absent, is_put}
 use Rattle.dm_boot.proofs.document.set_place.Goals as goal
 

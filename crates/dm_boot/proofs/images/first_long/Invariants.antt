@@ -1,5 +1,4 @@
-use Rattle.std.proofs.Common.{◌≡◌, drop}
-use Rattle.dm_boot.specs.Rules.{first_long}
+use Rattle.dm_boot.proofs.Names.{◌≡◌, drop, first_long}
 use Rattle.dm_boot.proofs.images.first_long.Given as goal
 
 abbrev pub invariant-loop-i : goal.invariant-loop-i

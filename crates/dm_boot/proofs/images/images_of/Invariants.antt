@@ -1,8 +1,4 @@
-use Rattle.std.proofs.Common.{◌≡◌, ◌++◌, drop}
-use Rattle.toml.specs.View.{items_view}
-use Rattle.dm_boot.specs.Tables.{map_items}
-use Rattle.dm_boot.specs.Build.{image_of}
-use Rattle.dm_boot.specs.Rules.{first_unassembled}
+use Rattle.dm_boot.proofs.Names.{◌≡◌, ◌++◌, drop, items_view, map_items, image_of, first_unassembled}
 use Rattle.dm_boot.proofs.images.images_of.Given as goal
 
 abbrev pub invariant-loop-i : goal.invariant-loop-i

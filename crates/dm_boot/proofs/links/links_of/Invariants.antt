@@ -1,7 +1,4 @@
-use Rattle.std.proofs.Common.{◌≡◌, ◌++◌, drop}
-use Rattle.toml.specs.View.{items_view, view}
-use Rattle.dm_boot.specs.Tables.{map_items}
-use Rattle.dm_boot.specs.Build.{link_of}
+use Rattle.dm_boot.proofs.Names.{◌≡◌, ◌++◌, drop, items_view, view, map_items, link_of}
 use Rattle.dm_boot.proofs.links.links_of.Given as goal
 
 abbrev pub invariant-loop-table : goal.invariant-loop-table

@@ -1,7 +1,4 @@
-use Rattle.std.proofs.Common.{◌≡◌, ◌++◌, drop}
-use Rattle.toml.specs.View.{items_view}
-use Rattle.dm_boot.specs.Tables.{map_items}
-use Rattle.dm_boot.specs.Build.{machine_of}
+use Rattle.dm_boot.proofs.Names.{◌≡◌, ◌++◌, drop, items_view, map_items, machine_of}
 use Rattle.dm_boot.proofs.machines.machines_of.Given as goal
 
 abbrev pub invariant-loop-table : goal.invariant-loop-table

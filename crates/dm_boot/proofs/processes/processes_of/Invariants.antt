@@ -1,6 +1,4 @@
-use Rattle.std.proofs.Common.{◌≡◌, ◌++◌, drop}
-use Rattle.toml.specs.View.{items_view, view}
-use Rattle.dm_boot.specs.Build.{linked_all}
+use Rattle.dm_boot.proofs.Names.{◌≡◌, ◌++◌, drop, items_view, view, linked_all}
 use Rattle.dm_boot.proofs.processes.processes_of.Given as goal
 
 abbrev pub invariant-loop-i : goal.invariant-loop-i

@@ -1,6 +1,4 @@
-use Rattle.std.proofs.Common.{◌≡◌, drop}
-use Rattle.toml.specs.View.{items_view}
-use Rattle.dm_boot.specs.Tables.{all_items, is_table}
+use Rattle.dm_boot.proofs.Names.{◌≡◌, drop, items_view, all_items, is_table}
 use Rattle.dm_boot.proofs.shapes.are_tables.Given as goal
 
 abbrev pub invariant-loop-item : goal.invariant-loop-item

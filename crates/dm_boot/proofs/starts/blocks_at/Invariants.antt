@@ -1,5 +1,4 @@
-use Rattle.std.proofs.Common.{◌≡◌, ◌+◌, drop}
-use Rattle.dm_onekernel.specs.Boot.{blocks_at}
+use Rattle.dm_boot.proofs.Names.{◌≡◌, ◌+◌, drop, blocks_at}
 use Rattle.dm_boot.proofs.starts.blocks_at.Given as goal
 
 abbrev pub invariant-loop-process : goal.invariant-loop-process

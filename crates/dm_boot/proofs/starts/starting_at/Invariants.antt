@@ -1,5 +1,4 @@
-use Rattle.std.proofs.Common.{◌≡◌, ◌+◌, drop}
-use Rattle.dm_onekernel.specs.Boot.{starting_at}
+use Rattle.dm_boot.proofs.Names.{◌≡◌, ◌+◌, drop, starting_at}
 use Rattle.dm_boot.proofs.starts.starting_at.Given as goal
 
 abbrev pub invariant-loop-process : goal.invariant-loop-process

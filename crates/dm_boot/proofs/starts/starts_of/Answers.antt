@@ -1,11 +1,6 @@
-use Rattle.std.proofs.Common.{◌≡◌, ◌+◌, ◌*◌, ◌≤◌, ◌<◌, true, false, [], ◌∷◌, ◌++◌, length, drop, slice_get, refl, ap, sym, ◌∙◌, arith, rules}
-use Rattle.std.proofs.lemmas.Grind.{common_steps}
-use Rattle.toml.specs.View.{items_view, view}
-use Rattle.dm_onekernel.specs.Boot.{blocks_at, blocks_of_image, starting_at}
-use Rattle.dm_boot.specs.declared.rules.BootRule.TheVariants.{ProcessRoom}
-use Rattle.dm_boot.specs.Tables.{count, first_failing}
-use Rattle.dm_boot.specs.Build.{process_tables, starts_from, starts_of}
-use Rattle.dm_boot.specs.Rules.{fits_after, has_place}
+use Rattle.dm_boot.proofs.Names.{◌≡◌, ◌+◌, ◌*◌, ◌≤◌, ◌<◌, true, false, [], ◌∷◌, ◌++◌, length, drop, slice_get, refl, ap, sym, ◌∙◌, arith, common_steps, items_view, view, blocks_at, blocks_of_image, starting_at, ProcessRoom, count}
+use Rattle.dm_boot.proofs.Names.{first_failing, process_tables, starts_from, starts_of, fits_after, has_place}
+use Rattle.std.proofs.Common.{rules}
 use Rattle.dm_boot.proofs.Elements.{count-view, failing-end}
 use Rattle.dm_boot.proofs.Texts.{kept-here, broken-here}
 use Rattle.dm_boot.proofs.Placed.{Step, step-kept, step-broken, step-built, starts-end}

@@ -1,9 +1,4 @@
-use Rattle.std.proofs.Common.{◌≡◌, ℕ, ◌≤◌, ◌++◌, drop, length}
-use Rattle.toml.specs.View.{items_view, view}
-use Rattle.dm_onekernel.specs.Boot.{starting_at, blocks_at}
-use Rattle.dm_boot.specs.Tables.{first_failing}
-use Rattle.dm_boot.specs.Build.{starts_from, starts_of}
-use Rattle.dm_boot.specs.Rules.{has_place}
+use Rattle.dm_boot.proofs.Names.{◌≡◌, ℕ, ◌≤◌, ◌++◌, drop, length, items_view, view, starting_at, blocks_at, first_failing, starts_from, starts_of, has_place}
 use Rattle.dm_boot.proofs.Counted.{starting_below}
 use Rattle.dm_boot.proofs.starts.starts_of.Given as goal
 

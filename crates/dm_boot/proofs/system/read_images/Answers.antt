@@ -1,14 +1,5 @@
-use Rattle.std.proofs.Common.{◌≡◌, ℕ, Some, None, Ok, List, ap, sym, ◌∙◌}
-use Rattle.toml.specs.Data.{Items}
-use Rattle.toml.specs.View.{items_view, view}
-use Rattle.dm_onekernel.specs.declared.boot.BootImage.{BootImage}
-use Rattle.dm_boot.specs.declared.rules.BootRule.{BootRule}
-use Rattle.dm_boot.specs.declared.rules.BootRule.TheVariants.{ImageText, ImageBytes}
-use Rattle.dm_boot.specs.Before.{before_images}
-use Rattle.dm_boot.specs.Tables.{map_items}
-use Rattle.dm_boot.specs.Build.{image_tables, images_of, image_of}
-use Rattle.dm_boot.specs.Rules.{broken_or, first_broken, image_rules, first_unassembled, first_long}
-use Rattle.dm_boot.specs.Boot.{unless, unless_at}
+use Rattle.dm_boot.proofs.Names.{◌≡◌, ℕ, Some, None, Ok, List, ap, sym, ◌∙◌, Items, items_view, view, BootImage, BootRule, ImageText, ImageBytes, before_images, map_items, image_tables, images_of, image_of, broken_or, first_broken}
+use Rattle.dm_boot.proofs.Names.{image_rules, first_unassembled, first_long, unless, unless_at}
 use Rattle.dm_boot.proofs.Parts.{images-whole, at-ok, at-err, pass-err, few-images}
 use Rattle.dm_boot.proofs.system.read_images.Goals as goal
 

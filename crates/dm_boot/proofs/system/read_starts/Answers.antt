@@ -1,12 +1,4 @@
-use Rattle.std.proofs.Common.{◌≡◌, ℕ, Some, None, Ok, List, ap, sym, ◌∙◌}
-use Rattle.toml.specs.View.{view}
-use Rattle.dm_onekernel.specs.declared.boot.BootProcess.{BootProcess}
-use Rattle.dm_boot.specs.declared.rules.BootRule.{BootRule}
-use Rattle.dm_boot.specs.declared.rules.BootRule.TheVariants.{ProcessRoom}
-use Rattle.dm_boot.specs.Tables.{first_failing}
-use Rattle.dm_boot.specs.Build.{process_tables, starts_of}
-use Rattle.dm_boot.specs.Rules.{broken_or, first_broken, process_rules, has_place}
-use Rattle.dm_boot.specs.Boot.{unless, unless_at}
+use Rattle.dm_boot.proofs.Names.{◌≡◌, ℕ, Some, None, Ok, List, ap, sym, ◌∙◌, view, BootProcess, BootRule, ProcessRoom, first_failing, process_tables, starts_of, broken_or, first_broken, process_rules, has_place, unless, unless_at}
 use Rattle.dm_boot.proofs.Parts.{before_room, room-listed, starts-whole, at-ok, at-err, pass-err}
 use Rattle.dm_boot.proofs.system.read_starts.Goals as goal
 

@@ -1,9 +1,4 @@
-use Rattle.std.proofs.Common.{◌≡◌, ℕ, sym}
-use Rattle.toml.specs.View.{view}
-use Rattle.dm_boot.specs.declared.rules.BootRule.{BootRule}
-use Rattle.dm_boot.specs.Build.{images_of, machines_of, starts_of, processes_of, system_of}
-use Rattle.dm_boot.specs.Rules.{first_broken, image_rules, process_rules, link_rules}
-use Rattle.dm_boot.specs.Boot.{unless, boot_of_table}
+use Rattle.dm_boot.proofs.Names.{◌≡◌, ℕ, sym, view, BootRule, images_of, machines_of, starts_of, processes_of, system_of, first_broken, image_rules, process_rules, link_rules, unless, boot_of_table}
 use Rattle.dm_boot.proofs.Parts.{unless-ok, pass-err, whole-stops-images, whole-stops-starts, whole-stops-links, whole-ok}
 use Rattle.dm_boot.proofs.system.read_system.Goals as goal
 

@@ -1,7 +1,4 @@
-use Rattle.std.proofs.Common.{◌≡◌, drop}
-use Rattle.toml.specs.View.{items_view, view}
-use Rattle.dm_boot.specs.Tables.{all_items}
-use Rattle.dm_boot.specs.Rules.{is_limited}
+use Rattle.dm_boot.proofs.Names.{◌≡◌, drop, items_view, view, all_items, is_limited}
 use Rattle.dm_boot.proofs.targets.are_limited.Given as goal
 
 abbrev pub invariant-loop-link : goal.invariant-loop-link

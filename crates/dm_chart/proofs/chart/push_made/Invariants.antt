@@ -1,7 +1,4 @@
-use Rattle.std.proofs.Common.{◌≡◌, ◌++◌, drop, map}
-use Rattle.std.specs.List.{flat_map}
-use Rattle.dm_chart.specs.Picture.{made_in}
-use Rattle.dm_chart.specs.Roles.{role_of}
+use Rattle.dm_chart.proofs.Names.{◌≡◌, ◌++◌, drop, map, flat_map, made_in, role_of}
 use Rattle.dm_chart.proofs.chart.push_made.Given as goal
 
 abbrev pub invariant-loop-line : goal.invariant-loop-line

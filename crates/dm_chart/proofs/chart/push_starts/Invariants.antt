@@ -1,4 +1,4 @@
-use Rattle.std.proofs.Common.{◌≡◌, ◌++◌, drop}
+use Rattle.dm_chart.proofs.Names.{◌≡◌, ◌++◌, drop}
 use Rattle.dm_chart.proofs.chart.push_starts.Given as goal
 
 abbrev pub invariant-loop-start : goal.invariant-loop-start

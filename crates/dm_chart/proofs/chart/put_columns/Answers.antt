@@ -1,6 +1,4 @@
-use Rattle.std.proofs.Common.{◌++◌, sym, ap, ◌∙◌}
-use Rattle.dm_chart.specs.Drawn.{drawn}
-use Rattle.dm_chart.specs.Shapes.{Column}
+use Rattle.dm_chart.proofs.Names.{◌++◌, sym, ap, ◌∙◌, drawn, Column}
 use Rattle.dm_chart.proofs.Walks.{column-none, column-more}
 use Rattle.dm_chart.proofs.chart.put_columns.Goals as goal
 

@@ -1,6 +1,4 @@
-use Rattle.std.proofs.Common.{◌≡◌, ◌++◌}
-use Rattle.dm_chart.specs.Drawn.{all_drawn}
-use Rattle.dm_chart.specs.Shapes.{columns}
+use Rattle.dm_chart.proofs.Names.{◌≡◌, ◌++◌, all_drawn, columns}
 use Rattle.dm_chart.proofs.chart.put_columns.Given as goal
 
 abbrev pub invariant-loop-m : goal.invariant-loop-m

@@ -1,5 +1,4 @@
-use Rattle.std.proofs.Common.{sym, ◌∙◌}
-use Rattle.dm_chart.specs.Shapes.{first_bar}
+use Rattle.dm_chart.proofs.Names.{sym, ◌∙◌, first_bar}
 use Rattle.dm_chart.proofs.Walks.{start-more}
 use Rattle.dm_chart.proofs.chart.put_starts.Goals as goal
 

@@ -1,6 +1,4 @@
-use Rattle.std.proofs.Common.{◌≡◌, ◌++◌, drop, map}
-use Rattle.dm_chart.specs.Drawn.{all_drawn}
-use Rattle.dm_chart.specs.Shapes.{first_bar}
+use Rattle.dm_chart.proofs.Names.{◌≡◌, ◌++◌, drop, map, all_drawn, first_bar}
 use Rattle.dm_chart.proofs.chart.put_starts.Given as goal
 
 abbrev pub invariant-loop-start : goal.invariant-loop-start

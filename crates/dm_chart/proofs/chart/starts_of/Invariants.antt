@@ -1,4 +1,4 @@
-use Rattle.std.proofs.Common.{◌≡◌, ◌++◌, drop, map}
+use Rattle.dm_chart.proofs.Names.{◌≡◌, ◌++◌, drop, map}
 use Rattle.dm_chart.proofs.chart.starts_of.Given as goal
 
 abbrev pub invariant-loop-process : goal.invariant-loop-process

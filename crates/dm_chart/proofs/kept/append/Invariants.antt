@@ -1,4 +1,4 @@
-use Rattle.std.proofs.Common.{◌≡◌, ◌++◌}
+use Rattle.dm_chart.proofs.Names.{◌≡◌, ◌++◌}
 use Rattle.dm_chart.proofs.kept.append.Given as goal
 
 abbrev pub invariant-loop-line : goal.invariant-loop-line

@@ -1,6 +1,4 @@
-use Rattle.std.proofs.Common.{◌≡◌, ◌≤◌, take}
-use Rattle.std.specs.Prelude.{count_by}
-use Rattle.dm_chart.specs.Kept.{puts}
+use Rattle.dm_chart.proofs.Names.{◌≡◌, ◌≤◌, take, count_by, puts}
 use Rattle.dm_chart.proofs.kept.messages_in.Given as goal
 
 abbrev pub invariant-loop-line : goal.invariant-loop-line

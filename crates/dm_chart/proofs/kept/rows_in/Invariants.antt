@@ -1,5 +1,4 @@
-use Rattle.std.proofs.Common.{◌≡◌, ◌≤◌, drop}
-use Rattle.dm_chart.specs.Spots.{behind, first_spot}
+use Rattle.dm_chart.proofs.Names.{◌≡◌, ◌≤◌, drop, behind, first_spot}
 use Rattle.dm_chart.proofs.kept.rows_in.Given as goal
 
 abbrev pub invariant-loop-line : goal.invariant-loop-line

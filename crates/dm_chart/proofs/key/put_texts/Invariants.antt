@@ -1,5 +1,4 @@
-use Rattle.std.proofs.Common.{◌≡◌, ◌++◌, drop, map}
-use Rattle.std.specs.List.{concat}
+use Rattle.dm_chart.proofs.Names.{◌≡◌, ◌++◌, drop, map, concat}
 use Rattle.dm_chart.proofs.key.put_texts.Given as goal
 
 abbrev pub invariant-loop-text : goal.invariant-loop-text

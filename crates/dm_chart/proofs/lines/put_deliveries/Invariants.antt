@@ -1,6 +1,4 @@
-use Rattle.std.proofs.Common.{◌≡◌, ◌++◌, false, drop}
-use Rattle.dm_chart.specs.Drawn.{all_drawn}
-use Rattle.dm_chart.specs.Shapes.{deliveries}
+use Rattle.dm_chart.proofs.Names.{◌≡◌, ◌++◌, false, drop, all_drawn, deliveries}
 use Rattle.dm_chart.proofs.lines.put_deliveries.Given as goal
 
 abbrev pub invariant-loop-line : goal.invariant-loop-line

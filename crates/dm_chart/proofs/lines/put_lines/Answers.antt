@@ -1,5 +1,4 @@
-use Rattle.std.proofs.Common.{sym, ◌∙◌}
-use Rattle.std.proofs.lemmas.List.{take_rest}
+use Rattle.dm_chart.proofs.Names.{sym, ◌∙◌, take_rest}
 use Rattle.dm_chart.proofs.Walks.{walk-end, walk-more}
 use Rattle.dm_chart.proofs.lines.put_lines.Goals as goal
 

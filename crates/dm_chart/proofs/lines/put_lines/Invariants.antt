@@ -1,7 +1,4 @@
-use Rattle.std.proofs.Common.{◌≡◌, [], ◌++◌, take, drop}
-use Rattle.dm_chart.specs.Drawn.{all_drawn}
-use Rattle.dm_chart.specs.Shapes.{shapes_from}
-use Rattle.dm_chart.specs.Spots.{first_spot}
+use Rattle.dm_chart.proofs.Names.{◌≡◌, [], ◌++◌, take, drop, all_drawn, shapes_from, first_spot}
 use Rattle.dm_chart.proofs.lines.put_lines.Given as goal
 
 abbrev pub invariant-loop-i : goal.invariant-loop-i

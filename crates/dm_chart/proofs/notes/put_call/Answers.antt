@@ -1,6 +1,4 @@
-use Rattle.std.proofs.Common.{◌≡◌, ◌++◌, OnOk, sym, subst}
-use Rattle.dm_chart.specs.Drawn.{draw_note}
-use Rattle.dm_chart.specs.Notes.{Note}
+use Rattle.dm_chart.proofs.Names.{◌≡◌, ◌++◌, OnOk, sym, subst, draw_note, Note}
 use Rattle.dm_chart.proofs.Calls.{call_is_refused}
 use Rattle.dm_chart.proofs.notes.put_call.Goals as goal
 

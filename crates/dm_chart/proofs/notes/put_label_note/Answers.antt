@@ -1,9 +1,4 @@
-use Rattle.std.proofs.Common.{◌≡◌, [], ◌∷◌, ◌++◌, OnOk, codes, ℕ, sym, subst, ◌∙◌}
-use Rattle.std.specs.Fmt.{decimal}
-use Rattle.dm_onekernel.specs.declared.label.Label.{Label}
-use Rattle.dm_text.specs.Words.{pid_word}
-use Rattle.dm_chart.specs.Drawn.{draw_beside, draw_note}
-use Rattle.dm_chart.specs.Notes.{label_note}
+use Rattle.dm_chart.proofs.Names.{◌≡◌, [], ◌∷◌, ◌++◌, OnOk, codes, ℕ, sym, subst, ◌∙◌, decimal, Label, pid_word, draw_beside, draw_note, label_note}
 use Rattle.dm_chart.proofs.notes.put_label_note.Goals as goal
 
 pub returns-in-End : goal.returns-in-End

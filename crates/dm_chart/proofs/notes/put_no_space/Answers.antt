@@ -1,6 +1,4 @@
-use Rattle.std.proofs.Common.{◌≡◌, [], ◌∷◌, ◌++◌, OnOk, codes, ℕ, subst}
-use Rattle.std.specs.Fmt.{decimal}
-use Rattle.dm_chart.specs.Drawn.{draw_beside}
+use Rattle.dm_chart.proofs.Names.{◌≡◌, [], ◌∷◌, ◌++◌, OnOk, codes, ℕ, subst, decimal, draw_beside}
 use Rattle.dm_chart.proofs.notes.put_no_space.Goals as goal
 
 pub returns : goal.returns

@@ -1,7 +1,4 @@
-use Rattle.std.proofs.Common.{◌≡◌, ◌++◌, OnOk, sym, subst}
-use Rattle.dm_line.specs.declared.line.Line.{Line}
-use Rattle.dm_chart.specs.Drawn.{draw_note}
-use Rattle.dm_chart.specs.Notes.{note_of}
+use Rattle.dm_chart.proofs.Names.{◌≡◌, ◌++◌, OnOk, sym, subst, Line, draw_note, note_of}
 use Rattle.dm_chart.proofs.notes.put_note.Goals as goal
 
 pub returns-in-Old : goal.returns-in-Old

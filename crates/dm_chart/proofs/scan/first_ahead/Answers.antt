@@ -1,5 +1,4 @@
-use Rattle.std.proofs.Common.{ap, sym, ◌∙◌}
-use Rattle.dm_chart.specs.Ahead.{is_wanted}
+use Rattle.dm_chart.proofs.Names.{ap, sym, ◌∙◌, is_wanted}
 use Rattle.dm_chart.proofs.Walks.{ahead-here, ahead-more}
 use Rattle.dm_chart.proofs.scan.first_ahead.Goals as goal
 

@@ -1,5 +1,4 @@
-use Rattle.std.proofs.Common.{◌≡◌, ◌++◌, drop, map}
-use Rattle.dm_chart.specs.Ahead.{first_ahead, is_wanted}
+use Rattle.dm_chart.proofs.Names.{◌≡◌, ◌++◌, drop, map, first_ahead, is_wanted}
 use Rattle.dm_chart.proofs.scan.first_ahead.Given as goal
 
 abbrev pub invariant-loop-line : goal.invariant-loop-line

@@ -1,7 +1,4 @@
-use Rattle.std.proofs.Common.{◌≡◌, ◌++◌, drop, map}
-use Rattle.std.specs.List.{flat_map}
-use Rattle.dm_chart.specs.Behind.{kill_in}
-use Rattle.dm_chart.specs.Roles.{role_of}
+use Rattle.dm_chart.proofs.Names.{◌≡◌, ◌++◌, drop, map, flat_map, kill_in, role_of}
 use Rattle.dm_chart.proofs.scan.kills_of.Given as goal
 
 abbrev pub invariant-loop-line : goal.invariant-loop-line

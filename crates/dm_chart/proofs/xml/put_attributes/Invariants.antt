@@ -1,7 +1,4 @@
-use Rattle.std.proofs.Common.{◌≡◌, ◌++◌, drop, map}
-use Rattle.std.specs.List.{flat_map}
-use Rattle.dm_chart.specs.Written.{seen}
-use Rattle.dm_chart.specs.Xml.{attribute}
+use Rattle.dm_chart.proofs.Names.{◌≡◌, ◌++◌, drop, map, flat_map, seen, attribute}
 use Rattle.dm_chart.proofs.xml.put_attributes.Given as goal
 
 abbrev pub invariant-loop-one : goal.invariant-loop-one

@@ -1,6 +1,4 @@
-use Rattle.std.proofs.Common.{◌≡◌, ◌++◌, drop, map}
-use Rattle.std.specs.List.{concat}
-use Rattle.dm_text.specs.Written.{word_text}
+use Rattle.dm_chart.proofs.Names.{◌≡◌, ◌++◌, drop, map, concat, word_text}
 use Rattle.dm_chart.proofs.xml.put_words.Given as goal
 
 abbrev pub invariant-loop-word : goal.invariant-loop-word

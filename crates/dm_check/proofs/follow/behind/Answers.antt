@@ -1,8 +1,4 @@
-use Rattle.std.proofs.Common.{◌++◌, ap, length, sym, ◌∙◌}
-use Rattle.std.proofs.lemmas.Bool.{false≢true}
-use Rattle.std.proofs.lemmas.Bool.Decides.{Decides-eqb}
-use Rattle.std.proofs.lemmas.List.{take_rest}
-use Rattle.std.proofs.lemmas.Slice.Eq.{starts_is}
+use Rattle.dm_check.proofs.Names.{◌++◌, ap, length, sym, ◌∙◌, false≢true, Decides-eqb, take_rest, starts_is}
 use Rattle.dm_check.proofs.follow.behind.Goals as goal
 
 pub returns-then-starts_with-clause-some : goal.returns-then-starts_with-clause-some

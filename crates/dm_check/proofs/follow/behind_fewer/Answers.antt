@@ -1,8 +1,5 @@
-use Rattle.std.proofs.Common.{ap, sym, ◌∙◌}
-use Rattle.dm_text.specs.Reading.{pieces}
-use Rattle.dm_shape.proofs.NamesRead.{some_piece}
+use Rattle.dm_check.proofs.Names.{ap, sym, ◌∙◌, pieces, some_piece, falls_as_step, judged_from}
 use Rattle.dm_check.specs.Judge as judge
-use Rattle.dm_check.specs.Judge.{falls_as_step, judged_from}
 use Rattle.dm_check.proofs.Judging.{at_text_end, falls_from}
 use Rattle.dm_check.proofs.follow.behind_fewer.Goals as goal
 

@@ -1,8 +1,5 @@
-use Rattle.std.proofs.Common.{◌≡◌, ◌∷◌, ◌++◌, List, ℕ, ap, sym, ◌∙◌}
-use Rattle.dm_text.specs.Reading.{pieces}
-use Rattle.dm_text.specs.Text.{end_text}
+use Rattle.dm_check.proofs.Names.{◌≡◌, ◌∷◌, ◌++◌, List, ℕ, ap, sym, ◌∙◌, pieces, end_text, judged_from}
 use Rattle.dm_check.specs.Judge as judge
-use Rattle.dm_check.specs.Judge.{judged_from}
 use Rattle.dm_check.proofs.Judging.{falls_at_end, refused_as}
 use Rattle.dm_check.proofs.follow.follow_end.Goals as goal
 

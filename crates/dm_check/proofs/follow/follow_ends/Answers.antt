@@ -1,10 +1,5 @@
-use Rattle.std.proofs.Common.{◌≡◌, ◌≤◌, ◌+◌, ◌++◌, ◌∷◌, [], ℕ, List, length, drop, get_or, refl, sym, ◌∙◌, subst, arith}
-use Rattle.dm_line.specs.declared.end_line.EndLine.{EndLine}
-use Rattle.dm_text.specs.Reading.{pieces}
-use Rattle.dm_text.specs.Text.{end_text}
-use Rattle.dm_check.specs.Checking.{RefusedSo}
+use Rattle.dm_check.proofs.Names.{◌≡◌, ◌≤◌, ◌+◌, ◌++◌, ◌∷◌, [], ℕ, List, length, drop, get_or, refl, sym, ◌∙◌, subst, arith, EndLine, pieces, end_text, RefusedSo, judged_from}
 use Rattle.dm_check.specs.Judge as judge
-use Rattle.dm_check.specs.Judge.{judged_from}
 use Rattle.dm_check.proofs.Following.{end_off, end_on, ends_done, read_end, read_no_end, shorter_end}
 use Rattle.dm_check.proofs.Judging.{if_err, none_left}
 use Rattle.dm_check.proofs.follow.follow_ends.Goals as goal

@@ -1,9 +1,5 @@
-use Rattle.std.proofs.Common.{◌≡◌, ◌≤◌, ℕ, ◌+◌, ◌++◌, length, take, drop}
-use Rattle.dm_onekernel.specs.declared.boot.Boot.{Boot}
-use Rattle.dm_text.specs.Reading.{pieces}
-use Rattle.dm_text.specs.Text.{text_of_ends}
+use Rattle.dm_check.proofs.Names.{◌≡◌, ◌≤◌, ℕ, ◌+◌, ◌++◌, length, take, drop, Boot, pieces, text_of_ends, judged_from}
 use Rattle.dm_check.specs.Judge as judge
-use Rattle.dm_check.specs.Judge.{judged_from}
 use Rattle.dm_check.proofs.follow.follow_ends.Given as goal
 
 abbrev pub invariant-ends : goal.invariant-ends

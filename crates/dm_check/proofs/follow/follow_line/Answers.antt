@@ -1,5 +1,4 @@
-use Rattle.std.proofs.Common.{◌≡◌, ◌++◌, List, ℕ, ap, ◌∙◌}
-use Rattle.dm_text.specs.Text.{text}
+use Rattle.dm_check.proofs.Names.{◌≡◌, ◌++◌, List, ℕ, ap, ◌∙◌, text}
 use Rattle.dm_check.proofs.Judging.{line_stands}
 use Rattle.dm_check.proofs.follow.follow_line.Goals as goal
 

@@ -1,7 +1,4 @@
-use Rattle.std.proofs.Common.{◌≡◌, ◌<◌, ◌+◌, ℕ, length, drop, refl, arith}
-use Rattle.dm_text.specs.Reading.{pieces}
-use Rattle.dm_check.specs.Checking.{RefusedSo}
-use Rattle.dm_check.specs.Judge.{behind_line, judged_from}
+use Rattle.dm_check.proofs.Names.{◌≡◌, ◌<◌, ◌+◌, ℕ, length, drop, refl, arith, pieces, RefusedSo, behind_line, judged_from}
 use Rattle.dm_check.proofs.Following.{line_off, line_on, read_more, read_none, shorter}
 use Rattle.dm_check.proofs.Judging.{if_err}
 use Rattle.dm_check.proofs.follow.follow_lines.Goals as goal

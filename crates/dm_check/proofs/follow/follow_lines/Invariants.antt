@@ -1,9 +1,4 @@
-use Rattle.std.proofs.Common.{◌≡◌, ◌≤◌, ℕ, ◌+◌, ◌++◌, length, take, drop}
-use Rattle.dm_onekernel.specs.declared.boot.Boot.{Boot}
-use Rattle.dm_rule.specs.Point.{Point}
-use Rattle.dm_text.specs.Reading.{pieces}
-use Rattle.dm_text.specs.Text.{text_of_lines}
-use Rattle.dm_check.specs.Judge.{behind_line, judged_from}
+use Rattle.dm_check.proofs.Names.{◌≡◌, ◌≤◌, ℕ, ◌+◌, ◌++◌, length, take, drop, Boot, Point, pieces, text_of_lines, behind_line, judged_from}
 use Rattle.dm_check.proofs.follow.follow_lines.Given as goal
 
 abbrev pub invariant-lines : goal.invariant-lines

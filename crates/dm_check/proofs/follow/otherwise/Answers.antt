@@ -1,10 +1,5 @@
-use Rattle.std.proofs.Common.{◌≡◌, ◌+◌, ap, sym, ◌∙◌}
-use Rattle.dm_text.specs.Reading.{pieces}
-use Rattle.dm_shape.proofs.NamesRead.{some_piece}
-use Rattle.dm_check.specs.declared.fault.TraceFault.TheVariants.{NotDue}
-use Rattle.dm_check.specs.Checking.{taken_of}
+use Rattle.dm_check.proofs.Names.{◌≡◌, ◌+◌, ap, sym, ◌∙◌, pieces, some_piece, NotDue, taken_of, Falls, Stands, judged_from, taken, told}
 use Rattle.dm_check.specs.Judge as judge
-use Rattle.dm_check.specs.Judge.{Falls, Stands, judged_from, taken, told}
 use Rattle.dm_check.proofs.Judging.{at_text_end, falls_from, goes_from, refused_as, told_other}
 use Rattle.dm_check.proofs.follow.otherwise.Goals as goal
 

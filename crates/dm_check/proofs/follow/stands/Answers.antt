@@ -1,8 +1,4 @@
-use Rattle.std.proofs.Common.{◌≡◌, ◌==◌, ℕ, List, [], ◌∷◌, length, false, ap, sym, ◌∙◌}
-use Rattle.dm_text.specs.Reading.{pieces}
-use Rattle.dm_shape.proofs.Fitting.{behind_none, split_some}
-use Rattle.dm_shape.proofs.NamesRead.{one_piece, some_piece}
-use Rattle.dm_check.specs.Judge.{judged_from}
+use Rattle.dm_check.proofs.Names.{◌≡◌, ◌==◌, ℕ, List, [], ◌∷◌, length, false, ap, sym, ◌∙◌, pieces, behind_none, split_some, one_piece, some_piece, judged_from}
 use Rattle.dm_check.proofs.Judging.{no_feed, no_shape_from}
 use Rattle.dm_check.proofs.follow.stands.Goals as goal
 

@@ -1,9 +1,4 @@
-use Rattle.std.proofs.Common.{rules, ◌≡◌, codes, ap, sym, ◌∙◌}
-use Rattle.std.specs.Str.{bytes_eq}
-use Rattle.dm_text.specs.Reading.{pieces}
-use Rattle.dm_shape.proofs.Fitting.{split_some}
-use Rattle.dm_shape.proofs.NamesRead.{some_piece}
-use Rattle.dm_check.specs.Checking.{first_line, is_final}
+use Rattle.dm_check.proofs.Names.{rules, ◌≡◌, codes, ap, sym, ◌∙◌, bytes_eq, pieces, split_some, some_piece, first_line, is_final}
 use Rattle.dm_check.proofs.Judging.{first_of}
 use Rattle.dm_check.proofs.trace.begins_end.Goals as goal
 

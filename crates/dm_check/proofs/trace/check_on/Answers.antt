@@ -1,12 +1,5 @@
-use Rattle.std.proofs.Common.{◌≡◌, ◌<◌, ◌≤◌, ◌+◌, ◌∙◌, ℕ, List, length, ap, sym, subst, arith, true}
+use Rattle.dm_check.proofs.Names.{◌≡◌, ◌<◌, ◌≤◌, ◌+◌, ◌∙◌, ℕ, List, length, ap, sym, subst, arith, true, Boot, Line, pieces, state_of, HasChecked, NoGroup, RefusedSo, first_line, head_of_line, can_hold, verdict}
 use Rattle.std.specs.declared.option.Option.TheVariants.{Some}
-use Rattle.dm_onekernel.specs.declared.boot.Boot.{Boot}
-use Rattle.dm_line.specs.declared.line.Line.{Line}
-use Rattle.dm_text.specs.Reading.{pieces}
-use Rattle.dm_world.specs.Meets.{state_of}
-use Rattle.dm_check.specs.Checked.{HasChecked, NoGroup}
-use Rattle.dm_check.specs.Checking.{RefusedSo, first_line, head_of_line}
-use Rattle.dm_check.specs.Judge.{can_hold, verdict}
 use Rattle.dm_check.proofs.Checks.{checks_less, checks_more, checks_refused, checks_stop, some_lines}
 use Rattle.dm_check.proofs.Following.{shorter_lines}
 use Rattle.dm_check.proofs.Judging.{if_err}

@@ -1,7 +1,4 @@
-use Rattle.std.proofs.Common.{◌≡◌, ◌≤◌, ◌+◌, length}
-use Rattle.dm_world.specs.Meets.{state_of}
-use Rattle.dm_run.specs.Running.{IsRunning}
-use Rattle.dm_check.specs.Checked.{HasChecked}
+use Rattle.dm_check.proofs.Names.{◌≡◌, ◌≤◌, ◌+◌, length, state_of, IsRunning, HasChecked}
 use Rattle.dm_check.proofs.trace.check_on.Given as goal
 
 abbrev pub invariant-groups : goal.invariant-groups

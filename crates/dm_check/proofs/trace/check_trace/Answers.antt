@@ -1,8 +1,4 @@
-use Rattle.std.proofs.Common.{[], sym, subst}
-use Rattle.dm_rule.specs.Point.{first_point}
-use Rattle.dm_world.specs.Meets.{state_of}
-use Rattle.dm_mirror.specs.Ran.{Ran}
-use Rattle.dm_run.proofs.Laws.{ran_begins}
+use Rattle.dm_check.proofs.Names.{[], sym, subst, first_point, state_of, Ran, ran_begins}
 use Rattle.dm_check.proofs.Checks.{checks_begin}
 use Rattle.dm_check.proofs.trace.check_trace.Goals as goal
 

@@ -1,8 +1,4 @@
-use Rattle.std.proofs.Common.{ap, sym, ◌∙◌}
-use Rattle.dm_text.specs.Reading.{pieces}
-use Rattle.dm_shape.proofs.Fitting.{split_some}
-use Rattle.dm_shape.proofs.NamesRead.{some_piece}
-use Rattle.dm_check.specs.Checking.{first_line, head_of_line}
+use Rattle.dm_check.proofs.Names.{ap, sym, ◌∙◌, pieces, split_some, some_piece, first_line, head_of_line}
 use Rattle.dm_check.proofs.Judging.{first_of}
 use Rattle.dm_check.proofs.trace.first_head.Goals as goal
 

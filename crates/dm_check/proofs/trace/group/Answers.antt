@@ -1,6 +1,4 @@
-use Rattle.std.proofs.Common.{rules, ◌≡◌, ◌∙◌, ap, length, sym, true, ℕ}
-use Rattle.dm_world.specs.Meets.{state_of}
-use Rattle.dm_check.specs.Judge.{can_hold}
+use Rattle.dm_check.proofs.Names.{rules, ◌≡◌, ◌∙◌, ap, length, sym, true, ℕ, state_of, can_hold}
 use Rattle.dm_check.proofs.Checks.{none_stopped}
 use Rattle.dm_check.proofs.trace.group.Goals as goal
 

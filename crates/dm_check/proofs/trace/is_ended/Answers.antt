@@ -1,13 +1,5 @@
-use Rattle.std.proofs.Common.{rules, ◌≡◌, ◌∙◌, List, [], ap, sym, subst, true}
-use Rattle.std.specs.List.{All}
-use Rattle.dm_line.specs.declared.end_line.EndLine.{EndLine}
-use Rattle.dm_rule.specs.Ends.{end_lines}
-use Rattle.dm_text.specs.Fits.{EndFits}
-use Rattle.dm_text.specs.Reading.{pieces}
-use Rattle.dm_shape.specs.Full.{IsFull}
-use Rattle.dm_check.specs.Checking.{RefusedSo, first_line, is_final}
+use Rattle.dm_check.proofs.Names.{rules, ◌≡◌, ◌∙◌, List, [], ap, sym, subst, true, All, EndLine, end_lines, EndFits, pieces, IsFull, RefusedSo, first_line, is_final, Verdict, judged_from}
 use Rattle.dm_check.specs.Judge as judge
-use Rattle.dm_check.specs.Judge.{Verdict, judged_from}
 use Rattle.dm_check.proofs.Ending.{ended_by, full_there}
 use Rattle.dm_check.proofs.Judging.{at_text_end, none_left}
 use Rattle.dm_check.proofs.trace.is_ended.Goals as goal

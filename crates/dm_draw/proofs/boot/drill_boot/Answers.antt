@@ -1,7 +1,4 @@
-use Rattle.std.proofs.Common.{rules, ap, length, subst, sym, ◌∙◌}
-use Rattle.dm_onekernel.specs.declared.boot.Boot.{Boot}
-use Rattle.dm_onekernel.specs.Boot.{IsValid}
-use Rattle.dm_draw.specs.Boot.{boot_of}
+use Rattle.dm_draw.proofs.Names.{rules, ap, length, subst, sym, ◌∙◌, Boot, IsValid, boot_of}
 use Rattle.dm_draw.proofs.Valid.{boot_valid}
 use Rattle.dm_draw.proofs.Within.{boot_machines}
 use Rattle.dm_draw.proofs.boot.drill_boot.Goals as goal

@@ -1,5 +1,4 @@
-use Rattle.std.proofs.Common.{◌≡◌}
-use Rattle.dm_draw.specs.Boot.{machines_of}
+use Rattle.dm_draw.proofs.Names.{◌≡◌, machines_of}
 use Rattle.dm_draw.proofs.boot.machines_of.Given as goal
 
 abbrev pub invariant-loop : goal.invariant-loop

@@ -1,5 +1,4 @@
-use Rattle.std.proofs.Common.{◌≡◌}
-use Rattle.dm_draw.specs.Boot.{processes_of}
+use Rattle.dm_draw.proofs.Names.{◌≡◌, processes_of}
 use Rattle.dm_draw.proofs.boot.processes_of.Given as goal
 
 abbrev pub invariant-loop-i : goal.invariant-loop-i

@@ -1,7 +1,4 @@
-use Rattle.std.proofs.Common.{rules, ◌≡◌, ◌++◌, ◌∷◌, [], List, length, sym, ap, subst, ◌∙◌}
-use Rattle.std.specs.List.{All}
-use Rattle.dm_schedule.specs.declared.Directive.{Directive}
-use Rattle.dm_draw.specs.Directives.{IsDrawn, directive_drawn, directives_drawn, state_behind}
+use Rattle.dm_draw.proofs.Names.{rules, ◌≡◌, ◌++◌, ◌∷◌, [], List, length, sym, ap, subst, ◌∙◌, All, Directive, IsDrawn, directive_drawn, directives_drawn, state_behind}
 use Rattle.dm_draw.proofs.Drawing.{drawn_none, state_none, drawn_more, state_more}
 use Rattle.dm_draw.proofs.Within.{directives_count, directives_fit}
 use Rattle.dm_draw.proofs.directives.drill_directives.Goals as goal

@@ -1,5 +1,4 @@
-use Rattle.std.proofs.Common.{◌≡◌}
-use Rattle.dm_draw.specs.Directives.{directives_drawn, state_behind}
+use Rattle.dm_draw.proofs.Names.{◌≡◌, directives_drawn, state_behind}
 use Rattle.dm_draw.proofs.directives.drill_directives.Given as goal
 
 abbrev pub invariant-loop : goal.invariant-loop

@@ -1,9 +1,4 @@
-use Rattle.std.proofs.Common.{[], ap, length, refl, ◌∙◌, arith}
-use Rattle.dm_line.specs.Todo.{all_of}
-use Rattle.dm_chart.specs.declared.kept.Kept.{Kept}
-use Rattle.dm_world.specs.Meets.{state_of}
-use Rattle.dm_world.specs.World.{WorldState}
-use Rattle.dm_run.proofs.Stepping.{are_directives}
+use Rattle.dm_drawing.proofs.Names.{[], ap, length, refl, ◌∙◌, arith, all_of, Kept, state_of, WorldState, are_directives}
 use Rattle.dm_drawing.proofs.Keeping.{all_done, came_err, carries_on, halts_on, keeps_first}
 use Rattle.dm_drawing.proofs.collect.collect.Goals as goal
 

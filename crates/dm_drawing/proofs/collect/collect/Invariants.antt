@@ -1,7 +1,4 @@
-use Rattle.std.proofs.Common.{◌≡◌, ◌≤◌, ◌*◌, ◌^◌, false, drop}
-use Rattle.dm_line.specs.Todo.{all_of}
-use Rattle.dm_world.specs.Meets.{IsWorld, state_of}
-use Rattle.dm_drawing.specs.Collected.{HasKept}
+use Rattle.dm_drawing.proofs.Names.{◌≡◌, ◌≤◌, ◌*◌, ◌^◌, false, drop, all_of, IsWorld, state_of, HasKept}
 use Rattle.dm_drawing.proofs.collect.collect.Given as goal
 
 abbrev pub invariant-directives : goal.invariant-directives

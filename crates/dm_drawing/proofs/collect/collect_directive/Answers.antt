@@ -1,10 +1,4 @@
-use Rattle.std.proofs.Common.{◌∷◌, ◌+◌, ◌^◌, length, refl, sym, ◌∙◌, arith}
-use Rattle.dm_line.specs.Todo.{all_of}
-use Rattle.dm_world.specs.Cursor.{todo_of}
-use Rattle.dm_world.specs.Meets.{state_of}
-use Rattle.dm_world.specs.Next.{has_mail, is_quiet, undelivered}
-use Rattle.dm_run.proofs.Settling.{goes_on_way, on_way_begins}
-use Rattle.dm_run.proofs.Stepping.{one_group_more}
+use Rattle.dm_drawing.proofs.Names.{◌∷◌, ◌+◌, ◌^◌, length, refl, sym, ◌∙◌, arith, all_of, todo_of, state_of, has_mail, is_quiet, undelivered, goes_on_way, on_way_begins, one_group_more}
 use Rattle.dm_drawing.proofs.Keeping.{brings_on, came_err, keeps_as, may_on, none_on, stops_on}
 use Rattle.dm_drawing.proofs.collect.collect_directive.Goals as goal
 

@@ -1,10 +1,4 @@
-use Rattle.std.proofs.Common.{◌≡◌, ◌≤◌, ◌-◌, ◌+◌, ◌^◌, false, List, ◌∷◌, length}
-use Rattle.dm_schedule.specs.declared.Directive.{Directive}
-use Rattle.dm_line.specs.Todo.{all_of}
-use Rattle.dm_world.specs.Cursor.{todo_of}
-use Rattle.dm_world.specs.Meets.{IsWorld, state_of}
-use Rattle.dm_run.proofs.Settling.{IsOnWay}
-use Rattle.dm_drawing.specs.Collected.{HasKept}
+use Rattle.dm_drawing.proofs.Names.{◌≡◌, ◌≤◌, ◌-◌, ◌+◌, ◌^◌, false, List, ◌∷◌, length, Directive, all_of, todo_of, IsWorld, state_of, IsOnWay, HasKept}
 use Rattle.dm_drawing.proofs.collect.collect_directive.Given as goal
 
 abbrev pub invariant-steps : goal.invariant-steps

@@ -1,11 +1,4 @@
-use Rattle.std.proofs.Common.{◌≡◌, sym, ap, ◌∙◌, subst}
-use Rattle.std.specs.declared.option.Option.TheVariants.{Some}
-use Rattle.dm_schedule.specs.declared.Step.{Step}
-use Rattle.dm_world.specs.Meets.{state_of}
-use Rattle.dm_world.specs.Whole.{AreWhole}
-use Rattle.dm_world.specs.Readable.{AreReadBack, gave}
-use Rattle.dm_world.specs.World.{Says, world_step}
-use Rattle.dm_run.proofs.Counted.{happens}
+use Rattle.dm_drawing.proofs.Names.{◌≡◌, sym, ap, ◌∙◌, subst, Some, Step, state_of, AreWhole, AreReadBack, gave, Says, world_step, happens}
 use Rattle.dm_drawing.proofs.Keeping.{keeps_on, stops_there}
 use Rattle.dm_drawing.proofs.collect.collect_group.Goals as goal
 

@@ -1,8 +1,4 @@
-use Rattle.std.proofs.Common.{subst}
-use Rattle.std.specs.Prelude.{IfOk}
-use Rattle.dm_onekernel.specs.declared.boot.Boot.{Boot}
-use Rattle.dm_drawing.specs.declared.drawing.Drawn.{Drawn}
-use Rattle.dm_drawing.specs.Pictured.{IsDrawn}
+use Rattle.dm_drawing.proofs.Names.{subst, IfOk, Boot, Drawn, IsDrawn}
 use Rattle.dm_drawing.proofs.drawing.draw_run.Goals as goal
 
 pub returns : goal.returns

@@ -1,13 +1,5 @@
-use Rattle.std.proofs.Common.{◌∷◌, ◌+◌, ◌^◌, length, refl, sym, ◌∙◌, arith}
-use Rattle.dm_line.specs.Todo.{all_of}
-use Rattle.dm_world.specs.Cursor.{todo_of}
-use Rattle.dm_world.specs.Meets.{state_of}
-use Rattle.dm_world.specs.Next.{has_mail, is_quiet, undelivered}
-use Rattle.dm_run.proofs.Settling.{goes_on_way}
-use Rattle.dm_run.proofs.Stepping.{blames_err, one_group_more}
+use Rattle.dm_drill.proofs.Names.{◌∷◌, ◌+◌, ◌^◌, length, refl, sym, ◌∙◌, arith, all_of, todo_of, state_of, has_mail, is_quiet, undelivered, goes_on_way, blames_err, one_group_more, shown, at}
 use Rattle.dm_drill.proofs.Going.{brings_on, came_err, comes_as, may_on, none_on, on_way_first, stops_on}
-use Rattle.dm_drill.specs.Counts.{shown}
-use Rattle.dm_drill.specs.Drilled.{at}
 use Rattle.dm_drill.proofs.drill.drill_directive.Goals as goal
 
 pub steps-init : goal.steps-init

@@ -1,11 +1,4 @@
-use Rattle.std.proofs.Common.{◌≡◌, ◌-◌, ◌+◌, ◌^◌, false, List, ◌∷◌, length}
-use Rattle.dm_schedule.specs.declared.Directive.{Directive}
-use Rattle.dm_line.specs.Todo.{all_of}
-use Rattle.dm_world.specs.Cursor.{todo_of}
-use Rattle.dm_world.specs.Meets.{IsWorld, state_of}
-use Rattle.dm_run.proofs.Settling.{IsOnWay}
-use Rattle.dm_drill.specs.Counts.{shown}
-use Rattle.dm_drill.specs.Drilled.{HasDrilled, Told, at}
+use Rattle.dm_drill.proofs.Names.{◌≡◌, ◌-◌, ◌+◌, ◌^◌, false, List, ◌∷◌, length, Directive, all_of, todo_of, IsWorld, state_of, IsOnWay, shown, HasDrilled, Told, at}
 use Rattle.dm_drill.proofs.drill.drill_directive.Given as goal
 
 abbrev pub invariant-steps : goal.invariant-steps

@@ -1,11 +1,4 @@
-use Rattle.std.proofs.Common.{[], ap, length, refl, sym, ◌∙◌, arith, subst}
-use Rattle.dm_onekernel.specs.declared.boot.Boot.{Boot}
-use Rattle.dm_line.specs.Todo.{all_of}
-use Rattle.dm_world.specs.Meets.{state_of}
-use Rattle.dm_world.specs.World.{WorldState}
-use Rattle.dm_run.proofs.Stepping.{are_directives, blames_err}
-use Rattle.dm_drill.specs.Counts.{shown}
-use Rattle.dm_drill.specs.Drilled.{Ended, HasDrilled, at}
+use Rattle.dm_drill.proofs.Names.{[], ap, length, refl, sym, ◌∙◌, arith, subst, Boot, all_of, state_of, WorldState, are_directives, blames_err, shown, Ended, HasDrilled, at}
 use Rattle.dm_drill.proofs.Going.{all_done, carries_on, comes_first, ended_err, ended_lasts, halts_on}
 use Rattle.dm_drill.proofs.drill.run_drill.Goals as goal
 

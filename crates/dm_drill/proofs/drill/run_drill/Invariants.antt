@@ -1,8 +1,4 @@
-use Rattle.std.proofs.Common.{◌≡◌, ◌≤◌, ◌*◌, ◌^◌, false, drop}
-use Rattle.dm_line.specs.Todo.{all_of}
-use Rattle.dm_world.specs.Meets.{IsWorld, state_of}
-use Rattle.dm_drill.specs.Counts.{nothing, shown}
-use Rattle.dm_drill.specs.Drilled.{HasDrilled, at}
+use Rattle.dm_drill.proofs.Names.{◌≡◌, ◌≤◌, ◌*◌, ◌^◌, false, drop, all_of, IsWorld, state_of, nothing, shown, HasDrilled, at}
 use Rattle.dm_drill.proofs.drill.run_drill.Given as goal
 
 abbrev pub invariant-directives : goal.invariant-directives

@@ -1,10 +1,4 @@
-use Rattle.std.proofs.Common.{◌≡◌, ◌↔◌, true, Bool, [], refl, sym, ◌∙◌, subst}
-use Rattle.dm_line.specs.Todo.{all_of}
-use Rattle.dm_rule.specs.Quiet.{IsQuiet}
-use Rattle.dm_world.specs.Meets.{state_of}
-use Rattle.dm_mirror.proofs.QuietSaid.{quiet_is_said}
-use Rattle.dm_drill.specs.Counts.{shown}
-use Rattle.dm_drill.specs.Drilled.{at}
+use Rattle.dm_drill.proofs.Names.{◌≡◌, ◌↔◌, true, Bool, [], refl, sym, ◌∙◌, subst, all_of, IsQuiet, state_of, quiet_is_said, shown, at}
 use Rattle.dm_drill.proofs.Going.{ended_by, lacks_there}
 use Rattle.dm_drill.proofs.drill.sum_up.Goals as goal
 

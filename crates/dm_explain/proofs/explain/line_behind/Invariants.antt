@@ -1,5 +1,4 @@
-use Rattle.std.proofs.Common.{◌≡◌, ◌≤◌, ◌+◌, ◌==◌, take}
-use Rattle.std.specs.Prelude.{count_by}
+use Rattle.dm_explain.proofs.Names.{◌≡◌, ◌≤◌, ◌+◌, ◌==◌, take, count_by}
 use Rattle.dm_explain.proofs.explain.line_behind.Given as goal
 
 abbrev pub invariant-loop-byte : goal.invariant-loop-byte

@@ -1,8 +1,4 @@
-use Rattle.std.proofs.Common.{◌≡◌, ◌++◌, List, ℕ, ap, append_assoc, map, sym, subst, ◌∙◌}
-use Rattle.std.specs.Prelude.{OnOk}
-use Rattle.toml.specs.View.{view}
-use Rattle.dm_boot.specs.Tables.{has_only}
-use Rattle.dm_explain.specs.Wanted.{wish_of}
+use Rattle.dm_explain.proofs.Names.{◌≡◌, ◌++◌, List, ℕ, ap, append_assoc, map, sym, subst, ◌∙◌, OnOk, view, has_only, wish_of}
 use Rattle.dm_explain.proofs.Loops.{other-keys}
 use Rattle.dm_explain.proofs.faults.put_key_fault.Goals as goal
 

@@ -1,6 +1,4 @@
-use Rattle.std.proofs.Common.{◌≡◌, ◌++◌, drop, map}
-use Rattle.dm_explain.specs.Faults.{keys_text}
-use Rattle.dm_explain.specs.Wanted.{wish_of}
+use Rattle.dm_explain.proofs.Names.{◌≡◌, ◌++◌, drop, map, keys_text, wish_of}
 use Rattle.dm_explain.proofs.faults.put_keys.Given as goal
 
 abbrev pub invariant-loop-key : goal.invariant-loop-key

@@ -1,4 +1,4 @@
-use Rattle.dm_explain.specs.Faults.{limit_told}
+use Rattle.dm_explain.proofs.Names.{limit_told}
 use Rattle.dm_explain.proofs.faults.put_limit.Goals as goal
 
 pub returns : goal.returns

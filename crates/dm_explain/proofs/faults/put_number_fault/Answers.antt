@@ -1,10 +1,4 @@
-use Rattle.std.proofs.Common.{◌≡◌, ◌++◌, List, ℕ, false, true, map, rules, sym, subst, ◌∙◌}
-use Rattle.std.specs.List.{concat}
-use Rattle.std.specs.Prelude.{OnOk}
-use Rattle.toml.specs.View.{view}
-use Rattle.dm_explain.specs.Faults.{is_within, limit_told, number_fault}
-use Rattle.dm_explain.specs.Parts.{part_text}
-use Rattle.dm_explain.specs.Wanted.{Limit, limit_of}
+use Rattle.dm_explain.proofs.Names.{◌≡◌, ◌++◌, List, ℕ, false, true, map, rules, sym, subst, ◌∙◌, concat, OnOk, view, is_within, limit_told, number_fault, part_text, Limit, limit_of}
 use Rattle.dm_explain.proofs.Loops.{bad-here-copied, bad-more-copied}
 use Rattle.dm_explain.proofs.faults.put_number_fault.Goals as goal
 

@@ -1,9 +1,4 @@
-use Rattle.std.proofs.Common.{◌≡◌, drop, map}
-use Rattle.std.specs.List.{concat}
-use Rattle.toml.specs.View.{view}
-use Rattle.dm_explain.specs.Faults.{number_fault}
-use Rattle.dm_explain.specs.Parts.{part_text}
-use Rattle.dm_explain.specs.Wanted.{limit_of}
+use Rattle.dm_explain.proofs.Names.{◌≡◌, drop, map, concat, view, number_fault, part_text, limit_of}
 use Rattle.dm_explain.proofs.faults.put_number_fault.Given as goal
 
 abbrev pub invariant-loop-range : goal.invariant-loop-range

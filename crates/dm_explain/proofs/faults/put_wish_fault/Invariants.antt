@@ -1,7 +1,4 @@
-use Rattle.std.proofs.Common.{◌≡◌, drop, map}
-use Rattle.toml.specs.View.{view}
-use Rattle.dm_explain.specs.Faults.{wish_fault}
-use Rattle.dm_explain.specs.Wanted.{wish_of}
+use Rattle.dm_explain.proofs.Names.{◌≡◌, drop, map, view, wish_fault, wish_of}
 use Rattle.dm_explain.proofs.faults.put_wish_fault.Given as goal
 
 abbrev pub invariant-loop-key : goal.invariant-loop-key

@@ -1,7 +1,5 @@
 -- A text is cut at its first line feed.
-use Rattle.std.proofs.Common.{◌+◌, sym, length}
-use Rattle.std.proofs.Math.Seq.{drop-length}
-use Rattle.dm_schedule.proofs.Cuts.{lines-first, lines-whole, take_rest}
+use Rattle.dm_explain.proofs.Names.{◌+◌, sym, length, drop-length, lines-first, lines-whole, take_rest}
 use Rattle.dm_explain.proofs.line.first_line.Goals as goal
 
 pub returns-in-Some-clause-lines : goal.returns-in-Some-clause-lines

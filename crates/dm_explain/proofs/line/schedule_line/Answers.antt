@@ -1,4 +1,4 @@
-use Rattle.std.proofs.Common.{◌≡◌, ℕ, length, rules, sym, ◌∙◌}
+use Rattle.dm_explain.proofs.Names.{◌≡◌, ℕ, length, rules, sym, ◌∙◌}
 use Rattle.dm_explain.proofs.Loops.{no-schedule-line}
 use Rattle.dm_explain.proofs.line.schedule_line.Goals as goal
 

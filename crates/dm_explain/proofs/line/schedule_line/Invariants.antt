@@ -1,6 +1,4 @@
-use Rattle.std.proofs.Common.{◌≡◌, length, slice_get}
-use Rattle.dm_schedule.specs.Lines.{lines}
-use Rattle.dm_explain.specs.LineAt.{line_at, line_or_nothing}
+use Rattle.dm_explain.proofs.Names.{◌≡◌, length, slice_get, lines, line_at, line_or_nothing}
 use Rattle.dm_explain.proofs.line.schedule_line.Given as goal
 
 abbrev pub invariant-lines : goal.invariant-lines

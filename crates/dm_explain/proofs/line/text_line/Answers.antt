@@ -1,4 +1,4 @@
-use Rattle.std.proofs.Common.{◌≡◌, ℕ, length, rules, sym, ◌∙◌}
+use Rattle.dm_explain.proofs.Names.{◌≡◌, ℕ, length, rules, sym, ◌∙◌}
 use Rattle.dm_explain.proofs.Loops.{no-text-line}
 use Rattle.dm_explain.proofs.line.text_line.Goals as goal
 

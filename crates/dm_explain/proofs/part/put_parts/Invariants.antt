@@ -1,6 +1,4 @@
-use Rattle.std.proofs.Common.{◌≡◌, ◌++◌, drop, map}
-use Rattle.std.specs.List.{concat}
-use Rattle.dm_explain.specs.Parts.{part_text}
+use Rattle.dm_explain.proofs.Names.{◌≡◌, ◌++◌, drop, map, concat, part_text}
 use Rattle.dm_explain.proofs.part.put_parts.Given as goal
 
 abbrev pub invariant-loop-part : goal.invariant-loop-part

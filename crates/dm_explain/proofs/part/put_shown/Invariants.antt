@@ -1,5 +1,4 @@
-use Rattle.std.proofs.Common.{◌≡◌, ◌++◌, drop, map}
-use Rattle.dm_explain.specs.Parts.{shown_byte}
+use Rattle.dm_explain.proofs.Names.{◌≡◌, ◌++◌, drop, map, shown_byte}
 use Rattle.dm_explain.proofs.part.put_shown.Given as goal
 
 abbrev pub invariant-loop-byte : goal.invariant-loop-byte

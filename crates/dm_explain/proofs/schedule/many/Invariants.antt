@@ -1,6 +1,4 @@
-use Rattle.std.proofs.Common.{◌≡◌, ◌≤◌, take}
-use Rattle.std.specs.Prelude.{count_by}
-use Rattle.dm_explain.specs.Schedules.{is_of}
+use Rattle.dm_explain.proofs.Names.{◌≡◌, ◌≤◌, take, count_by, is_of}
 use Rattle.dm_explain.proofs.schedule.many.Given as goal
 
 abbrev pub invariant-loop-directive : goal.invariant-loop-directive

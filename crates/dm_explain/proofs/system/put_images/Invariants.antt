@@ -1,6 +1,4 @@
-use Rattle.std.proofs.Common.{◌≡◌, ◌++◌, drop}
-use Rattle.toml.specs.View.{items_view}
-use Rattle.dm_explain.specs.System.{each, image_told}
+use Rattle.dm_explain.proofs.Names.{◌≡◌, ◌++◌, drop, items_view, each, image_told}
 use Rattle.dm_explain.proofs.system.put_images.Given as goal
 
 abbrev pub invariant-loop-i : goal.invariant-loop-i

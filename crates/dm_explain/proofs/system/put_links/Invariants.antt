@@ -1,5 +1,4 @@
-use Rattle.std.proofs.Common.{◌≡◌, ◌++◌, drop}
-use Rattle.dm_explain.specs.System.{each, link_told}
+use Rattle.dm_explain.proofs.Names.{◌≡◌, ◌++◌, drop, each, link_told}
 use Rattle.dm_explain.proofs.system.put_links.Given as goal
 
 abbrev pub invariant-loop-k : goal.invariant-loop-k

@@ -1,5 +1,4 @@
-use Rattle.std.proofs.Common.{◌+◌, ◌++◌, List, ℕ, ap, drop, sym, ◌∙◌}
-use Rattle.dm_explain.specs.System.{each, machine_told}
+use Rattle.dm_explain.proofs.Names.{◌+◌, ◌++◌, List, ℕ, ap, drop, sym, ◌∙◌, each, machine_told}
 use Rattle.dm_explain.proofs.Pieces.{each-copied}
 use Rattle.dm_explain.proofs.system.put_machines.Goals as goal
 

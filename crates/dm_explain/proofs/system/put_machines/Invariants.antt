@@ -1,5 +1,4 @@
-use Rattle.std.proofs.Common.{◌≡◌, ◌++◌, drop}
-use Rattle.dm_explain.specs.System.{each, machine_told}
+use Rattle.dm_explain.proofs.Names.{◌≡◌, ◌++◌, drop, each, machine_told}
 use Rattle.dm_explain.proofs.system.put_machines.Given as goal
 
 abbrev pub invariant-loop-i : goal.invariant-loop-i

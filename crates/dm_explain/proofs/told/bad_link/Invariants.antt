@@ -1,7 +1,4 @@
-use Rattle.std.proofs.Common.{◌≡◌, drop}
-use Rattle.toml.specs.View.{items_view, view}
-use Rattle.dm_boot.specs.Tables.{first_failing}
-use Rattle.dm_explain.specs.Told.{link_keeps}
+use Rattle.dm_explain.proofs.Names.{◌≡◌, drop, items_view, view, first_failing, link_keeps}
 use Rattle.dm_explain.proofs.told.bad_link.Given as goal
 
 abbrev pub invariant-loop-k : goal.invariant-loop-k

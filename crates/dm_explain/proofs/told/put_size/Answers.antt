@@ -1,4 +1,4 @@
-use Rattle.std.proofs.Common.{append_assoc}
+use Rattle.dm_explain.proofs.Names.{append_assoc}
 use Rattle.dm_explain.proofs.told.put_size.Goals as goal
 
 pub returns : goal.returns

@@ -1,4 +1,4 @@
-use Rattle.std.proofs.Common.{◌≡◌, ◌++◌, length}
+use Rattle.dm_kernel.proofs.Names.{◌≡◌, ◌++◌, length}
 use Rattle.dm_kernel.proofs.arrive.put_before.Given as goal
 
 -- what is there already, with what is still to be put before it, is all

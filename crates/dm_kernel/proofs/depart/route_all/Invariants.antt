@@ -1,6 +1,4 @@
-use Rattle.std.proofs.Common.{◌≡◌, ◌++◌, map}
-use Rattle.std.specs.Vec.Iter.{into_iter_items}
-use Rattle.dm_kernel.specs.declared.part.Part.TheVariants.{Routes}
+use Rattle.dm_kernel.proofs.Names.{◌≡◌, ◌++◌, map, into_iter_items, Routes}
 use Rattle.dm_kernel.proofs.depart.route_all.Given as goal
 
 -- what is added, with what is still to be added, is all

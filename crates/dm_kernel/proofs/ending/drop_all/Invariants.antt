@@ -1,5 +1,4 @@
-use Rattle.std.proofs.Common.{◌≡◌, ◌++◌, length}
-use Rattle.dm_kernel.specs.State.{drops}
+use Rattle.dm_kernel.proofs.Names.{◌≡◌, ◌++◌, length, drops}
 use Rattle.dm_kernel.proofs.ending.drop_all.Given as goal
 
 abbrev pub invariant-loop-message : goal.invariant-loop-message

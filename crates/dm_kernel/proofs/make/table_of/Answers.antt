@@ -1,5 +1,4 @@
-use Rattle.std.proofs.Common.{arith}
-use Rattle.std.proofs.lemmas.Grind.{common_steps}
+use Rattle.dm_kernel.proofs.Names.{arith, common_steps}
 use Rattle.dm_kernel.proofs.Making.{has_room, puts_next}
 use Rattle.dm_kernel.proofs.make.table_of.Goals as goal
 

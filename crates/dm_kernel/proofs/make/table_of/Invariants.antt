@@ -1,5 +1,4 @@
-use Rattle.std.proofs.Common.{◌≡◌, take}
-use Rattle.dm_onekernel.specs.Start.{slots_with}
+use Rattle.dm_kernel.proofs.Names.{◌≡◌, take, slots_with}
 use Rattle.dm_kernel.proofs.make.table_of.Given as goal
 
 abbrev pub invariant-loop-link : goal.invariant-loop-link

@@ -1,6 +1,5 @@
 -- Those that are kept are all others, and it goes behind them.
-use Rattle.std.proofs.Common.{rules}
-use Rattle.std.proofs.lemmas.Fn.{filter_same}
+use Rattle.dm_kernel.proofs.Names.{rules, filter_same}
 use Rattle.dm_kernel.proofs.Ringing.{is_moved_back}
 use Rattle.dm_kernel.proofs.ring.move_back.Goals as goal
 

@@ -1,5 +1,4 @@
-use Rattle.std.proofs.Common.{rules}
-use Rattle.std.proofs.lemmas.Fn.{filter_same}
+use Rattle.dm_kernel.proofs.Names.{rules, filter_same}
 use Rattle.dm_kernel.proofs.ring.remove.Goals as goal
 
 pub returns : goal.returns

@@ -1,5 +1,4 @@
-use Rattle.std.proofs.Common.{arith}
-use Rattle.dm_kernel.specs.Serve.{ran}
+use Rattle.dm_kernel.proofs.Names.{arith, ran}
 use Rattle.dm_kernel.proofs.Running.{one_further}
 use Rattle.dm_kernel.proofs.run.execute.Goals as goal
 

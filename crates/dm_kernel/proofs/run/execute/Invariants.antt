@@ -1,5 +1,4 @@
-use Rattle.std.proofs.Common.{◌≡◌, ◌-◌, ◌≤◌}
-use Rattle.dm_kernel.specs.Serve.{ran}
+use Rattle.dm_kernel.proofs.Names.{◌≡◌, ◌-◌, ◌≤◌, ran}
 use Rattle.dm_kernel.proofs.Running.{more}
 use Rattle.dm_kernel.proofs.run.execute.Given as goal
 

@@ -1,6 +1,4 @@
-use Rattle.std.proofs.Common.{◌≡◌, ◌<◌, None, Some, length, sym, subst, arith, List, Option}
-use Rattle.dm_link.specs.declared.Link.{Link}
-use Rattle.dm_linktable.specs.Slots.{link_at}
+use Rattle.dm_linktable.proofs.Names.{◌≡◌, ◌<◌, None, Some, length, sym, subst, arith, List, Option, Link, link_at}
 use Rattle.dm_linktable.proofs.Edits.{written}
 use Rattle.dm_linktable.proofs.Room.{room}
 use Rattle.dm_linktable.proofs.Tables.{table_put}

@@ -1,5 +1,4 @@
-use Rattle.std.proofs.Common.{sym, ◌∙◌, ap}
-use Rattle.dm_linktable.specs.Slots.{first_empty}
+use Rattle.dm_linktable.proofs.Names.{sym, ◌∙◌, ap, first_empty}
 use Rattle.dm_linktable.proofs.Tables.{first_is_empty}
 use Rattle.dm_linktable.proofs.Table.put.Goals as goal
 

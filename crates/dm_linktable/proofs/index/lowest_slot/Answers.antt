@@ -1,6 +1,4 @@
-use Rattle.std.proofs.Common.{◌<◌, ◌^◌, arith}
-use Rattle.std.proofs.lemmas.Nat.Bits.{bit_at-trailing_zeros}
-use Rattle.std.specs.Int.{w128}
+use Rattle.dm_linktable.proofs.Names.{◌<◌, ◌^◌, arith, bit_at-trailing_zeros, w128}
 use Rattle.dm_linktable.proofs.index.lowest_slot.Goals as goal
 
 pub returns : goal.returns

@@ -1,6 +1,4 @@
-use Rattle.std.proofs.Common.{rules}
-use Rattle.std.proofs.lemmas.List.Sorted.{answers_always}
-use Rattle.dm_linktable.specs.declared.index.Entry.{Entry}
+use Rattle.dm_linktable.proofs.Names.{rules, answers_always, Entry}
 use Rattle.dm_linktable.proofs.Search.{found}
 use Rattle.dm_linktable.proofs.index.place_of.Goals as goal
 

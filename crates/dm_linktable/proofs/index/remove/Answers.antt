@@ -1,9 +1,7 @@
-use Rattle.std.proofs.Common.{◌≡◌, ◌<◌, get_or, sym, arith}
-use Rattle.dm_linktable.specs.declared.index.Entry.{Entry}
-use Rattle.dm_linktable.specs.Index.{mask_of}
+use Rattle.dm_linktable.proofs.Names.{◌≡◌, ◌<◌, get_or, sym, arith, Entry, mask_of}
 use Rattle.dm_linktable.proofs.Edits.{bits-remove, bits-set, bits_same, index-remove, index-set, written}
 use Rattle.dm_linktable.proofs.Entries.{mask_absent}
-use Rattle.dm_linktable.proofs.Names.{absent_between}
+use Rattle.dm_linktable.proofs.ReceiverOrder.{absent_between}
 use Rattle.dm_linktable.proofs.index.remove.Goals as goal
 
 pub returns-then-slots-eq0-clause-index : goal.returns-then-slots-eq0-clause-index

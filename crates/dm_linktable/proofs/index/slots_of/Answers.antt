@@ -1,8 +1,6 @@
-use Rattle.std.proofs.Common.{get_or, arith, sym}
-use Rattle.std.proofs.lemmas.Grind.{common_steps}
-use Rattle.dm_linktable.specs.declared.index.Entry.{Entry}
+use Rattle.dm_linktable.proofs.Names.{get_or, arith, sym, common_steps, Entry}
 use Rattle.dm_linktable.proofs.Entries.{mask_at, mask_absent}
-use Rattle.dm_linktable.proofs.Names.{absent_between}
+use Rattle.dm_linktable.proofs.ReceiverOrder.{absent_between}
 use Rattle.dm_linktable.proofs.index.slots_of.Goals as goal
 
 pub returns-in-Ok : goal.returns-in-Ok

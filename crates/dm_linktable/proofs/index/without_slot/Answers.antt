@@ -1,4 +1,4 @@
-use Rattle.std.proofs.Common.{arith, ◌<◌, ◌^◌}
+use Rattle.dm_linktable.proofs.Names.{arith, ◌<◌, ◌^◌}
 use Rattle.dm_linktable.proofs.Bits.{bit_clear, clear_less}
 use Rattle.dm_linktable.proofs.index.without_slot.Goals as goal
 

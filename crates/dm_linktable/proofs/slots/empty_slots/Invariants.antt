@@ -1,5 +1,4 @@
-use Rattle.std.proofs.Common.{◌≡◌, None}
-use Rattle.std.proofs.Math.ListN.{replicate}
+use Rattle.dm_linktable.proofs.Names.{◌≡◌, None, replicate}
 use Rattle.dm_linktable.proofs.slots.empty_slots.Given as goal
 
 abbrev pub invariant-loop : goal.invariant-loop

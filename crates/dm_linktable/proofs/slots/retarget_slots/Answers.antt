@@ -1,4 +1,4 @@
-use Rattle.std.proofs.Common.{arith}
+use Rattle.dm_linktable.proofs.Names.{arith}
 use Rattle.dm_linktable.proofs.Followed.{all_followed, none_behind}
 use Rattle.dm_linktable.proofs.Plain.{plain_map_retargeted}
 use Rattle.dm_linktable.proofs.slots.retarget_slots.Goals as goal

@@ -1,6 +1,4 @@
-use Rattle.std.proofs.Common.{◌≡◌, ℕ, ◌+◌, ◌<◌, ◌==◌, None, cond, count_by, get_or, length}
-use Rattle.std.specs.Int.{bit_at}
-use Rattle.dm_linktable.specs.Slots.{retargeted_slot, slot_is_behind}
+use Rattle.dm_linktable.proofs.Names.{◌≡◌, ℕ, ◌+◌, ◌<◌, ◌==◌, None, cond, count_by, get_or, length, bit_at, retargeted_slot, slot_is_behind}
 use Rattle.dm_linktable.proofs.slots.retarget_slots.Given as goal
 
 abbrev pub invariant-loop-left : goal.invariant-loop-left

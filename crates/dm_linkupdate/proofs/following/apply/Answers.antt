@@ -1,5 +1,4 @@
-use Rattle.std.proofs.Common.{rules, subst, sym}
-use Rattle.dm_process.specs.Lawful.{IsLawfulProcess}
+use Rattle.dm_linkupdate.proofs.Names.{rules, subst, sym, IsLawfulProcess}
 use Rattle.dm_linkupdate.proofs.Lawful.{applied_lawful}
 use Rattle.dm_linkupdate.proofs.following.apply.Goals as goal
 

@@ -1,6 +1,4 @@
-use Rattle.std.proofs.Common.{arith}
-use Rattle.std.proofs.lemmas.Grind.{common_steps}
-use Rattle.std.proofs.lemmas.List.{take_min, take_rest}
+use Rattle.dm_migrate.proofs.Names.{arith, common_steps, take_min, take_rest}
 use Rattle.dm_migrate.proofs.leaving.chunk_at.Goals as goal
 
 -- src/leaving.rt:182:1

@@ -1,7 +1,4 @@
-use Rattle.std.proofs.Common.{◌≡◌, ◌+◌, ◌≤◌, ◌++◌, length, map}
-use Rattle.std.specs.Vec.{vec_capacity, vec_len}
-use Rattle.std.specs.Vec.Iter.{into_iter_items}
-use Rattle.dm_migrate.specs.Departure.{sent_on}
+use Rattle.dm_migrate.proofs.Names.{◌≡◌, ◌+◌, ◌≤◌, ◌++◌, length, map, vec_capacity, vec_len, into_iter_items, sent_on}
 use Rattle.dm_migrate.proofs.leaving.send_held.Given as goal
 
 -- what is added, with what is still to be added, is all; there is room for it

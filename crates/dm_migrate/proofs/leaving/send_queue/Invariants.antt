@@ -1,6 +1,4 @@
-use Rattle.std.proofs.Common.{◌≡◌, ◌+◌, ◌≤◌, ◌++◌, length, map}
-use Rattle.std.specs.Vec.{vec_capacity, vec_len}
-use Rattle.dm_migrate.specs.Departure.{sent_on}
+use Rattle.dm_migrate.proofs.Names.{◌≡◌, ◌+◌, ◌≤◌, ◌++◌, length, map, vec_capacity, vec_len, sent_on}
 use Rattle.dm_migrate.proofs.leaving.send_queue.Given as goal
 
 -- what is added, with what is still to be added, is all; there is room for it

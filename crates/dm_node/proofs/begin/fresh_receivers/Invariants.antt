@@ -1,6 +1,4 @@
-use Rattle.std.proofs.Common.{◌≡◌}
-use Rattle.std.specs.Prelude.{replicate}
-use Rattle.dm_stream.specs.Receiving.{fresh_receiving}
+use Rattle.dm_node.proofs.Names.{◌≡◌, replicate, fresh_receiving}
 use Rattle.dm_node.proofs.begin.fresh_receivers.Given as goal
 
 abbrev pub invariant-loop-machine : goal.invariant-loop-machine

@@ -1,8 +1,4 @@
-use Rattle.std.proofs.Common.{◌++◌}
-use Rattle.dm_message.specs.Kinds.{kind_of}
-use Rattle.dm_packet.specs.Fields.{addr}
-use Rattle.dm_packet.specs.Packets.{id}
-use Rattle.dm_packet.specs.Whats.{message_kind}
+use Rattle.dm_packet.proofs.Names.{◌++◌, kind_of, addr, id, message_kind}
 use Rattle.dm_packet.proofs.Writes.{then_put}
 use Rattle.dm_packet.proofs.writing.put_head.Goals as goal
 

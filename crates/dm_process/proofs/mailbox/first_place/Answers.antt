@@ -1,4 +1,4 @@
-use Rattle.std.proofs.Common.{◌∙◌, add-one, sym, arith}
+use Rattle.dm_process.proofs.Names.{◌∙◌, add-one, sym, arith}
 use Rattle.dm_process.proofs.Search.{found, not_found}
 use Rattle.dm_process.proofs.mailbox.first_place.Goals as goal
 

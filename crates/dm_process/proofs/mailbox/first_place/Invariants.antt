@@ -1,4 +1,4 @@
-use Rattle.dm_process.specs.Mail.{HasPassed}
+use Rattle.dm_process.proofs.Names.{HasPassed}
 use Rattle.dm_process.proofs.mailbox.first_place.Given as goal
 
 abbrev pub invariant-loop-place : goal.invariant-loop-place

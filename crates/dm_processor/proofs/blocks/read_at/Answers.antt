@@ -1,8 +1,7 @@
 -- One part more is copied.
-use Rattle.std.proofs.Common.{arith}
+use Rattle.dm_processor.proofs.Names.{arith, concat}
 use Rattle.dm_processor.proofs.Concat.{length-concat}
 use Rattle.dm_processor.proofs.Copies.{copied_out}
-use Rattle.std.specs.List.{concat}
 use Rattle.dm_processor.proofs.blocks.read_at.Goals as goal
 
 pub overflow_add-at : goal.overflow_add-at

@@ -1,6 +1,5 @@
 -- So many bytes are copied.
-use Rattle.std.proofs.Common.{◌≡◌, ◌-◌, ◌≤◌, length, take, drop}
-use Rattle.std.specs.List.{concat}
+use Rattle.dm_processor.proofs.Names.{◌≡◌, ◌-◌, ◌≤◌, length, take, drop, concat}
 use Rattle.dm_processor.proofs.blocks.read_at.Given as goal
 
 abbrev pub invariant-loop-done : goal.invariant-loop-done

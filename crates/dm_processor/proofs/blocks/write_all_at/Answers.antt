@@ -1,7 +1,5 @@
 -- One part more is copied.
-use Rattle.std.proofs.Common.{◌≡◌, ◌-◌, length, take, drop, length-drop, arith}
-use Rattle.std.proofs.lemmas.List.{take_all}
-use Rattle.std.specs.List.{concat}
+use Rattle.dm_processor.proofs.Names.{◌≡◌, ◌-◌, length, take, drop, length-drop, arith, take_all, concat}
 use Rattle.dm_processor.proofs.Concat.{length-concat}
 use Rattle.dm_processor.proofs.Copies.{copied_in}
 use Rattle.dm_processor.proofs.blocks.write_all_at.Goals as goal

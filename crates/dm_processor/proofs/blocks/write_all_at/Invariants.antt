@@ -1,7 +1,5 @@
 -- So many bytes are copied.
-use Rattle.std.proofs.Common.{◌≡◌, ◌+◌, ◌-◌, ◌≤◌, ◌++◌, length, take, drop}
-use Rattle.std.specs.List.{concat}
-use Rattle.dm_processor.specs.WholeBlocks.{AreWhole}
+use Rattle.dm_processor.proofs.Names.{◌≡◌, ◌+◌, ◌-◌, ◌≤◌, ◌++◌, length, take, drop, concat, AreWhole}
 use Rattle.dm_processor.proofs.blocks.write_all_at.Given as goal
 
 abbrev pub invariant-loop-done : goal.invariant-loop-done

@@ -1,5 +1,5 @@
 -- The block that was written stands where it stood.
-use Rattle.std.proofs.Common.{arith}
+use Rattle.dm_processor.proofs.Names.{arith}
 use Rattle.dm_processor.proofs.Concat.{concat-written, AreWhole-written}
 use Rattle.dm_processor.proofs.blocks.write_part.Goals as goal
 

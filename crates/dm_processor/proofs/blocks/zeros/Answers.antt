@@ -1,6 +1,5 @@
 -- Blocks of zeros are whole, and their bytes are zeros.
-use Rattle.std.proofs.Common.{arith}
-use Rattle.std.proofs.lemmas.Grind.{common_steps}
+use Rattle.dm_processor.proofs.Names.{arith, common_steps}
 use Rattle.dm_processor.proofs.Concat.{concat-zeros, AreWhole-zeros}
 use Rattle.dm_processor.proofs.blocks.zeros.Goals as goal
 

@@ -1,8 +1,4 @@
-use Rattle.std.proofs.Common.{sym, subst, ap, ◌∙◌}
-use Rattle.std.specs.Prelude.{IfOk}
-use Rattle.dm_message.specs.Lawful.{IsLawfulMessage}
-use Rattle.dm_procman.specs.Managing.{Managing}
-use Rattle.dm_procman.specs.Moving.{moves_child}
+use Rattle.dm_procman.proofs.Names.{sym, subst, ap, ◌∙◌, IfOk, IsLawfulMessage, Managing, moves_child}
 use Rattle.dm_procman.proofs.Lawful.{moves_lawful}
 use Rattle.dm_procman.proofs.ProcMan.ask_move.Goals as goal
 

@@ -1,6 +1,4 @@
-use Rattle.std.proofs.Common.{sym, subst, ap, ◌∙◌}
-use Rattle.dm_procman.specs.Lawful.{IsLawfulManager}
-use Rattle.dm_procman.specs.Managing.{plain_manager}
+use Rattle.dm_procman.proofs.Names.{sym, subst, ap, ◌∙◌, IsLawfulManager, plain_manager}
 use Rattle.dm_procman.proofs.Lawful.{retargeted_lawful}
 use Rattle.dm_procman.proofs.Plain.{plain_retargeted}
 use Rattle.dm_procman.proofs.ProcMan.retarget.Goals as goal

@@ -1,6 +1,4 @@
-use Rattle.std.proofs.Common.{◌≡◌, length, get_or, set, ap, ◌∙◌, arith}
-use Rattle.dm_link.specs.declared.Addr.{Addr}
-use Rattle.dm_link.specs.Places.{is_behind, retargeted}
+use Rattle.dm_procman.proofs.Names.{◌≡◌, length, get_or, set, ap, ◌∙◌, arith, Addr, is_behind, retargeted}
 use Rattle.dm_procman.proofs.Following.{all_counted, all_followed, counted, counted_next, counted_within, followed, later_followed, set_followed}
 use Rattle.dm_procman.proofs.moving.retarget_children.Goals as goal
 use Rattle.dm_procman.proofs.moving.retarget_children.Goals.{then-retarget, else-retarget}

@@ -1,5 +1,4 @@
-use Rattle.std.proofs.Common.{◌≡◌}
-use Rattle.dm_link.specs.Places.{is_behind, retargeted}
+use Rattle.dm_procman.proofs.Names.{◌≡◌, is_behind, retargeted}
 use Rattle.dm_procman.proofs.Following.{counted, followed}
 use Rattle.dm_procman.proofs.moving.retarget_children.Given as goal
 

@@ -1,7 +1,4 @@
-use Rattle.std.proofs.Common.{◌≡◌, false, length, get_or, set, ap, ◌∙◌, arith}
-use Rattle.dm_link.specs.declared.Kind.TheVariants.{General}
-use Rattle.dm_procman.specs.declared.pending.Pending.{Pending}
-use Rattle.dm_procman.specs.Managing.{pending_is_behind, retargeted_pending}
+use Rattle.dm_procman.proofs.Names.{◌≡◌, false, length, get_or, set, ap, ◌∙◌, arith, General, Pending, pending_is_behind, retargeted_pending}
 use Rattle.dm_procman.proofs.Following.{all_counted, all_followed, counted, counted_next, counted_within, followed, later_followed, set_followed}
 use Rattle.dm_procman.proofs.moving.retarget_pending.Goals as goal
 use Rattle.dm_procman.proofs.moving.retarget_pending.Goals.{then-retarget, else-retarget}

@@ -1,5 +1,4 @@
-use Rattle.std.proofs.Common.{◌≡◌}
-use Rattle.dm_procman.specs.Managing.{pending_is_behind, retargeted_pending}
+use Rattle.dm_procman.proofs.Names.{◌≡◌, pending_is_behind, retargeted_pending}
 use Rattle.dm_procman.proofs.Following.{counted, followed}
 use Rattle.dm_procman.proofs.moving.retarget_pending.Given as goal
 

@@ -1,5 +1,4 @@
-use Rattle.std.proofs.Common.{sym, ap, ◌∙◌, position, Some}
-use Rattle.dm_procman.specs.Taking.{has_number}
+use Rattle.dm_procman.proofs.Names.{sym, ap, ◌∙◌, position, Some, has_number}
 use Rattle.dm_procman.proofs.Waiting.{found_there, is_there, never_none, others_there}
 use Rattle.dm_procman.proofs.pending.take_pending.Goals as goal
 

@@ -1,5 +1,4 @@
-use Rattle.std.proofs.Common.{◌≡◌, map, take}
-use Rattle.dm_procman.specs.Managing.{child_of}
+use Rattle.dm_procman.proofs.Names.{◌≡◌, map, take, child_of}
 use Rattle.dm_procman.proofs.starting.children_of.Given as goal
 
 abbrev pub invariant-loop-process : goal.invariant-loop-process

@@ -1,7 +1,4 @@
-use Rattle.std.proofs.Common.{rules, ◌≡◌, List, ℕ, map, refl, string_bytes, subst, sym}
-use Rattle.dm_program.specs.Outside.{around}
-use Rattle.dm_program.specs.Program.{ProgramMeets}
-use Rattle.dm_program.specs.Words.{IsTaken, request_of}
+use Rattle.dm_program.proofs.Names.{rules, ◌≡◌, List, ℕ, map, refl, string_bytes, subst, sym, around, ProgramMeets, IsTaken, request_of}
 use Rattle.dm_program.proofs.Lacking.{lacks_meets}
 use Rattle.dm_program.proofs.entry.run_given.Goals as goal
 

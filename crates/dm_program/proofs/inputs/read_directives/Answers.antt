@@ -1,4 +1,4 @@
-use Rattle.std.proofs.Common.{ap, arith, length}
+use Rattle.dm_program.proofs.Names.{ap, arith, length}
 use Rattle.dm_program.proofs.Schedules.{are_read}
 use Rattle.dm_program.proofs.inputs.read_directives.Goals as goal
 

@@ -1,14 +1,5 @@
-use Rattle.std.proofs.Common.{rules, ◌∙◌, List, ℕ, ap, map, refl, sym, subst}
-use Rattle.std.specs.declared.option.Option.{Option}
-use Rattle.std.specs.declared.option.Option.TheVariants.{None, Some}
-use Rattle.dm_program.specs.declared.words.Request.{Request as TheRequest}
-use Rattle.dm_program.specs.declared.status.Status.{Status}
-use Rattle.dm_draw.specs.Boot.{boot_of}
-use Rattle.dm_program.specs.Drills.{directives_of}
-use Rattle.dm_program.specs.Outside.{around}
-use Rattle.dm_program.specs.Program.{ProgramMeets}
-use Rattle.dm_program.specs.Request.{Request}
-use Rattle.dm_program.specs.Words.{IsInRange, request_of, request_said}
+use Rattle.dm_program.proofs.Names.{rules, ◌∙◌, List, ℕ, ap, map, refl, sym, subst, Option, Some, TheRequest, Status, boot_of, directives_of, around, ProgramMeets, Request, IsInRange, request_of, request_said}
+use Rattle.std.specs.declared.option.Option.TheVariants.{None}
 use Rattle.dm_program.proofs.Drills.{drill_completes, drill_shelf, drill_taken, drill_wears}
 use Rattle.dm_program.proofs.Lacking.{no_request}
 use Rattle.dm_program.proofs.program.run_program.Goals as goal

@@ -1,5 +1,4 @@
-use Rattle.std.proofs.Common.{◌≡◌, ◌+◌, ◌-◌, vec_len}
-use Rattle.dm_program.specs.Files.{SoFar}
+use Rattle.dm_program.proofs.Names.{◌≡◌, ◌+◌, ◌-◌, vec_len, SoFar}
 use Rattle.dm_program.proofs.read.read_file.Given as goal
 
 abbrev pub invariant-pieces : goal.invariant-pieces

@@ -1,4 +1,4 @@
-use Rattle.std.proofs.Common.{arith}
+use Rattle.dm_program.proofs.Names.{arith}
 use Rattle.dm_program.proofs.Reading.{so_far_more}
 use Rattle.dm_program.proofs.read.read_piece.Goals as goal
 

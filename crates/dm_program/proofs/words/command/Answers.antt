@@ -1,12 +1,4 @@
-use Rattle.std.proofs.Common.{◌≡◌, true, ap, ◌∙◌, codes}
-use Rattle.std.proofs.lemmas.Result.{IfOk-weaker}
-use Rattle.clap.specs.Words.{App, app_of, new_app, with_subcommand}
-use Rattle.clap.specs.Simple.{app_of_fields, on_top}
-use Rattle.dm_program.specs.ChartWords.{chart_command}
-use Rattle.dm_program.specs.CheckWords.{check_command}
-use Rattle.dm_program.specs.DrillWords.{drill_command}
-use Rattle.dm_program.specs.ExplainWords.{explain_command}
-use Rattle.dm_program.specs.RunWords.{run_command}
+use Rattle.dm_program.proofs.Names.{◌≡◌, true, ap, ◌∙◌, codes, IfOk-weaker, App, app_of, new_app, with_subcommand, app_of_fields, on_top, chart_command, check_command, drill_command, explain_command, run_command}
 use Rattle.dm_program.proofs.words.command.Goals as goal
 
 abbrev first : App

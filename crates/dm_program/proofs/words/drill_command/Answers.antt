@@ -1,6 +1,4 @@
-use Rattle.std.proofs.Common.{rules, ◌≡◌, ap, ap₂, ◌∙◌, codes}
-use Rattle.clap.specs.Words.{App, app_of, new_app, with_rule, with_subcommand}
-use Rattle.dm_program.specs.DrillWords.{flag_option, number_option}
+use Rattle.dm_program.proofs.Names.{rules, ◌≡◌, ap, ap₂, ◌∙◌, codes, App, app_of, new_app, with_rule, with_subcommand, flag_option, number_option}
 use Rattle.dm_program.proofs.words.drill_command.Goals as goal
 
 pub returns : goal.returns

@@ -1,7 +1,6 @@
-use Rattle.std.proofs.Common.{rules, ◌≡◌, ap, sym, ◌∙◌, option_map, None, Some}
-use Rattle.clap.specs.Words.{found_of}
-use Rattle.dm_program.specs.Words.{request_said}
-use Rattle.dm_program.proofs.Names.{explain_found, no_explain}
+use Rattle.dm_program.proofs.Names.{rules, ◌≡◌, ap, sym, ◌∙◌, option_map, None, found_of, request_said}
+use Rattle.std.proofs.Common.{Some}
+use Rattle.dm_program.proofs.CommandWords.{explain_found, no_explain}
 use Rattle.dm_program.proofs.words.explain_request.Goals as goal
 
 pub returns-in_err-boot : goal.returns-in_err-boot

@@ -1,11 +1,5 @@
-use Rattle.std.proofs.Common.{◌≡◌, List, ℕ, map, sym, ◌∙◌, subst, None}
-use Rattle.std.specs.declared.result.Result.TheVariants.{Err}
-use Rattle.clap.specs.Words.{app_of, fault_of}
-use Rattle.clap.specs.declared.parser.matches.ArgMatches.{ArgMatches}
-use Rattle.dm_memory.specs.declared.of_clap.MatchesError.{MatchesError}
-use Rattle.dm_memory.specs.Clap.{FailsBy}
-use Rattle.dm_program.specs.Words.{request_of}
-use Rattle.dm_program.proofs.Names.{not_taken, refused, taken}
+use Rattle.dm_program.proofs.Names.{◌≡◌, List, ℕ, map, sym, ◌∙◌, subst, None, Err, app_of, fault_of, ArgMatches, MatchesError, FailsBy, request_of}
+use Rattle.dm_program.proofs.CommandWords.{not_taken, refused, taken}
 use Rattle.dm_program.proofs.Given.{only_refused}
 use Rattle.dm_program.proofs.words.read_words.Goals as goal
 

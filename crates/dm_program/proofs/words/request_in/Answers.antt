@@ -1,6 +1,5 @@
-use Rattle.std.proofs.Common.{sym, ◌∙◌}
-use Rattle.clap.specs.Words.{found_of, rows_of}
-use Rattle.dm_program.proofs.Names.{unused, used_rows}
+use Rattle.dm_program.proofs.Names.{sym, ◌∙◌, found_of, rows_of}
+use Rattle.dm_program.proofs.CommandWords.{unused, used_rows}
 use Rattle.dm_program.proofs.words.request_in.Goals as goal
 
 pub returns-in-Some-clause-asked : goal.returns-in-Some-clause-asked

@@ -1,8 +1,6 @@
-use Rattle.std.proofs.Common.{rules, ◌≡◌, ap, sym, ◌∙◌, option_map, codes, None, Some}
-use Rattle.clap.specs.Words.{found_of}
-use Rattle.dm_program.specs.Request.{Run}
-use Rattle.dm_program.specs.Words.{request_said}
-use Rattle.dm_program.proofs.Names.{no_first, both_found}
+use Rattle.dm_program.proofs.Names.{rules, ◌≡◌, ap, sym, ◌∙◌, option_map, codes, None, found_of, Run, request_said}
+use Rattle.std.proofs.Common.{Some}
+use Rattle.dm_program.proofs.CommandWords.{no_first, both_found}
 use Rattle.dm_program.proofs.words.run_request.Goals as goal
 
 pub returns-in_err-boot-clause-asked : goal.returns-in_err-boot-clause-asked

@@ -1,14 +1,5 @@
-use Rattle.std.proofs.Common.{◌≡◌, List, refl, ap, sym, ◌∙◌, subst}
-use Rattle.std.specs.declared.option.Option.TheVariants.{Some}
-use Rattle.std.specs.declared.result.Result.TheVariants.{Err}
-use Rattle.dm_line.specs.declared.line.Line.{Line}
+use Rattle.dm_run.proofs.Names.{◌≡◌, List, refl, ap, sym, ◌∙◌, subst, Some, Err, Line, Answers, state_of, Step, OrNoMemory, AreWhole, AreReadBack, gave, Says, world_step}
 use Rattle.dm_node.specs.declared.stop.Stop.{Stop}
-use Rattle.dm_world.specs.Meets.{Answers, state_of}
-use Rattle.dm_schedule.specs.declared.Step.{Step}
-use Rattle.dm_node.specs.Meets.{OrNoMemory}
-use Rattle.dm_world.specs.Whole.{AreWhole}
-use Rattle.dm_world.specs.Readable.{AreReadBack, gave}
-use Rattle.dm_world.specs.World.{Says, world_step}
 use Rattle.dm_run.proofs.Comes.{always_ok, came_on, lacks_there, worn_there}
 use Rattle.dm_run.proofs.Counted.{happens, worn_out}
 use Rattle.dm_run.proofs.directives.one_group.Goals as goal

@@ -1,8 +1,4 @@
-use Rattle.std.proofs.Common.{◌∷◌, ◌+◌, ◌^◌, length, refl, sym, ◌∙◌, arith}
-use Rattle.dm_line.specs.Todo.{all_of}
-use Rattle.dm_world.specs.Cursor.{todo_of}
-use Rattle.dm_world.specs.Meets.{state_of}
-use Rattle.dm_world.specs.Next.{has_mail, is_quiet, undelivered}
+use Rattle.dm_run.proofs.Names.{◌∷◌, ◌+◌, ◌^◌, length, refl, sym, ◌∙◌, arith, all_of, todo_of, state_of, has_mail, is_quiet, undelivered}
 use Rattle.dm_run.proofs.Comes.{comes_as}
 use Rattle.dm_run.proofs.Settling.{goes_on_way, on_way_first}
 use Rattle.dm_run.proofs.Stepping.{blames_err, brings_on, came_err, may_on, none_on, one_group_more, stops_on}

@@ -1,10 +1,4 @@
-use Rattle.std.proofs.Common.{◌≡◌, ◌-◌, ◌+◌, ◌^◌, ℕ, false, List, ◌∷◌, length}
-use Rattle.std.specs.declared.option.Option.{Option}
-use Rattle.dm_schedule.specs.declared.Directive.{Directive}
-use Rattle.dm_line.specs.Todo.{all_of}
-use Rattle.dm_world.specs.Cursor.{todo_of}
-use Rattle.dm_world.specs.Meets.{IsWorld, state_of}
-use Rattle.dm_run.specs.Coming.{HasCome}
+use Rattle.dm_run.proofs.Names.{◌≡◌, ◌-◌, ◌+◌, ◌^◌, ℕ, false, List, ◌∷◌, length, Option, Directive, all_of, todo_of, IsWorld, state_of, HasCome}
 use Rattle.dm_run.proofs.Settling.{IsOnWay}
 use Rattle.dm_run.proofs.directives.run_directive.Given as goal
 

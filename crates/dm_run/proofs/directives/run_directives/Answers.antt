@@ -1,7 +1,4 @@
-use Rattle.std.proofs.Common.{[], ap, length, refl, sym, ◌∙◌, arith}
-use Rattle.dm_line.specs.Todo.{all_of}
-use Rattle.dm_world.specs.Meets.{state_of}
-use Rattle.dm_world.specs.World.{WorldState}
+use Rattle.dm_run.proofs.Names.{[], ap, length, refl, sym, ◌∙◌, arith, all_of, state_of, WorldState}
 use Rattle.dm_run.proofs.Comes.{comes_first}
 use Rattle.dm_run.proofs.Steps.{running_come}
 use Rattle.dm_run.proofs.Stepping.{all_done, are_directives, blames_err, carries_on, ended_err, halts_on}

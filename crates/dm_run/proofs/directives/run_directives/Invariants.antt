@@ -1,7 +1,4 @@
-use Rattle.std.proofs.Common.{◌≡◌, ◌≤◌, ◌*◌, ◌^◌, false, drop}
-use Rattle.dm_line.specs.Todo.{all_of}
-use Rattle.dm_world.specs.Meets.{IsWorld, state_of}
-use Rattle.dm_run.specs.Coming.{HasCome}
+use Rattle.dm_run.proofs.Names.{◌≡◌, ◌≤◌, ◌*◌, ◌^◌, false, drop, all_of, IsWorld, state_of, HasCome}
 use Rattle.dm_run.proofs.directives.run_directives.Given as goal
 
 abbrev pub invariant-directives : goal.invariant-directives

@@ -1,8 +1,4 @@
-use Rattle.std.proofs.Common.{[], length, sym, subst}
-use Rattle.dm_onekernel.specs.declared.boot.Boot.{Boot}
-use Rattle.dm_line.specs.Todo.{all_of}
-use Rattle.dm_world.specs.Meets.{state_of}
-use Rattle.dm_run.specs.Coming.{Ended, HasCome}
+use Rattle.dm_run.proofs.Names.{[], length, sym, subst, Boot, all_of, state_of, Ended, HasCome}
 use Rattle.dm_run.proofs.Endings.{ended_lasts}
 use Rattle.dm_run.proofs.Steps.{may_end_there}
 use Rattle.dm_run.proofs.Stepping.{blames_err, ended_err}

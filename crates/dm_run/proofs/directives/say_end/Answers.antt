@@ -1,6 +1,4 @@
-use Rattle.std.proofs.Common.{[], refl, ◌∙◌}
-use Rattle.dm_line.specs.Todo.{all_of}
-use Rattle.dm_world.specs.Meets.{state_of}
+use Rattle.dm_run.proofs.Names.{[], refl, ◌∙◌, all_of, state_of}
 use Rattle.dm_run.proofs.Comes.{ended_by, lacks_there}
 use Rattle.dm_run.proofs.directives.say_end.Goals as goal
 

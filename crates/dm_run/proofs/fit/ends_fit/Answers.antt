@@ -1,8 +1,4 @@
-use Rattle.std.proofs.Common.{◌≡◌, ◌<◌, ap, arith, length, take, subst, sym, ◌∙◌}
-use Rattle.std.proofs.Math.Seq.{take-length}
-use Rattle.std.specs.List.{All}
-use Rattle.std.proofs.lemmas.List.Elements.{All-more}
-use Rattle.dm_text.specs.Fits.{EndFits, HidesNothing}
+use Rattle.dm_run.proofs.Names.{◌≡◌, ◌<◌, ap, arith, length, take, subst, sym, ◌∙◌, take-length, All, All-more, EndFits, HidesNothing}
 use Rattle.dm_run.proofs.fit.ends_fit.Goals as goal
 
 pub loop-end-preserved : goal.loop-end-preserved

@@ -1,6 +1,4 @@
-use Rattle.std.proofs.Common.{take}
-use Rattle.std.specs.List.{All}
-use Rattle.dm_text.specs.Fits.{EndFits, HidesNothing}
+use Rattle.dm_run.proofs.Names.{take, All, EndFits, HidesNothing}
 use Rattle.dm_run.proofs.fit.ends_fit.Given as goal
 
 abbrev pub invariant-loop-end : goal.invariant-loop-end

@@ -1,8 +1,4 @@
-use Rattle.std.proofs.Common.{◌≡◌, ◌<◌, ap, arith, length, take, subst, ◌∙◌}
-use Rattle.std.proofs.Math.Seq.{take-length}
-use Rattle.std.specs.List.{All}
-use Rattle.std.proofs.lemmas.List.Elements.{All-more}
-use Rattle.dm_text.specs.Fits.{LineFits}
+use Rattle.dm_run.proofs.Names.{◌≡◌, ◌<◌, ap, arith, length, take, subst, ◌∙◌, take-length, All, All-more, LineFits}
 use Rattle.dm_run.proofs.fit.lines_fit.Goals as goal
 
 pub loop-line-preserved : goal.loop-line-preserved

@@ -1,6 +1,4 @@
-use Rattle.std.proofs.Common.{take}
-use Rattle.std.specs.List.{All}
-use Rattle.dm_text.specs.Fits.{LineFits}
+use Rattle.dm_run.proofs.Names.{take, All, LineFits}
 use Rattle.dm_run.proofs.fit.lines_fit.Given as goal
 
 abbrev pub invariant-loop-line : goal.invariant-loop-line

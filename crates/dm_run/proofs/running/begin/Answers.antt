@@ -1,6 +1,4 @@
-use Rattle.std.proofs.Common.{ap, sym, ◌∙◌}
-use Rattle.dm_onekernel.specs.declared.boot.Boot.{Boot}
-use Rattle.dm_world.specs.World.{WorldState, first_world}
+use Rattle.dm_run.proofs.Names.{ap, sym, ◌∙◌, Boot, WorldState, first_world}
 use Rattle.dm_run.proofs.Steps.{running_first}
 use Rattle.dm_run.proofs.running.begin.Goals as goal
 

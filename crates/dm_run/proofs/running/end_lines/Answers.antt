@@ -1,8 +1,4 @@
-use Rattle.std.proofs.Common.{List, sym, subst, ◌∙◌}
-use Rattle.std.specs.List.{All}
-use Rattle.dm_line.specs.declared.end_line.EndLine.{EndLine}
-use Rattle.dm_text.specs.Fits.{EndFits, HidesNothing}
-use Rattle.dm_world.specs.Meets.{state_of}
+use Rattle.dm_run.proofs.Names.{List, sym, subst, ◌∙◌, All, EndLine, EndFits, HidesNothing, state_of}
 use Rattle.dm_run.proofs.Steps.{ends_hide_there, ends_so, may_end_there}
 use Rattle.dm_run.proofs.running.end_lines.Goals as goal
 

@@ -1,10 +1,5 @@
-use Rattle.std.proofs.Common.{◌≡◌, List, ap, sym, ◌∙◌, subst}
-use Rattle.std.specs.declared.option.Option.TheVariants.{Some}
-use Rattle.dm_line.specs.declared.line.Line.{Line}
-use Rattle.dm_world.specs.Meets.{state_of}
-use Rattle.dm_world.specs.World.{Said, Says, world_step}
+use Rattle.dm_run.proofs.Names.{◌≡◌, List, ap, sym, ◌∙◌, subst, Some, Line, state_of, Said, Says, world_step, StopsWorn}
 use Rattle.dm_run.proofs.Counted.{counts, happens}
-use Rattle.dm_run.specs.Running.{StopsWorn}
 use Rattle.dm_run.proofs.Steps.{if_err, may_step, running_on, runs_on, stops_as}
 use Rattle.dm_run.proofs.running.step_on.Goals as goal
 

@@ -1,4 +1,4 @@
-use Rattle.std.proofs.Common.{◌∙◌, arith}
+use Rattle.dm_run.proofs.Names.{◌∙◌, arith}
 use Rattle.dm_run.proofs.Writing.{takes_more, within_rest}
 use Rattle.dm_run.proofs.write.write_all.Goals as goal
 

@@ -1,5 +1,4 @@
-use Rattle.std.proofs.Common.{◌≡◌, ◌≤◌, ◌-◌, length, take}
-use Rattle.dm_outside.specs.Outside.{appended}
+use Rattle.dm_run.proofs.Names.{◌≡◌, ◌≤◌, ◌-◌, length, take, appended}
 use Rattle.dm_run.proofs.write.write_all.Given as goal
 
 abbrev pub invariant-offers : goal.invariant-offers

@@ -1,5 +1,5 @@
 -- There are only blanks.
-use Rattle.std.proofs.Common.{sym}
+use Rattle.dm_schedule.proofs.Names.{sym}
 use Rattle.dm_schedule.proofs.Cuts.{words-none}
 use Rattle.dm_schedule.proofs.lines.next_word.Goals as goal
 

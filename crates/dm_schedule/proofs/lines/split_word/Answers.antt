@@ -1,6 +1,5 @@
 -- The words begin behind the blanks, and the first ends at the next.
-use Rattle.std.proofs.Common.{◌+◌, ◌-◌, ◌<◌, ◌∷◌, ◌∙◌, ap, sym, length, take, drop, length-drop, not, arith}
-use Rattle.dm_schedule.specs.Lines.{words, is_blank}
+use Rattle.dm_schedule.proofs.Names.{◌+◌, ◌-◌, ◌<◌, ◌∷◌, ◌∙◌, ap, sym, length, take, drop, length-drop, not, arith, words, is_blank}
 use Rattle.dm_schedule.proofs.Cuts.{words-start, words-first, words-whole, start_is_word, take_rest, place_below}
 use Rattle.dm_schedule.proofs.lines.split_word.Goals as goal
 

@@ -1,6 +1,5 @@
 -- The digits that are left go on from the value so far.
-use Rattle.std.proofs.Common.{◌≡◌, ◌<◌, ◌^◌, drop}
-use Rattle.dm_schedule.specs.Numbers.{going_on}
+use Rattle.dm_schedule.proofs.Names.{◌≡◌, ◌<◌, ◌^◌, drop, going_on}
 use Rattle.dm_schedule.proofs.numbers.digits_value.Given as goal
 
 abbrev pub invariant-loop-c : goal.invariant-loop-c

@@ -1,5 +1,4 @@
-use Rattle.std.proofs.Common.{ap, sym, ◌∙◌}
-use Rattle.dm_shape.specs.Words.{alone}
+use Rattle.dm_shape.proofs.Names.{ap, sym, ◌∙◌, alone}
 use Rattle.dm_shape.proofs.Fitting.{alone_more, behind_some, split_some}
 use Rattle.dm_shape.proofs.head.only_one.Goals as goal
 

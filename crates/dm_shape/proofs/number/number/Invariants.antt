@@ -1,5 +1,4 @@
-use Rattle.std.proofs.Common.{◌≡◌, ◌≤◌, drop}
-use Rattle.dm_text.specs.Reading.{number_after}
+use Rattle.dm_shape.proofs.Names.{◌≡◌, ◌≤◌, drop, number_after}
 use Rattle.dm_shape.proofs.number.number.Given as goal
 
 abbrev pub invariant-loop-byte : goal.invariant-loop-byte

@@ -1,9 +1,5 @@
-use Rattle.std.proofs.Common.{◌≡◌, length}
-use Rattle.std.specs.Option.{option_map}
-use Rattle.std.specs.List.{list_all}
+use Rattle.dm_shape.proofs.Names.{◌≡◌, length, option_map, list_all, behind, is_of}
 use Rattle.dm_shape.specs.declared.sort.Sort.TheVariants as sort
-use Rattle.dm_shape.specs.Pieces.{behind}
-use Rattle.dm_shape.specs.Sorts.{is_of}
 use Rattle.dm_shape.proofs.shape.are_messages.Given as goal
 
 abbrev pub invariant-words : goal.invariant-words

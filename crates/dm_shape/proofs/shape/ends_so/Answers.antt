@@ -1,9 +1,5 @@
-use Rattle.std.proofs.Common.{◌&&◌, ap, sym, ◌∙◌}
-use Rattle.std.specs.List.{list_all}
-use Rattle.dm_text.specs.Reading.{pieces}
+use Rattle.dm_shape.proofs.Names.{◌&&◌, ap, sym, ◌∙◌, list_all, pieces, ends_so, is_of}
 use Rattle.dm_shape.specs.declared.sort.Sort.TheVariants as sort
-use Rattle.dm_shape.specs.Shapes.{ends_so}
-use Rattle.dm_shape.specs.Sorts.{is_of}
 use Rattle.dm_shape.proofs.Fitting.{behind_some, ends_in_words}
 use Rattle.dm_shape.proofs.shape.ends_so.Goals as goal
 

@@ -1,5 +1,4 @@
-use Rattle.std.proofs.Common.{ap, sym, ◌∙◌, drop}
-use Rattle.dm_shape.specs.Shapes.{fit}
+use Rattle.dm_shape.proofs.Names.{ap, sym, ◌∙◌, drop, fit}
 use Rattle.dm_shape.proofs.Fitting.{behind_none, no_word_left}
 use Rattle.dm_shape.proofs.shape.fit.Goals as goal
 

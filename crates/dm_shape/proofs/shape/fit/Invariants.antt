@@ -1,7 +1,4 @@
-use Rattle.std.proofs.Common.{◌≡◌, drop}
-use Rattle.std.specs.Option.{option_map}
-use Rattle.dm_shape.specs.Pieces.{behind}
-use Rattle.dm_shape.specs.Shapes.{fit}
+use Rattle.dm_shape.proofs.Names.{◌≡◌, drop, option_map, behind, fit}
 use Rattle.dm_shape.proofs.shape.fit.Given as goal
 
 abbrev pub invariant-loop-sort : goal.invariant-loop-sort

@@ -1,6 +1,4 @@
-use Rattle.std.proofs.Common.{◌≡◌, ◌+◌, ◌∷◌, ap, sym, ◌∙◌, drop, take}
-use Rattle.std.proofs.lemmas.List.{take_rest}
-use Rattle.dm_text.specs.Reading.{pieces}
+use Rattle.dm_shape.proofs.Names.{◌≡◌, ◌+◌, ◌∷◌, ap, sym, ◌∙◌, drop, take, take_rest, pieces}
 use Rattle.dm_shape.proofs.PiecesAt.{pieces-at, pieces-whole}
 use Rattle.dm_shape.proofs.split.split.Goals as goal
 

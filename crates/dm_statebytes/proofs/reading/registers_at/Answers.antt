@@ -1,9 +1,4 @@
-use Rattle.std.proofs.Common.{take, refl, arith}
-use Rattle.std.proofs.lemmas.Grind.{common_steps}
-use Rattle.std.proofs.lemmas.List.{take_more_set}
-use Rattle.dm_packet.specs.Field.{number}
-use Rattle.dm_packet.proofs.Loop.{goes_on}
-use Rattle.dm_statebytes.specs.Shell.{registers}
+use Rattle.dm_statebytes.proofs.Names.{take, refl, arith, common_steps, take_more_set, number, goes_on, registers}
 use Rattle.dm_statebytes.proofs.Loops.{front_none}
 use Rattle.dm_statebytes.proofs.reading.registers_at.Goals as goal
 

@@ -1,7 +1,4 @@
-use Rattle.std.proofs.Common.{◌≡◌, ◌-◌, length, take}
-use Rattle.dm_packet.specs.Field.{number, read_times}
-use Rattle.dm_packet.proofs.Loop.{with_front}
-use Rattle.dm_statebytes.specs.Shell.{registers}
+use Rattle.dm_statebytes.proofs.Names.{◌≡◌, ◌-◌, length, take, number, read_times, with_front, registers}
 use Rattle.dm_statebytes.proofs.reading.registers_at.Given as goal
 
 abbrev pub invariant-loop-place : goal.invariant-loop-place

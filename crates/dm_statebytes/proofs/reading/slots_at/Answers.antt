@@ -1,7 +1,4 @@
-use Rattle.std.proofs.Common.{◌≡◌, ◌-◌, take, ap, ◌∙◌, arith}
-use Rattle.std.proofs.lemmas.Grind.{common_steps}
-use Rattle.std.proofs.lemmas.Result.{err_from_is_err_and}
-use Rattle.dm_statebytes.specs.Table.{read_slots}
+use Rattle.dm_statebytes.proofs.Names.{◌≡◌, ◌-◌, take, ap, ◌∙◌, arith, common_steps, err_from_is_err_and, read_slots}
 use Rattle.dm_statebytes.proofs.Loops.{front_none, slot_empty, slot_held, slots_fail}
 use Rattle.dm_statebytes.proofs.reading.slots_at.Goals as goal
 use Rattle.dm_statebytes.proofs.reading.slots_at.Goals.{then-left-eq1+in_ok-link, else-left-eq1}

@@ -1,7 +1,4 @@
-use Rattle.std.proofs.Common.{◌≡◌, ◌≤◌, ◌-◌, ℕ, None, length, take}
-use Rattle.dm_linktable.specs.Slots.{link_at}
-use Rattle.dm_packet.proofs.Loop.{with_front}
-use Rattle.dm_statebytes.specs.Table.{read_slots}
+use Rattle.dm_statebytes.proofs.Names.{◌≡◌, ◌≤◌, ◌-◌, ℕ, None, length, take, link_at, with_front, read_slots}
 use Rattle.dm_statebytes.proofs.reading.slots_at.Given as goal
 
 abbrev pub invariant-loop-slot : goal.invariant-loop-slot

@@ -1,5 +1,4 @@
-use Rattle.std.proofs.Common.{◌<◌, None, Some, length, sym, arith}
-use Rattle.std.proofs.lemmas.List.{append-nil}
+use Rattle.dm_statebytes.proofs.Names.{◌<◌, None, Some, length, sym, arith, append-nil}
 use Rattle.dm_statebytes.proofs.Loops.{slot_written}
 use Rattle.dm_statebytes.proofs.writing.extend_with_links.Goals as goal
 use Rattle.dm_statebytes.proofs.writing.extend_with_links.Goals.{in-Some+in_ok-extend_with_link, in_default}

@@ -1,7 +1,4 @@
-use Rattle.std.proofs.Common.{◌≡◌, ◌++◌, take}
-use Rattle.std.specs.List.{All, flat_map}
-use Rattle.dm_statebytes.specs.Table.{spell_slot}
-use Rattle.dm_statebytes.specs.Widths.{FitsSlot}
+use Rattle.dm_statebytes.proofs.Names.{◌≡◌, ◌++◌, take, All, flat_map, spell_slot, FitsSlot}
 use Rattle.dm_statebytes.proofs.writing.extend_with_links.Given as goal
 
 abbrev pub invariant-loop-slot : goal.invariant-loop-slot

@@ -1,4 +1,4 @@
-use Rattle.std.proofs.Common.{◌≤◌, length, arith}
+use Rattle.dm_statebytes.proofs.Names.{◌≤◌, length, arith}
 use Rattle.dm_statebytes.proofs.Loops.{mask_has_room}
 use Rattle.dm_statebytes.proofs.writing.mask_of.Goals as goal
 

@@ -1,5 +1,4 @@
-use Rattle.std.proofs.Common.{◌≡◌, ◌≤◌, drop, length}
-use Rattle.dm_statebytes.specs.Table.{mask_of}
+use Rattle.dm_statebytes.proofs.Names.{◌≡◌, ◌≤◌, drop, length, mask_of}
 use Rattle.dm_statebytes.proofs.writing.mask_of.Given as goal
 
 abbrev pub invariant-loop-slot : goal.invariant-loop-slot

@@ -1,8 +1,4 @@
-use Rattle.std.proofs.Common.{◌≡◌, ◌++◌, ap, ◌∙◌}
-use Rattle.dm_packet.specs.Field.{number}
-use Rattle.dm_packet.specs.Fields.{addr}
-use Rattle.dm_packet.proofs.Writes.{then_put}
-use Rattle.dm_statebytes.specs.Statuses.{direction}
+use Rattle.dm_statebytes.proofs.Names.{◌≡◌, ◌++◌, ap, ◌∙◌, number, addr, then_put, direction}
 use Rattle.dm_statebytes.proofs.writing.put_moving.Goals as goal
 
 pub returns-clause-put : goal.returns-clause-put

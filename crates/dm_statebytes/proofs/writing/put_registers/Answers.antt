@@ -1,8 +1,4 @@
-use Rattle.std.proofs.Common.{get_or, take}
-use Rattle.std.specs.List.{flat_map}
-use Rattle.dm_packet.specs.Field.{number}
-use Rattle.dm_packet.specs.Widths.{Fits}
-use Rattle.dm_packet.proofs.Writes.{all_next, next_has_room, pieces_next, then_put}
+use Rattle.dm_statebytes.proofs.Names.{get_or, take, flat_map, number, Fits, all_next, next_has_room, pieces_next, then_put}
 use Rattle.dm_statebytes.proofs.writing.put_registers.Goals as goal
 
 pub put_u32-requires : goal.put_u32-requires

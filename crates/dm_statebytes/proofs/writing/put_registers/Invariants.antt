@@ -1,7 +1,4 @@
-use Rattle.std.proofs.Common.{◌≡◌, ◌++◌, take}
-use Rattle.std.specs.List.{All, flat_map}
-use Rattle.dm_packet.specs.Field.{number}
-use Rattle.dm_packet.specs.Widths.{Fits}
+use Rattle.dm_statebytes.proofs.Names.{◌≡◌, ◌++◌, take, All, flat_map, number, Fits}
 use Rattle.dm_statebytes.proofs.writing.put_registers.Given as goal
 
 abbrev pub invariant-loop-value : goal.invariant-loop-value

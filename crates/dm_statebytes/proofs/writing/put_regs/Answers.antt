@@ -1,9 +1,4 @@
-use Rattle.std.proofs.Common.{◌≡◌, ◌+◌, ◌∙◌, length, ap, arith}
-use Rattle.std.specs.List.{flat_map}
-use Rattle.std.proofs.lemmas.List.{length-append}
-use Rattle.dm_packet.specs.Field.{number}
-use Rattle.dm_packet.proofs.Writes.{then_put}
-use Rattle.dm_statebytes.specs.Shell.{registers}
+use Rattle.dm_statebytes.proofs.Names.{◌≡◌, ◌+◌, ◌∙◌, length, ap, arith, flat_map, length-append, number, then_put, registers}
 use Rattle.dm_statebytes.proofs.Sizes.{numbers_size}
 use Rattle.dm_statebytes.proofs.writing.put_regs.Goals as goal
 

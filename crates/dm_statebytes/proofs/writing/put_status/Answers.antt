@@ -1,6 +1,5 @@
-use Rattle.dm_packet.proofs.Writes.{then_put}
+use Rattle.dm_statebytes.proofs.Names.{then_put, moving, status_kind, waiting}
 use Rattle.dm_statebytes.specs.declared.status.StatusKind.TheVariants as kinds
-use Rattle.dm_statebytes.specs.Statuses.{moving, status_kind, waiting}
 use Rattle.dm_statebytes.proofs.writing.put_status.Goals as goal
 
 pub returns-in-Waiting-clause-put : goal.returns-in-Waiting-clause-put

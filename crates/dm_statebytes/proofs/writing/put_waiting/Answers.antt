@@ -1,6 +1,4 @@
-use Rattle.std.proofs.Common.{◌++◌}
-use Rattle.dm_packet.specs.Field.{number}
-use Rattle.dm_packet.proofs.Writes.{then_put}
+use Rattle.dm_statebytes.proofs.Names.{◌++◌, number, then_put}
 use Rattle.dm_statebytes.proofs.writing.put_waiting.Goals as goal
 
 pub returns-clause-put : goal.returns-clause-put

@@ -1,6 +1,6 @@
 use Rattle.dm_stream.proofs.Follows.{IsAllThere-stands, MayCome-stands}
 use Rattle.dm_stream.proofs.Together.{stands}
-use Rattle.dm_stream.specs.Stream.{run, start}
+use Rattle.dm_stream.proofs.Names.{run, start}
 use Rattle.dm_stream.proofs.law.any_schedule.Goals as goal
 
 pub returns : goal.returns

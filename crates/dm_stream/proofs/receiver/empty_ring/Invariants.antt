@@ -1,5 +1,4 @@
-use Rattle.std.proofs.Common.{◌≡◌, ◌≤◌, None, replicate}
-use Rattle.circular_buffer.specs.Buffer.{buffer}
+use Rattle.dm_stream.proofs.Names.{◌≡◌, ◌≤◌, None, replicate, buffer}
 use Rattle.dm_stream.proofs.receiver.empty_ring.Given as goal
 
 abbrev pub invariant-loop-filled : goal.invariant-loop-filled

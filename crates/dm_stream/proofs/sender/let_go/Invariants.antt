@@ -1,4 +1,4 @@
-use Rattle.std.proofs.Common.{◌≡◌, drop}
+use Rattle.dm_stream.proofs.Names.{◌≡◌, drop}
 use Rattle.dm_stream.proofs.sender.let_go.Given as goal
 
 abbrev pub invariant-loop-gone : goal.invariant-loop-gone

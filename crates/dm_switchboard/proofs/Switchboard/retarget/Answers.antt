@@ -1,7 +1,4 @@
-use Rattle.std.proofs.Common.{sym, subst, ap, ◌∙◌, map}
-use Rattle.std.specs.List.{All}
-use Rattle.dm_switchboard.specs.Board.{Board, plain_named, retargeted_named}
-use Rattle.dm_switchboard.specs.Lawful.{IsLawfulNamed}
+use Rattle.dm_switchboard.proofs.Names.{sym, subst, ap, ◌∙◌, map, All, Board, plain_named, retargeted_named, IsLawfulNamed}
 use Rattle.dm_switchboard.proofs.Lawful.{retargeted_lawful}
 use Rattle.dm_switchboard.proofs.Plain.{plain_retargeted}
 use Rattle.dm_switchboard.proofs.Switchboard.retarget.Goals as goal

@@ -1,5 +1,4 @@
-use Rattle.std.proofs.Common.{sym, ap, ◌∙◌}
-use Rattle.indexmap.specs.Layout.{set_value_at}
+use Rattle.dm_switchboard.proofs.Names.{sym, ap, ◌∙◌, set_value_at}
 use Rattle.dm_switchboard.proofs.Following.{behind_set, told_set}
 use Rattle.dm_switchboard.proofs.names.retarget_at.Goals as goal
 

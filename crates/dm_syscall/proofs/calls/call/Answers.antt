@@ -1,5 +1,5 @@
 -- What follows from the exact call.
-use Rattle.dm_syscall.specs.Calls.{calls}
+use Rattle.dm_syscall.proofs.Names.{calls}
 use Rattle.dm_syscall.proofs.PlainCalls.{call_plainly}
 use Rattle.dm_syscall.proofs.LawfulCalls.{IsLawfulDone, call_counts, call_lawfully}
 use Rattle.dm_syscall.proofs.calls.call.Goals as goal

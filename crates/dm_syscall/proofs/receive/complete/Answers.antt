@@ -1,12 +1,5 @@
 -- What the message says, and what becomes of it.
-use Rattle.std.proofs.Common.{◌≡◌, ◌∙◌, Some, None, ap, sym, refl, map, length}
-use Rattle.dm_link.specs.Plain.{plain_link}
-use Rattle.dm_message.specs.declared.Message.{Message}
-use Rattle.dm_onekernel.specs.Plain.{plain_process}
-use Rattle.dm_onekernel.specs.Receiving.{receive_refusals, received_regs}
-use Rattle.dm_onekernel.specs.Pieces.{written_at}
-use Rattle.dm_onekernel.specs.Refusals.{first_failed}
-use Rattle.dm_syscall.specs.Completing.{Placed, place_links, receives}
+use Rattle.dm_syscall.proofs.Names.{◌≡◌, ◌∙◌, Some, None, ap, sym, refl, map, length, plain_link, Message, plain_process, receive_refusals, received_regs, written_at, first_failed, Placed, place_links, receives}
 use Rattle.dm_syscall.specs.declared.Completed.TheVariants as completed
 use Rattle.dm_process.specs.declared.process.Status.TheVariants as status
 use Rattle.dm_syscall.proofs.Receives.{Says, completes_saying}

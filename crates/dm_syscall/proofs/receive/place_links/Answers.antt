@@ -1,7 +1,5 @@
 -- One more link is placed.
-use Rattle.std.proofs.Common.{◌∙◌, false}
-use Rattle.dm_link.specs.declared.Kind.TheVariants.{General}
-use Rattle.dm_link.specs.declared.Link.{Link}
+use Rattle.dm_syscall.proofs.Names.{◌∙◌, false, General, Link}
 use Rattle.dm_syscall.proofs.Receives.{place_next}
 use Rattle.dm_syscall.proofs.receive.place_links.Goals as goal
 

@@ -1,6 +1,5 @@
 -- Placing those that are left now is placing all at first.
-use Rattle.std.proofs.Common.{◌≡◌, ◌+◌, drop}
-use Rattle.dm_syscall.specs.Completing.{place_links}
+use Rattle.dm_syscall.proofs.Names.{◌≡◌, ◌+◌, drop, place_links}
 use Rattle.dm_syscall.proofs.receive.place_links.Given as goal
 
 abbrev pub invariant-loop-i : goal.invariant-loop-i

@@ -1,7 +1,5 @@
 -- Whether one of those that are left is empty says whether one of all is.
-use Rattle.std.proofs.Common.{◌≡◌, drop, map}
-use Rattle.dm_linktable.specs.Slots.{plain_slot}
-use Rattle.dm_onekernel.specs.Calls.{any_empty}
+use Rattle.dm_syscall.proofs.Names.{◌≡◌, drop, map, plain_slot, any_empty}
 use Rattle.dm_syscall.proofs.send.any_empty.Given as goal
 
 abbrev pub invariant-loop-slot : goal.invariant-loop-slot

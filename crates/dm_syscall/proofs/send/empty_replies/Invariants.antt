@@ -1,6 +1,5 @@
 -- Emptying those that are left now is emptying all at first.
-use Rattle.std.proofs.Common.{◌≡◌, drop}
-use Rattle.dm_syscall.specs.Sends.{emptied}
+use Rattle.dm_syscall.proofs.Names.{◌≡◌, drop, emptied}
 use Rattle.dm_syscall.proofs.send.empty_replies.Given as goal
 
 abbrev pub invariant-loop-slot : goal.invariant-loop-slot

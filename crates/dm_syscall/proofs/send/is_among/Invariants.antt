@@ -1,6 +1,5 @@
 -- Whether the slot is among those that are left says whether it is among all.
-use Rattle.std.proofs.Common.{◌≡◌, drop}
-use Rattle.dm_onekernel.specs.Calls.{is_among}
+use Rattle.dm_syscall.proofs.Names.{◌≡◌, drop, is_among}
 use Rattle.dm_syscall.proofs.send.is_among.Given as goal
 
 abbrev pub invariant-loop-other : goal.invariant-loop-other

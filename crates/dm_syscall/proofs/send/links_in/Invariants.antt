@@ -1,6 +1,5 @@
 -- The links so far and those of the slots that are left are all.
-use Rattle.std.proofs.Common.{◌≡◌, ◌≤◌, ◌++◌, drop, length}
-use Rattle.dm_syscall.specs.Sends.{links_in}
+use Rattle.dm_syscall.proofs.Names.{◌≡◌, ◌≤◌, ◌++◌, drop, length, links_in}
 use Rattle.dm_syscall.proofs.send.links_in.Given as goal
 
 abbrev pub invariant-loop-slot : goal.invariant-loop-slot

@@ -1,7 +1,5 @@
 -- Whether one stands twice among those that are left says whether one stands twice among all.
-use Rattle.std.proofs.Common.{◌≡◌, drop, map}
-use Rattle.dm_linktable.specs.Slots.{plain_slot}
-use Rattle.dm_onekernel.specs.Calls.{reply_named_twice}
+use Rattle.dm_syscall.proofs.Names.{◌≡◌, drop, map, plain_slot, reply_named_twice}
 use Rattle.dm_syscall.proofs.send.lists_reply_twice.Given as goal
 
 abbrev pub invariant-loop-i : goal.invariant-loop-i

@@ -1,6 +1,4 @@
-use Rattle.std.proofs.Common.{ℕ, ◌<◌, get_or}
-use Rattle.dm_message.specs.declared.MsgId.{MsgId}
-use Rattle.dm_text.specs.Fits.{IdFits}
+use Rattle.dm_text.proofs.Names.{ℕ, ◌<◌, get_or, MsgId, IdFits}
 use Rattle.dm_text.proofs.back.ids_fit.Given as goal
 
 -- those before the loop's place

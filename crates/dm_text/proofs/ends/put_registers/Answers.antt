@@ -1,6 +1,4 @@
-use Rattle.std.proofs.Common.{[], ◌∷◌, map}
-use Rattle.std.specs.Fmt.{decimal}
-use Rattle.dm_text.specs.Words.{pid_word}
+use Rattle.dm_text.proofs.Names.{[], ◌∷◌, map, decimal, pid_word}
 use Rattle.dm_text.proofs.Kept.{kept-thrice, listed-more}
 use Rattle.dm_text.proofs.ends.put_registers.Goals as goal
 

@@ -1,5 +1,4 @@
-use Rattle.std.proofs.Common.{◌++◌, ap, ◌∙◌}
-use Rattle.dm_text.specs.Text.{end_text}
+use Rattle.dm_text.proofs.Names.{◌++◌, ap, ◌∙◌, end_text}
 use Rattle.dm_text.proofs.Lines.{ends-none, ends-more}
 use Rattle.dm_text.proofs.text.write_ends.Goals as goal
 

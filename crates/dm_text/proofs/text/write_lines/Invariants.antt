@@ -1,5 +1,4 @@
-use Rattle.std.proofs.Common.{◌≡◌, ◌++◌, take}
-use Rattle.dm_text.specs.Text.{text_of_lines}
+use Rattle.dm_text.proofs.Names.{◌≡◌, ◌++◌, take, text_of_lines}
 use Rattle.dm_text.proofs.text.write_lines.Given as goal
 
 abbrev pub invariant-loop-line : goal.invariant-loop-line

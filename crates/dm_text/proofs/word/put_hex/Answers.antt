@@ -1,4 +1,4 @@
-use Rattle.std.proofs.Common.{◌++◌, ◌∷◌, [], ap, ◌∙◌}
+use Rattle.dm_text.proofs.Names.{◌++◌, ◌∷◌, [], ap, ◌∙◌}
 use Rattle.dm_text.proofs.Spacing.{hex-more}
 use Rattle.dm_text.proofs.word.put_hex.Goals as goal
 

@@ -1,5 +1,4 @@
-use Rattle.std.proofs.Common.{◌≡◌, ◌++◌, take}
-use Rattle.dm_text.specs.Ends.{hex}
+use Rattle.dm_text.proofs.Names.{◌≡◌, ◌++◌, take, hex}
 use Rattle.dm_text.proofs.word.put_hex.Given as goal
 
 abbrev pub invariant-loop-byte : goal.invariant-loop-byte

@@ -1,4 +1,4 @@
-use Rattle.dm_text.specs.Words.{id_word}
+use Rattle.dm_text.proofs.Names.{id_word}
 use Rattle.dm_text.proofs.Spacing.{spaced-more}
 use Rattle.dm_text.proofs.Kept.{kept}
 use Rattle.dm_text.proofs.word.put_ids.Goals as goal

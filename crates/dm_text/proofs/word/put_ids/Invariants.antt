@@ -1,6 +1,4 @@
-use Rattle.std.proofs.Common.{◌≡◌, ◌++◌, take, map}
-use Rattle.dm_text.specs.Words.{id_word}
-use Rattle.dm_text.specs.Text.{spaced}
+use Rattle.dm_text.proofs.Names.{◌≡◌, ◌++◌, take, map, id_word, spaced}
 use Rattle.dm_text.proofs.word.put_ids.Given as goal
 
 abbrev pub invariant-loop-id : goal.invariant-loop-id

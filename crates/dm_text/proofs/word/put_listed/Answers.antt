@@ -1,4 +1,4 @@
-use Rattle.std.proofs.Common.{◌++◌, ap, ◌∙◌}
+use Rattle.dm_text.proofs.Names.{◌++◌, ap, ◌∙◌}
 use Rattle.dm_text.proofs.Kept.{kept-twice, listed}
 use Rattle.dm_text.proofs.word.put_listed.Goals as goal
 

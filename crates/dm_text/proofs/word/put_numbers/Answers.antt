@@ -1,4 +1,4 @@
-use Rattle.std.specs.Fmt.{decimal}
+use Rattle.dm_text.proofs.Names.{decimal}
 use Rattle.dm_text.proofs.Spacing.{spaced-more}
 use Rattle.dm_text.proofs.Kept.{kept}
 use Rattle.dm_text.proofs.word.put_numbers.Goals as goal

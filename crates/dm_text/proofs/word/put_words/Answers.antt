@@ -1,4 +1,4 @@
-use Rattle.dm_text.specs.Written.{word_text}
+use Rattle.dm_text.proofs.Names.{word_text}
 use Rattle.dm_text.proofs.Spacing.{spaced-more}
 use Rattle.dm_text.proofs.Kept.{kept}
 use Rattle.dm_text.proofs.word.put_words.Goals as goal

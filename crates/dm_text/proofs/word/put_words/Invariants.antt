@@ -1,6 +1,4 @@
-use Rattle.std.proofs.Common.{◌≡◌, ◌++◌, take, map}
-use Rattle.dm_text.specs.Written.{word_text}
-use Rattle.dm_text.specs.Text.{spaced}
+use Rattle.dm_text.proofs.Names.{◌≡◌, ◌++◌, take, map, word_text, spaced}
 use Rattle.dm_text.proofs.word.put_words.Given as goal
 
 abbrev pub invariant-loop-word : goal.invariant-loop-word

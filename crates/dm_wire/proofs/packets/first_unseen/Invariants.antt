@@ -1,5 +1,4 @@
-use Rattle.std.proofs.Common.{◌≡◌, ◌-◌, ◌<◌, ◌≤◌, ℕ, length, true}
-use Rattle.dm_wire.specs.Sent.{seen_at}
+use Rattle.dm_wire.proofs.Names.{◌≡◌, ◌-◌, ◌<◌, ◌≤◌, ℕ, length, true, seen_at}
 use Rattle.dm_wire.proofs.packets.first_unseen.Given as goal
 
 abbrev pub invariant-loop-at : goal.invariant-loop-at

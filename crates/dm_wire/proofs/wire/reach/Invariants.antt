@@ -1,4 +1,4 @@
-use Rattle.std.proofs.Common.{◌≡◌, ◌-◌, ℕ, [], slice_index_or, vec_len}
+use Rattle.dm_wire.proofs.Names.{◌≡◌, ◌-◌, ℕ, [], slice_index_or, vec_len}
 use Rattle.dm_wire.proofs.wire.reach.Given as goal
 
 abbrev pub invariant-loop-alloc : goal.invariant-loop-alloc

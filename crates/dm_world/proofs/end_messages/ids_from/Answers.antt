@@ -1,5 +1,4 @@
-use Rattle.std.proofs.Common.{◌+◌, ◌<◌, ◌++◌, drop, length, arith, ap, ◌∙◌, sym}
-use Rattle.dm_world.specs.Ends.{names_of}
+use Rattle.dm_world.proofs.Names.{◌+◌, ◌<◌, ◌++◌, drop, length, arith, ap, ◌∙◌, sym, names_of}
 use Rattle.dm_world.proofs.Ending.{names_more, within_some}
 use Rattle.dm_world.proofs.end_messages.ids_from.Goals.{in-Some+in_ok-push, in_default}
 use Rattle.dm_world.proofs.end_messages.ids_from.Goals as goal

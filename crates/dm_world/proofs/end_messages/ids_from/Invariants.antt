@@ -1,5 +1,4 @@
-use Rattle.std.proofs.Common.{◌≡◌, ◌++◌, drop}
-use Rattle.dm_world.specs.Ends.{names_of}
+use Rattle.dm_world.proofs.Names.{◌≡◌, ◌++◌, drop, names_of}
 use Rattle.dm_world.proofs.end_messages.ids_from.Given as goal
 
 abbrev pub invariant-loop-place : goal.invariant-loop-place

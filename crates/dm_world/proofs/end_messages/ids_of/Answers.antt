@@ -1,5 +1,4 @@
-use Rattle.std.proofs.Common.{◌+◌, ◌++◌, drop, arith, ap, ◌∙◌}
-use Rattle.dm_world.specs.Ends.{names_of}
+use Rattle.dm_world.proofs.Names.{◌+◌, ◌++◌, drop, arith, ap, ◌∙◌, names_of}
 use Rattle.dm_world.proofs.Ending.{names_more}
 use Rattle.dm_world.proofs.end_messages.ids_of.Goals as goal
 

@@ -1,5 +1,4 @@
-use Rattle.std.proofs.Common.{◌≡◌, ◌++◌, drop}
-use Rattle.dm_world.specs.Ends.{names_of}
+use Rattle.dm_world.proofs.Names.{◌≡◌, ◌++◌, drop, names_of}
 use Rattle.dm_world.proofs.end_messages.ids_of_held.Given as goal
 
 abbrev pub invariant-loop-message : goal.invariant-loop-message

@@ -1,5 +1,4 @@
-use Rattle.std.proofs.Common.{◌≡◌, ◌++◌, drop}
-use Rattle.dm_world.specs.Ends.{link_lines}
+use Rattle.dm_world.proofs.Names.{◌≡◌, ◌++◌, drop, link_lines}
 use Rattle.dm_world.proofs.end_process.say_links.Given as goal
 
 abbrev pub invariant-loop-slot : goal.invariant-loop-slot

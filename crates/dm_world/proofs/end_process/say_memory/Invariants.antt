@@ -1,5 +1,4 @@
-use Rattle.std.proofs.Common.{◌≡◌, ◌++◌}
-use Rattle.dm_line.specs.Ends.{memory_lines}
+use Rattle.dm_world.proofs.Names.{◌≡◌, ◌++◌, memory_lines}
 use Rattle.dm_world.proofs.end_process.say_memory.Given as goal
 
 abbrev pub invariant-loop-block : goal.invariant-loop-block

@@ -1,5 +1,4 @@
-use Rattle.std.proofs.Common.{◌≡◌, ◌==◌, false, take, get_or, arith, ap, ◌∙◌}
-use Rattle.std.proofs.lemmas.Bool.Decides.{nat_tests}
+use Rattle.dm_world.proofs.Names.{◌≡◌, ◌==◌, false, take, get_or, arith, ap, ◌∙◌, nat_tests}
 use Rattle.dm_world.proofs.Ending.{shows_more, shows_same}
 use Rattle.dm_world.proofs.end_process.shown.Goals.{then-bytes-place-ne0, else-bytes-place-ne0}
 use Rattle.dm_world.proofs.end_process.shown.Goals as goal

@@ -1,5 +1,4 @@
-use Rattle.std.proofs.Common.{◌≡◌, ◌≤◌, take}
-use Rattle.dm_line.specs.Ends.{trimmed}
+use Rattle.dm_world.proofs.Names.{◌≡◌, ◌≤◌, take, trimmed}
 use Rattle.dm_world.proofs.end_process.shown.Given as goal
 
 abbrev pub invariant-loop-place : goal.invariant-loop-place

@@ -1,5 +1,4 @@
-use Rattle.std.proofs.Common.{◌≡◌, ◌+◌, ◌++◌, drop}
-use Rattle.dm_world.specs.Ends.{child_lines}
+use Rattle.dm_world.proofs.Names.{◌≡◌, ◌+◌, ◌++◌, drop, child_lines}
 use Rattle.dm_world.proofs.end_servers.say_children.Given as goal
 
 abbrev pub invariant-loop-place : goal.invariant-loop-place

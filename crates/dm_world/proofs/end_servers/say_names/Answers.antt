@@ -1,9 +1,4 @@
-use Rattle.std.proofs.Common.{◌+◌, ◌<◌, ◌++◌, drop, length, arith, ap, ◌∙◌, sym}
-use Rattle.std.specs.Prelude.{Vec}
-use Rattle.std.specs.declared.alloc.Global.{Global}
-use Rattle.dm_line.specs.declared.end_line.EndLine.{EndLine}
-use Rattle.dm_switchboard.specs.Board.{Named}
-use Rattle.dm_world.specs.Ends.{name_lines}
+use Rattle.dm_world.proofs.Names.{◌+◌, ◌<◌, ◌++◌, drop, length, arith, ap, ◌∙◌, sym, Vec, Global, EndLine, Named, name_lines}
 use Rattle.dm_world.proofs.Ending.{name_more, short_name, within_some}
 use Rattle.dm_world.proofs.end_servers.say_names.Goals.{in-Some+in_ok-say_name, in_default}
 use Rattle.dm_world.proofs.end_servers.say_names.Goals as goal

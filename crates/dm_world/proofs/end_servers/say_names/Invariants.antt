@@ -1,5 +1,4 @@
-use Rattle.std.proofs.Common.{◌≡◌, ◌++◌, drop}
-use Rattle.dm_world.specs.Ends.{name_lines}
+use Rattle.dm_world.proofs.Names.{◌≡◌, ◌++◌, drop, name_lines}
 use Rattle.dm_world.proofs.end_servers.say_names.Given as goal
 
 abbrev pub invariant-loop-place : goal.invariant-loop-place

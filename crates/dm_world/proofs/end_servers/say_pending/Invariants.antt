@@ -1,5 +1,4 @@
-use Rattle.std.proofs.Common.{◌≡◌, ◌++◌, drop}
-use Rattle.dm_world.specs.Ends.{pending_lines}
+use Rattle.dm_world.proofs.Names.{◌≡◌, ◌++◌, drop, pending_lines}
 use Rattle.dm_world.proofs.end_servers.say_pending.Given as goal
 
 abbrev pub invariant-loop-request : goal.invariant-loop-request

@@ -1,9 +1,4 @@
-use Rattle.std.proofs.Common.{◌∷◌, ap, ◌∙◌}
-use Rattle.std.specs.Vec.Iter.{into_iter_items}
-use Rattle.std.proofs.lemmas.List.Elements.{All-rest}
-use Rattle.dm_wire.specs.Wire.{packets_on}
-use Rattle.dm_node.specs.Wired.{spoken}
-use Rattle.dm_world.specs.Meets.{IsSendable}
+use Rattle.dm_world.proofs.Names.{◌∷◌, ap, ◌∙◌, into_iter_items, All-rest, packets_on, spoken, IsSendable}
 use Rattle.dm_world.proofs.Speaking.{leads_line, leads_packet}
 use Rattle.dm_world.proofs.Rereading.{back_line, back_packet}
 use Rattle.dm_world.proofs.speak.speak.Goals as goal

@@ -1,9 +1,4 @@
-use Rattle.std.specs.List.{All}
-use Rattle.std.specs.Vec.Iter.{into_iter_items}
-use Rattle.dm_wire.specs.Wire.{packets_on}
-use Rattle.dm_node.specs.Wired.{spoken}
-use Rattle.dm_world.specs.Meets.{IsSendable}
-use Rattle.dm_world.specs.Readable.{AreReadBack}
+use Rattle.dm_world.proofs.Names.{All, into_iter_items, packets_on, spoken, IsSendable, AreReadBack}
 use Rattle.dm_world.proofs.Speaking.{Leads}
 use Rattle.dm_world.proofs.speak.speak.Given as goal
 

@@ -1,12 +1,4 @@
-use Rattle.std.proofs.Common.{refl, sym, subst}
-use Rattle.std.specs.declared.result.Result.TheVariants.{Err}
-use Rattle.dm_kernel.specs.Lawful.{IsLawfulState}
-use Rattle.dm_node.specs.Acts.{asks_move}
-use Rattle.dm_node.specs.Lawful.{ActsLawfully}
-use Rattle.dm_node.specs.May.{MayAskMove}
-use Rattle.dm_node.specs.Meets.{AnswersSome, GaveSome}
-use Rattle.dm_node.proofs.Sends.{asks_lawfully}
-use Rattle.dm_world.specs.Meets.{node_in}
+use Rattle.dm_world.proofs.Names.{refl, sym, subst, Err, IsLawfulState, asks_move, ActsLawfully, MayAskMove, AnswersSome, GaveSome, asks_lawfully, node_in}
 use Rattle.dm_world.proofs.Nodes.{acted_some, here_at, is_node_at, node_at, small, stopped, turn_sendable}
 use Rattle.dm_world.proofs.step.ask_manager.Goals as goal
 

@@ -1,9 +1,4 @@
-use Rattle.std.proofs.Common.{sym, subst}
-use Rattle.dm_node.specs.Acts.{arrives_packet}
-use Rattle.dm_node.specs.Lawful.{ActsLawfully}
-use Rattle.dm_node.specs.May.{MayArrivePacket}
-use Rattle.dm_node.specs.Meets.{Gave}
-use Rattle.dm_world.specs.Meets.{node_in}
+use Rattle.dm_world.proofs.Names.{sym, subst, arrives_packet, ActsLawfully, MayArrivePacket, Gave, node_in}
 use Rattle.dm_world.proofs.Nodes.{acted, all_sendable, here_at, is_node_at, node_at, packet_lawfully}
 use Rattle.dm_world.proofs.step.receive.Goals as goal
 

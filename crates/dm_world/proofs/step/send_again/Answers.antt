@@ -1,10 +1,5 @@
-use Rattle.std.proofs.Common.{◌++◌, ◌∙◌, ap, refl, sym, subst}
-use Rattle.dm_node.specs.Acts.{tick}
-use Rattle.dm_node.specs.Lawful.{ActsLawfully}
-use Rattle.dm_node.specs.May.{MayAct}
-use Rattle.dm_node.specs.Meets.{HasStreams, state_of}
-use Rattle.dm_node.proofs.Sends.{ticks_lawfully}
-use Rattle.dm_world.specs.Meets.{node_in}
+use Rattle.dm_world.proofs.Names.{◌++◌, ◌∙◌, ap, refl, sym, subst, tick, ActsLawfully, MayAct, HasStreams, ticks_lawfully, node_in}
+use Rattle.dm_node.specs.Meets.{state_of}
 use Rattle.dm_world.proofs.Nodes.{acted_still, all_sendable, here_at, is_node_at, node_at}
 use Rattle.dm_world.proofs.step.send_again.Goals as goal
 

@@ -1,13 +1,4 @@
-use Rattle.std.proofs.Common.{sym, subst}
-use Rattle.std.specs.declared.result.Result.TheVariants.{Err}
-use Rattle.dm_kernel.specs.Carried.{FreezesWhole}
-use Rattle.dm_kernel.specs.Lawful.{IsLawfulState}
-use Rattle.dm_node.specs.Acts.{turn}
-use Rattle.dm_node.specs.Lawful.{ActsLawfully}
-use Rattle.dm_node.specs.May.{MayTurn}
-use Rattle.dm_node.specs.Meets.{AnswersSome, GaveSome, IfWorn}
-use Rattle.dm_node.proofs.Sends.{turns_lawfully}
-use Rattle.dm_world.specs.Meets.{node_in}
+use Rattle.dm_world.proofs.Names.{sym, subst, Err, FreezesWhole, IsLawfulState, turn, ActsLawfully, MayTurn, AnswersSome, GaveSome, IfWorn, turns_lawfully, node_in}
 use Rattle.dm_world.proofs.Nodes.{acted_some, here_at, is_node_at, node_at, stopped, turn_sendable}
 use Rattle.dm_world.proofs.step.take_turn.Goals as goal
 

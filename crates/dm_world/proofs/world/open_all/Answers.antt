@@ -1,11 +1,5 @@
-use Rattle.std.proofs.Common.{◌≡◌, ◌++◌, ◌∷◌, ℕ, [], length, ◌+◌, ap, sym, subst, ◌∙◌, length-append}
-use Rattle.std.specs.Prelude.{slice_get}
-use Rattle.std.specs.declared.option.Option.TheVariants.{Some}
-use Rattle.dm_node.specs.declared.node.Node.{Node}
+use Rattle.dm_world.proofs.Names.{◌≡◌, ◌++◌, ◌∷◌, ℕ, [], length, ◌+◌, ap, sym, subst, ◌∙◌, length-append, slice_get, Some, Node, here, opened, AreNodes, opened_here}
 use Rattle.dm_node.specs.Meets.{state_of}
-use Rattle.dm_node.specs.State.{here, opened}
-use Rattle.dm_world.specs.Meets.{AreNodes}
-use Rattle.dm_node.proofs.Here.{opened_here}
 use Rattle.dm_world.proofs.Nodes.{are_pushed, opened_pushed}
 use Rattle.dm_world.proofs.world.open_all.Goals as goal
 

@@ -1,10 +1,5 @@
-use Rattle.std.proofs.Common.{◌≡◌, ℕ, length}
-use Rattle.std.specs.Prelude.{slice_get}
-use Rattle.std.specs.declared.option.Option.TheVariants.{Some}
-use Rattle.dm_node.specs.declared.node.Node.{Node}
+use Rattle.dm_world.proofs.Names.{◌≡◌, ℕ, length, slice_get, Some, Node, opened, AreNodes}
 use Rattle.dm_node.specs.Meets.{state_of}
-use Rattle.dm_node.specs.State.{opened}
-use Rattle.dm_world.specs.Meets.{AreNodes}
 use Rattle.dm_world.proofs.world.open_all.Given as goal
 
 abbrev pub invariant-loop-here : goal.invariant-loop-here

@@ -1,5 +1,5 @@
 -- The label was not there.
-use Rattle.dm_asm.specs.Labels.{place_in}
+use Rattle.dm_asm.proofs.Names.{place_in}
 use Rattle.dm_asm.proofs.Defined.{defined}
 use Rattle.dm_asm.proofs.labels.Labels.define.Goals as goal
 

@@ -1,8 +1,5 @@
 -- No lines are left.
-use Rattle.std.proofs.Common.{◌≡◌, ◌∙◌, ap, sym, length, arith}
-use Rattle.std.proofs.lemmas.Bool.Decides.{nat_tests}
-use Rattle.dm_asm.specs.Labels.{place_in}
-use Rattle.dm_asm.specs.Places.{first_of, place_from}
+use Rattle.dm_asm.proofs.Names.{◌≡◌, ◌∙◌, ap, sym, length, arith, nat_tests, place_in, first_of, place_from}
 use Rattle.dm_asm.proofs.Cuts.{lines-none}
 use Rattle.dm_asm.proofs.Defined.{first_of-None}
 use Rattle.dm_asm.proofs.labels.Labels.of.Goals as goal

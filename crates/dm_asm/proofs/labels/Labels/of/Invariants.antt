@@ -1,8 +1,5 @@
 -- The labels so far, and behind them those of the lines that are left, are all.
-use Rattle.std.proofs.Common.{ℕ, List, ◌≡◌, ◌+◌, ◌*◌, ◌^◌, ◌≤◌, length}
-use Rattle.dm_asm.specs.Labels.{place_in}
-use Rattle.dm_asm.specs.Lines.{lines}
-use Rattle.dm_asm.specs.Places.{first_of, place_from}
+use Rattle.dm_asm.proofs.Names.{ℕ, List, ◌≡◌, ◌+◌, ◌*◌, ◌^◌, ◌≤◌, length, place_in, lines, first_of, place_from}
 use Rattle.dm_asm.proofs.labels.Labels.of.Given as goal
 
 abbrev pub invariant-loop-rest : goal.invariant-loop-rest

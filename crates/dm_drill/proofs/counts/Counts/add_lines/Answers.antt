@@ -1,9 +1,4 @@
-use Rattle.std.proofs.Common.{ℕ, List, take, sym, ap, ◌∙◌}
-use Rattle.std.specs.declared.option.Option.{Option}
-use Rattle.dm_line.specs.declared.line.Line.{Line}
-use Rattle.dm_drill.specs.Counts.{one_more, shown, with_lines}
-use Rattle.dm_drill.specs.Totals.{Totals}
-use Rattle.dm_drill.specs.declared.counts.Counted.{Counted}
+use Rattle.dm_drill.proofs.Names.{ℕ, List, take, sym, ap, ◌∙◌, Option, Line, one_more, shown, with_lines, Totals, Counted}
 use Rattle.dm_drill.proofs.Counting.{lines_none, lines_more}
 use Rattle.dm_drill.proofs.counts.Counts.add_lines.Goals as goal
 

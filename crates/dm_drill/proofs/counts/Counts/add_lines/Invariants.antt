@@ -1,5 +1,4 @@
-use Rattle.std.proofs.Common.{◌≡◌, take}
-use Rattle.dm_drill.specs.Counts.{shown, with_lines}
+use Rattle.dm_drill.proofs.Names.{◌≡◌, take, shown, with_lines}
 use Rattle.dm_drill.proofs.counts.Counts.add_lines.Given as goal
 
 abbrev pub invariant-loop-line : goal.invariant-loop-line

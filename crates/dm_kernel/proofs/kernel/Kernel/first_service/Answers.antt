@@ -1,7 +1,5 @@
 -- The ring is the same at each process that is looked at.
-use Rattle.std.proofs.Common.{◌∙◌, add-one, ap, sym}
-use Rattle.std.specs.Prelude.{is_some}
-use Rattle.dm_kernel.specs.Meets.{state_of}
+use Rattle.dm_kernel.proofs.Names.{◌∙◌, add-one, ap, sym, is_some, state_of}
 use Rattle.dm_kernel.proofs.Rounds.{is_first, none_yet}
 use Rattle.dm_kernel.proofs.kernel.Kernel.first_service.Goals as goal
 

@@ -1,7 +1,4 @@
-use Rattle.std.proofs.Common.{◌≡◌, None, take}
-use Rattle.dm_records.specs.Records.{at}
-use Rattle.dm_kernel.specs.Meets.{state_of}
-use Rattle.dm_kernel.specs.Turn.{first_runnable}
+use Rattle.dm_kernel.proofs.Names.{◌≡◌, None, take, at, state_of, first_runnable}
 use Rattle.dm_kernel.proofs.kernel.Kernel.first_service.Given as goal
 
 abbrev pub invariant-loop-place : goal.invariant-loop-place

@@ -1,12 +1,5 @@
 -- The process can be served, and nothing was changed to see it.
-use Rattle.std.proofs.Common.{◌∙◌, ap, refl, subst, sym}
-use Rattle.dm_records.specs.Records.{at}
-use Rattle.dm_process.specs.Service.{IsServiceOf}
-use Rattle.dm_process.specs.declared.process.Process.{Process}
-use Rattle.dm_kernel.specs.May.{MayAct}
-use Rattle.dm_kernel.specs.Meets.{state_of}
-use Rattle.dm_kernel.specs.Served.{IsHere}
-use Rattle.dm_kernel.specs.State.{KernelState}
+use Rattle.dm_kernel.proofs.Names.{◌∙◌, ap, refl, subst, sym, at, IsServiceOf, Process, MayAct, state_of, IsHere, KernelState}
 use Rattle.dm_kernel.proofs.Known.{can_serve, holds_at}
 use Rattle.dm_kernel.proofs.kernel.Kernel.go_round.Goals as goal
 

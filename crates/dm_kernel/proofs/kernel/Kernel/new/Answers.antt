@@ -1,8 +1,5 @@
 -- One process more stands, and those that are left have their room.
-use Rattle.std.proofs.Common.{◌≡◌, [], ◌∷◌, ◌+◌, ◌∙◌, drop, sym, subst, ap, slice_get}
-use Rattle.dm_kernel.specs.State.{KernelState}
-use Rattle.dm_kernel.specs.Begun.{begins, empty, with_all}
-use Rattle.dm_kernel.specs.Meets.{state_of}
+use Rattle.dm_kernel.proofs.Names.{◌≡◌, [], ◌∷◌, ◌+◌, ◌∙◌, drop, sym, subst, ap, slice_get, KernelState, begins, empty, with_all, state_of}
 use Rattle.dm_kernel.proofs.Making.{drop_at, is_fine}
 use Rattle.dm_kernel.proofs.Opening.{HasRoomFor, is_state, room_from, room_then}
 use Rattle.dm_kernel.proofs.kernel.Kernel.new.Goals as goal

@@ -1,6 +1,4 @@
-use Rattle.std.proofs.Common.{◌≡◌, drop}
-use Rattle.dm_kernel.specs.Begun.{opened, with_all}
-use Rattle.dm_kernel.specs.Meets.{state_of}
+use Rattle.dm_kernel.proofs.Names.{◌≡◌, drop, opened, with_all, state_of}
 use Rattle.dm_kernel.proofs.Opening.{HasRoomFor}
 use Rattle.dm_kernel.proofs.kernel.Kernel.new.Given as goal
 

@@ -1,12 +1,5 @@
 -- The process is lawful, and the message is the one that it waits for.
-use Rattle.std.proofs.Common.{◌≡◌, ◌∙◌, ap, sym, Some}
-use Rattle.std.specs.Option.{option_copied_mut}
-use Rattle.dm_process.specs.Mail.{first_on}
-use Rattle.dm_records.specs.Records.{at, here_of}
-use Rattle.dm_kernel.specs.Meets.{state_of}
-use Rattle.dm_kernel.specs.Serve.{receives}
-use Rattle.dm_kernel.specs.Served.{Receives}
-use Rattle.dm_kernel.specs.State.{with_here}
+use Rattle.dm_kernel.proofs.Names.{◌≡◌, ◌∙◌, ap, sym, Some, option_copied_mut, first_on, at, here_of, state_of, receives, Receives, with_here}
 use Rattle.dm_kernel.proofs.Known.{has_some, is_here, of_here, sets}
 use Rattle.dm_kernel.proofs.Receiving.{received_at, says_one}
 use Rattle.dm_kernel.proofs.Serving.{is_awaited}

@@ -1,12 +1,6 @@
 -- What executing comes to, from what it did to the process in its place.
-use Rattle.std.proofs.Common.{◌≡◌, ◌∙◌, ap, refl, sym, subst, length, Some}
-use Rattle.std.specs.Option.{option_copied_mut}
-use Rattle.dm_records.specs.Records.{at}
-use Rattle.dm_process.specs.declared.process.Process.{Process}
+use Rattle.dm_kernel.proofs.Names.{◌≡◌, ◌∙◌, ap, refl, sym, subst, length, Some, option_copied_mut, at, Process, Answers, state_of, processor_of, Executes}
 use Rattle.dm_kernel.specs.declared.run.Halt.TheVariants as halt
-use Rattle.dm_kernel.specs.Meets.{Answers, state_of}
-use Rattle.dm_kernel.specs.Serve.{processor_of}
-use Rattle.dm_kernel.specs.Served.{Executes}
 use Rattle.dm_kernel.proofs.Known.{has_some, is_here, sets}
 use Rattle.dm_kernel.proofs.Serving.{Keeps, call_keeps, called_as, executes_as, has_place, has_run, runs_lawfully}
 use Rattle.dm_kernel.proofs.kernel.Kernel.run.Goals as goal

@@ -1,13 +1,6 @@
 -- A ready process executes, and one that waits takes its message.
-use Rattle.std.proofs.Common.{◌≡◌, subst}
-use Rattle.dm_records.specs.Records.{at}
-use Rattle.dm_process.specs.Service.{Takes}
-use Rattle.dm_process.specs.declared.process.Process.{Process}
-use Rattle.dm_process.specs.declared.process.Service.{Service}
-use Rattle.dm_process.specs.declared.process.Service.TheVariants.{Execute, Receive}
-use Rattle.dm_process.specs.declared.process.Status.TheVariants.{Ready}
-use Rattle.dm_kernel.specs.Meets.{Answers, state_of}
-use Rattle.dm_kernel.specs.Served.{Executes, IsHere, Receives, Serves}
+use Rattle.dm_kernel.proofs.Names.{◌≡◌, subst, at, Takes, Process, Service, Execute, Ready, Answers, state_of, Executes, IsHere, Receives, Serves}
+use Rattle.dm_process.specs.declared.process.Service.TheVariants.{Receive}
 use Rattle.dm_kernel.proofs.Known.{here_as}
 use Rattle.dm_kernel.proofs.Serving.{serves_ready, serves_waiting}
 use Rattle.dm_kernel.proofs.kernel.Kernel.serve.Goals as goal

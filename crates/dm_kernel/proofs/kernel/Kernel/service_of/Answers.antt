@@ -1,13 +1,5 @@
 -- A process that is looked at stays as it is.
-use Rattle.std.proofs.Common.{◌≡◌, ◌∙◌, Some, None, false, ap, refl, subst, sym}
-use Rattle.std.specs.Prelude.{is_some}
-use Rattle.dm_link.specs.declared.Pid.{Pid}
-use Rattle.dm_records.specs.Records.{at, here_of, with_record}
-use Rattle.dm_records.specs.declared.record.Record.TheVariants.{Here}
-use Rattle.dm_process.specs.declared.process.Process.{Process}
-use Rattle.dm_kernel.specs.Meets.{state_of}
-use Rattle.dm_kernel.specs.State.{Known}
-use Rattle.dm_kernel.specs.Turn.{known_is_runnable}
+use Rattle.dm_kernel.proofs.Names.{◌≡◌, ◌∙◌, Some, None, false, ap, refl, subst, sym, is_some, Pid, at, here_of, with_record, Here, Process, state_of, Known, known_is_runnable}
 use Rattle.dm_kernel.proofs.Known.{has_some, here_runs, is_here_as, none_runs, same_state, set_again}
 use Rattle.dm_kernel.proofs.Rounds.{here_does}
 use Rattle.dm_kernel.proofs.kernel.Kernel.service_of.Goals as goal

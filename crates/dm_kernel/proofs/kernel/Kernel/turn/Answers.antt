@@ -1,6 +1,5 @@
 -- Nothing of what is known changes where a message is taken.
-use Rattle.std.proofs.Common.{refl}
-use Rattle.dm_kernel.specs.Meets.{state_of}
+use Rattle.dm_kernel.proofs.Names.{refl, state_of}
 use Rattle.dm_kernel.proofs.Known.{acts_still}
 use Rattle.dm_kernel.proofs.kernel.Kernel.turn.Goals as goal
 

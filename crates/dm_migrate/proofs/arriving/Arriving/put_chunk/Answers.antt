@@ -1,7 +1,4 @@
-use Rattle.std.proofs.Common.{ℕ, ◌*◌, Bool, List, ◌≡◌, ◌∙◌, sym, ap, ap₂, subst}
-use Rattle.dm_migrate.specs.Arrival.{Arrival, IsNextChunk, with_chunk}
-use Rattle.dm_migrate.specs.Coming.{IsComing, Parts, come_of}
-use Rattle.dm_migrate.specs.declared.arriving.Wanted.{Wanted}
+use Rattle.dm_migrate.proofs.Names.{ℕ, ◌*◌, Bool, List, ◌≡◌, ◌∙◌, sym, ap, ap₂, subst, Arrival, IsNextChunk, with_chunk, IsComing, Parts, come_of, Wanted}
 use Rattle.dm_migrate.proofs.arriving.Arriving.put_chunk.Goals as goal
 use Rattle.dm_migrate.proofs.Pieces.{put}
 use Rattle.dm_migrate.proofs.Coming.{chunk_after, chunk_view, fits}

@@ -1,7 +1,4 @@
-use Rattle.std.proofs.Common.{◌∙◌, ap, subst, sym}
-use Rattle.dm_process.specs.declared.process.Process.{Process}
-use Rattle.dm_process.specs.Lawful.{IsLawfulProcess}
-use Rattle.dm_migrate.specs.Coming.{Parts}
+use Rattle.dm_migrate.proofs.Names.{◌∙◌, ap, subst, sym, Process, IsLawfulProcess, Parts}
 use Rattle.dm_migrate.proofs.arriving.Arriving.restart.Goals as goal
 use Rattle.dm_migrate.proofs.Coming.{all_come, of_ok}
 

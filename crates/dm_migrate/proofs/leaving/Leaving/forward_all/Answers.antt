@@ -1,9 +1,4 @@
-use Rattle.std.proofs.Common.{◌≡◌, ◌+◌, ◌++◌, map, subst}
-use Rattle.std.specs.List.{All}
-use Rattle.dm_link.specs.Lawful.{IsMachine}
-use Rattle.dm_message.specs.Lawful.{IsLawfulMessage}
-use Rattle.dm_message.specs.Plain.{plain_message}
-use Rattle.dm_migrate.specs.Departure.{Departure, sent_on}
+use Rattle.dm_migrate.proofs.Names.{◌≡◌, ◌+◌, ◌++◌, map, subst, All, IsMachine, IsLawfulMessage, plain_message, Departure, sent_on}
 use Rattle.dm_migrate.proofs.Messages.{all_on, lawful_all, plain_on}
 use Rattle.dm_migrate.proofs.leaving.Leaving.forward_all.Goals as goal
 

@@ -1,10 +1,4 @@
-use Rattle.std.proofs.Common.{◌<◌, ◌∷◌, sym, ap, subst, ◌∙◌}
-use Rattle.std.specs.declared.result.Result.TheVariants.{Ok}
-use Rattle.std.specs.Vec.Iter.{into_iter_items}
-use Rattle.std.proofs.lemmas.List.Elements.{All-rest}
-use Rattle.dm_kernel.specs.Lawful.{IsLawfulPart}
-use Rattle.dm_node.specs.Acts.{acts, routes}
-use Rattle.dm_node.specs.Meets.{Answers, state_of}
+use Rattle.dm_node.proofs.Names.{◌<◌, ◌∷◌, sym, ap, subst, ◌∙◌, Ok, into_iter_items, All-rest, IsLawfulPart, acts, routes, Answers, state_of}
 use Rattle.dm_node.proofs.Parts.{all_done, gave_streams, line_said, message_routed, routed_counts}
 use Rattle.dm_node.proofs.node.Node.act.Goals as goal
 

@@ -1,13 +1,4 @@
-use Rattle.std.proofs.Common.{◌≡◌, ◌≤◌, List}
-use Rattle.std.specs.Prelude.{Result}
-use Rattle.std.specs.Vec.Iter.{into_iter_items}
-use Rattle.std.specs.List.{All}
-use Rattle.dm_kernel.specs.Lawful.{IsLawfulPart}
-use Rattle.dm_node.specs.declared.node.Node.{Node}
-use Rattle.dm_node.specs.declared.stop.Stop.{Stop}
-use Rattle.dm_node.specs.declared.out.Out.{Out}
-use Rattle.dm_node.specs.Acts.{acts}
-use Rattle.dm_node.specs.Meets.{Answers, HasStreams, state_of}
+use Rattle.dm_node.proofs.Names.{◌≡◌, ◌≤◌, List, Result, into_iter_items, All, IsLawfulPart, Node, Stop, Out, acts, Answers, HasStreams, state_of}
 use Rattle.dm_node.proofs.node.Node.act.Given as goal
 
 -- what answers the parts that are left answers all

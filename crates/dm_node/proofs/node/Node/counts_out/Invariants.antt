@@ -1,6 +1,4 @@
-use Rattle.std.proofs.Common.{◌≡◌, ◌*◌, ◌≤◌}
-use Rattle.dm_node.specs.Acts.{counts_out}
-use Rattle.dm_node.specs.Meets.{state_of}
+use Rattle.dm_node.proofs.Names.{◌≡◌, ◌*◌, ◌≤◌, counts_out, state_of}
 use Rattle.dm_node.proofs.node.Node.counts_out.Given as goal
 
 abbrev pub invariant-loop-to : goal.invariant-loop-to

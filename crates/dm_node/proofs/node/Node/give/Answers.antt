@@ -1,7 +1,5 @@
-use Rattle.std.proofs.Common.{◌≡◌, ap, ◌∙◌, eq-eqb, length}
-use Rattle.dm_stream.specs.Sending.{given_count, with_given}
+use Rattle.dm_node.proofs.Names.{◌≡◌, ap, ◌∙◌, eq-eqb, length, given_count, with_given, sender_of, state_of}
 use Rattle.dm_stream.specs.declared.sender.GiveError.TheVariants.{Worn}
-use Rattle.dm_node.specs.Meets.{sender_of, state_of}
 use Rattle.dm_node.proofs.States.{apart, sender_set, senders_there, senders_written}
 use Rattle.dm_node.proofs.node.Node.give.Goals as goal
 

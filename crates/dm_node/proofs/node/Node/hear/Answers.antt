@@ -1,11 +1,5 @@
-use Rattle.std.proofs.Common.{◌≡◌, ◌<◌, ◌≤◌, false, true, [], ◌∷◌, ◌++◌, sym, ap, subst, ◌∙◌, arith}
-use Rattle.std.specs.Prelude.{is_some}
-use Rattle.dm_stream.specs.Sending.{due, window, with_acked}
+use Rattle.dm_node.proofs.Names.{◌≡◌, ◌<◌, ◌≤◌, false, true, [], ◌∷◌, ◌++◌, sym, ap, subst, ◌∙◌, arith, is_some, due, window, with_acked, Says, lets_go, Gave, state_of, here, with_sender}
 use Rattle.dm_line.specs.declared.line.Line.TheVariants as line
-use Rattle.dm_node.specs.declared.out.Out.TheVariants.{Says}
-use Rattle.dm_node.specs.Acts.{lets_go}
-use Rattle.dm_node.specs.Meets.{Gave, state_of}
-use Rattle.dm_node.specs.State.{here, with_sender}
 use Rattle.dm_node.proofs.Arrivals.{gave_before, none_goes, none_may_go, one_goes}
 use Rattle.dm_node.proofs.node.Node.hear.Goals as goal
 

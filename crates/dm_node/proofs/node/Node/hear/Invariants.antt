@@ -1,10 +1,4 @@
-use Rattle.std.proofs.Common.{◌-◌, List}
-use Rattle.dm_stream.specs.Packets.{Ack}
-use Rattle.dm_stream.specs.Sending.{window}
-use Rattle.dm_node.specs.declared.node.Node.{Node}
-use Rattle.dm_node.specs.declared.out.Out.{Out}
-use Rattle.dm_node.specs.Acts.{arrives, lets_go}
-use Rattle.dm_node.specs.Meets.{Gave, HasStreams, state_of}
+use Rattle.dm_node.proofs.Names.{◌-◌, List, Ack, window, Node, Out, arrives, lets_go, Gave, HasStreams, state_of}
 use Rattle.dm_node.proofs.node.Node.hear.Given as goal
 
 -- what the rounds that are left give comes behind what there is

@@ -1,6 +1,4 @@
-use Rattle.std.proofs.Common.{ap, ◌∙◌, length}
-use Rattle.dm_stream.specs.Receiving.{after_arrival}
-use Rattle.dm_node.specs.Meets.{receiver_of, state_of}
+use Rattle.dm_node.proofs.Names.{ap, ◌∙◌, length, after_arrival, receiver_of, state_of}
 use Rattle.dm_node.proofs.States.{receiver_set, receivers_written}
 use Rattle.dm_node.proofs.node.Node.receive.Goals as goal
 

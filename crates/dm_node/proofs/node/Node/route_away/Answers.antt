@@ -1,6 +1,4 @@
-use Rattle.std.proofs.Common.{true, ◌++◌, ◌∷◌, [], ap, sym, subst, ◌∙◌}
-use Rattle.dm_node.specs.declared.out.Out.TheVariants.{Says}
-use Rattle.dm_node.specs.Meets.{GaveActs, state_of}
+use Rattle.dm_node.proofs.Names.{true, ◌++◌, ◌∷◌, [], ap, sym, subst, ◌∙◌, Says, GaveActs, state_of}
 use Rattle.dm_node.proofs.States.{given, given_goes}
 use Rattle.dm_node.proofs.node.Node.route_away.Goals as goal
 

@@ -1,6 +1,4 @@
-use Rattle.std.proofs.Common.{◌≡◌, ◌++◌}
-use Rattle.dm_node.specs.Acts.{first_out}
-use Rattle.dm_node.specs.Meets.{state_of}
+use Rattle.dm_node.proofs.Names.{◌≡◌, ◌++◌, first_out, state_of}
 use Rattle.dm_node.proofs.node.Node.send_again.Given as goal
 
 abbrev pub invariant-loop-place : goal.invariant-loop-place

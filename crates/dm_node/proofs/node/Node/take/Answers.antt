@@ -1,7 +1,4 @@
-use Rattle.std.proofs.lemmas.Result.{on_ok_weaker}
-use Rattle.dm_stream.specs.Receiving.{after_arrival, arrival}
-use Rattle.dm_node.specs.Meets.{state_of}
-use Rattle.dm_node.specs.State.{with_receiver}
+use Rattle.dm_node.proofs.Names.{on_ok_weaker, after_arrival, arrival, state_of, with_receiver}
 use Rattle.dm_node.proofs.Arrivals.{message_came}
 use Rattle.dm_node.proofs.node.Node.take.Goals as goal
 

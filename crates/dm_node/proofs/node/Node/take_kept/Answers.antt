@@ -1,9 +1,6 @@
-use Rattle.std.proofs.Common.{◌≡◌, ◌<◌, ◌≤◌, ◌++◌, ◌∷◌, [], sym, ap, ◌∙◌, arith}
+use Rattle.dm_node.proofs.Names.{◌≡◌, ◌<◌, ◌≤◌, ◌++◌, ◌∷◌, [], sym, ap, ◌∙◌, arith, Says, state_of, NodeState, here, with_message}
 use Rattle.dm_line.specs.declared.line.Line.TheVariants as line
 use Rattle.dm_kernel.specs.Meets as kernel
-use Rattle.dm_node.specs.declared.out.Out.TheVariants.{Says}
-use Rattle.dm_node.specs.Meets.{state_of}
-use Rattle.dm_node.specs.State.{NodeState, here, with_message}
 use Rattle.dm_node.proofs.Arrivals.{none_taken, one_taken, rounds_over}
 use Rattle.dm_node.proofs.node.Node.take_kept.Goals as goal
 

@@ -1,9 +1,4 @@
-use Rattle.std.proofs.Common.{◌-◌, List}
-use Rattle.dm_stream.specs.Sending.{window}
-use Rattle.dm_node.specs.declared.node.Node.{Node}
-use Rattle.dm_node.specs.declared.out.Out.{Out}
-use Rattle.dm_node.specs.Acts.{takes_kept}
-use Rattle.dm_node.specs.Meets.{Gave, HasStreams, state_of}
+use Rattle.dm_node.proofs.Names.{◌-◌, List, window, Node, Out, takes_kept, Gave, HasStreams, state_of}
 use Rattle.dm_node.proofs.node.Node.take_kept.Given as goal
 
 -- what the rounds that are left give comes behind what there is

@@ -1,8 +1,5 @@
-use Rattle.std.proofs.Common.{◌≡◌, ◌++◌, ◌∷◌}
+use Rattle.dm_node.proofs.Names.{◌≡◌, ◌++◌, ◌∷◌, Says, all_out, counts_out, state_of}
 use Rattle.dm_line.specs.declared.line.Line.TheVariants as line
-use Rattle.dm_node.specs.declared.out.Out.TheVariants.{Says}
-use Rattle.dm_node.specs.Acts.{all_out, counts_out}
-use Rattle.dm_node.specs.Meets.{state_of}
 use Rattle.dm_node.proofs.node.Node.tick.Given as goal
 
 abbrev pub invariant-loop-to : goal.invariant-loop-to

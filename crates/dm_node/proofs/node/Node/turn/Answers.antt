@@ -1,15 +1,5 @@
-use Rattle.std.proofs.Common.{◌≡◌, List, refl, subst, sym}
-use Rattle.std.specs.List.{All}
-use Rattle.std.specs.declared.option.Option.{Option}
-use Rattle.std.specs.declared.option.Option.TheVariants.{None, Some}
-use Rattle.dm_kernel.specs.declared.kernel.Kernel.{Kernel}
-use Rattle.dm_kernel.specs.declared.part.Part.{Part}
-use Rattle.dm_kernel.specs.Carried.{FreezesWhole}
-use Rattle.dm_kernel.specs.Lawful.{IsLawfulPart, IsLawfulTurned}
-use Rattle.dm_kernel.specs.Meets.{MeetsSome}
-use Rattle.dm_kernel.specs.State.{Turned}
+use Rattle.dm_node.proofs.Names.{◌≡◌, List, refl, subst, sym, All, Option, None, Some, Kernel, Part, FreezesWhole, IsLawfulPart, IsLawfulTurned, MeetsSome, Turned, state_of}
 use Rattle.dm_kernel.specs.Turn as kernel
-use Rattle.dm_node.specs.Meets.{state_of}
 use Rattle.dm_node.proofs.Parts.{or_no_memory, turn_answered}
 use Rattle.dm_node.proofs.node.Node.turn.Goals as goal
 

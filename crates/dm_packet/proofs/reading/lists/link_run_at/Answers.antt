@@ -1,8 +1,4 @@
-use Rattle.std.proofs.Common.{◌∷◌, [], arith}
-use Rattle.std.proofs.lemmas.Result.{err_from_is_err_and}
-use Rattle.std.proofs.lemmas.List.{length-append}
-use Rattle.dm_packet.specs.Field.{read_times}
-use Rattle.dm_packet.specs.Fields.{link}
+use Rattle.dm_packet.proofs.Names.{◌∷◌, [], arith, err_from_is_err_and, length-append, read_times, link}
 use Rattle.dm_packet.proofs.Loop.{fails, goes_on}
 use Rattle.dm_packet.proofs.reading.lists.link_run_at.Goals as goal
 

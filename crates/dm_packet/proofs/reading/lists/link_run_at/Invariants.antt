@@ -1,6 +1,4 @@
-use Rattle.std.proofs.Common.{◌≡◌, ◌-◌, length}
-use Rattle.dm_packet.specs.Field.{read_times}
-use Rattle.dm_packet.specs.Fields.{link}
+use Rattle.dm_packet.proofs.Names.{◌≡◌, ◌-◌, length, read_times, link}
 use Rattle.dm_packet.proofs.Loop.{with_front}
 use Rattle.dm_packet.proofs.reading.lists.link_run_at.Given as goal
 

@@ -1,6 +1,4 @@
-use Rattle.std.proofs.Common.{◌++◌}
-use Rattle.dm_packet.specs.Field.{number}
-use Rattle.dm_packet.specs.Fields.{addr, flags}
+use Rattle.dm_packet.proofs.Names.{◌++◌, number, addr, flags}
 use Rattle.dm_packet.proofs.Writes.{then_put}
 use Rattle.dm_packet.proofs.writing.fields.put_link.Goals as goal
 

@@ -1,7 +1,4 @@
-use Rattle.std.proofs.Common.{◌++◌}
-use Rattle.dm_packet.specs.Field.{number}
-use Rattle.dm_packet.specs.Fields.{pid}
-use Rattle.dm_packet.specs.Whats.{asker, optional}
+use Rattle.dm_packet.proofs.Names.{◌++◌, number, pid, asker, optional}
 use Rattle.dm_packet.proofs.Writes.{then_put}
 use Rattle.dm_packet.proofs.writing.kinds.put_ask.Goals as goal
 

@@ -1,5 +1,4 @@
-use Rattle.std.proofs.Common.{◌∷◌, []}
-use Rattle.dm_packet.specs.Whats.{asker}
+use Rattle.dm_packet.proofs.Names.{◌∷◌, [], asker}
 use Rattle.dm_packet.proofs.Writes.{then_put}
 use Rattle.dm_packet.proofs.writing.kinds.put_asker.Goals as goal
 

@@ -1,5 +1,4 @@
-use Rattle.dm_packet.specs.Field.{number}
-use Rattle.dm_packet.specs.Fields.{addr}
+use Rattle.dm_packet.proofs.Names.{number, addr}
 use Rattle.dm_packet.proofs.Writes.{then_put}
 use Rattle.dm_packet.proofs.writing.kinds.put_known_asker.Goals as goal
 

@@ -1,6 +1,4 @@
-use Rattle.std.proofs.Common.{◌++◌}
-use Rattle.dm_packet.specs.Field.{number}
-use Rattle.dm_packet.specs.Fields.{bit_of, bytes_within, pid}
+use Rattle.dm_packet.proofs.Names.{◌++◌, number, bit_of, bytes_within, pid}
 use Rattle.dm_packet.proofs.Writes.{then_put}
 use Rattle.dm_packet.proofs.writing.kinds.put_state.Goals as goal
 

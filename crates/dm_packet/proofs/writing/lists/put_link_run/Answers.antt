@@ -1,7 +1,4 @@
-use Rattle.std.proofs.Common.{get_or, take}
-use Rattle.std.specs.List.{flat_map}
-use Rattle.dm_packet.specs.Fields.{link}
-use Rattle.dm_packet.specs.Widths.{FitsLink}
+use Rattle.dm_packet.proofs.Names.{get_or, take, flat_map, link, FitsLink}
 use Rattle.dm_packet.proofs.Writes.{all_next, next_has_room, no_link, pieces_next, then_put}
 use Rattle.dm_packet.proofs.writing.lists.put_link_run.Goals as goal
 

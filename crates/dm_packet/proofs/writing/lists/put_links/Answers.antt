@@ -1,6 +1,4 @@
-use Rattle.std.proofs.Common.{◌≡◌, ◌+◌, ap, ◌∙◌, length, arith}
-use Rattle.std.proofs.lemmas.List.{length-append}
-use Rattle.dm_packet.specs.Field.{number}
+use Rattle.dm_packet.proofs.Names.{◌≡◌, ◌+◌, ap, ◌∙◌, length, arith, length-append, number}
 use Rattle.dm_packet.proofs.Sizes.{links_size}
 use Rattle.dm_packet.proofs.writing.lists.put_links.Goals as goal
 

@@ -1,7 +1,5 @@
 -- What was looked through before it stays so.
-use Rattle.std.proofs.Common.{ℕ, ◌<◌, List, length, remove, subst, sym}
-use Rattle.dm_message.specs.declared.Message.{Message}
-use Rattle.dm_process.specs.Mail.{HasPassed}
+use Rattle.dm_process.proofs.Names.{ℕ, ◌<◌, List, length, remove, subst, sym, Message, HasPassed}
 use Rattle.dm_process.proofs.Search.{taken}
 use Rattle.dm_process.proofs.mailbox.Mailbox.take.Goals as goal
 

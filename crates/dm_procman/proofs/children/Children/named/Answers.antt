@@ -1,7 +1,5 @@
 -- The place of a name is that of its first child.
-use Rattle.std.proofs.Common.{◌≡◌, ◌∙◌, None, Some, ap, sym}
-use Rattle.dm_procman.specs.Moving.{child_named}
-use Rattle.dm_procman.specs.Named.{place_named}
+use Rattle.dm_procman.proofs.Names.{◌≡◌, ◌∙◌, None, Some, ap, sym, child_named, place_named}
 use Rattle.dm_procman.proofs.Naming.{named_at, not_named}
 use Rattle.dm_procman.proofs.children.Children.named.Goals as goal
 

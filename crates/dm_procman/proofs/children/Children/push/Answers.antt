@@ -1,8 +1,5 @@
 -- The last child is found where its name had no place.
-use Rattle.std.proofs.Common.{◌≡◌, ◌∙◌, if◌then◌else◌, None, Some, [], ◌∷◌, ◌++◌, length, ap, sym}
-use Rattle.std.specs.Option.{option_or}
-use Rattle.dm_link.specs.Names.{pid_eq}
-use Rattle.dm_procman.specs.Named.{place_named}
+use Rattle.dm_procman.proofs.Names.{◌≡◌, ◌∙◌, if◌then◌else◌, None, Some, [], ◌∷◌, ◌++◌, length, ap, sym, option_or, pid_eq, place_named}
 use Rattle.dm_procman.proofs.Naming.{place-push}
 use Rattle.dm_procman.proofs.children.Children.push.Goals as goal
 

@@ -1,10 +1,5 @@
 -- Children that are told keep their names.
-use Rattle.std.proofs.Common.{◌≡◌, ◌∙◌, ◌++◌, length, take, drop, map, ap, sym}
-use Rattle.std.proofs.Math.Seq.{take-append_seam}
-use Rattle.std.proofs.lemmas.List.{length-map}
-use Rattle.dm_link.specs.declared.Addr.{Addr}
-use Rattle.dm_link.specs.Places.{retargeted}
-use Rattle.dm_procman.specs.Named.{place_named}
+use Rattle.dm_procman.proofs.Names.{◌≡◌, ◌∙◌, ◌++◌, length, take, drop, map, ap, sym, take-append_seam, length-map, Addr, retargeted, place_named}
 use Rattle.dm_procman.proofs.Naming.{place-retargeted}
 use Rattle.dm_procman.proofs.children.Children.retarget.Goals as goal
 

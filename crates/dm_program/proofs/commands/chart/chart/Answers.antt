@@ -1,9 +1,5 @@
-use Rattle.std.proofs.Common.{List, subst, sym}
-use Rattle.dm_schedule.specs.declared.Directive.{Directive}
-use Rattle.dm_drawing.specs.declared.drawing.Drawn.{Drawn}
-use Rattle.dm_drawing.specs.Pictured.{IsBeforeWorn, IsDrawn}
-use Rattle.dm_program.specs.declared.status.Status.{Status}
-use Rattle.dm_program.specs.Charts.{ChartSays}
+use Rattle.dm_program.proofs.Names.{List, subst, sym, Directive, Drawn, IsBeforeWorn, Status, ChartSays}
+use Rattle.dm_drawing.specs.Pictured.{IsDrawn}
 use Rattle.dm_program.proofs.ChartOutcomes.{worn_says}
 use Rattle.dm_program.proofs.commands.chart.chart.Goals as goal
 

@@ -1,6 +1,4 @@
-use Rattle.std.proofs.Common.{◌≡◌, List, ℕ, subst}
-use Rattle.dm_check.specs.Good.{IsTrace, good_verdict}
-use Rattle.dm_check.specs.Judge.{verdict}
+use Rattle.dm_program.proofs.Names.{◌≡◌, List, ℕ, subst, IsTrace, good_verdict, verdict}
 use Rattle.dm_program.proofs.commands.check.check.Goals as goal
 
 pub returns-in-Ok-clause-says : goal.returns-in-Ok-clause-says

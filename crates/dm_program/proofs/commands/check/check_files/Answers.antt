@@ -1,4 +1,4 @@
-use Rattle.std.proofs.Common.{inl, inr}
+use Rattle.dm_program.proofs.Names.{inl, inr}
 use Rattle.dm_program.proofs.CheckOutcomes.{accepts, check_shelf, finds, never_else, never_sink, one_reason, only_want}
 use Rattle.dm_program.proofs.commands.check.check_files.Goals as goal
 

@@ -1,6 +1,4 @@
-use Rattle.std.proofs.Common.{ℕ, subst, sym}
-use Rattle.std.specs.List.{All}
-use Rattle.dm_run.specs.Coming.{IsFor}
+use Rattle.dm_program.proofs.Names.{ℕ, subst, sym, All, IsFor}
 use Rattle.dm_program.proofs.Drills.{all_for}
 use Rattle.dm_program.proofs.commands.drill.draw.Goals as goal
 

@@ -1,9 +1,4 @@
-use Rattle.std.proofs.Common.{List, subst}
-use Rattle.dm_onekernel.specs.declared.boot.Boot.{Boot}
-use Rattle.dm_schedule.specs.declared.Directive.{Directive}
-use Rattle.dm_draw.specs.Boot.{boot_of}
-use Rattle.dm_drill.proofs.Going.{nothing_drilled}
-use Rattle.dm_program.specs.Drills.{DrilledSays, directives_of}
+use Rattle.dm_program.proofs.Names.{List, subst, Boot, Directive, boot_of, nothing_drilled, DrilledSays, directives_of}
 use Rattle.dm_program.proofs.commands.drill.drill.Goals as goal
 
 pub returns-in-Ok-clause-says : goal.returns-in-Ok-clause-says

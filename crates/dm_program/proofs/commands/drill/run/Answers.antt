@@ -1,14 +1,4 @@
-use Rattle.std.proofs.Common.{List, sym, subst}
-use Rattle.std.specs.Prelude.{OnOk}
-use Rattle.std.specs.declared.option.Option.TheVariants.{Some}
-use Rattle.dm_onekernel.specs.declared.boot.Boot.{Boot}
-use Rattle.dm_schedule.specs.declared.Directive.{Directive}
-use Rattle.dm_run.specs.Printed.{Lasts}
-use Rattle.dm_drill.specs.Drilled.{Ended}
-use Rattle.dm_drill.proofs.Going.{nothing_drilled}
-use Rattle.dm_program.specs.declared.status.Status.{Status}
-use Rattle.dm_program.specs.Drills.{DrilledSays}
-use Rattle.dm_program.specs.Status.{BlamesSink}
+use Rattle.dm_program.proofs.Names.{List, sym, subst, OnOk, Some, Boot, Directive, Lasts, Ended, nothing_drilled, Status, DrilledSays, BlamesSink}
 use Rattle.dm_program.proofs.Drills.{drill_says}
 use Rattle.dm_program.proofs.Endings.{run_blames}
 use Rattle.dm_program.proofs.commands.drill.run.Goals as goal

@@ -1,4 +1,4 @@
-use Rattle.std.proofs.Common.{inl, inr, option_map, refl}
+use Rattle.dm_program.proofs.Names.{inl, inr, option_map, refl}
 use Rattle.dm_program.proofs.ExplainOutcomes.{as_run, no_sink, one_end, wrote_shelf, wrote_sink}
 use Rattle.dm_program.proofs.commands.explain.explain_files.Goals as goal
 

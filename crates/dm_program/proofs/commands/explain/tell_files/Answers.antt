@@ -1,10 +1,7 @@
-use Rattle.std.proofs.Common.{◌≡◌, List, ℕ, Bor, option_map, subst, sym}
+use Rattle.dm_program.proofs.Names.{◌≡◌, List, ℕ, Bor, option_map, subst, sym, Option, Status, FailsNamed}
 use Rattle.std.specs.Prelude.{IfErr}
-use Rattle.std.specs.declared.option.Option.{Option}
 use Rattle.dm_program.specs.declared.status.Input.TheVariants as input
-use Rattle.dm_program.specs.declared.status.Status.{Status}
 use Rattle.dm_program.specs.declared.status.Status.TheVariants as status
-use Rattle.dm_program.specs.Explains.{FailsNamed}
 use Rattle.dm_program.proofs.ExplainOutcomes.{asks_boot, no_system, refused_told, system_says}
 use Rattle.dm_program.proofs.Whose.{late_fault}
 use Rattle.dm_program.proofs.commands.explain.tell_files.Goals as goal

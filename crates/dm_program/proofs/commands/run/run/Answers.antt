@@ -1,17 +1,5 @@
-use Rattle.std.proofs.Common.{List, refl, sym, subst, length}
-use Rattle.std.specs.Prelude.{OnOk}
-use Rattle.std.specs.declared.option.Option.TheVariants.{Some}
-use Rattle.dm_onekernel.specs.declared.boot.Boot.{Boot}
-use Rattle.dm_schedule.specs.declared.Directive.{Directive}
-use Rattle.dm_line.specs.Todo.{all_of}
-use Rattle.dm_world.specs.World.{first_world}
+use Rattle.dm_program.proofs.Names.{List, refl, sym, subst, length, OnOk, Some, Boot, Directive, all_of, first_world, Lasts, comes_first, lacks_there, are_directives, Status, RunSays, BlamesSink}
 use Rattle.dm_run.specs.Coming.{Ended}
-use Rattle.dm_run.specs.Printed.{Lasts}
-use Rattle.dm_run.proofs.Comes.{comes_first, lacks_there}
-use Rattle.dm_run.proofs.Stepping.{are_directives}
-use Rattle.dm_program.specs.declared.status.Status.{Status}
-use Rattle.dm_program.specs.Runs.{RunSays}
-use Rattle.dm_program.specs.Status.{BlamesSink}
 use Rattle.dm_program.proofs.Endings.{run_blames, run_says}
 use Rattle.dm_program.proofs.commands.run.run.Goals as goal
 

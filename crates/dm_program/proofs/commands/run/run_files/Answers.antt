@@ -1,8 +1,4 @@
-use Rattle.std.proofs.Common.{List, inl, inr, length, sym, subst}
-use Rattle.dm_onekernel.specs.declared.boot.Boot.{Boot}
-use Rattle.dm_schedule.specs.declared.Directive.{Directive}
-use Rattle.dm_run.specs.Printed.{Lasts, Wears}
-use Rattle.dm_run.proofs.Stepping.{are_directives}
+use Rattle.dm_program.proofs.Names.{List, inl, inr, length, sym, subst, Boot, Directive, Lasts, Wears, are_directives}
 use Rattle.dm_program.proofs.Endings.{completes, run_shelf, wears_out}
 use Rattle.dm_program.proofs.Outcomes.{never_sink, one_reason, only_want, same_inputs}
 use Rattle.dm_program.proofs.commands.run.run_files.Goals as goal

@@ -1,8 +1,6 @@
 -- What a place is set to is what stands there, and the other places stay.
-use Rattle.std.proofs.Common.{Some, IsSome, refl, rules, sym}
-use Rattle.std.specs.BTreeMap.{get}
-use Rattle.dm_link.specs.Names.{pid_cmp}
-use Rattle.dm_records.specs.Records.{at}
+use Rattle.dm_records.proofs.Names.{IsSome, refl, rules, sym, get, pid_cmp, at}
+use Rattle.std.proofs.Common.{Some}
 use Rattle.dm_records.proofs.Kept.{in_same, in_set}
 use Rattle.dm_records.proofs.records.Records.get_mut.Goals as goal
 

@@ -1,5 +1,4 @@
-use Rattle.std.proofs.Common.{rules}
-use Rattle.dm_records.specs.Records.{at}
+use Rattle.dm_records.proofs.Names.{rules, at}
 use Rattle.dm_records.proofs.Kept.{still_some}
 use Rattle.dm_records.proofs.records.Records.set.Goals as goal
 

@@ -1,7 +1,4 @@
-use Rattle.std.proofs.Common.{◌≡◌, ◌<◌, ◌+◌, ◌==◌, false, length, sym, ap, ◌∙◌, arith}
-use Rattle.dm_line.proofs.Below.{fails_at}
-use Rattle.dm_world.specs.Meets.{state_of}
-use Rattle.dm_world.specs.Next.{all_heard}
+use Rattle.dm_world.proofs.Names.{◌≡◌, ◌<◌, ◌+◌, ◌==◌, false, length, sym, ap, ◌∙◌, arith, fails_at, state_of, all_heard}
 use Rattle.dm_world.proofs.Passes.{not_heard}
 use Rattle.dm_world.proofs.world.World.all_heard.Goals as goal
 

@@ -1,7 +1,4 @@
-use Rattle.std.proofs.Common.{◌≡◌, true}
-use Rattle.dm_line.specs.Each.{all_below}
-use Rattle.dm_world.specs.Meets.{state_of}
-use Rattle.dm_world.specs.Next.{all_heard}
+use Rattle.dm_world.proofs.Names.{◌≡◌, true, all_below, state_of, all_heard}
 use Rattle.dm_world.proofs.world.World.all_heard.Given as goal
 
 -- all that was routed to those passed is acknowledged

@@ -1,8 +1,5 @@
-use Rattle.std.proofs.Common.{rules, sym, subst}
+use Rattle.dm_world.proofs.Names.{rules, sym, subst, MeetsSome, state_of, AreReadBack, gave_bytes, delivers}
 use Rattle.dm_schedule.specs.declared.Step.TheVariants as step
-use Rattle.dm_world.specs.Meets.{MeetsSome, state_of}
-use Rattle.dm_world.specs.Readable.{AreReadBack, gave_bytes}
-use Rattle.dm_world.specs.World.{delivers}
 use Rattle.dm_world.proofs.Stepping.{found_nothing}
 use Rattle.dm_world.proofs.world.World.find_nothing.Goals as goal
 

@@ -1,8 +1,4 @@
-use Rattle.std.proofs.Common.{◌<◌, ◌≤◌, length, sym, ap, ◌∙◌, arith}
-use Rattle.dm_line.specs.Todo.{next_delivery}
-use Rattle.dm_wire.specs.Wire.{packets_on}
-use Rattle.dm_world.specs.Meets.{state_of}
-use Rattle.dm_world.specs.Next.{undelivered}
+use Rattle.dm_world.proofs.Names.{◌<◌, ◌≤◌, length, sym, ap, ◌∙◌, arith, next_delivery, packets_on, state_of, undelivered}
 use Rattle.dm_world.proofs.Passing.{first_unseen_is, row_none, row_over, row_same, row_some}
 use Rattle.dm_world.proofs.world.World.first_in_row.Goals as goal
 use Rattle.dm_world.proofs.world.World.first_in_row.Goals.{then-from-b+in_default, else-from-b}

@@ -1,8 +1,4 @@
-use Rattle.std.proofs.Common.{◌≡◌, List, length}
-use Rattle.dm_line.specs.Todo.{Two, next_delivery}
-use Rattle.dm_world.specs.Cursor.{row_at}
-use Rattle.dm_world.specs.Meets.{state_of}
-use Rattle.dm_world.specs.Next.{undelivered}
+use Rattle.dm_world.proofs.Names.{◌≡◌, List, length, Two, next_delivery, row_at, state_of, undelivered}
 use Rattle.dm_world.proofs.world.World.first_in_row.Given as goal
 
 -- what was passed of the row has no such packet

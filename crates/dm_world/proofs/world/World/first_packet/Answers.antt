@@ -1,9 +1,5 @@
-use Rattle.std.proofs.Common.{◌+◌, ◌<◌, ◌≤◌, length, sym, ap, ◌∙◌, arith}
-use Rattle.std.specs.declared.option.Option.TheVariants.{Some}
-use Rattle.dm_line.specs.Todo.{next_delivery}
+use Rattle.dm_world.proofs.Names.{◌+◌, ◌<◌, ◌≤◌, length, sym, ap, ◌∙◌, arith, Some, next_delivery, state_of, undelivered}
 use Rattle.dm_schedule.specs.declared.Step.TheVariants as step
-use Rattle.dm_world.specs.Meets.{state_of}
-use Rattle.dm_world.specs.Next.{undelivered}
 use Rattle.dm_world.proofs.Passing.{pairs_past, pairs_row, rows_are_pairs, rows_from}
 use Rattle.dm_world.proofs.world.World.first_packet.Goals as goal
 

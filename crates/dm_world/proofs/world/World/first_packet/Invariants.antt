@@ -1,8 +1,4 @@
-use Rattle.std.proofs.Common.{◌≡◌, length}
-use Rattle.dm_line.specs.Todo.{next_delivery}
-use Rattle.dm_world.specs.Cursor.{pairs_at}
-use Rattle.dm_world.specs.Meets.{state_of}
-use Rattle.dm_world.specs.Next.{undelivered}
+use Rattle.dm_world.proofs.Names.{◌≡◌, length, next_delivery, pairs_at, state_of, undelivered}
 use Rattle.dm_world.proofs.world.World.first_packet.Given as goal
 
 -- the pairs that were passed have no such packet

@@ -1,6 +1,4 @@
-use Rattle.std.proofs.Common.{◌+◌, ◌<◌, ◌≤◌, length, sym, ◌∙◌, arith}
-use Rattle.dm_world.specs.Meets.{state_of}
-use Rattle.dm_world.specs.Next.{has_mail}
+use Rattle.dm_world.proofs.Names.{◌+◌, ◌<◌, ◌≤◌, length, sym, ◌∙◌, arith, state_of, has_mail}
 use Rattle.dm_world.proofs.Passes.{first_from, none_left, passes_over, stays_on, takes_next}
 use Rattle.dm_world.proofs.world.World.first_turn.Goals as goal
 

@@ -1,5 +1,4 @@
-use Rattle.std.proofs.Common.{length}
-use Rattle.dm_world.specs.Meets.{state_of}
+use Rattle.dm_world.proofs.Names.{length, state_of}
 use Rattle.dm_world.proofs.Passes.{PassedTo, Stays}
 use Rattle.dm_world.proofs.world.World.first_turn.Given as goal
 

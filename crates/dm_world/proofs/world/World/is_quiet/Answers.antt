@@ -1,8 +1,4 @@
-use Rattle.std.proofs.Common.{length, sym, ◌&&◌, not, ◌<◌, arith, ◌∙◌}
-use Rattle.dm_line.specs.Each.{all_below}
-use Rattle.dm_line.proofs.Below.{fails_at}
-use Rattle.dm_world.specs.Meets.{state_of}
-use Rattle.dm_world.specs.Next.{all_heard, has_mail}
+use Rattle.dm_world.proofs.Names.{length, sym, ◌&&◌, not, ◌<◌, arith, ◌∙◌, all_below, fails_at, state_of, all_heard, has_mail}
 use Rattle.dm_world.proofs.Passes.{has_some, lacks_heard}
 use Rattle.dm_world.proofs.world.World.is_quiet.Goals as goal
 use Rattle.dm_world.proofs.world.World.is_quiet.Goals.{then-has_mail-via-then-has_mail, then-has_mail-via-else-has_mail+then-not-all_heard}

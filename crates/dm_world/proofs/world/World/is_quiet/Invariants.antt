@@ -1,8 +1,4 @@
-use Rattle.std.proofs.Common.{◌≡◌, ◌&&◌, not, true}
-use Rattle.dm_line.specs.Each.{all_below}
-use Rattle.std.proofs.Common.{length}
-use Rattle.dm_world.specs.Meets.{state_of}
-use Rattle.dm_world.specs.Next.{all_heard, has_mail}
+use Rattle.dm_world.proofs.Names.{◌≡◌, ◌&&◌, not, true, all_below, length, state_of, all_heard, has_mail}
 use Rattle.dm_world.proofs.world.World.is_quiet.Given as goal
 
 -- nothing is on its way to those passed, or from them

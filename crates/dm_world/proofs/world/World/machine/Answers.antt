@@ -1,5 +1,5 @@
-use Rattle.std.proofs.Common.{◌<◌, length, ap, ◌∙◌, sym, subst}
-use Rattle.dm_node.specs.Meets.{HasStreams, state_of}
+use Rattle.dm_world.proofs.Names.{◌<◌, length, ap, ◌∙◌, sym, subst, HasStreams}
+use Rattle.dm_node.specs.Meets.{state_of}
 use Rattle.dm_world.proofs.Nodes.{is_node_at, node_at}
 use Rattle.dm_world.proofs.world.World.machine.Goals as goal
 

@@ -1,8 +1,4 @@
-use Rattle.std.proofs.Common.{length, sym, subst}
-use Rattle.dm_world.specs.declared.cursor.Cursor.{Cursor}
-use Rattle.dm_world.specs.declared.cursor.Cursor.TheVariants.{One}
-use Rattle.dm_world.specs.Cursor.{Falls}
-use Rattle.dm_world.specs.Meets.{state_of}
+use Rattle.dm_world.proofs.Names.{length, sym, subst, Cursor, One, Falls, state_of}
 use Rattle.dm_world.proofs.Falling.{one_falls}
 use Rattle.dm_world.proofs.world.World.next.Goals as goal
 

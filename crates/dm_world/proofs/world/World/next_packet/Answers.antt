@@ -1,5 +1,4 @@
-use Rattle.std.proofs.Common.{length}
-use Rattle.dm_world.specs.Meets.{state_of}
+use Rattle.dm_world.proofs.Names.{length, state_of}
 use Rattle.dm_world.proofs.Falling.{packet_falls}
 use Rattle.dm_world.proofs.world.World.next_packet.Goals as goal
 

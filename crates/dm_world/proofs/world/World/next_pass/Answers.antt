@@ -1,7 +1,4 @@
-use Rattle.std.proofs.Common.{length, sym, subst}
-use Rattle.dm_line.specs.declared.pass.Pass.{Pass}
-use Rattle.dm_world.specs.Cursor.{NextPassIs}
-use Rattle.dm_world.specs.Meets.{state_of}
+use Rattle.dm_world.proofs.Names.{length, sym, subst, Pass, NextPassIs, state_of}
 use Rattle.dm_world.proofs.Passes.{settle_next}
 use Rattle.dm_world.proofs.world.World.next_pass.Goals as goal
 

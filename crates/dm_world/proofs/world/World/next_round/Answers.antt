@@ -1,5 +1,4 @@
-use Rattle.std.proofs.Common.{length, ◌<◌, arith}
-use Rattle.dm_world.specs.Meets.{state_of}
+use Rattle.dm_world.proofs.Names.{length, ◌<◌, arith, state_of}
 use Rattle.dm_world.proofs.Passes.{one_fewer}
 use Rattle.dm_world.proofs.world.World.next_round.Goals as goal
 

@@ -1,5 +1,4 @@
-use Rattle.std.proofs.Common.{length}
-use Rattle.dm_world.specs.Meets.{state_of}
+use Rattle.dm_world.proofs.Names.{length, state_of}
 use Rattle.dm_world.proofs.Falling.{turn_falls}
 use Rattle.dm_world.proofs.world.World.next_turn.Goals as goal
 

@@ -1,7 +1,4 @@
-use Rattle.std.proofs.Common.{◌≡◌, ◌++◌, length}
-use Rattle.dm_line.specs.Ends.{each_machine}
-use Rattle.dm_world.specs.Ends.{held_line, homes_with}
-use Rattle.dm_world.specs.Meets.{state_of}
+use Rattle.dm_world.proofs.Names.{◌≡◌, ◌++◌, length, each_machine, held_line, homes_with, state_of}
 use Rattle.dm_world.proofs.world.World.say_holding.Given as goal
 
 abbrev pub invariant-loop-m : goal.invariant-loop-m

@@ -1,7 +1,4 @@
-use Rattle.std.proofs.Common.{◌≡◌, ◌++◌}
-use Rattle.dm_line.specs.Ends.{home_with}
-use Rattle.dm_world.specs.Ends.{held_line}
-use Rattle.dm_world.specs.Meets.{state_of}
+use Rattle.dm_world.proofs.Names.{◌≡◌, ◌++◌, home_with, held_line, state_of}
 use Rattle.dm_world.proofs.world.World.say_holding_of.Given as goal
 
 abbrev pub invariant-loop-place : goal.invariant-loop-place

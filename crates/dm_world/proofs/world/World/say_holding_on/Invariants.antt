@@ -1,6 +1,4 @@
-use Rattle.std.proofs.Common.{◌≡◌, ◌++◌}
-use Rattle.dm_world.specs.Ends.{held_line, homes_with}
-use Rattle.dm_world.specs.Meets.{state_of}
+use Rattle.dm_world.proofs.Names.{◌≡◌, ◌++◌, held_line, homes_with, state_of}
 use Rattle.dm_world.proofs.world.World.say_holding_on.Given as goal
 
 abbrev pub invariant-loop-home : goal.invariant-loop-home

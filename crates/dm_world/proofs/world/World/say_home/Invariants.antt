@@ -1,7 +1,4 @@
-use Rattle.std.proofs.Common.{◌≡◌, ◌++◌, length}
-use Rattle.dm_line.specs.Ends.{home_with}
-use Rattle.dm_world.specs.Ends.{process_lines}
-use Rattle.dm_world.specs.Meets.{state_of}
+use Rattle.dm_world.proofs.Names.{◌≡◌, ◌++◌, length, home_with, process_lines, state_of}
 use Rattle.dm_world.proofs.world.World.say_home.Given as goal
 
 abbrev pub invariant-loop-place : goal.invariant-loop-place

@@ -1,7 +1,4 @@
-use Rattle.std.proofs.Common.{◌≡◌, ◌++◌, length}
-use Rattle.dm_line.specs.Ends.{home_with}
-use Rattle.dm_world.specs.Ends.{queue_of}
-use Rattle.dm_world.specs.Meets.{state_of}
+use Rattle.dm_world.proofs.Names.{◌≡◌, ◌++◌, length, home_with, queue_of, state_of}
 use Rattle.dm_world.proofs.world.World.say_home_queues.Given as goal
 
 abbrev pub invariant-loop-place : goal.invariant-loop-place

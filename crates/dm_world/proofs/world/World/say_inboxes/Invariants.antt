@@ -1,8 +1,5 @@
-use Rattle.std.proofs.Common.{◌≡◌, ◌++◌}
-use Rattle.dm_line.specs.Ends.{each_machine, list_line}
+use Rattle.dm_world.proofs.Names.{◌≡◌, ◌++◌, each_machine, list_line, names_of, state_of}
 use Rattle.dm_line.specs.declared.end_line.EndLine.TheVariants as end
-use Rattle.dm_world.specs.Ends.{names_of}
-use Rattle.dm_world.specs.Meets.{state_of}
 use Rattle.dm_world.proofs.world.World.say_inboxes.Given as goal
 
 abbrev pub invariant-loop-m : goal.invariant-loop-m

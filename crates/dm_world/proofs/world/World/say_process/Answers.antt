@@ -1,6 +1,4 @@
-use Rattle.std.proofs.Common.{length}
-use Rattle.dm_world.specs.Ends.{first_awaited, first_had}
-use Rattle.dm_world.specs.Meets.{state_of}
+use Rattle.dm_world.proofs.Names.{length, first_awaited, first_had, state_of}
 use Rattle.dm_world.proofs.Ending.{said_first, said_second}
 use Rattle.dm_world.proofs.world.World.say_process.Goals as goal
 

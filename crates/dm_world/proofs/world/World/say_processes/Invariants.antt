@@ -1,6 +1,4 @@
-use Rattle.std.proofs.Common.{◌≡◌, ◌++◌, length}
-use Rattle.dm_world.specs.Ends.{homes_with, process_lines}
-use Rattle.dm_world.specs.Meets.{state_of}
+use Rattle.dm_world.proofs.Names.{◌≡◌, ◌++◌, length, homes_with, process_lines, state_of}
 use Rattle.dm_world.proofs.world.World.say_processes.Given as goal
 
 abbrev pub invariant-loop-home : goal.invariant-loop-home

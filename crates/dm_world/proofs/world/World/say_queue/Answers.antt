@@ -1,9 +1,4 @@
-use Rattle.std.proofs.Common.{ℕ, ◌<◌, List, length, arith, ap}
-use Rattle.std.specs.declared.option.Option.{Option}
-use Rattle.dm_line.specs.declared.end_line.EndLine.{EndLine}
-use Rattle.dm_node.specs.State.{NodeState}
-use Rattle.dm_world.specs.Ends.{record_queue}
-use Rattle.dm_world.specs.Meets.{state_of}
+use Rattle.dm_world.proofs.Names.{ℕ, ◌<◌, List, length, arith, ap, Option, EndLine, NodeState, record_queue, state_of}
 use Rattle.dm_world.proofs.Ending.{found}
 use Rattle.dm_world.proofs.world.World.say_queue.Goals as goal
 

@@ -1,7 +1,4 @@
-use Rattle.std.proofs.Common.{◌≡◌}
-use Rattle.std.specs.declared.option.Option.TheVariants.{None}
-use Rattle.dm_world.specs.Ends.{first_says, record_queue}
-use Rattle.dm_world.specs.Meets.{state_of}
+use Rattle.dm_world.proofs.Names.{◌≡◌, None, first_says, record_queue, state_of}
 use Rattle.dm_world.proofs.world.World.say_queue.Given as goal
 
 abbrev pub invariant-loop-m : goal.invariant-loop-m

@@ -1,6 +1,4 @@
-use Rattle.std.proofs.Common.{◌≡◌, ◌++◌, length}
-use Rattle.dm_world.specs.Ends.{homes_with, queue_of}
-use Rattle.dm_world.specs.Meets.{state_of}
+use Rattle.dm_world.proofs.Names.{◌≡◌, ◌++◌, length, homes_with, queue_of, state_of}
 use Rattle.dm_world.proofs.world.World.say_queues.Given as goal
 
 abbrev pub invariant-loop-home : goal.invariant-loop-home

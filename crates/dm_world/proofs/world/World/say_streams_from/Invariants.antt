@@ -1,7 +1,4 @@
-use Rattle.std.proofs.Common.{◌≡◌, ◌++◌}
-use Rattle.dm_line.specs.Ends.{each_machine}
-use Rattle.dm_world.specs.Ends.{stream_line}
-use Rattle.dm_world.specs.Meets.{state_of}
+use Rattle.dm_world.proofs.Names.{◌≡◌, ◌++◌, each_machine, stream_line, state_of}
 use Rattle.dm_world.proofs.world.World.say_streams_from.Given as goal
 
 abbrev pub invariant-loop-to : goal.invariant-loop-to

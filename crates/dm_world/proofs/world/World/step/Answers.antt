@@ -1,4 +1,4 @@
-use Rattle.dm_world.specs.Meets.{state_of}
+use Rattle.dm_world.proofs.Names.{state_of}
 use Rattle.dm_world.proofs.Alone.{alone}
 use Rattle.dm_world.proofs.Nodes.{all_here, few_machines}
 use Rattle.dm_world.proofs.world.World.step.Goals as goal

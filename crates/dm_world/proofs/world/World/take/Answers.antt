@@ -1,7 +1,5 @@
-use Rattle.std.proofs.Common.{rules, ap, ◌∙◌}
+use Rattle.dm_world.proofs.Names.{rules, ap, ◌∙◌, packets_on, state_of}
 use Rattle.dm_schedule.specs.declared.Step.TheVariants as step
-use Rattle.dm_wire.specs.Wire.{packets_on}
-use Rattle.dm_world.specs.Meets.{state_of}
 use Rattle.dm_world.proofs.Delivering.{arriving}
 use Rattle.dm_world.proofs.Rereading.{packet_back}
 use Rattle.dm_world.proofs.Stepping.{took, world_stays, written}

@@ -1,7 +1,5 @@
-use Rattle.std.proofs.Common.{rules, ap, ◌∙◌}
-use Rattle.dm_node.specs.Acts.{turn}
+use Rattle.dm_world.proofs.Names.{rules, ap, ◌∙◌, turn, node_in}
 use Rattle.dm_schedule.specs.declared.Step.TheVariants as step
-use Rattle.dm_world.specs.Meets.{node_in}
 use Rattle.dm_world.proofs.Rereading.{turn_back}
 use Rattle.dm_world.proofs.Stepping.{acted_size, turn_stepped, turn_world, written}
 use Rattle.dm_world.proofs.world.World.turn.Goals as goal

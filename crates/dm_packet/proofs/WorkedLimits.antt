@@ -1,12 +1,7 @@
 -- Each limit of each kind's fields, on both sides: computed.
-use Rattle.std.proofs.Common.{◌≡◌, ℕ, List, [], ◌∷◌, ◌++◌, length, replicate, Option, None, Some, Result, Ok, Err, refl}
-use Rattle.std.specs.Prelude.{◌==◌, if◌then◌else◌}
-use Rattle.dm_message.specs.declared.What.{What}
-use Rattle.dm_message.specs.declared.kind.MessageKind.{MessageKind}
+use Rattle.dm_packet.proofs.Names.{◌≡◌, ℕ, List, [], ◌∷◌, ◌++◌, length, replicate, Option, None, Some, Result, Ok, Err, refl, ◌==◌, if◌then◌else◌, What, MessageKind, PacketError, read_what}
 use Rattle.dm_message.specs.declared.kind.MessageKind.TheVariants as kind
-use Rattle.dm_packet.specs.declared.PacketError.{PacketError}
 use Rattle.dm_packet.specs.declared.PacketError.TheVariants as bad
-use Rattle.dm_packet.specs.Whats.{read_what}
 
 abbrev rule_of : Result (What × List ℕ) PacketError → Option PacketError
 rule_of (Ok x) = if length x.1 == 0 then None else Some bad.Trailing

@@ -1,25 +1,10 @@
 -- Worked cases, computed: what the kernels of two machines say where a process moves from the one to the other.
-use Rattle.std.proofs.Common.{◌≡◌, ℕ, ◌==◌, List, [], ◌∷◌, ◌++◌, map, refl, if◌then◌else◌}
-use Rattle.std.specs.declared.option.Option.{Option}
+use Rattle.dm_kernel.proofs.Names.{◌≡◌, ℕ, ◌==◌, List, [], ◌∷◌, ◌++◌, map, refl, if◌then◌else◌, Option, pid_of, Message, id_of, kind_of, registers, shell_of_bytes, spelling, Boot, One, bind, Line, Part, Says, Routes, asks_move, opened}
+use Rattle.dm_kernel.proofs.Names.{KernelState, Turned, turn}
 use Rattle.std.specs.declared.option.Option.TheVariants.{Some}
-use Rattle.dm_link.specs.Names.{pid_of}
-use Rattle.dm_message.specs.declared.Message.{Message}
-use Rattle.dm_message.specs.Ids.{id_of}
-use Rattle.dm_message.specs.Kinds.{kind_of}
 use Rattle.dm_message.specs.declared.kind.MessageKind.TheVariants as kind
-use Rattle.dm_statebytes.specs.Shell.{registers, shell_of_bytes, spelling}
-use Rattle.dm_onekernel.specs.declared.boot.Boot.{Boot}
-use Rattle.dm_onekernel.specs.declared.boot.Format.TheVariants.{One}
-use Rattle.dm_onekernel.specs.Options.{bind}
-use Rattle.dm_line.specs.declared.line.Line.{Line}
 use Rattle.dm_line.specs.declared.line.Line.TheVariants as line
 use Rattle.dm_line.specs.declared.line.Stage.TheVariants as stage
-use Rattle.dm_kernel.specs.declared.part.Part.{Part}
-use Rattle.dm_kernel.specs.declared.part.Part.TheVariants.{Says, Routes}
-use Rattle.dm_kernel.specs.Asking.{asks_move}
-use Rattle.dm_kernel.specs.Begun.{opened}
-use Rattle.dm_kernel.specs.State.{KernelState, Turned}
-use Rattle.dm_kernel.specs.Turn.{turn}
 
 -- the two machines
 record Pair : Type 0 where

@@ -1,0 +1,43 @@
+-- What the proofs of this crate name of what lies below it.
+pub use Rattle.std.proofs.Common.{Global, Vec, add-one, add-zero, append_assoc, codes, map, min, nat_le, not, subst, ◌==◌}
+pub use Rattle.std.proofs.Math.Seq.{drop-length}
+pub use Rattle.std.proofs.lemmas.List.{append-nil, get_or-drop, length-append, length-replicate}
+pub use Rattle.std.proofs.lemmas.List.Quantifiers.{position-Some}
+pub use Rattle.std.proofs.lemmas.Map.Text.{btree_map_updates_str}
+pub use Rattle.std.proofs.lemmas.Slice.Eq.{bytes_eq-Decides}
+pub use Rattle.std.specs.BTreeMap.{BTreeMap, get_by}
+pub use Rattle.std.specs.Borrow.{Bor}
+pub use Rattle.std.specs.Cmp.Lexicographic.{slice_cmp}
+pub use Rattle.std.specs.List.{position, position_or_len}
+pub use Rattle.std.specs.Option.{option_and_then}
+pub use Rattle.std.specs.Ordering.{nat_cmp}
+pub use Rattle.std.specs.Prelude.{Err, Ok, Result, if◌then◌else◌, is_some, option_map}
+pub use Rattle.std.specs.Str.{bytes_eq}
+pub use Rattle.dm_processor.proofs.Names.{Bool, List, None, Opcode, Option, Some, [], ap, arith, common_steps, cond, drop, drop-cons, false, get_or, length, length-drop, length-take-le, nat_tests, refl, replicate, suc, sym, take}
+pub use Rattle.dm_processor.proofs.Names.{take-append_seam, take_all, true, zero, ℕ, ◌*◌, ◌++◌, ◌+◌, ◌-◌, ◌<◌, ◌^◌, ◌∙◌, ◌∷◌, ◌≡◌, ◌≤◌}
+pub use Rattle.dm_asm.specs.Assembled.{Answers, StandsBehind, from_line, not_too_long, with_lines}
+unfoldable pub use Rattle.dm_asm.specs.Assembled.{assembled, places_of, with_line}
+pub use Rattle.dm_asm.specs.Forms.{shape_of}
+unfoldable pub use Rattle.dm_asm.specs.Forms.{form_of}
+unfoldable pub use Rattle.dm_asm.specs.Labels.{place_in}
+pub use Rattle.dm_asm.specs.Lines.{begins_comment, cut, ends_line, separates, without_comment}
+unfoldable pub use Rattle.dm_asm.specs.Lines.{lines, words}
+pub use Rattle.dm_asm.specs.Numbers.{base, digit, going_on}
+unfoldable pub use Rattle.dm_asm.specs.Numbers.{number_of}
+pub use Rattle.dm_asm.specs.Operands.{wanted_number}
+unfoldable pub use Rattle.dm_asm.specs.Operands.{distance_of, fields, number, register, target, value, value_of}
+pub use Rattle.dm_asm.specs.Places.{behind_label, first_of, form_size, label_of, place_from, statement_size, zero_size}
+unfoldable pub use Rattle.dm_asm.specs.Places.{has_label, line_size}
+pub use Rattle.dm_asm.specs.Refusals.{behind, why_code, ◌>>=◌}
+pub use Rattle.dm_asm.specs.Statements.{form_bytes, instruction_bytes, is_twice, named_bytes, takes}
+unfoldable pub use Rattle.dm_asm.specs.Statements.{line_bytes, listed_bytes, statement_bytes}
+pub use Rattle.dm_asm.specs.declared.forms.Form.{Form}
+pub use Rattle.dm_asm.specs.declared.forms.Form.TheVariants.{Byte, Instruction, Word, Zero}
+pub use Rattle.dm_asm.specs.declared.forms.Shape.{Shape}
+pub use Rattle.dm_asm.specs.declared.forms.Shape.TheVariants.{Access, Branch, Call, Jump, RegisterValue, ThreeRegisters, TwoRegisters}
+pub use Rattle.dm_asm.specs.declared.labels.Labels.{Labels}
+pub use Rattle.dm_asm.specs.declared.labels.Place.{Place}
+pub use Rattle.dm_asm.specs.declared.refusals.AssembleError.{AssembleError}
+pub use Rattle.dm_asm.specs.declared.refusals.AssembleError.TheVariants.{Fault, NoMemory}
+pub use Rattle.dm_asm.specs.declared.refusals.Why.{Why}
+pub use Rattle.dm_asm.specs.declared.refusals.Why.TheVariants.{OperandCount, OutOfRange, TooLong}

@@ -1,0 +1,15 @@
+-- What the proofs of this crate name of what lies below it.
+pub use Rattle.std.proofs.Common.{inl, inr, nat_le, ◌⊎◌}
+pub use Rattle.std.proofs.lemmas.List.Elements.{All-append, All-cons, All-nil}
+pub use Rattle.std.proofs.lemmas.Nat.{mod-mul-add, mod_below}
+pub use Rattle.std.specs.List.{All}
+pub use Rattle.dm_processor.proofs.Names.{Bool, List, [], ap, arith, false, length, length-append, nat_tests, refl, suc, sym, true, zero, ℕ, ◌%◌, ◌*◌, ◌++◌, ◌+◌, ◌-◌, ◌/◌, ◌<◌, ◌^◌, ◌∙◌, ◌∷◌, ◌≡◌, ◌≤◌}
+pub use Rattle.dm_linktable.proofs.Names.{rules, subst, ◌&&◌, ◌==◌, ◌≢◌}
+pub use Rattle.dm_schedule.proofs.Names.{Directive, if◌then◌else◌, nat_lt}
+pub use Rattle.dm_draw.specs.Boot.{machine, machines_of, processes_of}
+unfoldable pub use Rattle.dm_draw.specs.Boot.{boot_of}
+pub use Rattle.dm_draw.specs.Directives.{Drawn, IsDrawn, deliver_drawn, migrate_drawn, round_drawn, tick_drawn, turn_drawn}
+unfoldable pub use Rattle.dm_draw.specs.Directives.{directive_drawn, directives_drawn, state_behind}
+unfoldable pub use Rattle.dm_draw.specs.Draw.{drawn, stepped}
+pub use Rattle.dm_onekernel.specs.Boot.{IsValid, images_are_valid, machines_are_valid, processes_are_valid}
+pub use Rattle.dm_onekernel.specs.declared.boot.Boot.{Boot}

@@ -1,0 +1,87 @@
+-- What the proofs of this crate name of what lies below it.
+pub use Rattle.std.proofs.Common.{IfErr, IsOk, MatchResult}
+pub use Rattle.std.proofs.Math.Seq.{set-append_seam}
+pub use Rattle.std.proofs.lemmas.Bool.{and_parts}
+pub use Rattle.std.proofs.lemmas.Fn.{filter_same}
+pub use Rattle.std.proofs.lemmas.List.{take_more}
+pub use Rattle.std.proofs.lemmas.List.Elements.{All-head, All-tail}
+pub use Rattle.std.proofs.lemmas.Option.{slice_get_read}
+pub use Rattle.std.specs.Option.{option_copied_mut}
+pub use Rattle.std.specs.Prelude.{Vec, ⊤}
+pub use Rattle.std.specs.declared.alloc.Global.{Global}
+pub use Rattle.dm_link.specs.Names.{pid_of}
+pub use Rattle.dm_records.proofs.Names.{Bool, IsSome, Option, Pid, ap, arith, at, common_steps, false, if◌then◌else◌, pid_eq, refl, rules, sym, true, ◌∙◌, ◌≡◌}
+pub use Rattle.dm_records.specs.Records.{frozen_of, here_of, incoming_of, with_record}
+pub use Rattle.dm_records.specs.declared.record.Record.TheVariants.{Ended, Forward, Frozen, Here, Incoming}
+pub use Rattle.dm_processor.proofs.Lengths.{instruction-lengths}
+pub use Rattle.dm_processor.proofs.Names.{KeepsLengths, List, None, Regs, Row, Some, [], drop, get_or, length, nat_tests, replicate, suc, take, zero, ℕ, ◌*◌, ◌++◌, ◌+◌, ◌-◌, ◌/◌, ◌<◌, ◌∷◌, ◌≤◌}
+pub use Rattle.dm_processor.specs.Instructions.{DoesRow}
+unfoldable pub use Rattle.dm_processor.specs.Instructions.{instruction}
+pub use Rattle.dm_room.proofs.Names.{HasTaken, remove, slice_get}
+pub use Rattle.dm_room.specs.Room.{Taken, free_blocks, free_slots, has_room, with_reserved}
+pub use Rattle.dm_message.specs.Ids.{id_of}
+pub use Rattle.dm_message.specs.Lawful.{IsServer}
+pub use Rattle.dm_linktable.proofs.Names.{Link, first_empty, is_none, length-map, link_at, map, set, subst, ◌&&◌, ◌==◌}
+pub use Rattle.dm_linktable.proofs.ReceiverOrder.{pid_eq_same}
+pub use Rattle.dm_schedule.proofs.Names.{not, position_or_len}
+pub use Rattle.dm_process.proofs.Names.{Message, add-one, first_on, is_on, min, without_first_on}
+pub use Rattle.dm_process.specs.Process.{is_runnable}
+pub use Rattle.dm_process.specs.Service.{IsServiceOf, Takes}
+pub use Rattle.dm_process.specs.declared.process.Service.{Service}
+pub use Rattle.dm_process.specs.declared.process.Service.TheVariants.{Execute}
+pub use Rattle.dm_linkupdate.proofs.Lawful.{applied_lawful}
+pub use Rattle.dm_linkupdate.proofs.Names.{Addr, All, All-map, IsLawfulAddr, IsLawfulEnclosed, IsLawfulProcess, IsLawfulStatus, IsMachine, Process, Ready, SlotIsLawful, Status}
+pub use Rattle.dm_linkupdate.specs.Notice.{is_told_back, kernel_at, update_of}
+pub use Rattle.dm_statebytes.proofs.Names.{Direction, General, IfOk, IfSome, IsLawfulMessage, direction_numbered, inl, inr, length-drop, nat_le, ◌⊎◌}
+unfoldable pub use Rattle.dm_statebytes.specs.Shell.{registers, shell_of_bytes, spelling}
+pub use Rattle.dm_migrate.proofs.Messages.{lawful_all}
+pub use Rattle.dm_migrate.proofs.Names.{All-append, All-cons, Arrival, Asker, Block, Chunk, Departure, Err, HasChunk, Nothing, Ok, Result, Wanted, What, block_of, chunk_bytes, chunk_of, into_iter_items, length-take, pull, sent_on}
+pub use Rattle.dm_migrate.proofs.Names.{with_chunk, with_piece}
+pub use Rattle.dm_migrate.specs.Arrival.{expected, with_block, with_held as with_held_too}
+pub use Rattle.dm_migrate.specs.Departure.{all_sent_on, ask_of, frozen, with_held}
+pub use Rattle.dm_onekernel.specs.Boot.{blocks_at, blocks_of_image, controls_child, image_is_valid, images_are_valid, leads_somewhere, leads_to_process, leads_to_server, link_is_valid, links_are_valid, machine_is_valid, machines_are_valid}
+pub use Rattle.dm_onekernel.specs.Boot.{memory_size, process_named, slots_of}
+pub use Rattle.dm_onekernel.specs.Start.{memory_of, slots_with}
+pub use Rattle.dm_onekernel.specs.Step.{Machine}
+pub use Rattle.dm_onekernel.specs.declared.boot.BootImage.{BootImage}
+pub use Rattle.dm_onekernel.specs.declared.boot.BootMachine.{BootMachine}
+pub use Rattle.dm_onekernel.specs.declared.boot.Format.{Format}
+pub use Rattle.dm_onekernel.specs.declared.boot.Format.TheVariants.{One, Two}
+pub use Rattle.dm_onekernel.specs.declared.label.Why.{Why}
+pub use Rattle.dm_switchboard.proofs.Lawful.{answer_after, board_after}
+pub use Rattle.dm_switchboard.proofs.Names.{All-push, IsLawfulNamed, IsLawfulWhat, NoMemory, is_some, plain_link, switchboard}
+pub use Rattle.dm_procman.proofs.Hearing.{heard}
+pub use Rattle.dm_procman.proofs.Lawful.{manager_after, message_after, moves_lawful, started_lawful}
+pub use Rattle.dm_procman.proofs.Names.{Boot, BootProcess, IsForManager, IsValid, is_answer, kind_of, manager, moves_child, process_is_valid, processes_are_valid, starting, starting_at, ◌||◌}
+pub use Rattle.dm_procman.specs.declared.moving.MoveError.{MoveError}
+pub use Rattle.dm_datamove.proofs.Landings.{lands_lawfully}
+pub use Rattle.dm_datamove.proofs.Names.{All-nil, IsAwaited, IsLawfulLanded, IsWithin, Landed, Landing, Reply, after_serving, answer, bind, landing, plain_process, serving_answer}
+pub use Rattle.dm_datamove.proofs.Services.{answers_lawfully, serves_lawfully}
+pub use Rattle.dm_datamove.proofs.Tested.{none_lawful}
+pub use Rattle.dm_datamove.specs.Serving.{gone_answer}
+pub use Rattle.dm_syscall.proofs.Completes.{completes_lawfully}
+pub use Rattle.dm_syscall.proofs.LawfulCalls.{IsLawfulDone, call_lawfully}
+pub use Rattle.dm_syscall.proofs.Names.{CallNumber, Called, Completed, Completion, Copy, Done, Drop, Exit, IsLawfulCalled, IsLawfulLanding, Make, Move, Out, Receive, Send, Unknown, after_send, call_number, calls, completes}
+pub use Rattle.dm_syscall.proofs.Names.{completes_unless, completion, copies, does_call, drop-cons, first_failed, is_outside, is_reply, make_refusals, message_over, move_refusals, moves, moves_bytes, moves_over, own_link, pid_eq_self}
+pub use Rattle.dm_syscall.proofs.Names.{puts_link, receive_refusals, refusal, reg, replied, send_refusals, sends, unless_refused, waits, whole}
+pub use Rattle.dm_line.specs.Sets.{moved_back, without}
+pub use Rattle.dm_line.specs.declared.line.Line.{Line}
+pub use Rattle.dm_kernel.specs.Asking.{asks_manager, asks_move, told_to_move}
+pub use Rattle.dm_kernel.specs.Begun.{begins, child_of, empty, opened, room_of, with_all, with_child}
+pub use Rattle.dm_kernel.specs.Coming.{accepts, answers_ask, holds_arriving, restarts, restarts_as, takes_piece, took_piece}
+pub use Rattle.dm_kernel.specs.Departing.{freezes, gives_piece, holds_leaving, leaves, migrates, stays}
+pub use Rattle.dm_kernel.specs.Following.{board_follows, forwards, forwards_and, manager_follows, process_follows}
+pub use Rattle.dm_kernel.specs.Handle.{answers_with, board_handles, board_took, ended_handles, handles, here_handles, kernel_handles, lands, lands_as, makes, makes_of, manager_handles, manager_took, next_pid, process_handles, routes}
+pub use Rattle.dm_kernel.specs.Handle.{told_board, told_manager}
+pub use Rattle.dm_kernel.specs.Lawful.{AreLawful, IsLawfulArrival, IsLawfulDeparture, IsLawfulKnown, IsLawfulPair, IsLawfulPart, IsLawfulRoom, IsLawfulState, IsLawfulTurned}
+pub use Rattle.dm_kernel.specs.May.{FitsBoardWhat, FitsEnded, FitsHere, FitsKernel, FitsKnown, FitsManager, FitsManagerWhat, FrontMay, IsSuch, MayAct, MayHandle, MayRestart, MayTurn, most}
+pub use Rattle.dm_kernel.specs.Meets.{Answers, IsIn, MeetsSome, state_of}
+pub use Rattle.dm_kernel.specs.Serve.{Ran, after_row, called_with, completed_label, does, ends, executes, halts, one_more, processor_of, ran, received, received_by, receives, serves, serves_status, with_machine}
+pub use Rattle.dm_kernel.specs.Served.{Executes, HasPlace, IsHere, Receives, Serves}
+pub use Rattle.dm_kernel.specs.State.{KernelState, Known, Turned, blocks_of, drops, own, own_id, says, turned, with_here, without_process}
+pub use Rattle.dm_kernel.specs.Turn.{first_runnable, goes_round, known_is_runnable, turn, turns}
+pub use Rattle.dm_kernel.specs.declared.kernel.Kernel.{Kernel}
+pub use Rattle.dm_kernel.specs.declared.kernel.Servers.{Servers}
+pub use Rattle.dm_kernel.specs.declared.part.Part.{Part}
+pub use Rattle.dm_kernel.specs.declared.part.Part.TheVariants.{Routes, Says}
+pub use Rattle.dm_kernel.specs.declared.run.Halt.{Halt}

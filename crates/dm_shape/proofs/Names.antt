@@ -1,0 +1,37 @@
+-- What the proofs of this crate name of what lies below it.
+pub use Rattle.std.proofs.Common.{Bor, nat_eq}
+pub use Rattle.std.proofs.lemmas.List.{append_cancel_right, take_rest}
+pub use Rattle.std.proofs.lemmas.Slice.Eq.{bytes_eq-Decides}
+pub use Rattle.std.specs.List.{ends_with, list_all, slice_get}
+pub use Rattle.std.specs.Option.{option_map}
+pub use Rattle.std.specs.Prelude.{is_some}
+pub use Rattle.std.specs.Str.{bytes_eq}
+pub use Rattle.dm_processor.proofs.Names.{Bool, List, None, Some, [], ap, arith, drop, drop-cons, false, get_or, length, nat_tests, refl, suc, sym, take, true, zero, ℕ, ◌%◌, ◌*◌, ◌++◌, ◌+◌, ◌-◌, ◌/◌, ◌<◌, ◌^◌, ◌∙◌, ◌∷◌, ◌≡◌, ◌≤◌}
+pub use Rattle.dm_linktable.proofs.Names.{Link, Pid, list_any, map, position-Some, subst, ◌&&◌, ◌==◌, ◌≢◌}
+pub use Rattle.dm_schedule.proofs.Names.{codes, drop-length, if◌then◌else◌, nat_lt, not, position, position_or_len}
+pub use Rattle.dm_onekernel.specs.declared.label.Reply.{Reply}
+pub use Rattle.dm_line.specs.declared.line.Load.{Load}
+pub use Rattle.dm_text.proofs.EndsBack.{end_words_are}
+pub use Rattle.dm_text.proofs.LineBack.{words-are}
+pub use Rattle.dm_text.proofs.LinesBack.{line_bytes, pieces_of_words, spelled_bytes}
+pub use Rattle.dm_text.proofs.Names.{All, Direction, EndFits, EndLine, FromArea, IdFits, IntoArea, IsByte, IsWord, Kind, Line, LineFits, LinkFits, MessageKind, MsgId, Option, PidFits, Stage, Standing, Step, StepFits, Why, decimal}
+pub use Rattle.dm_text.proofs.Names.{direction_word, end_text, end_words, go_word, head_words, hex, hex_digit, id_word, is_padded, kind_word, link_words, named, nat_le, number_after, numbered, pid_of, pid_word, read_u32, reply_code}
+pub use Rattle.dm_text.proofs.Names.{rights_word, spaced, spelled, stage_word, standing_word, text, why_code, word_of, words, ◌||◌}
+pub use Rattle.dm_text.proofs.Pieces.{AreWords, free, free-append, pieces-free}
+pub use Rattle.dm_text.proofs.WordsBack.{read_id_back, read_pid_back, read_u128_back, read_u32_back, read_u64_back, read_u8_back}
+pub use Rattle.dm_text.specs.Reading.{below, id_in, longer, pid_in, read_u64, read_u8, ◌<*>◌}
+unfoldable pub use Rattle.dm_text.specs.Reading.{pieces, read_id, read_number, read_pid}
+pub use Rattle.dm_text.specs.Rows.{is, of1, of2, of3}
+pub use Rattle.dm_shape.specs.Digits.{digit_of}
+pub use Rattle.dm_shape.specs.Full.{IsFull}
+pub use Rattle.dm_shape.specs.Heads.{head_in, head_named}
+unfoldable pub use Rattle.dm_shape.specs.Heads.{head_of}
+pub use Rattle.dm_shape.specs.Laws.{EndsHaveShapes, HeadsAreRead, HeadsHaveShapes, IsLine, LinesHaveShapes}
+pub use Rattle.dm_shape.specs.Pieces.{behind}
+pub use Rattle.dm_shape.specs.Shapes.{choose, ends_so, fit, is_row, link_sorts, numbers, row_of, shapes}
+unfoldable pub use Rattle.dm_shape.specs.Shapes.{has_shape, is_of_shape}
+pub use Rattle.dm_shape.specs.Sorts.{is_block, is_digit, spells}
+unfoldable pub use Rattle.dm_shape.specs.Sorts.{is_of}
+pub use Rattle.dm_shape.specs.Words.{alone}
+pub use Rattle.dm_shape.specs.declared.shape.Shape.{Shape}
+pub use Rattle.dm_shape.specs.declared.sort.Sort.{Sort}

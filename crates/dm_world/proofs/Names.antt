@@ -1,0 +1,58 @@
+-- What the proofs of this crate name of what lies below it.
+pub use Rattle.std.proofs.Common.{get_or-set_other, get_or-set_same, length-set, mul-suc}
+pub use Rattle.std.proofs.Math.Seq.{get_or-append_seam, take-suc}
+pub use Rattle.std.proofs.lemmas.Iterator.Adapters.{position_from-zero}
+pub use Rattle.std.proofs.lemmas.List.{drop_all}
+pub use Rattle.std.proofs.lemmas.List.Elements.{All-weaker}
+pub use Rattle.std.proofs.lemmas.Option.{slice_get-get_or, slice_get_cases, slice_get_past}
+pub use Rattle.std.specs.List.{position_from}
+pub use Rattle.std.specs.Prelude.{option_map}
+pub use Rattle.dm_records.proofs.Names.{Bool, IsSome, Option, Some, ap, arith, cond, false, if◌then◌else◌, refl, rules, sym, true, ◌∙◌, ◌≡◌}
+pub use Rattle.dm_processor.proofs.Names.{List, [], drop, drop-append-le, drop-cons, get_or, get_or_append_left, length, length-append, nat_tests, set, suc, take, zero, ℕ, ◌*◌, ◌++◌, ◌+◌, ◌-◌, ◌<◌, ◌^◌, ◌∷◌, ◌≤◌}
+pub use Rattle.dm_room.proofs.Names.{slice_get}
+pub use Rattle.dm_wire.proofs.Names.{Sent, is_unseen, just_put, marked, position, slice_index_or}
+pub use Rattle.dm_wire.specs.Sent.{bytes_at}
+pub use Rattle.dm_wire.specs.Wire.{after_mark, is_pair, packets_on}
+pub use Rattle.dm_stream.proofs.Names.{Ack, Data, Load, append-nil, inl, inr, slice_get_within, subst, ◌≢◌, ◌⊎◌}
+pub use Rattle.dm_linktable.proofs.Names.{Result, map, ◌&&◌, ◌==◌}
+pub use Rattle.dm_packet.proofs.Names.{All, Message, MsgId, Packet, PacketError, append_assoc, drop_at, leb-true, not, packet_of, spelling}
+pub use Rattle.dm_schedule.proofs.Names.{Directive}
+pub use Rattle.dm_schedule.specs.declared.Step.{Step}
+pub use Rattle.dm_linkupdate.proofs.Names.{None}
+pub use Rattle.dm_migrate.proofs.Names.{Err, Ok, into_iter_items}
+pub use Rattle.dm_switchboard.proofs.Names.{IsLawfulNamed, Named}
+pub use Rattle.dm_procman.proofs.Names.{Boot, IsValid, ◌||◌}
+pub use Rattle.dm_line.proofs.Below.{fails_at}
+pub use Rattle.dm_line.proofs.Names.{all_below, eqb_tells, false≢true}
+pub use Rattle.dm_line.specs.Each.{sum_below}
+pub use Rattle.dm_line.specs.Ends.{before_zeros, each_machine, home_with, list_line, memory_lines, trimmed}
+pub use Rattle.dm_line.specs.Todo.{Next, Todo, Two, begin_pass, below, here_or_later, in_pass, is_over, next_delivery, next_directive, next_pass, next_turn, or, pairs_of, pairs_with, settles, takes_turn}
+pub use Rattle.dm_line.specs.declared.end_line.EndLine.{EndLine}
+pub use Rattle.dm_line.specs.declared.pass.Pass.{Pass}
+pub use Rattle.dm_line.specs.declared.pass.Pass.TheVariants.{Round, Settle}
+pub use Rattle.dm_kernel.proofs.Names.{All-head, All-tail, Global, IsLawfulState, Line, Vec, images_are_valid, ⊤}
+pub use Rattle.dm_node.proofs.Here.{opened_here}
+pub use Rattle.dm_node.proofs.Names.{Acted, Acts, ActsLawfully, All-rest, AnswersSome, FreezesWhole, Gave, Goes, HasStreams, IsLawfulOut, MayAct, MayArrive, MayArrivePacket, MayAskMove, MayTurn, Node, NodeState, Out, Sends, Stop, Worn}
+pub use Rattle.dm_node.proofs.Names.{arrives_packet, at_machine, get_or_from_slice_get, here, leb_tells, opened, tick, with_items, with_items_is}
+pub use Rattle.dm_node.proofs.Sends.{arrives_lawfully, asks_lawfully, ticks_lawfully, turns_lawfully}
+pub use Rattle.dm_node.specs.Acts.{asks_move, turn}
+pub use Rattle.dm_node.specs.Lawful.{IsFrom}
+pub use Rattle.dm_node.specs.Meets.{GaveSome, IfWorn, IsWornSome}
+pub use Rattle.dm_node.specs.Wired.{Spoken, packet_line, spoken, with_packet}
+pub use Rattle.dm_world.specs.Cursor.{Falls, FirstIs, FirstTurnIs, InPassIs, IsFresh, LeavesFewer, LeavesNoMore, NextIs, NextPassIs, RoundGoes, SettleGoes, TakesTurn, as_next, found_at, machines_left, pairs_left, room_of, row_at}
+pub use Rattle.dm_world.specs.Cursor.{seen_count, todo_at, turn_at, turns_at, turns_of}
+unfoldable pub use Rattle.dm_world.specs.Cursor.{pairs_at, room}
+pub use Rattle.dm_world.specs.Ends.{SaysSome, awaited_lines, child_lines, first_awaited, first_had, first_says, held_line, homes_with, lines_in, link_lines, name_lines, names_of, pending_lines, process_lines, queue_of, record_lines}
+pub use Rattle.dm_world.specs.Ends.{record_queue, stream_line}
+pub use Rattle.dm_world.specs.Local.{ActsAlone, acts_on, bytes_of}
+pub use Rattle.dm_world.specs.May.{MayDeliver, MayRead, MayStep, sent_by}
+pub use Rattle.dm_world.specs.Meets.{ActedAt, ActedSome, Answers, AreNodes, IsNode, IsSendable, IsWorld, IsWornOut, Meets, MeetsSome, Spoke, TurnAnswers, node_or, state_of}
+unfoldable pub use Rattle.dm_world.specs.Meets.{node_in}
+pub use Rattle.dm_world.specs.Next.{all_heard, first_unseen, has_mail, is_quiet, next_step, undelivered}
+pub use Rattle.dm_world.specs.Readable.{AreReadBack, gave_bytes, gave_read, gave_some}
+pub use Rattle.dm_world.specs.World.{Happened, Said, Says, WorldState, WornOut, acted, arrives, delivers, reads, turned, world_step}
+pub use Rattle.dm_world.specs.declared.cursor.Cursor.{Cursor}
+pub use Rattle.dm_world.specs.declared.cursor.Cursor.TheVariants.{One, Passing}
+pub use Rattle.dm_world.specs.declared.cursor.Place.{Place}
+pub use Rattle.dm_world.specs.declared.cursor.Place.TheVariants.{End, Packets, Turns}
+pub use Rattle.dm_world.specs.declared.world.World.{World}
