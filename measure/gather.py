@@ -1,7 +1,7 @@
 #!/usr/bin/env python3
 """gather.py CRATE..: imports of proofs by way of one file for each crate.
 
-What the proof files of a crate name of what lies outside its proofs/ is passed on by crates/CRATE/proofs/Names.antt, and each
+What the proof files of a crate name of what lies outside its proofs/ is passed on by crates/CRATE/proofs/Names.antt (Imports.antt where the crate has a module `names`), and each
 file names it there. A name that stands for two things keeps its own line where it stands for the rarer one. Write a new import
 as any other, below the rest, and run this: it rewrites Names.antt and the heads of the files, and drops from Names.antt what
 nobody names any more. What crates above take from there stays. It can be run again at any time, lowest crate first."""
@@ -36,10 +36,16 @@ def wrap(head, items):
     return [f"{head}.{{{', '.join(row)}}}" for row in rows if row]
 
 
+def names_of(crate):
+    """The file's name: a crate that has a module `names` can't have a file Names beside it."""
+    return "Imports" if os.path.exists(os.path.join(TOP, "crates", crate, "src", "names.rt")) else "Names"
+
+
 class Crate:
     def __init__(self, book, name):
         self.book, self.name, self.home = book, name, f"Rattle.{name}.proofs"
-        self.names = f"{self.home}.Names"
+        self.file = names_of(name)
+        self.names = f"{self.home}.{self.file}"
         self.files = [m for m in book.modules.values() if m.crate == name and m.part == "proofs" and m.path not in (self.home, self.names)]
         here = book.modules.get(self.names)
         if here and here.lines[0] != HEAD:
@@ -85,11 +91,11 @@ class Crate:
                         spelled[there, pick[there]][self.passed[there]] += 1
         opened = {x for m in self.files for line in m.lines if re.match(r"^ *unfolding ", line) for x in line.split()[1:]}
         below = [c for c in order if c in deps[self.name]]
-        below = [n for n in (f"Rattle.{c}.proofs.Names" for c in below) if n in self.book.modules and self.book.modules[n].lines[0] == HEAD]
+        below = [n for n in (f"Rattle.{c}.proofs.{names_of(c)}" for c in below) if n in self.book.modules and self.book.modules[n].lines[0] == HEAD]
         origin = {}
         for here, what in pick.items():
             path, there = spelled[here, what].most_common(1)[0][0]
-            while path.endswith(".proofs.Names") and path in self.book.modules and self.book.modules[path].lines[0] == HEAD:
+            while path.endswith((".proofs.Names", ".proofs.Imports")) and path in self.book.modules and self.book.modules[path].lines[0] == HEAD:
                 path, there = self.book.modules[path].names[there]
             for n in below:
                 if here in self.book.modules[n].names and self.meaning(n, here) == what and here not in opened:
@@ -110,10 +116,10 @@ class Crate:
             out += wrap(f"pub use {path}", [x for here, x in items if here not in opened])
             out += wrap(f"unfoldable pub use {path}", [x for here, x in items if here in opened])
         folder = f"{TOP}/crates/{self.name}/proofs"
-        write(f"{folder}/Names.antt", "\n".join(out) + "\n")
+        write(f"{folder}/{self.file}.antt", "\n".join(out) + "\n")
         lib = open(f"{folder}/Lib.antt", encoding="utf-8").read()
-        if "mod Names\n" not in lib:
-            write(f"{folder}/Lib.antt", "pub mod Names\n" + lib)
+        if f"mod {self.file}\n" not in lib:
+            write(f"{folder}/Lib.antt", f"pub mod {self.file}\n" + lib)
         return sum(self.rewrite(m, pick) for m in self.files)
 
     def rewrite(self, m, pick):

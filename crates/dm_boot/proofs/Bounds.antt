@@ -1,6 +1,6 @@
 -- What a document whose rules are kept says of its numbers.
-use Rattle.dm_boot.proofs.Names.{◌≡◌, ℕ, ◌+◌, ◌<◌, ◌&&◌, zero, suc, Bool, true, false, if◌then◌else◌, nat_le, ℤ, pos, negsuc, List, length, slice_get, Option, Some, None, refl, sym, arith, and_parts, nat_tests, is_some, list_all, Data}
-use Rattle.dm_boot.proofs.Names.{Items, no_items, item, get_item, get, as_integer, in_range, integer_in, number_or, number_at, or_zero, count, first_failing, map_items, place_from, place_of, is_named}
+use Rattle.dm_boot.proofs.Imports.{◌≡◌, ℕ, ◌+◌, ◌<◌, ◌&&◌, zero, suc, Bool, true, false, if◌then◌else◌, nat_le, ℤ, pos, negsuc, List, length, slice_get, Option, Some, None, refl, sym, arith, and_parts, nat_tests, is_some, list_all, Data}
+use Rattle.dm_boot.proofs.Imports.{Items, no_items, item, get_item, get, as_integer, in_range, integer_in, number_or, number_at, or_zero, count, first_failing, map_items, place_from, place_of, is_named}
 
 -- an `if` that says nothing
 pub if-none : (b : Bool) (rest : Option ℕ) (i : ℕ) → (if b then rest else Some i) ≡ None → (b ≡ true) × (rest ≡ None)

@@ -1,6 +1,6 @@
 -- Slots and blocks of a machine, counted.
-use Rattle.dm_boot.proofs.Names.{◌≡◌, ℕ, ◌+◌, ◌*◌, ◌<◌, ◌≤◌, ◌==◌, zero, suc, cond, nat_lt, List, [], ◌∷◌, ◌++◌, length, get_or, slice_get, drop, refl, ap, sym, ◌∙◌, arith, drop_more, nat_tests, drop_of_length-le, BootImage, BootProcess}
-use Rattle.dm_boot.proofs.Names.{starting_at, blocks_at, blocks_of_image}
+use Rattle.dm_boot.proofs.Imports.{◌≡◌, ℕ, ◌+◌, ◌*◌, ◌<◌, ◌≤◌, ◌==◌, zero, suc, cond, nat_lt, List, [], ◌∷◌, ◌++◌, length, get_or, slice_get, drop, refl, ap, sym, ◌∙◌, arith, drop_more, nat_tests, drop_of_length-le, BootImage, BootProcess}
+use Rattle.dm_boot.proofs.Imports.{starting_at, blocks_at, blocks_of_image}
 
 process_at : (ps : List BootProcess) (i : ℕ) (p : BootProcess) → i < length ps → p ≡ get_or ps i p → drop i ps ≡ p ∷ drop (i + 1) ps
 process_at ps i p within read = drop_more ps i p within ∙ ap (λ q. q ∷ drop (i + 1) ps) (sym read)

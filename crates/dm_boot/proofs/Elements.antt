@@ -1,6 +1,6 @@
 -- The elements of an array, as a loop goes through them.
-use Rattle.dm_boot.proofs.Names.{◌≡◌, ℕ, ◌+◌, ◌<◌, ◌≤◌, zero, suc, Bool, true, false, List, [], ◌∷◌, ◌++◌, length, get_or, drop, Some, None, refl, ap, sym, ◌∙◌, arith, append_assoc, append-nil, drop_of_length-le, Value, Data, no_items}
-use Rattle.dm_boot.proofs.Names.{item, get_item, view, items_view, items_view-drop, count, all_items, first_failing, map_items}
+use Rattle.dm_boot.proofs.Imports.{◌≡◌, ℕ, ◌+◌, ◌<◌, ◌≤◌, zero, suc, Bool, true, false, List, [], ◌∷◌, ◌++◌, length, get_or, drop, Some, None, refl, ap, sym, ◌∙◌, arith, append_assoc, append-nil, drop_of_length-le, Value, Data, no_items}
+use Rattle.dm_boot.proofs.Imports.{item, get_item, view, items_view, items_view-drop, count, all_items, first_failing, map_items}
 
 -- an element that was read, and those after it
 pub element_at : (vs : List Value) (i : ℕ) (v : Value) → i < length vs → v ≡ get_or vs i v → items_view (drop i vs) ≡ item (view v) (items_view (drop (i + 1) vs))

@@ -1,7 +1,7 @@
 -- The processes of the file, found by their names.
-use Rattle.dm_boot.proofs.Names.{◌≡◌, ℕ, ◌+◌, ◌<◌, ◌≤◌, ◌==◌, ◌&&◌, zero, suc, Bool, true, false, cond, List, [], ◌∷◌, ◌++◌, length, slice_get, Option, Some, None, refl, ap, sym, ◌∙◌, arith, append_assoc, nat_tests, Data, Items, no_items}
-use Rattle.dm_boot.proofs.Names.{item, get_item, Pid, Link, pid_eq, BootImage, BootProcess, first_number, starting_at, blocks_at, blocks_of_image, process_named, count, or_zero, home_of, image_place, start_of, starts_from, linked}
-use Rattle.dm_boot.proofs.Names.{linked_all, links_of}
+use Rattle.dm_boot.proofs.Imports.{◌≡◌, ℕ, ◌+◌, ◌<◌, ◌≤◌, ◌==◌, ◌&&◌, zero, suc, Bool, true, false, cond, List, [], ◌∷◌, ◌++◌, length, slice_get, Option, Some, None, refl, ap, sym, ◌∙◌, arith, append_assoc, nat_tests, Data, Items, no_items}
+use Rattle.dm_boot.proofs.Imports.{item, get_item, Pid, Link, pid_eq, BootImage, BootProcess, first_number, starting_at, blocks_at, blocks_of_image, process_named, count, or_zero, home_of, image_place, start_of, starts_from, linked}
+use Rattle.dm_boot.proofs.Imports.{linked_all, links_of}
 use Rattle.dm_boot.proofs.Counted.{starting-push}
 
 pub linked-length : (d : Data) (all done : List BootProcess) (ts : Items) → length (linked_all d all (starts_from d done ts) ts) ≡ count ts

@@ -1,5 +1,5 @@
 -- The keys of a table, as the code goes through them.
-use Rattle.dm_boot.proofs.Names.{◌≡◌, ℕ, ◌||◌, ◌&&◌, List, [], ◌∷◌, map, refl, ap, String, string_bytes, Global, Bor, list_any, list_all, bytes_eq, keys_of, Value, members_view, is_known, all_known}
+use Rattle.dm_boot.proofs.Imports.{◌≡◌, ℕ, ◌||◌, ◌&&◌, List, [], ◌∷◌, map, refl, ap, String, string_bytes, Global, Bor, list_any, list_all, bytes_eq, keys_of, Value, members_view, is_known, all_known}
 
 -- a key among those that references name
 pub is_known-map : (known : List (Bor (List ℕ))) (key : List ℕ) → is_known (map (λ k. k.now) known) key ≡ list_any (λ k. bytes_eq k.now key) known

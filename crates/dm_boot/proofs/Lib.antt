@@ -1,4 +1,4 @@
-pub mod Names
+pub mod Imports
 pub mod Keys
 pub mod Elements
 pub mod Named

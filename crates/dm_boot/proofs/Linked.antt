@@ -1,6 +1,6 @@
 -- The processes with their links, as a loop goes through them.
-use Rattle.dm_boot.proofs.Names.{◌≡◌, ℕ, ◌+◌, ◌<◌, ◌≤◌, List, [], ◌∷◌, ◌++◌, length, get_or, drop, refl, ap, sym, ◌∙◌, append_assoc, append-nil, drop_more, drop_of_length-le, Value, Data, no_items, view, items_view, Link, BootProcess}
-use Rattle.dm_boot.proofs.Names.{linked, linked_all, links_of}
+use Rattle.dm_boot.proofs.Imports.{◌≡◌, ℕ, ◌+◌, ◌<◌, ◌≤◌, List, [], ◌∷◌, ◌++◌, length, get_or, drop, refl, ap, sym, ◌∙◌, append_assoc, append-nil, drop_more, drop_of_length-le, Value, Data, no_items, view, items_view, Link, BootProcess}
+use Rattle.dm_boot.proofs.Imports.{linked, linked_all, links_of}
 use Rattle.dm_boot.proofs.Elements.{element_at, no_more}
 
 start_at : (ps : List BootProcess) (i : ℕ) (p : BootProcess) → i < length ps → p ≡ get_or ps i p → drop i ps ≡ p ∷ drop (i + 1) ps

@@ -1,6 +1,6 @@
 -- The elements of an array, found by their names.
-use Rattle.dm_boot.proofs.Names.{◌≡◌, ◌∙◌, ℕ, ◌+◌, ◌<◌, ◌≤◌, Bool, true, false, if◌then◌else◌, List, [], length, get_or, drop, None, Some, refl, ap, sym, arith, codes, is_some, option_or, bytes_eq, Value, Items, no_items, item, view}
-use Rattle.dm_boot.proofs.Names.{items_view, count, is_named, place_from, place_of, text_at}
+use Rattle.dm_boot.proofs.Imports.{◌≡◌, ◌∙◌, ℕ, ◌+◌, ◌<◌, ◌≤◌, Bool, true, false, if◌then◌else◌, List, [], length, get_or, drop, None, Some, refl, ap, sym, arith, codes, is_some, option_or, bytes_eq, Value, Items, no_items, item, view}
+use Rattle.dm_boot.proofs.Imports.{items_view, count, is_named, place_from, place_of, text_at}
 use Rattle.std.specs.declared.option.Option.{Option}
 use Rattle.dm_boot.proofs.Elements.{element_at, no_more}
 

@@ -1,8 +1,8 @@
 -- Rules in parts, one after the other.
-use Rattle.dm_boot.proofs.Names.{◌≡◌, ℕ, ◌+◌, ◌≤◌, Bool, true, false, nat_le, if◌then◌else◌, List, [], ◌∷◌, ◌++◌, Option, Some, None, Result, Ok, Err, map, refl, ap, ◌∙◌, arith, nat_tests, Data, Items, no_items, item, Boot, BootRule}
-use Rattle.dm_boot.proofs.Names.{TopKeys, Settings, MachineCount, MachineKeys, MachineRoom, ImageCount, ImageText, ImageBytes, ProcessKeys, ProcessName, ProcessMachine, ProcessImage, ProcessRoom, BootError, Refused, NoMemory, before_images}
-use Rattle.dm_boot.proofs.Names.{count, first_failing, map_items, image_of, images_of, image_tables, process_tables, system_of, keeps, subjects, broken_at, broken_or, first_broken, first_unassembled, first_long, image_fits, has_place}
-use Rattle.dm_boot.proofs.Names.{rule_of, has_good_image_count, image_rules, process_rules, link_rules, rules, Answers, unless, unless_at, boot_of_table}
+use Rattle.dm_boot.proofs.Imports.{◌≡◌, ℕ, ◌+◌, ◌≤◌, Bool, true, false, nat_le, if◌then◌else◌, List, [], ◌∷◌, ◌++◌, Option, Some, None, Result, Ok, Err, map, refl, ap, ◌∙◌, arith, nat_tests, Data, Items, no_items, item, Boot, BootRule}
+use Rattle.dm_boot.proofs.Imports.{TopKeys, Settings, MachineCount, MachineKeys, MachineRoom, ImageCount, ImageText, ImageBytes, ProcessKeys, ProcessName, ProcessMachine, ProcessImage, ProcessRoom, BootError, Refused, NoMemory}
+use Rattle.dm_boot.proofs.Imports.{before_images, count, first_failing, map_items, image_of, images_of, image_tables, process_tables, system_of, keeps, subjects, broken_at, broken_or, first_broken, first_unassembled, first_long, image_fits}
+use Rattle.dm_boot.proofs.Imports.{has_place, rule_of, has_good_image_count, image_rules, process_rules, link_rules, rules, Answers, unless, unless_at, boot_of_table}
 use Rattle.dm_boot.specs.declared.rules.TableRule.TheVariants as of_tables
 
 -- what is broken first, or else what comes later

@@ -1,6 +1,6 @@
 -- The processes without their links, as a loop goes through them.
-use Rattle.dm_boot.proofs.Names.{◌≡◌, ℕ, ◌+◌, ◌<◌, ◌≤◌, true, false, Some, List, [], ◌∷◌, ◌++◌, length, get_or, drop, take, ap, sym, ◌∙◌, append_assoc, append-nil, take-append_seam, Value, Data, view, items_view, BootMachine, BootImage}
-use Rattle.dm_boot.proofs.Names.{BootProcess, first_failing, machines_of, images_of, start_of, starts_from, starts_of, fits_after, has_place}
+use Rattle.dm_boot.proofs.Imports.{◌≡◌, ℕ, ◌+◌, ◌<◌, ◌≤◌, true, false, Some, List, [], ◌∷◌, ◌++◌, length, get_or, drop, take, ap, sym, ◌∙◌, append_assoc, append-nil, take-append_seam, Value, Data, view, items_view, BootMachine, BootImage}
+use Rattle.dm_boot.proofs.Imports.{BootProcess, first_failing, machines_of, images_of, start_of, starts_from, starts_of, fits_after, has_place}
 use Rattle.dm_boot.proofs.Elements.{element_at, no_more, failing-more, failing-here}
 
 pub starts-end : (d : Data) (done : List BootProcess) (vs : List Value) (i : ℕ) → length vs ≤ i → done ++ starts_from d done (items_view (drop i vs)) ≡ done

@@ -1,7 +1,7 @@
 -- Processes that fit their machines, one after the other.
-use Rattle.dm_boot.proofs.Names.{◌≡◌, ℕ, ◌+◌, ◌<◌, ◌≤◌, ◌==◌, Bool, true, false, cond, nat_le, nat_lt, List, [], ◌∷◌, ◌++◌, length, slice_get, Option, Some, None, refl, ap, sym, ◌∙◌, arith, append_assoc, append-nil, length-append}
-use Rattle.dm_boot.proofs.Names.{and_parts, nat_tests, Data, Items, no_items, item, BootMachine, BootImage, BootProcess, starting_at, blocks_at, blocks_of_image, first_failing, machines_of, images_of, start_of, starts_from, starts_of}
-use Rattle.dm_boot.proofs.Names.{fits_machine, fits_after, has_place}
+use Rattle.dm_boot.proofs.Imports.{◌≡◌, ℕ, ◌+◌, ◌<◌, ◌≤◌, ◌==◌, Bool, true, false, cond, nat_le, nat_lt, List, [], ◌∷◌, ◌++◌, length, slice_get, Option, Some, None, refl, ap, sym, ◌∙◌, arith, append_assoc, append-nil, length-append}
+use Rattle.dm_boot.proofs.Imports.{and_parts, nat_tests, Data, Items, no_items, item, BootMachine, BootImage, BootProcess, starting_at, blocks_at, blocks_of_image, first_failing, machines_of, images_of, start_of, starts_from, starts_of}
+use Rattle.dm_boot.proofs.Imports.{fits_machine, fits_after, has_place}
 use Rattle.dm_boot.proofs.Bounds.{if-none}
 use Rattle.dm_boot.proofs.Counted.{starting-push, taking-push}
 use Rattle.dm_boot.proofs.Placed.{place-here}

@@ -1,5 +1,5 @@
 -- The rules, as a loop goes through them.
-use Rattle.dm_boot.proofs.Names.{◌≡◌, ℕ, ◌+◌, ◌<◌, ◌≤◌, List, ◌∷◌, length, get_or, drop, map, Some, None, ap, drop_more, drop_of_length-le, Data, TableRule, broken_at, first_broken, rule_of}
+use Rattle.dm_boot.proofs.Imports.{◌≡◌, ℕ, ◌+◌, ◌<◌, ◌≤◌, List, ◌∷◌, length, get_or, drop, map, Some, None, ap, drop_more, drop_of_length-le, Data, TableRule, broken_at, first_broken, rule_of}
 use Rattle.dm_boot.specs.declared.rules.TableRule.TheVariants.{TopKeys}
 
 -- rule i of these; `TopKeys` stands where there is none

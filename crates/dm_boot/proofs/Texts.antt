@@ -1,6 +1,6 @@
 -- The images, as loops go through them.
-use Rattle.dm_boot.proofs.Names.{◌≡◌, ℕ, ◌+◌, ◌<◌, ◌≤◌, true, false, List, ◌∷◌, length, get_or, drop, Option, Some, None, Ok, Err, ap, sym, ◌∙◌, drop_more, drop_of_length-le, Value, view, items_view, BootImage, BootRule, assembles}
-use Rattle.dm_boot.proofs.Names.{first_unassembled, image_fits, first_long, unless_at}
+use Rattle.dm_boot.proofs.Imports.{◌≡◌, ℕ, ◌+◌, ◌<◌, ◌≤◌, true, false, List, ◌∷◌, length, get_or, drop, Option, Some, None, Ok, Err, ap, sym, ◌∙◌, drop_more, drop_of_length-le, Value, view, items_view, BootImage, BootRule, assembles}
+use Rattle.dm_boot.proofs.Imports.{first_unassembled, image_fits, first_long, unless_at}
 use Rattle.dm_boot.proofs.Elements.{failing-end, failing-more, failing-here, map-end, map-more}
 
 -- one rule that is kept or broken

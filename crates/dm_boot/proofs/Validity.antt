@@ -1,12 +1,12 @@
 -- The system of a boot file is one that may start.
-use Rattle.dm_boot.proofs.Names.{◌≡◌, ℕ, ◌+◌, ◌≤◌, ◌==◌, ◌&&◌, zero, suc, Bool, true, false, if◌then◌else◌, nat_le, nat_lt, List, [], ◌∷◌, ◌++◌, length, slice_get, codes, Option, Some, None, Result, Ok, Err, refl, ap, sym, subst, ◌∙◌}
-use Rattle.dm_boot.proofs.Names.{arith, and_parts, nat_tests, list_all, is_some, IfOk, Data, Items, no_items, item, get_item, table, Members, BootMachine, BootImage, BootProcess, Boot, IsValid, first_number, slots_of, starting_at}
-use Rattle.dm_boot.proofs.Names.{blocks_at, links_are_valid, image_is_valid, images_are_valid, process_is_valid, processes_are_valid, machine_is_valid, machines_are_valid, TopKeys, Settings, MachineCount, MachineKeys, MachineRoom}
-use Rattle.dm_boot.proofs.Names.{ImageCount, ImageKeys, ImageName, ImageBlocks, ImageText, ImageBytes, ProcessKeys, ProcessName, ProcessMachine, ProcessImage, ProcessRoom, LinkCount, LinkTarget, LinkLimits, BootError, count, or_zero}
-use Rattle.dm_boot.proofs.Names.{all_items, first_failing, map_items, machine_tables, image_tables, process_tables, link_tables, numbers_of, quantum_of, format_number, format_of, slots_in, blocks_in, machine_of, machines_of, image_blocks}
-use Rattle.dm_boot.proofs.Names.{image_of, images_of, machine_number, home_of, image_place, start_of, starts_from, starts_of, links_of, link_of, linked, linked_all, processes_of, is_control, system_of, system_with, keeps, subjects}
-use Rattle.dm_boot.proofs.Names.{broken_at, first_broken, rules, has_good_settings, has_good_machine_count, has_good_room, has_good_image_count, image_fits, is_below, has_machine, has_link_count, has_target, is_limited, Answers, boot_of}
-use Rattle.dm_boot.proofs.Names.{boot_of_table, boot_of_document, document_of}
+use Rattle.dm_boot.proofs.Imports.{◌≡◌, ℕ, ◌+◌, ◌≤◌, ◌==◌, ◌&&◌, zero, suc, Bool, true, false, if◌then◌else◌, nat_le, nat_lt, List, [], ◌∷◌, ◌++◌, length, slice_get, codes, Option, Some, None, Result, Ok, Err, refl, ap, sym, subst, ◌∙◌}
+use Rattle.dm_boot.proofs.Imports.{arith, and_parts, nat_tests, list_all, is_some, IfOk, Data, Items, no_items, item, get_item, table, Members, BootMachine, BootImage, BootProcess, Boot, IsValid, first_number, slots_of, starting_at}
+use Rattle.dm_boot.proofs.Imports.{blocks_at, links_are_valid, image_is_valid, images_are_valid, process_is_valid, processes_are_valid, machine_is_valid, machines_are_valid, TopKeys, Settings, MachineCount, MachineKeys, MachineRoom}
+use Rattle.dm_boot.proofs.Imports.{ImageCount, ImageKeys, ImageName, ImageBlocks, ImageText, ImageBytes, ProcessKeys, ProcessName, ProcessMachine, ProcessImage, ProcessRoom, LinkCount, LinkTarget, LinkLimits, BootError, count, or_zero}
+use Rattle.dm_boot.proofs.Imports.{all_items, first_failing, map_items, machine_tables, image_tables, process_tables, link_tables, numbers_of, quantum_of, format_number, format_of, slots_in, blocks_in, machine_of, machines_of, image_blocks}
+use Rattle.dm_boot.proofs.Imports.{image_of, images_of, machine_number, home_of, image_place, start_of, starts_from, starts_of, links_of, link_of, linked, linked_all, processes_of, is_control, system_of, system_with, keeps, subjects}
+use Rattle.dm_boot.proofs.Imports.{broken_at, first_broken, rules, has_good_settings, has_good_machine_count, has_good_room, has_good_image_count, image_fits, is_below, has_machine, has_link_count, has_target, is_limited, Answers, boot_of}
+use Rattle.dm_boot.proofs.Imports.{boot_of_table, boot_of_document, document_of}
 use Rattle.dm_boot.proofs.Parts.{none-head, at_top, unless-ok}
 use Rattle.dm_boot.proofs.Bounds.{if-none, none-is, number-bounds, both-pass, length-map, place-within}
 use Rattle.dm_boot.proofs.Rooms.{AllFit, fit-none, fit-from}

@@ -10,7 +10,7 @@ pub use Rattle.dm_linktable.proofs.Names.{map, ◌&&◌, ◌==◌}
 pub use Rattle.dm_packet.proofs.Names.{All, MsgId, append_assoc, length-take, nat_le, not}
 pub use Rattle.dm_schedule.proofs.Names.{Directive, codes, drop-length}
 pub use Rattle.dm_migrate.proofs.Names.{All-append, All-cons, Err, Ok, PlainWhat, Result, take_rest}
-pub use Rattle.dm_switchboard.proofs.Names.{is_general, is_name, nat_eq, switchboard}
+pub use Rattle.dm_switchboard.proofs.Imports.{is_general, is_name, nat_eq, switchboard}
 pub use Rattle.dm_procman.proofs.Names.{Boot, IsValid, PlainLink, manager}
 pub use Rattle.dm_laws.proofs.Names.{Alive, BootImage, Label, Life, OneKernel, Pending, PlainMessage, PlainProcess, Reply, Switchboard, Why, bind, false≢true, first_number, id_of, pid_of, start, when, with_sent, ⊤}
 pub use Rattle.dm_datamove.proofs.Names.{All-nil}
@@ -24,7 +24,7 @@ pub use Rattle.dm_text.proofs.Names.{EndFits, LineFits, end_text, end_words, spa
 unfoldable pub use Rattle.dm_text.specs.Reading.{pieces}
 unfoldable pub use Rattle.dm_text.specs.Text.{text_of_ends, text_of_lines}
 pub use Rattle.dm_shape.proofs.Fitting.{behind_none, split_some}
-pub use Rattle.dm_shape.proofs.Names.{Bor, IsFull, bytes_eq, bytes_eq-Decides, end_words_are, has_shape, line_bytes, spelled_bytes, words-are}
+pub use Rattle.dm_shape.proofs.Imports.{Bor, IsFull, bytes_eq, bytes_eq-Decides, end_words_are, has_shape, line_bytes, spelled_bytes, words-are}
 pub use Rattle.dm_shape.proofs.NamesRead.{cut_is, first_is, one_piece, some_piece}
 pub use Rattle.dm_shape.proofs.ShapeLaws.{ends_have, heads_have, heads_read, lines_have}
 unfoldable pub use Rattle.dm_shape.specs.Heads.{head_of}

@@ -8,7 +8,7 @@ pub use Rattle.dm_schedule.proofs.Names.{append-nil, append_assoc, codes, drop-l
 unfoldable pub use Rattle.dm_schedule.specs.Lines.{lines as schedule_lines}
 unfoldable pub use Rattle.dm_asm.specs.Lines.{lines as text_lines}
 pub use Rattle.dm_process.proofs.Names.{slice_get}
-pub use Rattle.dm_boot.proofs.Names.{Data, Value, drop_more, drop_of_length-le, first_failing, get_item, items_view, view}
+pub use Rattle.dm_boot.proofs.Imports.{Data, Value, drop_more, drop_of_length-le, first_failing, get_item, items_view, view}
 pub use Rattle.dm_boot.specs.Tables.{has_only}
 pub use Rattle.dm_explain.specs.Faults.{is_met, is_within, keys_text, wish_told}
 unfoldable pub use Rattle.dm_explain.specs.Faults.{first_bad, key_fault, limit_told, number_fault, wish_fault}

@@ -49,7 +49,7 @@ pub use Rattle.dm_onekernel.specs.declared.boot.Format.{Format}
 pub use Rattle.dm_onekernel.specs.declared.boot.Format.TheVariants.{One, Two}
 pub use Rattle.dm_onekernel.specs.declared.label.Why.{Why}
 pub use Rattle.dm_switchboard.proofs.Lawful.{answer_after, board_after}
-pub use Rattle.dm_switchboard.proofs.Names.{All-push, IsLawfulNamed, IsLawfulWhat, NoMemory, is_some, plain_link, switchboard}
+pub use Rattle.dm_switchboard.proofs.Imports.{All-push, IsLawfulNamed, IsLawfulWhat, NoMemory, is_some, plain_link, switchboard}
 pub use Rattle.dm_procman.proofs.Hearing.{heard}
 pub use Rattle.dm_procman.proofs.Lawful.{manager_after, message_after, moves_lawful, started_lawful}
 pub use Rattle.dm_procman.proofs.Names.{Boot, BootProcess, IsForManager, IsValid, is_answer, kind_of, manager, moves_child, process_is_valid, processes_are_valid, starting, starting_at, ◌||◌}

@@ -38,7 +38,7 @@ pub use Rattle.dm_migrate.proofs.Names.{All-append, All-cons, Arrival, Block, Ca
 pub use Rattle.dm_migrate.proofs.Names.{chunk_of, coming, is_last, map-append, plain_message, plain_what, pull, restarted, sent_on, state_of, with_piece, with_what}
 pub use Rattle.dm_migrate.proofs.Way.{by_pieces}
 pub use Rattle.dm_migrate.specs.Answer.{IsAskOfProcess}
-pub use Rattle.dm_switchboard.proofs.Names.{ArrayVec, Board, Named, is_general, named_is_behind, plain_board, plain_link, plain_named, switchboard}
+pub use Rattle.dm_switchboard.proofs.Imports.{ArrayVec, Board, Named, is_general, named_is_behind, plain_board, plain_link, plain_named, switchboard}
 pub use Rattle.dm_switchboard.proofs.Plain.{plain_request}
 pub use Rattle.dm_procman.proofs.Names.{Boot, BootProcess, IsForManager, IsValid, Managing, Pending, PlainLink, answer_over, at_home, child_named, control_link, manager, message_to, moves_child, pending_is_behind, pending_numbered}
 pub use Rattle.dm_procman.proofs.Names.{plain_child, plain_manager, plain_pending, process_is_valid, processes_are_valid, slice_get-map, starting_at, tells_to_move, ◌||◌}

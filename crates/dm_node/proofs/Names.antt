@@ -21,7 +21,7 @@ pub use Rattle.dm_packet.proofs.Names.{All, All-push, Asker, IsLawfulMessage, Is
 pub use Rattle.dm_process.proofs.Names.{first_on}
 pub use Rattle.dm_linkupdate.proofs.Names.{None, Process, Status}
 pub use Rattle.dm_migrate.proofs.Names.{All-append, All-cons, Arrival, Departure, Err, Ok, block_of, chunk_of, into_iter_items, restarted, with_piece}
-pub use Rattle.dm_switchboard.proofs.Names.{NoMemory, switchboard}
+pub use Rattle.dm_switchboard.proofs.Imports.{NoMemory, switchboard}
 pub use Rattle.dm_procman.proofs.Names.{Boot, BootProcess, manager, moves_child}
 pub use Rattle.dm_datamove.proofs.Names.{All-nil, Landed, Landing, after_serving, bind, landing, serving_answer}
 pub use Rattle.dm_syscall.proofs.Names.{All-drop, Called, Completed, Completion, calls, completion}

@@ -16,7 +16,7 @@ pub use Rattle.dm_onekernel.specs.Start.{memory_of, zero_regs}
 pub use Rattle.dm_onekernel.specs.Step.{Machine, plain_steps}
 pub use Rattle.dm_onekernel.specs.Switchboard.{goes_over}
 pub use Rattle.dm_onekernel.specs.declared.boot.Format.{Format}
-pub use Rattle.dm_switchboard.proofs.Names.{ArrayVec, Asked, Named, bytes_eq, is_general, is_name, is_some, named_is_behind, plain_board, plain_link, plain_named, retargeted_named, switchboard}
+pub use Rattle.dm_switchboard.proofs.Imports.{ArrayVec, Asked, Named, bytes_eq, is_general, is_name, is_some, named_is_behind, plain_board, plain_link, plain_named, retargeted_named, switchboard}
 pub use Rattle.dm_switchboard.proofs.Plain.{plain_answer, plain_asked, plain_asks, plain_reply}
 pub use Rattle.dm_procman.proofs.Names.{Boot, BootProcess, IsValid, Managing, MsgId, Pending, PlainLink, Taken, answer_over, at_home, child_named, child_numbered, child_of, control_link, kernel, manager, message_to, pending_is_behind}
 pub use Rattle.dm_procman.proofs.Names.{pending_numbered, plain_child, plain_manager, plain_pending, retargeted_manager, retargeted_pending, slice_get-map, without_pending, ◌||◌}

@@ -53,10 +53,10 @@ unfoldable pub use Rattle.dm_draw.specs.Directives.{directive_drawn}
 pub use Rattle.dm_asm.proofs.Names.{Vec, bytes_eq, option_map}
 pub use Rattle.dm_statebytes.proofs.Names.{length-drop}
 pub use Rattle.dm_migrate.proofs.Names.{Err, Ok, Result, ap₂}
-pub use Rattle.dm_switchboard.proofs.Names.{OnErr}
+pub use Rattle.dm_switchboard.proofs.Imports.{OnErr}
 pub use Rattle.dm_procman.proofs.Names.{◌||◌}
 pub use Rattle.dm_laws.proofs.Names.{false≢true, ⊤}
-pub use Rattle.dm_boot.proofs.Names.{BootRule, Bor, string_bytes}
+pub use Rattle.dm_boot.proofs.Imports.{BootRule, Bor, string_bytes}
 pub use Rattle.dm_boot.specs.Rules.{rule_number}
 pub use Rattle.dm_rule.proofs.Names.{Line, Point, Todo, all_of}
 pub use Rattle.dm_kernel.proofs.Names.{All-head, All-tail, Global}

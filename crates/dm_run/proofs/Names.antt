@@ -20,7 +20,7 @@ pub use Rattle.dm_statebytes.proofs.Names.{Front, Shell, StateBytesError, bind_o
 pub use Rattle.dm_statebytes.specs.Shell.{read_shell}
 unfoldable pub use Rattle.dm_statebytes.specs.Shell.{shell_of_bytes}
 pub use Rattle.dm_migrate.proofs.Names.{All-append, All-cons, Arrival, Block, Chunk, Err, Nothing, Ok, Result, Wanted, restarted, revived, revived_from, take_rest}
-pub use Rattle.dm_switchboard.proofs.Names.{IsLawfulNamed, Named, switchboard}
+pub use Rattle.dm_switchboard.proofs.Imports.{IsLawfulNamed, Named, switchboard}
 pub use Rattle.dm_procman.proofs.Names.{Boot, IsValid, Pending, manager}
 pub use Rattle.dm_laws.proofs.Names.{Label, OneKernel, bind, false≢true, first_number, pid_of, ⊤}
 pub use Rattle.dm_datamove.proofs.Names.{All-nil}

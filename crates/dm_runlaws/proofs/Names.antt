@@ -3,7 +3,7 @@ unfoldable pub use Rattle.dm_stream.specs.Packets.{load_at}
 pub use Rattle.dm_packet.proofs.Names.{All, Bool, List, Message, MessageKind, MsgId, Pid, [], ap, append-nil, arith, drop, false, if◌then◌else◌, inl, inr, length, nat_le, nat_tests, not, refl, spelling, subst, suc, sym, true, zero, ℕ, ◌&&◌}
 pub use Rattle.dm_packet.proofs.Names.{◌++◌, ◌+◌, ◌-◌, ◌<◌, ◌==◌, ◌∙◌, ◌∷◌, ◌≡◌, ◌≢◌, ◌≤◌, ◌⊎◌}
 pub use Rattle.dm_schedule.proofs.Names.{Directive, map, nat_lt}
-pub use Rattle.dm_switchboard.proofs.Names.{None, Option, is_some, slice_get}
+pub use Rattle.dm_switchboard.proofs.Imports.{None, Option, is_some, slice_get}
 pub use Rattle.dm_procman.proofs.Names.{Boot, IsValid}
 pub use Rattle.dm_laws.proofs.Names.{Some, cases_Bool, false≢true, option_map, replay, ⊤}
 pub use Rattle.dm_syscall.proofs.Names.{All-nil}

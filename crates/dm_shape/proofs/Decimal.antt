@@ -1,6 +1,6 @@
 -- Numbers read digit by digit.
-use Rattle.dm_shape.proofs.Names.{◌≡◌, ℕ, zero, suc, ◌+◌, ◌-◌, ◌*◌, ◌<◌, ◌≤◌, ◌==◌, nat_lt, nat_le, Bool, true, false, ◌&&◌, ◌||◌, if◌then◌else◌, List, [], ◌∷◌, length, drop, drop-cons, get_or, refl, ap, sym, ◌∙◌, subst, arith, Some, None}
-use Rattle.dm_shape.proofs.Names.{Option, nat_tests, below, is_padded, number_after, read_number, digit_of}
+use Rattle.dm_shape.proofs.Imports.{◌≡◌, ℕ, zero, suc, ◌+◌, ◌-◌, ◌*◌, ◌<◌, ◌≤◌, ◌==◌, nat_lt, nat_le, Bool, true, false, ◌&&◌, ◌||◌, if◌then◌else◌, List, [], ◌∷◌, length, drop, drop-cons, get_or, refl, ap, sym, ◌∙◌, subst, arith, Some}
+use Rattle.dm_shape.proofs.Imports.{None, Option, nat_tests, below, is_padded, number_after, read_number, digit_of}
 
 next_is : (t : Bool) (n b d : ℕ) (bs : List ℕ) → (if t then Some (b - 48) else None) ≡ Some d → (if t then number_after (10 * n + (b - 48)) bs else None) ≡ number_after (10 * n + d) bs
 next_is true n b d bs e = let f : b - 48 ≡ d = cc in ap (λ k. number_after (10 * n + k) bs) f

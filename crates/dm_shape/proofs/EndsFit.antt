@@ -1,6 +1,6 @@
 -- Each line at the end of a run has the shape of its row.
-use Rattle.dm_shape.proofs.Names.{◌≡◌, ℕ, zero, suc, ◌^◌, ◌<◌, ◌≤◌, Bool, true, false, ◌&&◌, List, [], ◌∷◌, ◌++◌, length, map, refl, ap, sym, ◌∙◌, arith, codes, decimal, All, list_all, Link, Pid, MsgId, EndLine, end_words, link_words}
-use Rattle.dm_shape.proofs.Names.{EndFits, LinkFits, PidFits, IdFits, IsWord, id_word, pid_word, IsFull, ends_so, fit, is_row, link_sorts, numbers, row_of, is_of}
+use Rattle.dm_shape.proofs.Imports.{◌≡◌, ℕ, zero, suc, ◌^◌, ◌<◌, ◌≤◌, Bool, true, false, ◌&&◌, List, [], ◌∷◌, ◌++◌, length, map, refl, ap, sym, ◌∙◌, arith, codes, decimal, All, list_all, Link, Pid, MsgId, EndLine, end_words, link_words}
+use Rattle.dm_shape.proofs.Imports.{EndFits, LinkFits, PidFits, IdFits, IsWord, id_word, pid_word, IsFull, ends_so, fit, is_row, link_sorts, numbers, row_of, is_of}
 use Rattle.dm_line.specs.declared.end_line.Doing.TheVariants as doing
 use Rattle.dm_line.specs.declared.end_line.EndLine.TheVariants as end
 use Rattle.dm_shape.specs.declared.shape.Shape.TheVariants as shape

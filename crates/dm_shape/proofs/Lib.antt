@@ -1,4 +1,4 @@
-pub mod Names
+pub mod Imports
 pub mod Decimal
 pub mod PiecesAt
 pub mod NamesRead

@@ -1,5 +1,5 @@
 -- Each line of a group has the shape of its row.
-use Rattle.dm_shape.proofs.Names.{◌≡◌, true, refl, Line, LineFits, words, is_row, row_of}
+use Rattle.dm_shape.proofs.Imports.{◌≡◌, true, refl, Line, LineFits, words, is_row, row_of}
 use Rattle.dm_onekernel.specs.declared.label.Label.TheVariants as label
 use Rattle.dm_schedule.specs.declared.Step.TheVariants as step
 use Rattle.dm_line.specs.declared.line.Line.TheVariants as line

@@ -1,5 +1,5 @@
 -- A row of the table is among all rows.
-use Rattle.dm_shape.proofs.Names.{◌≡◌, ℕ, zero, suc, Bool, true, false, ◌||◌, List, [], ◌∷◌, refl, ap, ◌∙◌, Some, list_any, slice_get, Shape, is_row, row_of, shapes}
+use Rattle.dm_shape.proofs.Imports.{◌≡◌, ℕ, zero, suc, Bool, true, false, ◌||◌, List, [], ◌∷◌, refl, ap, ◌∙◌, Some, list_any, slice_get, Shape, is_row, row_of, shapes}
 use Rattle.dm_shape.specs.declared.shape.Shape.TheVariants as shape
 
 or_true : (a b : Bool) → b ≡ true → (a || b) ≡ true

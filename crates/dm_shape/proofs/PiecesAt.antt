@@ -1,6 +1,6 @@
 -- The pieces of a text, by the first byte that separates two of them.
-use Rattle.dm_shape.proofs.Names.{◌≡◌, ℕ, zero, suc, ◌+◌, ◌<◌, ◌≤◌, ◌==◌, Bool, true, false, if◌then◌else◌, List, [], ◌∷◌, length, take, drop, get_or, refl, ap, arith, Some, None, position, position_or_len, nat_tests, position-Some, pieces}
-use Rattle.dm_shape.proofs.Names.{free, pieces-free}
+use Rattle.dm_shape.proofs.Imports.{◌≡◌, ℕ, zero, suc, ◌+◌, ◌<◌, ◌≤◌, ◌==◌, Bool, true, false, if◌then◌else◌, List, [], ◌∷◌, length, take, drop, get_or, refl, ap, arith, Some, None, position, position_or_len, nat_tests, position-Some}
+use Rattle.dm_shape.proofs.Imports.{pieces, free, pieces-free}
 
 drop-more : (x : ℕ) (xs : List ℕ) (i : ℕ) → drop (suc i + 1) (x ∷ xs) ≡ drop (i + 1) xs
 drop-more x xs i = let e : suc i + 1 ≡ suc (i + 1) = omega arith in ap (λ (k : ℕ). drop k (x ∷ xs)) e

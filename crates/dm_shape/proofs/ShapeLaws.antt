@@ -1,8 +1,8 @@
 -- Printed lines have shapes, and heads are read as what they are.
-use Rattle.dm_shape.proofs.Names.{◌≡◌, ℕ, Bool, true, false, if◌then◌else◌, List, [], ◌∷◌, ◌++◌, refl, ap, sym, ◌∙◌, subst, Some, None, codes, is_some, list_any, bytes_eq, Option, append_cancel_right, bytes_eq-Decides, Pid, Step, Line}
-use Rattle.dm_shape.proofs.Names.{EndLine, end_words, LineFits, EndFits, StepFits, head_words, ◌<*>◌, pieces, read_u8, read_u64, read_pid, is, of1, of2, of3, words, spaced, spelled, text, end_text, end_words_are, words-are, line_bytes}
-use Rattle.dm_shape.proofs.Names.{spelled_bytes, pieces_of_words, read_u8_back, read_u64_back, read_pid_back, AreWords, IsFull, head_in, head_named, head_of, IsLine, LinesHaveShapes, EndsHaveShapes, HeadsHaveShapes, HeadsAreRead, has_shape}
-use Rattle.dm_shape.proofs.Names.{is_of_shape, is_row, row_of, shapes, is_of}
+use Rattle.dm_shape.proofs.Imports.{◌≡◌, ℕ, Bool, true, false, if◌then◌else◌, List, [], ◌∷◌, ◌++◌, refl, ap, sym, ◌∙◌, subst, Some, None, codes, is_some, list_any, bytes_eq, Option, append_cancel_right, bytes_eq-Decides, Pid, Step, Line}
+use Rattle.dm_shape.proofs.Imports.{EndLine, end_words, LineFits, EndFits, StepFits, head_words, ◌<*>◌, pieces, read_u8, read_u64, read_pid, is, of1, of2, of3, words, spaced, spelled, text, end_text, end_words_are, words-are, line_bytes}
+use Rattle.dm_shape.proofs.Imports.{spelled_bytes, pieces_of_words, read_u8_back, read_u64_back, read_pid_back, AreWords, IsFull, head_in, head_named, head_of, IsLine, LinesHaveShapes, EndsHaveShapes, HeadsHaveShapes, HeadsAreRead}
+use Rattle.dm_shape.proofs.Imports.{has_shape, is_of_shape, is_row, row_of, shapes, is_of}
 use Rattle.dm_schedule.specs.declared.Step.TheVariants as step
 use Rattle.dm_line.specs.declared.line.Line.TheVariants as line
 use Rattle.dm_shape.specs.declared.shape.Shape.TheVariants as shape

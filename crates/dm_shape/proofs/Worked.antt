@@ -1,5 +1,5 @@
 -- Texts that are lines, and texts that are none.
-use Rattle.dm_shape.proofs.Names.{◌≡◌, true, false, refl, Some, None, codes, pieces, read_number, read_pid, read_id, head_of, has_shape, is_of_shape, is_of}
+use Rattle.dm_shape.proofs.Imports.{◌≡◌, true, false, refl, Some, None, codes, pieces, read_number, read_pid, read_id, head_of, has_shape, is_of_shape, is_of}
 use Rattle.dm_schedule.specs.declared.Step.TheVariants as step
 
 line_1 : has_shape (codes "lacks 0.3 300 0") ≡ true

@@ -1,5 +1,5 @@
 -- The entries of the map of names, and the list of names.
-use Rattle.dm_switchboard.proofs.Names.{◌≡◌, ℕ, true, false, ◌==◌, List, [], ◌∷◌, ◌++◌, Some, refl, sym, ap, ◌∙◌, nat_eq, is_some, arith, pointwise, lookup, ArrayVec, Link, bytes_eq, Named, listed, named, Asked, link_named, registers_new}
+use Rattle.dm_switchboard.proofs.Imports.{◌≡◌, ℕ, true, false, ◌==◌, List, [], ◌∷◌, ◌++◌, Some, refl, sym, ap, ◌∙◌, nat_eq, is_some, arith, pointwise, lookup, ArrayVec, Link, bytes_eq, Named, listed, named, Asked, link_named, registers_new}
 use Rattle.std.proofs.Common.{Option, None}
 use Rattle.dm_switchboard.specs.declared.reply.Reply.TheVariants as reply
 

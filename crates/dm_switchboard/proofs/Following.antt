@@ -1,6 +1,6 @@
 -- Entries that are told one by one are all told.
-use Rattle.dm_switchboard.proofs.Names.{◌≡◌, ℕ, zero, suc, ◌+◌, ◌≤◌, if◌then◌else◌, [], ◌∷◌, length, map, count_by, slice_get, Some, refl, ap, arith, common_steps, ArrayVec, set_value_at, Pid, Link, is_behind, retargeted_link, listed}
-use Rattle.dm_switchboard.proofs.Names.{named_is_behind, retargeted_named, Entries, behind_at, counted, followed, told_at}
+use Rattle.dm_switchboard.proofs.Imports.{◌≡◌, ℕ, zero, suc, ◌+◌, ◌≤◌, if◌then◌else◌, [], ◌∷◌, length, map, count_by, slice_get, Some, refl, ap, arith, common_steps, ArrayVec, set_value_at, Pid, Link, is_behind, retargeted_link, listed}
+use Rattle.dm_switchboard.proofs.Imports.{named_is_behind, retargeted_named, Entries, behind_at, counted, followed, told_at}
 
 pub told_set : (p : Pid) (m c n : ℕ) (es : Entries) (e : ArrayVec ℕ × Link) → slice_get es n ≡ Some e → set_value_at es n (retargeted_link p m c e.1) ≡ told_at p m c n es
 told_set p m c n [] e h = refl

@@ -1,8 +1,8 @@
 -- What the switchboard keeps and gives is lawful.
-use Rattle.dm_switchboard.proofs.Names.{◌≡◌, ◌≤◌, ℕ, suc, Bool, true, false, ◌==◌, if◌then◌else◌, List, [], ◌∷◌, length, map, refl, sym, subst, arith, common_steps, All-map, All-push, All, IfSome, IfOk, OnErr, Option, None, Result, Ok, Err}
-use Rattle.dm_switchboard.proofs.Names.{ArrayVec, Pid, Addr, Link, IsMachine, IsLawfulAddr, IsLawfulEnclosed, is_behind, relocated, retargeted_link, NoMemory, Message, IsLawfulMessage, IsLawfulWhat, is_general, bytes_eq, is_name, Took}
-use Rattle.dm_switchboard.proofs.Names.{Reply, Board, Named, retargeted_named, IsLawfulBoard, IsLawfulNamed, Asked, Taken, answer_over, asks, asks_to_look_up, asks_to_register, bad_request, found_or_unknown, link_named, links_of_reply}
-use Rattle.dm_switchboard.proofs.Names.{looks_up, registers, registers_new, takes_request}
+use Rattle.dm_switchboard.proofs.Imports.{◌≡◌, ◌≤◌, ℕ, suc, Bool, true, false, ◌==◌, if◌then◌else◌, List, [], ◌∷◌, length, map, refl, sym, subst, arith, common_steps, All-map, All-push, All, IfSome, IfOk, OnErr, Option, None, Result, Ok}
+use Rattle.dm_switchboard.proofs.Imports.{Err, ArrayVec, Pid, Addr, Link, IsMachine, IsLawfulAddr, IsLawfulEnclosed, is_behind, relocated, retargeted_link, NoMemory, Message, IsLawfulMessage, IsLawfulWhat, is_general, bytes_eq, is_name}
+use Rattle.dm_switchboard.proofs.Imports.{Took, Reply, Board, Named, retargeted_named, IsLawfulBoard, IsLawfulNamed, Asked, Taken, answer_over, asks, asks_to_look_up, asks_to_register, bad_request, found_or_unknown, link_named}
+use Rattle.dm_switchboard.proofs.Imports.{links_of_reply, looks_up, registers, registers_new, takes_request}
 use Rattle.std.specs.declared.option.Option.TheVariants.{Some}
 use Rattle.dm_message.specs.declared.What.TheVariants as what
 use Rattle.dm_switchboard.specs.declared.reply.Reply.TheVariants as reply

@@ -1,4 +1,4 @@
-pub mod Names
+pub mod Imports
 pub mod Entries
 pub mod Following
 pub mod Plain

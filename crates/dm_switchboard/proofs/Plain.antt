@@ -1,7 +1,7 @@
 -- The switchboard's table and that of the kernel without machines.
-use Rattle.dm_switchboard.proofs.Names.{◌≡◌, ℕ, ◌+◌, Bool, true, false, ◌==◌, if◌then◌else◌, List, [], ◌∷◌, ◌++◌, map, refl, sym, ap, ◌∙◌, arith, Option, None, Result, Ok, Err, IfOk, option_map, ArrayVec, Pid, Link, retargeted_link}
-use Rattle.dm_switchboard.proofs.Names.{plain_link, NoMemory, Message, plain_message, plain_what, with_what, is_general, switchboard, bytes_eq, is_name, Took, Reply, Board, Named, plain_board, plain_named, retargeted_named, plain_taken}
-use Rattle.dm_switchboard.proofs.Names.{plainly_taken, Asked, Taken, answer_over, asks, asks_to_look_up, asks_to_register, bad_request, found_or_unknown, link_named, looks_up, registers, registers_new, takes_request}
+use Rattle.dm_switchboard.proofs.Imports.{◌≡◌, ℕ, ◌+◌, Bool, true, false, ◌==◌, if◌then◌else◌, List, [], ◌∷◌, ◌++◌, map, refl, sym, ap, ◌∙◌, arith, Option, None, Result, Ok, Err, IfOk, option_map, ArrayVec, Pid, Link, retargeted_link}
+use Rattle.dm_switchboard.proofs.Imports.{plain_link, NoMemory, Message, plain_message, plain_what, with_what, is_general, switchboard, bytes_eq, is_name, Took, Reply, Board, Named, plain_board, plain_named, retargeted_named, plain_taken}
+use Rattle.dm_switchboard.proofs.Imports.{plainly_taken, Asked, Taken, answer_over, asks, asks_to_look_up, asks_to_register, bad_request, found_or_unknown, link_named, looks_up, registers, registers_new, takes_request}
 use Rattle.std.specs.declared.option.Option.TheVariants.{Some}
 use Rattle.dm_message.specs.declared.What.TheVariants as what
 use Rattle.dm_onekernel.specs.Switchboard as one

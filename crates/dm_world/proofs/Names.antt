@@ -20,7 +20,7 @@ pub use Rattle.dm_schedule.proofs.Names.{Directive}
 pub use Rattle.dm_schedule.specs.declared.Step.{Step}
 pub use Rattle.dm_linkupdate.proofs.Names.{None}
 pub use Rattle.dm_migrate.proofs.Names.{Err, Ok, into_iter_items}
-pub use Rattle.dm_switchboard.proofs.Names.{IsLawfulNamed, Named}
+pub use Rattle.dm_switchboard.proofs.Imports.{IsLawfulNamed, Named}
 pub use Rattle.dm_procman.proofs.Names.{Boot, IsValid, ◌||◌}
 pub use Rattle.dm_line.proofs.Below.{fails_at}
 pub use Rattle.dm_line.proofs.Names.{all_below, eqb_tells, false≢true}

@@ -1,4 +1,4 @@
-use Rattle.dm_boot.proofs.Names.{◌≡◌, drop, map, view, first_broken, rule_of}
+use Rattle.dm_boot.proofs.Imports.{◌≡◌, drop, map, view, first_broken, rule_of}
 use Rattle.dm_boot.proofs.checks.first_broken.Given as goal
 
 abbrev pub invariant-loop-rule : goal.invariant-loop-rule

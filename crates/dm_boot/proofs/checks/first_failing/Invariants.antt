@@ -1,4 +1,4 @@
-use Rattle.dm_boot.proofs.Names.{◌≡◌, drop, items_view, view, first_failing, keeps, rule_of}
+use Rattle.dm_boot.proofs.Imports.{◌≡◌, drop, items_view, view, first_failing, keeps, rule_of}
 use Rattle.dm_boot.proofs.checks.first_failing.Given as goal
 
 abbrev pub invariant-loop-i : goal.invariant-loop-i

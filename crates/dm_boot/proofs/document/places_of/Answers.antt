@@ -1,5 +1,5 @@
 -- Nothing is found before the first element.
-use Rattle.dm_boot.proofs.Names.{refl, place_of}
+use Rattle.dm_boot.proofs.Imports.{refl, place_of}
 use Rattle.dm_boot.proofs.document.places_of.Goals as goal
 
 pub loop-i-init : goal.loop-i-init

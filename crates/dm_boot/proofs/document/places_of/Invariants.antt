@@ -1,4 +1,4 @@
-use Rattle.dm_boot.proofs.Names.{◌≡◌, ℕ, List, drop, option_or, items_view, place_in, place_from, place_of}
+use Rattle.dm_boot.proofs.Imports.{◌≡◌, ℕ, List, drop, option_or, items_view, place_in, place_from, place_of}
 use Rattle.dm_boot.proofs.document.places_of.Given as goal
 
 -- what is found so far, or else among those that are left, is what is found among all

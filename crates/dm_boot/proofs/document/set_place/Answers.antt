@@ -1,5 +1,5 @@
 -- A name that has no place gets this one.
-use Rattle.dm_boot.proofs.Names.{◌≡◌, ◌∙◌, ℕ, true, None, List, ap, sym, btree_map_updates_str, bytes_eq-Decides, bytes_eq, place_in}
+use Rattle.dm_boot.proofs.Imports.{◌≡◌, ◌∙◌, ℕ, true, None, List, ap, sym, btree_map_updates_str, bytes_eq-Decides, bytes_eq, place_in}
 use Rattle.dm_boot.proofs.Named.{is_absent, is_put}
 use Rattle.dm_boot.proofs.document.set_place.Goals as goal
 

@@ -1,4 +1,4 @@
-use Rattle.dm_boot.proofs.Names.{◌≡◌, drop, first_long}
+use Rattle.dm_boot.proofs.Imports.{◌≡◌, drop, first_long}
 use Rattle.dm_boot.proofs.images.first_long.Given as goal
 
 abbrev pub invariant-loop-i : goal.invariant-loop-i

@@ -1,4 +1,4 @@
-use Rattle.dm_boot.proofs.Names.{◌≡◌, ◌++◌, drop, items_view, map_items, image_of, first_unassembled}
+use Rattle.dm_boot.proofs.Imports.{◌≡◌, ◌++◌, drop, items_view, map_items, image_of, first_unassembled}
 use Rattle.dm_boot.proofs.images.images_of.Given as goal
 
 abbrev pub invariant-loop-i : goal.invariant-loop-i

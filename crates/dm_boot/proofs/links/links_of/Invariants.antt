@@ -1,4 +1,4 @@
-use Rattle.dm_boot.proofs.Names.{◌≡◌, ◌++◌, drop, items_view, view, map_items, link_of}
+use Rattle.dm_boot.proofs.Imports.{◌≡◌, ◌++◌, drop, items_view, view, map_items, link_of}
 use Rattle.dm_boot.proofs.links.links_of.Given as goal
 
 abbrev pub invariant-loop-table : goal.invariant-loop-table

@@ -1,4 +1,4 @@
-use Rattle.dm_boot.proofs.Names.{◌≡◌, ◌++◌, drop, items_view, map_items, machine_of}
+use Rattle.dm_boot.proofs.Imports.{◌≡◌, ◌++◌, drop, items_view, map_items, machine_of}
 use Rattle.dm_boot.proofs.machines.machines_of.Given as goal
 
 abbrev pub invariant-loop-table : goal.invariant-loop-table

@@ -1,4 +1,4 @@
-use Rattle.dm_boot.proofs.Names.{◌≡◌, ◌++◌, drop, items_view, view, linked_all}
+use Rattle.dm_boot.proofs.Imports.{◌≡◌, ◌++◌, drop, items_view, view, linked_all}
 use Rattle.dm_boot.proofs.processes.processes_of.Given as goal
 
 abbrev pub invariant-loop-i : goal.invariant-loop-i

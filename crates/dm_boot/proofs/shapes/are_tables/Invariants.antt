@@ -1,4 +1,4 @@
-use Rattle.dm_boot.proofs.Names.{◌≡◌, drop, items_view, all_items, is_table}
+use Rattle.dm_boot.proofs.Imports.{◌≡◌, drop, items_view, all_items, is_table}
 use Rattle.dm_boot.proofs.shapes.are_tables.Given as goal
 
 abbrev pub invariant-loop-item : goal.invariant-loop-item

@@ -1,4 +1,4 @@
-use Rattle.dm_boot.proofs.Names.{◌≡◌, ◌+◌, drop, blocks_at}
+use Rattle.dm_boot.proofs.Imports.{◌≡◌, ◌+◌, drop, blocks_at}
 use Rattle.dm_boot.proofs.starts.blocks_at.Given as goal
 
 abbrev pub invariant-loop-process : goal.invariant-loop-process

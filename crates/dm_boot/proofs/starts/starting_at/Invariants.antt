@@ -1,4 +1,4 @@
-use Rattle.dm_boot.proofs.Names.{◌≡◌, ◌+◌, drop, starting_at}
+use Rattle.dm_boot.proofs.Imports.{◌≡◌, ◌+◌, drop, starting_at}
 use Rattle.dm_boot.proofs.starts.starting_at.Given as goal
 
 abbrev pub invariant-loop-process : goal.invariant-loop-process

@@ -1,5 +1,5 @@
-use Rattle.dm_boot.proofs.Names.{◌≡◌, ◌+◌, ◌*◌, ◌≤◌, ◌<◌, true, false, [], ◌∷◌, ◌++◌, length, drop, slice_get, refl, ap, sym, ◌∙◌, arith, common_steps, items_view, view, blocks_at, blocks_of_image, starting_at, ProcessRoom, count}
-use Rattle.dm_boot.proofs.Names.{first_failing, process_tables, starts_from, starts_of, fits_after, has_place}
+use Rattle.dm_boot.proofs.Imports.{◌≡◌, ◌+◌, ◌*◌, ◌≤◌, ◌<◌, true, false, [], ◌∷◌, ◌++◌, length, drop, slice_get, refl, ap, sym, ◌∙◌, arith, common_steps, items_view, view, blocks_at, blocks_of_image, starting_at, ProcessRoom, count}
+use Rattle.dm_boot.proofs.Imports.{first_failing, process_tables, starts_from, starts_of, fits_after, has_place}
 use Rattle.std.proofs.Common.{rules}
 use Rattle.dm_boot.proofs.Elements.{count-view, failing-end}
 use Rattle.dm_boot.proofs.Texts.{kept-here, broken-here}

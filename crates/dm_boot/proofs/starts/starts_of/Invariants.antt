@@ -1,4 +1,4 @@
-use Rattle.dm_boot.proofs.Names.{◌≡◌, ℕ, ◌≤◌, ◌++◌, drop, length, items_view, view, starting_at, blocks_at, first_failing, starts_from, starts_of, has_place}
+use Rattle.dm_boot.proofs.Imports.{◌≡◌, ℕ, ◌≤◌, ◌++◌, drop, length, items_view, view, starting_at, blocks_at, first_failing, starts_from, starts_of, has_place}
 use Rattle.dm_boot.proofs.Counted.{starting_below}
 use Rattle.dm_boot.proofs.starts.starts_of.Given as goal
 

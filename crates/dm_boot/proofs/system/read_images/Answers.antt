@@ -1,5 +1,5 @@
-use Rattle.dm_boot.proofs.Names.{◌≡◌, ℕ, Some, None, Ok, List, ap, sym, ◌∙◌, Items, items_view, view, BootImage, BootRule, ImageText, ImageBytes, before_images, map_items, image_tables, images_of, image_of, broken_or, first_broken}
-use Rattle.dm_boot.proofs.Names.{image_rules, first_unassembled, first_long, unless, unless_at}
+use Rattle.dm_boot.proofs.Imports.{◌≡◌, ℕ, Some, None, Ok, List, ap, sym, ◌∙◌, Items, items_view, view, BootImage, BootRule, ImageText, ImageBytes, before_images, map_items, image_tables, images_of, image_of, broken_or, first_broken}
+use Rattle.dm_boot.proofs.Imports.{image_rules, first_unassembled, first_long, unless, unless_at}
 use Rattle.dm_boot.proofs.Parts.{images-whole, at-ok, at-err, pass-err, few-images}
 use Rattle.dm_boot.proofs.system.read_images.Goals as goal
 

@@ -1,4 +1,4 @@
-use Rattle.dm_boot.proofs.Names.{◌≡◌, ℕ, Some, None, Ok, List, ap, sym, ◌∙◌, view, BootProcess, BootRule, ProcessRoom, first_failing, process_tables, starts_of, broken_or, first_broken, process_rules, has_place, unless, unless_at}
+use Rattle.dm_boot.proofs.Imports.{◌≡◌, ℕ, Some, None, Ok, List, ap, sym, ◌∙◌, view, BootProcess, BootRule, ProcessRoom, first_failing, process_tables, starts_of, broken_or, first_broken, process_rules, has_place, unless, unless_at}
 use Rattle.dm_boot.proofs.Parts.{before_room, room-listed, starts-whole, at-ok, at-err, pass-err}
 use Rattle.dm_boot.proofs.system.read_starts.Goals as goal
 

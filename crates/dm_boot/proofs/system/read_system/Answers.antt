@@ -1,4 +1,4 @@
-use Rattle.dm_boot.proofs.Names.{◌≡◌, ℕ, sym, view, BootRule, images_of, machines_of, starts_of, processes_of, system_of, first_broken, image_rules, process_rules, link_rules, unless, boot_of_table}
+use Rattle.dm_boot.proofs.Imports.{◌≡◌, ℕ, sym, view, BootRule, images_of, machines_of, starts_of, processes_of, system_of, first_broken, image_rules, process_rules, link_rules, unless, boot_of_table}
 use Rattle.dm_boot.proofs.Parts.{unless-ok, pass-err, whole-stops-images, whole-stops-starts, whole-stops-links, whole-ok}
 use Rattle.dm_boot.proofs.system.read_system.Goals as goal
 

@@ -1,4 +1,4 @@
-use Rattle.dm_boot.proofs.Names.{◌≡◌, drop, items_view, view, all_items, is_limited}
+use Rattle.dm_boot.proofs.Imports.{◌≡◌, drop, items_view, view, all_items, is_limited}
 use Rattle.dm_boot.proofs.targets.are_limited.Given as goal
 
 abbrev pub invariant-loop-link : goal.invariant-loop-link

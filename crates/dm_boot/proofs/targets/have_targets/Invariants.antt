@@ -1,4 +1,4 @@
-use Rattle.dm_boot.proofs.Names.{◌≡◌, drop, items_view, view, all_items, has_target}
+use Rattle.dm_boot.proofs.Imports.{◌≡◌, drop, items_view, view, all_items, has_target}
 use Rattle.dm_boot.proofs.targets.have_targets.Given as goal
 
 abbrev pub invariant-loop-link : goal.invariant-loop-link

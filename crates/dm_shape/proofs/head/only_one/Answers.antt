@@ -1,4 +1,4 @@
-use Rattle.dm_shape.proofs.Names.{ap, sym, ◌∙◌, alone}
+use Rattle.dm_shape.proofs.Imports.{ap, sym, ◌∙◌, alone}
 use Rattle.dm_shape.proofs.Fitting.{alone_more, behind_some, split_some}
 use Rattle.dm_shape.proofs.head.only_one.Goals as goal
 

@@ -1,4 +1,4 @@
-use Rattle.dm_shape.proofs.Names.{ap, sym, ◌∙◌, numbered, read_pid}
+use Rattle.dm_shape.proofs.Imports.{ap, sym, ◌∙◌, numbered, read_pid}
 use Rattle.dm_shape.proofs.Fitting.{split_some}
 use Rattle.dm_shape.proofs.NamesRead.{numbered_last, numbered_more}
 use Rattle.dm_shape.proofs.names.numbered.Goals as goal

@@ -1,4 +1,4 @@
-use Rattle.dm_shape.proofs.Names.{ap, sym, ◌∙◌, read_pid, pid_in}
+use Rattle.dm_shape.proofs.Imports.{ap, sym, ◌∙◌, read_pid, pid_in}
 use Rattle.dm_shape.proofs.Fitting.{split_some}
 use Rattle.dm_shape.proofs.NamesRead.{pid_behind}
 use Rattle.dm_shape.proofs.names.process.Goals as goal

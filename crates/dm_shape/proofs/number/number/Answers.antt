@@ -1,4 +1,4 @@
-use Rattle.dm_shape.proofs.Names.{◌≡◌, ◌+◌, ◌*◌, ◌<◌, ◌≤◌, ℕ, List, [], Some, None, length, drop, ap, sym, ◌∙◌, arith, drop-length, below, number_after, read_number}
+use Rattle.dm_shape.proofs.Imports.{◌≡◌, ◌+◌, ◌*◌, ◌<◌, ◌≤◌, ℕ, List, [], Some, None, length, drop, ap, sym, ◌∙◌, arith, drop-length, below, number_after, read_number}
 use Rattle.dm_shape.proofs.Decimal.{after_digit, after_other, after_great, below_is, is_below, unpadded_number}
 use Rattle.dm_shape.proofs.number.number.Goals as goal
 

@@ -1,4 +1,4 @@
-use Rattle.dm_shape.proofs.Names.{◌≡◌, ◌≤◌, drop, number_after}
+use Rattle.dm_shape.proofs.Imports.{◌≡◌, ◌≤◌, drop, number_after}
 use Rattle.dm_shape.proofs.number.number.Given as goal
 
 abbrev pub invariant-loop-byte : goal.invariant-loop-byte

@@ -1,4 +1,4 @@
-use Rattle.dm_shape.proofs.Names.{◌≡◌, length, option_map, list_all, behind, is_of}
+use Rattle.dm_shape.proofs.Imports.{◌≡◌, length, option_map, list_all, behind, is_of}
 use Rattle.dm_shape.specs.declared.sort.Sort.TheVariants as sort
 use Rattle.dm_shape.proofs.shape.are_messages.Given as goal
 

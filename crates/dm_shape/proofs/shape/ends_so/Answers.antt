@@ -1,4 +1,4 @@
-use Rattle.dm_shape.proofs.Names.{◌&&◌, ap, sym, ◌∙◌, list_all, pieces, ends_so, is_of}
+use Rattle.dm_shape.proofs.Imports.{◌&&◌, ap, sym, ◌∙◌, list_all, pieces, ends_so, is_of}
 use Rattle.dm_shape.specs.declared.sort.Sort.TheVariants as sort
 use Rattle.dm_shape.proofs.Fitting.{behind_some, ends_in_words}
 use Rattle.dm_shape.proofs.shape.ends_so.Goals as goal

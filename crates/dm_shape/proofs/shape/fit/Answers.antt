@@ -1,4 +1,4 @@
-use Rattle.dm_shape.proofs.Names.{ap, sym, ◌∙◌, drop, fit}
+use Rattle.dm_shape.proofs.Imports.{ap, sym, ◌∙◌, drop, fit}
 use Rattle.dm_shape.proofs.Fitting.{behind_none, no_word_left}
 use Rattle.dm_shape.proofs.shape.fit.Goals as goal
 

@@ -1,4 +1,4 @@
-use Rattle.dm_shape.proofs.Names.{◌≡◌, drop, option_map, behind, fit}
+use Rattle.dm_shape.proofs.Imports.{◌≡◌, drop, option_map, behind, fit}
 use Rattle.dm_shape.proofs.shape.fit.Given as goal
 
 abbrev pub invariant-loop-sort : goal.invariant-loop-sort

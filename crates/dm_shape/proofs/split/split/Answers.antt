@@ -1,4 +1,4 @@
-use Rattle.dm_shape.proofs.Names.{◌≡◌, ◌+◌, ◌∷◌, ap, sym, ◌∙◌, drop, take, take_rest, pieces}
+use Rattle.dm_shape.proofs.Imports.{◌≡◌, ◌+◌, ◌∷◌, ap, sym, ◌∙◌, drop, take, take_rest, pieces}
 use Rattle.dm_shape.proofs.PiecesAt.{pieces-at, pieces-whole}
 use Rattle.dm_shape.proofs.split.split.Goals as goal
 

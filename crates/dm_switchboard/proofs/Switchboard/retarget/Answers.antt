@@ -1,4 +1,4 @@
-use Rattle.dm_switchboard.proofs.Names.{sym, subst, ap, ◌∙◌, map, All, Board, plain_named, retargeted_named, IsLawfulNamed}
+use Rattle.dm_switchboard.proofs.Imports.{sym, subst, ap, ◌∙◌, map, All, Board, plain_named, retargeted_named, IsLawfulNamed}
 use Rattle.dm_switchboard.proofs.Lawful.{retargeted_lawful}
 use Rattle.dm_switchboard.proofs.Plain.{plain_retargeted}
 use Rattle.dm_switchboard.proofs.Switchboard.retarget.Goals as goal

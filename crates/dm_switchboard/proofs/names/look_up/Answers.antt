@@ -1,4 +1,4 @@
-use Rattle.dm_switchboard.proofs.Names.{ap, ◌∙◌, found_or_unknown}
+use Rattle.dm_switchboard.proofs.Imports.{ap, ◌∙◌, found_or_unknown}
 use Rattle.dm_switchboard.proofs.Entries.{look_up_listed}
 use Rattle.dm_switchboard.proofs.names.look_up.Goals as goal
 

@@ -1,4 +1,4 @@
-use Rattle.dm_switchboard.proofs.Names.{sym, ap, ◌∙◌, is_some, insert_entry-new, listed, link_named}
+use Rattle.dm_switchboard.proofs.Imports.{sym, ap, ◌∙◌, is_some, insert_entry-new, listed, link_named}
 use Rattle.dm_switchboard.proofs.Entries.{look_up_listed, new_stands, none_of, taken_stays}
 use Rattle.dm_switchboard.proofs.names.register_general.Goals as goal
 

@@ -1,4 +1,4 @@
-use Rattle.dm_switchboard.proofs.Names.{sym, ap, ◌∙◌, set_value_at}
+use Rattle.dm_switchboard.proofs.Imports.{sym, ap, ◌∙◌, set_value_at}
 use Rattle.dm_switchboard.proofs.Following.{behind_set, told_set}
 use Rattle.dm_switchboard.proofs.names.retarget_at.Goals as goal
 

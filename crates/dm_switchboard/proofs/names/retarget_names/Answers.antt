@@ -1,4 +1,4 @@
-use Rattle.dm_switchboard.proofs.Names.{◌≡◌, length, ap, ◌∙◌, arith, listed, behind_at, counted, followed, told_at}
+use Rattle.dm_switchboard.proofs.Imports.{◌≡◌, length, ap, ◌∙◌, arith, listed, behind_at, counted, followed, told_at}
 use Rattle.dm_switchboard.proofs.Following.{all_counted, all_followed, behind_later, counted_next, counted_within, length_followed, told_next}
 use Rattle.dm_switchboard.proofs.names.retarget_names.Goals as goal
 use Rattle.dm_switchboard.proofs.names.retarget_names.Goals.{then-retarget_at, else-retarget_at}

@@ -1,4 +1,4 @@
-use Rattle.dm_switchboard.proofs.Names.{◌≡◌, counted, followed}
+use Rattle.dm_switchboard.proofs.Imports.{◌≡◌, counted, followed}
 use Rattle.dm_switchboard.proofs.names.retarget_names.Given as goal
 
 abbrev pub invariant-loop-place : goal.invariant-loop-place

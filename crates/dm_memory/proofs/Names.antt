@@ -1,1 +1,0 @@
--- What the proofs of this crate name of what lies below it.
