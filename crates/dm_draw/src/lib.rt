@@ -4,3 +4,4 @@
 pub mod boot;
 pub mod directives;
 pub mod draw;
+pub mod drill;

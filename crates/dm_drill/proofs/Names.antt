@@ -5,6 +5,7 @@ pub use Rattle.dm_processor.proofs.Names.{List, [], get_or, length, take, ℕ, �
 pub use Rattle.dm_stream.proofs.Names.{inl, inr, subst}
 pub use Rattle.dm_packet.proofs.Names.{All, OnOk, append-nil, ◌↔◌}
 pub use Rattle.dm_schedule.proofs.Names.{Directive}
+pub use Rattle.dm_draw.specs.declared.drill.Drill.{Drill}
 pub use Rattle.dm_process.proofs.Names.{add-one}
 pub use Rattle.dm_linkupdate.proofs.Names.{None}
 pub use Rattle.dm_migrate.proofs.Names.{Err, Ok, Result}
@@ -32,4 +33,3 @@ pub use Rattle.dm_drill.specs.Drilled.{Came, Ended, HasDrilled, IsOfFirst, IsWho
 pub use Rattle.dm_drill.specs.Summary.{summary}
 pub use Rattle.dm_drill.specs.Totals.{Totals}
 pub use Rattle.dm_drill.specs.declared.counts.Counted.{Counted}
-pub use Rattle.dm_drill.specs.declared.drill.Drill.{Drill}

@@ -22,7 +22,7 @@ use Rattle.dm_outside.specs.Outside.{appended}
 use Rattle.dm_run.specs.declared.stop.Stop.{Stop}
 use Rattle.dm_run.specs.declared.stop.Stop.TheVariants.{NoMemory, WriteFault, Worn}
 use Rattle.dm_run.specs.Printed.{IsOver, StandsFor, WearsAfter}
-use Rattle.dm_drill.specs.declared.drill.Drill.{Drill}
+use Rattle.dm_draw.specs.declared.drill.Drill.{Drill}
 use Rattle.dm_drill.specs.Counts.{with_groups, totals_of}
 use Rattle.dm_drill.specs.Summary.{summary}
 use Rattle.dm_drill.specs.Totals.{Totals}

@@ -15,6 +15,7 @@ ghost use Rattle.dm_drill.specs.Summary.{summary};
 
 use crate::counts::Counts;
 use crate::summary::write_summary;
+use dm_draw::drill::Drill;
 use dm_line::line::Line;
 use dm_memory::NoMemory;
 use dm_outside::Sink;
@@ -22,17 +23,6 @@ use dm_run::{Stop, lines_fit, offer, offer_bytes};
 use dm_schedule::{Directive, MOST_SCHEDULE, Step};
 use dm_world::{Cursor, Stop as WorldStop, World};
 use std::alloc::Global;
-
-/// What a drill is drawn from, and whether its groups are printed.
-#[derive(Clone, Copy, Debug, PartialEq, Eq)]
-pub struct Drill {
-    pub seed: u32,
-    /// 2 to 16.
-    pub machines: u8,
-    /// How many directives, 1 to 10,000.
-    pub lines: u32,
-    pub trace: bool,
-}
 
 /// Does these directives, counts what happens, writes the lines of each where that is asked for, and then the summary.
 pub fn run_drill<K: Sink>(

@@ -1,10 +1,7 @@
 -- What the program promises where memory lacks before anything was done, or the words ask for nothing.
 use Rattle.dm_program.proofs.Names.{◌≡◌, inl, inr, ℕ, List, refl, sym, subst, Option, Some, TheNoMemory, boot_of, IsOfFirst, nothing_drilled, Usage, NoMemory, WordsError, directives_of, Outside, ProgramMeets, Request, Chart, Check, Explain}
-use Rattle.dm_program.proofs.Names.{Run, IsWant, status_of_no}
-use Rattle.std.specs.declared.option.Option.TheVariants.{None}
-use Rattle.dm_program.specs.declared.words.WordsError.TheVariants as why
-use Rattle.dm_program.specs.Request.{Drill}
-use Rattle.dm_program.proofs.ExplainOutcomes.{asks_nothing, wants_memory}
+use Rattle.dm_program.proofs.Names.{Run, IsWant, status_of_no, None, Drill, asks_nothing, wants_memory}
+use Rattle.dm_words.specs.declared.words.WordsError.TheVariants as why
 
 -- nothing was done
 pub record Untouched (o : Outside) : Type 0 where

@@ -1,15 +1,2 @@
 pub mod Names
-pub mod CommandWords
-pub mod Given
-pub mod Reading
-pub mod Schedules
-pub mod Endings
-pub mod Drills
-mod Outcomes
-mod ChartOutcomes
-mod CheckOutcomes
-mod ExplainOutcomes
-mod RunsChecked
-mod DrillsChecked
-mod Whose
 mod Lacking

@@ -1,18 +1,18 @@
 //! The program: what its words ask for is done.
 ghost use Rattle.std.specs.Prelude.{◌≡◌, ◌≤◌, map};
-ghost use Rattle.dm_program.specs.Outside.{around};
+ghost use Rattle.dm_commands.specs.Outside.{around};
 ghost use Rattle.dm_program.specs.Program.{ProgramMeets};
-ghost use Rattle.dm_program.specs.Status.{BlamesShelf, BlamesSink};
-ghost use Rattle.dm_program.specs.Words.{IsTaken, request_of};
+ghost use Rattle.dm_words.specs.Status.{BlamesShelf, BlamesSink};
+ghost use Rattle.dm_words.specs.Words.{IsTaken, request_of};
 
-use crate::commands::chart::chart_files;
-use crate::commands::check::check_files;
-use crate::commands::drill::drill;
-use crate::commands::explain::explain_files;
-use crate::commands::run::run_files;
-use crate::status::Status;
-use crate::words::{Request, read_words};
+use dm_commands::chart::chart_files;
+use dm_commands::check::check_files;
+use dm_commands::drill::drill;
+use dm_commands::explain::explain_files;
+use dm_commands::run::run_files;
 use dm_outside::{Shelf, Sink};
+use dm_words::status::Status;
+use dm_words::words::{Request, read_words};
 use dm_world::World;
 use std::alloc::Global;
 

@@ -1,6 +1,5 @@
-use Rattle.dm_program.proofs.Names.{rules, ◌∙◌, List, ℕ, ap, map, refl, sym, subst, Option, Some, TheRequest, Status, boot_of, directives_of, around, ProgramMeets, Request, IsInRange, request_of, request_said}
-use Rattle.std.specs.declared.option.Option.TheVariants.{None}
-use Rattle.dm_program.proofs.Drills.{drill_completes, drill_shelf, drill_taken, drill_wears}
+use Rattle.dm_program.proofs.Names.{rules, ◌∙◌, List, ℕ, ap, map, refl, sym, subst, Option, Some, TheRequest, Status, boot_of, directives_of, around, ProgramMeets, Request, IsInRange, request_of, request_said, None, drill_completes}
+use Rattle.dm_program.proofs.Names.{drill_shelf, drill_taken, drill_wears}
 use Rattle.dm_program.proofs.Lacking.{no_request}
 use Rattle.dm_program.proofs.program.run_program.Goals as goal
 

@@ -1,0 +1,191 @@
+-- What is said of files, and how the program ends that has said it.
+use Rattle.dm_commands.proofs.Names.{◌≡◌, ◌⊎◌, inl, inr, ℕ, List, length, refl, ap, sym, subst, ◌∙◌, Option, Some, TheNoMemory, Boot, Vec, Global, IsValid, BootRule, rule_number, BootTold, IsToldValid, RoseOrFull, Status, Done, Usage}
+use Rattle.dm_commands.proofs.Names.{ReadFault, NoMemory, WriteFault, BootRefused, ScheduleRefused, TooLong, Worn, TraceRefused, AsksFiles, AsksNamed, BeforeRun, NoInputs, SaysInputs, TellsFiles, TellsRead, TellsSchedule, TellsSystem}
+use Rattle.dm_commands.proofs.Names.{Wrote, NoBoot, NoDirectives, NoFiles, SaysBoot, BlamesShelf, BlamesSink, IsWant, None}
+use Rattle.dm_explain.specs.declared.explain.BootTold.TheVariants as told_as
+use Rattle.dm_words.specs.declared.status.Input.TheVariants as input
+use Rattle.dm_commands.proofs.Outcomes.{Files, boot_part, long_boot, never_sink, no_files, outcome, refused_boot, said_boot, said_files, want_or_not}
+
+-- memory may lack
+pub wants_memory : (files : Option Files) (boot : List ℕ) (schedule : Option (List ℕ)) (old new : ℕ) (lack : TheNoMemory) → NoInputs files boot schedule old new (NoMemory lack)
+wants_memory files boot None old new lack = tt
+wants_memory files boot (Some schedule) old new lack = tt
+
+-- no file was asked for
+pub asks_nothing : {S : Type 0} (asked : S → List ℕ → S → Type 0) (files : Option Files) (boot : List ℕ) (schedule : Option (List ℕ)) (shelf : S) → ((name : List ℕ) → asked shelf name shelf) → AsksNamed asked files boot schedule shelf shelf
+asks_nothing asked files boot None shelf nothing = nothing boot
+asks_nothing asked files boot (Some schedule) shelf nothing = inl (nothing boot)
+
+-- a status that is due blames nobody
+due_sink : (files : Option Files) (boot : List ℕ) (schedule : Option (List ℕ)) (text : List ℕ) (old new : ℕ) (s : Status) → TellsFiles files boot schedule s text → new ≡ old → BlamesSink old new s
+due_sink files boot schedule text old new Done h e = e
+due_sink files boot schedule text old new Usage h e = e
+due_sink files boot schedule text old new (ReadFault i) h e = e
+due_sink files boot schedule text old new (NoMemory lack) h e = e
+due_sink files boot schedule text old new WriteFault h e = absurd h
+due_sink files boot schedule text old new (BootRefused number place) h e = e
+due_sink files boot schedule text old new (ScheduleRefused line why) h e = e
+due_sink files boot schedule text old new (TooLong i) h e = e
+due_sink files boot schedule text old new (Worn from to) h e = e
+due_sink files boot schedule text old new (TraceRefused line why) h e = e
+
+due_shelf : (files : Option Files) (boot : List ℕ) (schedule : Option (List ℕ)) (text : List ℕ) (old new : ℕ) (s : Status) → TellsFiles files boot schedule s text → new ≡ old → BlamesShelf old new s
+due_shelf files boot schedule text old new Done h e = e
+due_shelf files boot schedule text old new Usage h e = e
+due_shelf files boot schedule text old new (ReadFault i) h e = absurd h
+due_shelf files boot schedule text old new (NoMemory lack) h e = e
+due_shelf files boot schedule text old new WriteFault h e = e
+due_shelf files boot schedule text old new (BootRefused number place) h e = e
+due_shelf files boot schedule text old new (ScheduleRefused line why) h e = e
+due_shelf files boot schedule text old new (TooLong i) h e = e
+due_shelf files boot schedule text old new (Worn from to) h e = e
+due_shelf files boot schedule text old new (TraceRefused line why) h e = e
+
+-- and so the program that has said it blames the sink where that failed
+pub wrote_sink : (files : Option Files) (boot : List ℕ) (schedule : Option (List ℕ)) (text : List ℕ) (before after : Option (List ℕ)) (old new : ℕ) (due s : Status) → TellsFiles files boot schedule due text → Wrote due text before after old new s → BlamesSink old new s
+wrote_sink files boot schedule text before after old new due s h w = elim w [
+  | inl a ↦ subst (λ (x : Status). BlamesSink old new x) (sym a.ends) (due_sink files boot schedule text old new due h a.steady)
+  | inr b ↦ subst (λ (x : Status). BlamesSink old new x) (sym b.ends) b.rose
+]
+
+pub wrote_shelf : (files : Option Files) (boot : List ℕ) (schedule : Option (List ℕ)) (text : List ℕ) (before after : Option (List ℕ)) (old new k k' : ℕ) (due s : Status) → TellsFiles files boot schedule due text → Wrote due text before after k k' s → new ≡ old → BlamesShelf old new s
+wrote_shelf files boot schedule text before after old new k k' due s h w e = elim w [
+  | inl a ↦ subst (λ (x : Status). BlamesShelf old new x) (sym a.ends) (due_shelf files boot schedule text old new due h e)
+  | inr b ↦ subst (λ (x : Status). BlamesShelf old new x) (sym b.ends) e
+]
+
+says_boot : (files : Option Files) (boot : List ℕ) (b : Boot) (text : List ℕ) → TellsSystem files boot b text → SaysBoot files boot b
+says_boot files boot b text h = record { bytes = h.bytes; file = h.file; says = h.told.says }
+
+-- what is due is how a run ends before it runs
+before_run : (files : Option Files) (boot : List ℕ) (schedule : Option (List ℕ)) (text : List ℕ) (old new : ℕ) (s : Status) → TellsFiles files boot schedule s text → BeforeRun files boot schedule old new s
+before_run files boot None text old new Done h = inl (refl, record { system = h.system; says = says_boot files boot h.system text h.told })
+before_run files boot (Some schedule) text old new Done h = inl (
+  refl,
+  record {
+    system = h.system;
+    directives = h.schedule_told.tells.directives;
+    says = record {
+      says = record {
+        says_boot = says_boot files boot h.system h.first h.boot_told;
+        says_directives = record { bytes = h.schedule_told.bytes; file = h.schedule_told.file; says = h.schedule_told.tells.says };
+      };
+    };
+  },
+)
+before_run files boot None text old new (BootRefused number place) h = inr (record { bytes = h.bytes; file = h.file; rule = h.rule; refused = h.told.refused; number_is = h.number_is })
+before_run files boot (Some schedule) text old new (BootRefused number place) h = inr (record { bytes = h.bytes; file = h.file; rule = h.rule; refused = h.told.refused; number_is = h.number_is })
+before_run files boot None text old new (ScheduleRefused line why) h = absurd h
+before_run files boot (Some schedule) text old new (ScheduleRefused line why) h = inr (record {
+  b = h.system;
+  says = says_boot files boot h.system h.first h.boot_told;
+  holds = record { bytes = h.schedule_told.bytes; file = h.schedule_told.file; fault = h.schedule_told.tells.fault; refused = h.schedule_told.tells.refused; why_is = h.schedule_told.tells.why_is };
+})
+before_run files boot schedule text old new Usage h = absurd h
+before_run files boot schedule text old new (ReadFault i) h = absurd h
+before_run files boot schedule text old new (NoMemory lack) h = absurd h
+before_run files boot schedule text old new WriteFault h = absurd h
+before_run files boot schedule text old new (TooLong i) h = absurd h
+before_run files boot schedule text old new (Worn from to) h = absurd h
+before_run files boot schedule text old new (TraceRefused line why) h = absurd h
+
+pub as_run : (files : Option Files) (boot : List ℕ) (schedule : Option (List ℕ)) (text : List ℕ) (before after : Option (List ℕ)) (old new k k' : ℕ) (due s : Status) → TellsFiles files boot schedule due text → Wrote due text before after k k' s → (s ≡ WriteFault) ⊎ BeforeRun files boot schedule old new s
+as_run files boot schedule text before after old new k k' due s h w = elim w [
+  | inl a ↦ inr (subst (λ (x : Status). BeforeRun files boot schedule old new x) (sym a.ends) (before_run files boot schedule text old new due h))
+  | inr b ↦ inl b.ends
+]
+
+-- why there is no system is a function of the boot file, where no read fails and memory is there
+no_boot : (files : Files) (boot : List ℕ) (old new : ℕ) (s : Status) → (RoseOrFull old new → ⊥) → (IsWant s → ⊥) → NoBoot (Some files) boot old new s → boot_part (files boot) (λ b. Done) ≡ s
+no_boot files boot old new Done quiet some h = absurd h
+no_boot files boot old new Usage quiet some h = absurd h
+no_boot files boot old new (ReadFault input.Boot) quiet some h = absurd (quiet h)
+no_boot files boot old new (ReadFault input.Schedule) quiet some h = absurd h
+no_boot files boot old new (ReadFault input.Trace) quiet some h = absurd h
+no_boot files boot old new (NoMemory lack) quiet some h = absurd (some (lack, refl))
+no_boot files boot old new WriteFault quiet some h = absurd h
+no_boot files boot old new (BootRefused number place) quiet some h = refused_boot files boot number place _ h
+no_boot files boot old new (ScheduleRefused line why) quiet some h = absurd h
+no_boot files boot old new (TooLong input.Boot) quiet some h = long_boot files boot _ h
+no_boot files boot old new (TooLong input.Schedule) quiet some h = absurd h
+no_boot files boot old new (TooLong input.Trace) quiet some h = absurd h
+no_boot files boot old new (Worn from to) quiet some h = absurd h
+no_boot files boot old new (TraceRefused line why) quiet some h = absurd h
+
+-- how a run of these files ends before it runs
+abbrev end_of : Files → List ℕ → Option (List ℕ) → Status
+end_of files boot None = boot_part (files boot) (λ b. Done)
+end_of files boot (Some schedule) = outcome files boot schedule
+
+is_end : (files : Files) (boot : List ℕ) (schedule : Option (List ℕ)) (old new : ℕ) (s : Status) → (RoseOrFull old new → ⊥) → (IsWant s → ⊥) → BeforeRun (Some files) boot schedule old new s → end_of files boot schedule ≡ s
+is_end files boot None old new s quiet some h = elim h [
+  | inl said ↦ said_boot files boot said.1.system (λ b. Done) said.1.says ∙ sym said.0
+  | inr why ↦ no_boot files boot old new s quiet some why
+]
+is_end files boot (Some schedule) old new s quiet some h = elim h [
+  | inl said ↦ said_files files boot schedule said.1.system said.1.directives said.1.says.says ∙ sym said.0
+  | inr why ↦ no_files files boot schedule old new s quiet some why
+]
+
+-- so there is one end, unless it is want of memory or the sink failed
+pub one_end : (told : Option Files) (files : Files) (boot : List ℕ) (schedule : Option (List ℕ)) (old new k k' : ℕ) (due s : Status) → told ≡ Some files → (s ≡ WriteFault) ⊎ BeforeRun told boot schedule old new s → BlamesSink k k' s
+    → BeforeRun (Some files) boot schedule old new due → (IsWant due → ⊥) → (RoseOrFull old new → ⊥) → (RoseOrFull k k' → ⊥) → (s ≡ due) ⊎ IsWant s
+one_end told files boot schedule old new k k' due s is runs sink want some quiet steady = elim (want_or_not s) [
+  | inl lack ↦ inr lack
+  | inr other ↦ elim runs [
+    | inl e ↦ absurd (steady (subst (λ (x : Status). BlamesSink k k' x) e sink))
+    | inr b ↦
+        inl (sym (is_end files boot schedule old new s quiet other (subst (λ (f : Option Files). BeforeRun f boot schedule old new s) is b)) ∙ is_end files boot schedule old new due quiet some want)
+  ]
+]
+
+-- no reason blames the sink
+pub no_sink : (files : Option Files) (boot : List ℕ) (schedule : Option (List ℕ)) (old new k : ℕ) (s : Status) → NoInputs files boot schedule old new s → BlamesSink k k s
+no_sink files boot (Some schedule) old new k s h = never_sink boot schedule files old new k s h
+no_sink files boot None old new k Done h = refl
+no_sink files boot None old new k Usage h = refl
+no_sink files boot None old new k (ReadFault i) h = refl
+no_sink files boot None old new k (NoMemory lack) h = refl
+no_sink files boot None old new k WriteFault h = absurd h
+no_sink files boot None old new k (BootRefused number place) h = refl
+no_sink files boot None old new k (ScheduleRefused line why) h = refl
+no_sink files boot None old new k (TooLong i) h = refl
+no_sink files boot None old new k (Worn from to) h = refl
+no_sink files boot None old new k (TraceRefused line why) h = refl
+
+-- what is said of a boot file that breaks a rule, and of one that breaks none
+pub refused_told : (files : Option Files) (boot : List ℕ) (schedule : Option (List ℕ)) (rule : BootRule) (number place : ℕ) (text : Vec ℕ Global) (told : BootTold) → told ≡ told_as.Refused rule place text → number ≡ rule_number rule → TellsRead files boot told → TellsFiles files boot schedule (BootRefused number place) text.items
+refused_told files boot schedule rule number place text told is e h =
+    let k : TellsRead files boot (told_as.Refused rule place text) = subst (TellsRead files boot) is h in
+    record { bytes = k.bytes; file = k.file; rule = rule; told = k.explains; number_is = e }
+
+pub system_told : (files : Option Files) (boot : List ℕ) (b : Boot) (text : Vec ℕ Global) (told : BootTold) → told ≡ told_as.System b text → TellsRead files boot told → TellsSystem files boot b text.items
+system_told files boot b text told is h =
+    let k : TellsRead files boot (told_as.System b text) = subst (TellsRead files boot) is h in
+    record { bytes = k.bytes; file = k.file; told = k.explains }
+
+pub system_says : (files : Option Files) (boot : List ℕ) (b : Boot) (text : Vec ℕ Global) (told : BootTold) → told ≡ told_as.System b text → TellsRead files boot told → SaysBoot files boot b
+system_says files boot b text told is h = says_boot files boot b text.items (system_told files boot b text told is h)
+
+-- no file was asked for but the boot file
+pub asks_boot : {S : Type 0} (asked : S → List ℕ → S → Type 0) (files : Option Files) (boot : List ℕ) (schedule : Option (List ℕ)) (old new : S) → asked old boot new → AsksNamed asked files boot schedule old new
+asks_boot asked files boot None old new h = h
+asks_boot asked files boot (Some schedule) old new h = inl h
+
+-- where there is no system nothing is said
+pub no_system : (files : Option Files) (boot : List ℕ) (schedule : Option (List ℕ)) (old new : ℕ) (s : Status) → NoBoot files boot old new s → NoInputs files boot schedule old new s
+no_system files boot None old new s h = h
+no_system files boot (Some schedule) old new Done h = absurd h
+no_system files boot (Some schedule) old new Usage h = absurd h
+no_system files boot (Some schedule) old new (ReadFault input.Boot) h = h
+no_system files boot (Some schedule) old new (ReadFault input.Schedule) h = absurd h
+no_system files boot (Some schedule) old new (ReadFault input.Trace) h = absurd h
+no_system files boot (Some schedule) old new (NoMemory lack) h = tt
+no_system files boot (Some schedule) old new WriteFault h = absurd h
+no_system files boot (Some schedule) old new (BootRefused number place) h = h
+no_system files boot (Some schedule) old new (ScheduleRefused line why) h = absurd h
+no_system files boot (Some schedule) old new (TooLong input.Boot) h = h
+no_system files boot (Some schedule) old new (TooLong input.Schedule) h = absurd h
+no_system files boot (Some schedule) old new (TooLong input.Trace) h = absurd h
+no_system files boot (Some schedule) old new (Worn from to) h = absurd h
+no_system files boot (Some schedule) old new (TraceRefused line why) h = absurd h

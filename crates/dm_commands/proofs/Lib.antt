@@ -1,0 +1,12 @@
+pub mod Names
+pub mod Reading
+pub mod Schedules
+pub mod Endings
+pub mod Drills
+mod Outcomes
+mod ChartOutcomes
+mod CheckOutcomes
+mod ExplainOutcomes
+mod RunsChecked
+mod DrillsChecked
+mod Whose

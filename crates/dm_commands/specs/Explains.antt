@@ -1,0 +1,180 @@
+-- What the status of the command `explain` says: why it comes, and what was written by then.
+use Rattle.std.specs.Prelude.{◌≡◌, ⊤, ℕ, ◌⊎◌, List, ◌++◌, length}
+use Rattle.std.specs.declared.option.Option.{Option}
+use Rattle.std.specs.declared.option.Option.TheVariants.{None, Some}
+use Rattle.dm_onekernel.specs.declared.boot.Boot.{Boot}
+use Rattle.dm_schedule.specs.declared.Directive.{Directive}
+use Rattle.dm_schedule.specs.declared.LineFault.{LineFault}
+use Rattle.dm_schedule.specs.Schedule.{Accepted, Refused, directives_of, number_of_fault}
+use Rattle.dm_boot.specs.declared.rules.BootRule.{BootRule}
+use Rattle.dm_boot.specs.Rules.{rule_number}
+use Rattle.dm_outside.specs.Outside.{RoseOrFull, appended}
+use Rattle.dm_run.specs.Appended.{IsCutShort}
+use Rattle.dm_explain.specs.declared.explain.BootTold.{BootTold}
+use Rattle.dm_explain.specs.Explained.{ExplainsBoot, TellsBoot, TellsRefused}
+use Rattle.dm_explain.specs.Schedules.{directives_told, line_told}
+use Rattle.dm_words.specs.declared.status.Input.TheVariants as input
+use Rattle.dm_words.specs.declared.status.Status.{Status}
+use Rattle.dm_words.specs.declared.status.Status.TheVariants.{Done, ReadFault, WriteFault, BootRefused, ScheduleRefused}
+use Rattle.dm_commands.specs.Asked.{AsksFiles, FailsAlone, FailsSecond}
+use Rattle.dm_commands.specs.Inputs.{AcceptsFiles, HasFile, NoBoot, NoFiles, SaysBoot, most_boot, most_schedule}
+use Rattle.dm_commands.specs.Outside.{Outside, NeverFails}
+use Rattle.dm_words.specs.Status.{BlamesShelf, BlamesSink, IsWant}
+
+-- the bytes of the boot file of this name, and what is said of them
+pub record TellsRead (files : Option (List ℕ → Option (List ℕ))) (name : List ℕ) (told : BootTold) : Type 0 where
+  pub bytes : List ℕ
+  pub file : HasFile files name most_boot bytes
+  pub explains : ExplainsBoot bytes told
+
+-- it breaks the rule of this number at this place, and that is said
+pub record TellsBroken (files : Option (List ℕ → Option (List ℕ))) (name : List ℕ) (number place : ℕ) (text : List ℕ) : Type 0 where
+  pub bytes : List ℕ
+  pub file : HasFile files name most_boot bytes
+  pub rule : BootRule
+  pub told : TellsRefused bytes rule place text
+  pub number_is : number ≡ rule_number rule
+
+-- it gives this system, and that is said
+pub record TellsSystem (files : Option (List ℕ → Option (List ℕ))) (name : List ℕ) (b : Boot) (text : List ℕ) : Type 0 where
+  pub bytes : List ℕ
+  pub file : HasFile files name most_boot bytes
+  pub told : TellsBoot bytes b text
+
+-- what is said of the directives of a schedule, behind what was said first
+pub record TellsDirectives (bytes : List ℕ) (machines : ℕ) (first text : List ℕ) : Type 0 where
+  pub directives : List Directive
+  pub says : directives_of bytes machines ≡ Accepted directives
+  pub text_is : text ≡ first ++ directives_told directives
+
+-- and of a line that is refused
+pub record TellsLine (bytes : List ℕ) (machines line why : ℕ) (first text : List ℕ) : Type 0 where
+  pub fault : LineFault
+  pub refused : directives_of bytes machines ≡ Refused line fault
+  pub why_is : why ≡ number_of_fault fault
+  pub text_is : text ≡ first ++ line_told bytes line fault
+
+-- how a run ends on a schedule before it runs, and what is said of it
+abbrev pub TellsLines : List ℕ → ℕ → List ℕ → Status → List ℕ → Type 0
+TellsLines bytes machines first Done text = TellsDirectives bytes machines first text
+TellsLines bytes machines first (ScheduleRefused line why) text = TellsLine bytes machines line why first text
+TellsLines bytes machines first _ text = ⊥
+
+-- the same of the schedule of this name
+pub record TellsSchedule (files : Option (List ℕ → Option (List ℕ))) (name : List ℕ) (machines : ℕ) (first : List ℕ) (due : Status) (text : List ℕ) : Type 0 where
+  pub bytes : List ℕ
+  pub file : HasFile files name most_schedule bytes
+  pub tells : TellsLines bytes machines first due text
+
+-- a system is said, and then a schedule for its machines
+pub record TellsBoth (files : Option (List ℕ → Option (List ℕ))) (boot schedule : List ℕ) (due : Status) (text : List ℕ) : Type 0 where
+  pub system : Boot
+  pub first : List ℕ
+  pub boot_told : TellsSystem files boot system first
+  pub schedule_told : TellsSchedule files schedule (length system.machines) first due text
+
+-- a system is said, alone
+pub record TellsAlone (files : Option (List ℕ → Option (List ℕ))) (boot text : List ℕ) : Type 0 where
+  pub system : Boot
+  pub told : TellsSystem files boot system text
+
+abbrev pub TellsAccepted : Option (List ℕ → Option (List ℕ)) → List ℕ → Option (List ℕ) → List ℕ → Type 0
+TellsAccepted files boot None text = TellsAlone files boot text
+TellsAccepted files boot (Some schedule) text = TellsBoth files boot schedule Done text
+
+abbrev pub TellsBadLine : Option (List ℕ → Option (List ℕ)) → List ℕ → Option (List ℕ) → ℕ → ℕ → List ℕ → Type 0
+TellsBadLine files boot None line why text = ⊥
+TellsBadLine files boot (Some schedule) line why text = TellsBoth files boot schedule (ScheduleRefused line why) text
+
+-- how a run ends on files of these names before it runs, and what is said of them
+abbrev pub TellsFiles : Option (List ℕ → Option (List ℕ)) → List ℕ → Option (List ℕ) → Status → List ℕ → Type 0
+TellsFiles files boot schedule Done text = TellsAccepted files boot schedule text
+TellsFiles files boot schedule (BootRefused number place) text = TellsBroken files boot number place text
+TellsFiles files boot schedule (ScheduleRefused line why) text = TellsBadLine files boot schedule line why text
+TellsFiles files boot schedule _ text = ⊥
+
+-- all of a text was written, and the program ends as it is due to
+pub record WroteAll (due : Status) (text : List ℕ) (before after : Option (List ℕ)) (faults faults' : ℕ) (s : Status) : Type 0 where
+  pub ends : s ≡ due
+  pub written : after ≡ appended before text
+  pub steady : faults' ≡ faults
+
+-- or the sink failed
+pub record WroteBegun (text : List ℕ) (before after : Option (List ℕ)) (faults faults' : ℕ) (s : Status) : Type 0 where
+  pub ends : s ≡ WriteFault
+  pub begun : IsCutShort before text after
+  pub rose : RoseOrFull faults faults'
+
+abbrev pub Wrote : Status → List ℕ → Option (List ℕ) → Option (List ℕ) → ℕ → ℕ → Status → Type 0
+Wrote due text before after faults faults' s = WroteAll due text before after faults faults' s ⊎ WroteBegun text before after faults faults' s
+
+-- files were explained
+pub record Explains (boot : List ℕ) (schedule : Option (List ℕ)) (o : Outside) (s : Status) : Type 0 where
+  pub due : Status
+  pub text : List ℕ
+  pub tells : TellsFiles o.files boot schedule due text
+  pub wrote : Wrote due text o.before o.after o.writes_before o.writes_after s
+
+-- why a run of these files comes to nothing; without a schedule, why there is no system
+abbrev pub NoInputs : Option (List ℕ → Option (List ℕ)) → List ℕ → Option (List ℕ) → ℕ → ℕ → Status → Type 0
+NoInputs files boot None old new s = NoBoot files boot old new s
+NoInputs files boot (Some schedule) old new s = NoFiles files boot schedule old new s
+
+-- none were, for a reason, and nothing was written
+pub record NeverExplains (boot : List ℕ) (schedule : Option (List ℕ)) (o : Outside) (s : Status) : Type 0 where
+  pub why : NoInputs o.files boot schedule o.reads_before o.reads_after s
+  pub nothing : o.after ≡ o.before
+
+-- what a status says
+abbrev pub SaysExplain : List ℕ → Option (List ℕ) → Outside → Status → Type 0
+SaysExplain boot schedule o s = Explains boot schedule o s ⊎ NeverExplains boot schedule o s
+
+-- these files say a system, and directives where there is a schedule
+pub record SaysSystem (files : Option (List ℕ → Option (List ℕ))) (boot : List ℕ) : Type 0 where
+  pub system : Boot
+  pub says : SaysBoot files boot system
+
+pub record SaysRunnable (files : Option (List ℕ → Option (List ℕ))) (boot schedule : List ℕ) : Type 0 where
+  pub system : Boot
+  pub directives : List Directive
+  pub says : AcceptsFiles files boot schedule system directives
+
+abbrev pub SaysInputs : Option (List ℕ → Option (List ℕ)) → List ℕ → Option (List ℕ) → Type 0
+SaysInputs files boot None = SaysSystem files boot
+SaysInputs files boot (Some schedule) = SaysRunnable files boot schedule
+
+-- the status of a run of these files before it runs
+abbrev pub BeforeRun : Option (List ℕ → Option (List ℕ)) → List ℕ → Option (List ℕ) → ℕ → ℕ → Status → Type 0
+BeforeRun files boot schedule old new s = ((s ≡ Done) × SaysInputs files boot schedule) ⊎ NoInputs files boot schedule old new s
+
+-- the program ends so, unless the sink failed
+abbrev pub AsRun : List ℕ → Option (List ℕ) → Outside → Status → Type 0
+AsRun boot schedule o s = (s ≡ WriteFault) ⊎ BeforeRun o.files boot schedule o.reads_before o.reads_after s
+
+-- and it does, where no read and no write fails and memory is there
+abbrev pub Decides : List ℕ → Option (List ℕ) → Outside → Status → Type 0
+Decides boot schedule o s =
+    (files : List ℕ → Option (List ℕ)) (due : Status) → o.files ≡ Some files
+    → BeforeRun (Some files) boot schedule o.reads_before o.reads_after due → (IsWant due → ⊥) → NeverFails o → (s ≡ due) ⊎ IsWant s
+
+-- which files were asked for
+abbrev pub AsksNamed : {S : Type 0} → (S → List ℕ → S → Type 0) → Option (List ℕ → Option (List ℕ)) → List ℕ → Option (List ℕ) → S → S → Type 0
+AsksNamed asked files boot None old new = asked old boot new
+AsksNamed asked files boot (Some schedule) old new = AsksFiles asked files boot schedule old new
+
+-- a read of the schedule failed
+abbrev pub FailsNamed : {S : Type 0} → (S → List ℕ → S → Type 0) → (S → ℕ) → Option (List ℕ → Option (List ℕ)) → List ℕ → Option (List ℕ) → S → S → Type 0
+FailsNamed asked faults files boot None old new = ⊥
+FailsNamed asked faults files boot (Some schedule) old new = FailsSecond asked faults files boot schedule old new
+
+-- all that the command promises, with files of these names
+pub record ExplainMeets {F : Type 0} (asked : F → List ℕ → F → Type 0) (faults : F → ℕ) (boot : List ℕ) (schedule : Option (List ℕ)) (o : Outside) (old new : F) (s : Status) : Type 0 where
+  pub says : SaysExplain boot schedule o s
+  pub as_run : AsRun boot schedule o s
+  pub decides : Decides boot schedule o s
+  pub asks : AsksNamed asked o.files boot schedule old new
+  pub boot_fault : s ≡ ReadFault input.Boot → FailsAlone asked faults boot old new
+  pub schedule_fault : s ≡ ReadFault input.Schedule → FailsNamed asked faults o.files boot schedule old new
+  pub no_world : o.world ≡ None
+  pub shelf : BlamesShelf o.reads_before o.reads_after s
+  pub sink : BlamesSink o.writes_before o.writes_after s

@@ -1,0 +1,11 @@
+pub mod Ended
+pub mod Files
+pub mod Inputs
+pub mod Asked
+pub mod Outside
+pub mod Runs
+pub mod Checks
+pub mod Drills
+pub mod Charts
+pub mod Explains
+pub mod Laws

@@ -1,0 +1,100 @@
+//! The command `check`: it checks that a trace is what the system of a boot file prints.
+ghost use Rattle.std.specs.Prelude.{◌≡◌, ◌≤◌, ℕ, List, None, length};
+ghost use Rattle.dm_onekernel.specs.declared.boot.Boot.{Boot as TheBoot};
+ghost use Rattle.dm_onekernel.specs.Boot.{IsValid};
+ghost use Rattle.dm_words.specs.declared.status.Input.TheVariants as input_;
+ghost use Rattle.dm_commands.specs.Asked.{AsksFiles, FailsAlone, FailsSecond};
+ghost use Rattle.dm_commands.specs.Checks.{Accepts, CheckSays, Finds, IsGoodTrace, Refuses, SaysCheck, end_word, good_line};
+ghost use Rattle.dm_commands.specs.Outside.{around};
+ghost use Rattle.dm_words.specs.Status.{BlamesShelf, BlamesSink};
+
+use crate::inputs::{Traced, read_trace_files};
+use arrayvec::ArrayString;
+use dm_check::{CheckError, Good, MOST_TRACE, check_trace};
+use dm_outside::{Shelf, Sink};
+use dm_run::write_all;
+use dm_words::status::{Status, push_number, words};
+use std::alloc::Global;
+
+/// Checks that the trace of the second name is what the system of the boot file of the first prints, and says so.
+pub fn check_files<F: Shelf, K: Sink>(
+    alloc: Global,
+    boot: &str,
+    trace: &str,
+    shelf: &mut F,
+    out: &mut K,
+) -> Status
+    ensures says { SaysCheck boot.now trace.now
+        (around F.told F.faults K.told K.faults shelf.old shelf.new out.old out.new None) result }
+    ensures accepts { Accepts boot.now trace.now
+        (around F.told F.faults K.told K.faults shelf.old shelf.new out.old out.new None) result }
+    ensures finds { Finds boot.now trace.now
+        (around F.told F.faults K.told K.faults shelf.old shelf.new out.old out.new None) result }
+    ensures refuses { Refuses boot.now trace.now
+        (around F.told F.faults K.told K.faults shelf.old shelf.new out.old out.new None) result }
+    ensures asks { AsksFiles F.asked (F.told shelf.old) boot.now trace.now shelf.old shelf.new }
+    ensures boot_fault { result ≡ Status.ReadFault input_.Boot → FailsAlone F.asked F.faults boot.now shelf.old shelf.new }
+    ensures trace_fault { result ≡ Status.ReadFault input_.Trace →
+        FailsSecond F.asked F.faults (F.told shelf.old) boot.now trace.now shelf.old shelf.new }
+    ensures same { F.told shelf.new ≡ F.told shelf.old }
+    ensures shelf { BlamesShelf (F.faults shelf.old) (F.faults shelf.new) result }
+    ensures sink { BlamesSink (K.faults out.old) (K.faults out.new) result }
+    ensures reads { F.faults shelf.old ≤ F.faults shelf.new }
+    ensures writes { K.faults out.old ≤ K.faults out.new }
+{
+    match read_trace_files(alloc, boot, trace, shelf) {
+        Ok(traced) => check(alloc, traced, out),
+        Err(status) => status,
+    }
+}
+
+/// Checks a trace, and says that it is good.
+fn check<K: Sink>(alloc: Global, traced: Traced, out: &mut K) -> Status
+    requires valid { IsValid traced.boot }
+    requires short { length traced.trace.items ≤ MOST_TRACE }
+    ensures says { CheckSays traced.boot traced.trace.items (K.told out.old) (K.told out.new) result }
+    ensures sink { BlamesSink (K.faults out.old) (K.faults out.new) result }
+    ensures writes { K.faults out.old ≤ K.faults out.new }
+{
+    let Traced { boot, trace } = traced;
+    match check_trace(alloc, boot, trace.as_slice()) {
+        Ok(good) => say_good(good, out),
+        Err(CheckError::Refused { line, fault }) => Status::TraceRefused {
+            line,
+            why: fault.number(),
+        },
+        Err(CheckError::NoMemory(no)) => Status::NoMemory(no),
+    }
+}
+
+/// Says that a trace is good.
+fn say_good<K: Sink>(good: Good, out: &mut K) -> Status
+    ensures says { (b : TheBoot) (bytes : List ℕ) → IsGoodTrace b bytes good.groups good.ended →
+        CheckSays b bytes (K.told out.old) (K.told out.new) result }
+    ensures sink { BlamesSink (K.faults out.old) (K.faults out.new) result }
+    ensures writes { K.faults out.old ≤ K.faults out.new }
+{
+    let line = good_line(good);
+    match write_all(out, line.as_bytes()) {
+        Ok(()) => Status::Done,
+        Err(_) => Status::WriteFault,
+    }
+}
+
+/// The line of a good trace, with its line feed.
+fn good_line(good: Good) -> ArrayString<96>
+    ensures { result.bytes ≡ good_line good.groups good.ended }
+{
+    let mut line = words("good ");
+    push_number(&mut line, good.groups);
+    line.push_str(end_word(good.ended));
+    line
+}
+
+/// What stands behind the number of groups.
+fn end_word(ended: bool) -> &'static str
+    ensures word { result.now ≡ end_word ended }
+    ensures short { length result.now ≤ 7 }
+{
+    if ended { " ended\n" } else { " open\n" }
+}

@@ -1,0 +1,90 @@
+//! The command `drill`: a system and its directives are drawn from a number, and what happens is counted.
+ghost use Rattle.std.specs.Prelude.{◌≡◌, ◌≤◌, IfOk, length};
+ghost use Rattle.std.specs.List.{All};
+ghost use Rattle.dm_onekernel.specs.Boot.{IsValid};
+ghost use Rattle.dm_run.specs.Coming.{IsFor};
+ghost use Rattle.dm_draw.specs.Boot.{boot_of};
+ghost use Rattle.dm_words.specs.DrillWords.{IsWithin};
+ghost use Rattle.dm_commands.specs.Drills.{DrilledSays, directives_of};
+ghost use Rattle.dm_words.specs.Status.{BlamesSink};
+
+use crate::run::status_of;
+use dm_draw::boot::drill_boot;
+use dm_draw::directives::drill_directives;
+use dm_draw::drill::Drill;
+use dm_drill::drill::run_drill;
+use dm_memory::NoMemory;
+use dm_onekernel::Boot;
+use dm_outside::Sink;
+use dm_run::begin;
+use dm_schedule::{Directive, MOST_SCHEDULE};
+use dm_words::status::Status;
+use dm_world::World;
+use std::alloc::Global;
+
+/// What is drawn from a number.
+#[derive(Drop)]
+struct Drawn {
+    boot: Boot,
+    directives: Vec<Directive>,
+}
+
+/// Draws a system and its directives, does them, writes the groups where that is asked for, and then the summary. The world is
+/// left in `world`, which is empty where there was none.
+pub fn drill<K: Sink>(
+    alloc: Global,
+    drill: &Drill,
+    out: &mut K,
+    world: &mut Option<World>,
+) -> Status
+    requires { IsWithin drill.now }
+    ensures says { DrilledSays drill.now (boot_of drill.now.machines) (directives_of drill.now) (K.told out.old) (K.told out.new) world.new result }
+    ensures sink { BlamesSink (K.faults out.old) (K.faults out.new) result }
+    ensures writes { K.faults out.old ≤ K.faults out.new }
+{
+    *world = None;
+    match draw(alloc, drill) {
+        Ok(drawn) => run(alloc, drill, drawn, out, world),
+        Err(no) => Status::NoMemory(no),
+    }
+}
+
+/// Draws a system and its directives.
+fn draw(alloc: Global, drill: &Drill) -> Result<Drawn, NoMemory>
+    requires { IsWithin drill.now }
+    ensures boot { IfOk result (λ d. d.boot ≡ boot_of drill.now.machines) }
+    ensures valid { IfOk result (λ d. IsValid d.boot) }
+    ensures directives { IfOk result (λ d. d.directives.items ≡ directives_of drill.now) }
+    ensures each { IfOk result (λ d. All (IsFor (length d.boot.machines)) d.directives.items) }
+    ensures few { IfOk result (λ d. length d.directives.items ≤ MOST_SCHEDULE) }
+{
+    let boot = drill_boot(alloc, drill.machines)?;
+    let directives = drill_directives(alloc, drill.seed, drill.machines, drill.lines)?;
+    Ok(Drawn { boot, directives })
+}
+
+/// Runs a system by its directives.
+fn run<K: Sink>(
+    alloc: Global,
+    drill: &Drill,
+    drawn: Drawn,
+    out: &mut K,
+    world: &mut Option<World>,
+) -> Status
+    requires valid { IsValid drawn.boot }
+    requires each { All (IsFor (length drawn.boot.machines)) drawn.directives.items }
+    requires few { length drawn.directives.items ≤ MOST_SCHEDULE }
+    ensures says { DrilledSays drill.now drawn.boot drawn.directives.items (K.told out.old) (K.told out.new) world.new result }
+    ensures sink { BlamesSink (K.faults out.old) (K.faults out.new) result }
+    ensures writes { K.faults out.old ≤ K.faults out.new }
+{
+    let Drawn { boot, directives } = drawn;
+    match begin(alloc, boot) {
+        Ok(mut begun) => {
+            let ended = run_drill(alloc, drill, directives.as_slice(), &mut begun, out);
+            *world = Some(begun);
+            status_of(ended)
+        }
+        Err(no) => Status::NoMemory(no),
+    }
+}

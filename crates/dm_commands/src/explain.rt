@@ -1,0 +1,185 @@
+//! The command `explain`: it says what a boot file and a schedule say, or what is wrong with them.
+ghost use Rattle.std.specs.Prelude.{◌≡◌, ◌≤◌, IfErr, IfOk, None, option_map};
+ghost use Rattle.dm_words.specs.declared.status.Input.TheVariants as input_;
+ghost use Rattle.dm_commands.specs.Asked.{FailsAlone};
+ghost use Rattle.dm_commands.specs.Explains.{AsRun, AsksNamed, Decides, FailsNamed, NoInputs, SaysExplain, TellsFiles, TellsLines, TellsRead, TellsSchedule, Wrote};
+ghost use Rattle.dm_commands.specs.Inputs.{NoBoot, NoDirectives};
+ghost use Rattle.dm_commands.specs.Outside.{around};
+ghost use Rattle.dm_words.specs.Status.{BlamesShelf, BlamesSink};
+ghost use Rattle.dm_explain.specs.Explained.{IsToldValid};
+
+use crate::inputs::MOST_BOOT;
+use crate::read::{ReadError, read_file};
+use dm_explain::{BootTold, ScheduleTold, explain_boot, explain_schedule};
+use dm_memory::{NoMemory, extend_from_slice};
+use dm_outside::{Shelf, Sink};
+use dm_run::write_all;
+use dm_schedule::MOST_SCHEDULE;
+use dm_words::status::{Input, Status};
+use std::alloc::Global;
+
+/// What is said of files, and how the program ends that has said it.
+#[derive(Drop)]
+struct Told {
+    due: Status,
+    text: Vec<u8>,
+}
+
+/// Says what the boot file of the first name says, and the schedule of the second where there is one, or what is wrong with
+/// them. It ends as a run of these files ends before it runs.
+pub fn explain_files<F: Shelf, K: Sink>(
+    alloc: Global,
+    boot: &str,
+    schedule: Option<&str>,
+    shelf: &mut F,
+    out: &mut K,
+) -> Status
+    ensures says { SaysExplain boot.now (option_map (λ s. s.now) schedule.entry)
+        (around F.told F.faults K.told K.faults shelf.old shelf.new out.old out.new None) result }
+    ensures as_run { AsRun boot.now (option_map (λ s. s.now) schedule.entry)
+        (around F.told F.faults K.told K.faults shelf.old shelf.new out.old out.new None) result }
+    ensures decides { Decides boot.now (option_map (λ s. s.now) schedule.entry)
+        (around F.told F.faults K.told K.faults shelf.old shelf.new out.old out.new None) result }
+    ensures asks { AsksNamed F.asked (F.told shelf.old) boot.now (option_map (λ s. s.now) schedule.entry) shelf.old shelf.new }
+    ensures boot_fault { result ≡ Status.ReadFault input_.Boot → FailsAlone F.asked F.faults boot.now shelf.old shelf.new }
+    ensures schedule_fault { result ≡ Status.ReadFault input_.Schedule →
+        FailsNamed F.asked F.faults (F.told shelf.old) boot.now (option_map (λ s. s.now) schedule.entry) shelf.old shelf.new }
+    ensures same { F.told shelf.new ≡ F.told shelf.old }
+    ensures shelf { BlamesShelf (F.faults shelf.old) (F.faults shelf.new) result }
+    ensures sink { BlamesSink (K.faults out.old) (K.faults out.new) result }
+    ensures reads { F.faults shelf.old ≤ F.faults shelf.new }
+    ensures writes { K.faults out.old ≤ K.faults out.new }
+{
+    match tell_files(alloc, boot, schedule, shelf) {
+        Ok(told) => say(&told, out),
+        Err(status) => status,
+    }
+}
+
+/// Writes what is said of files.
+fn say<K: Sink>(told: &Told, out: &mut K) -> Status
+    ensures wrote { Wrote told.now.due told.now.text.items (K.told out.old) (K.told out.new) (K.faults out.old) (K.faults out.new) result }
+    ensures writes { K.faults out.old ≤ K.faults out.new }
+{
+    match write_all(out, told.text.as_slice()) {
+        Ok(()) => told.due,
+        Err(_) => Status::WriteFault,
+    }
+}
+
+/// What is said of files of these names, or why nothing is.
+fn tell_files<F: Shelf>(
+    alloc: Global,
+    boot: &str,
+    schedule: Option<&str>,
+    shelf: &mut F,
+) -> Result<Told, Status>
+    ensures tells { IfOk result (λ t. TellsFiles (F.told shelf.old) boot.now (option_map (λ s. s.now) schedule.entry) t.due t.text.items) }
+    ensures none { IfErr result
+        (λ s. NoInputs (F.told shelf.old) boot.now (option_map (λ s. s.now) schedule.entry) (F.faults shelf.old) (F.faults shelf.new) s) }
+    ensures same { F.told shelf.new ≡ F.told shelf.old }
+    ensures steady { IfOk result (λ _. F.faults shelf.new ≡ F.faults shelf.old) }
+    ensures blames { IfErr result (λ s. BlamesShelf (F.faults shelf.old) (F.faults shelf.new) s) }
+    ensures reads { F.faults shelf.old ≤ F.faults shelf.new }
+    ensures asks { AsksNamed F.asked (F.told shelf.old) boot.now (option_map (λ s. s.now) schedule.entry) shelf.old shelf.new }
+    ensures boot_fault { IfErr result (λ s. s ≡ Status.ReadFault input_.Boot → FailsAlone F.asked F.faults boot.now shelf.old shelf.new) }
+    ensures schedule_fault { IfErr result (λ s. s ≡ Status.ReadFault input_.Schedule →
+        FailsNamed F.asked F.faults (F.told shelf.old) boot.now (option_map (λ s. s.now) schedule.entry) shelf.old shelf.new) }
+{
+    match tell_boot(alloc, boot, shelf) {
+        Ok(BootTold::Refused { rule, place, text }) => Ok(Told {
+            due: Status::BootRefused {
+                number: rule.number(),
+                place,
+            },
+            text,
+        }),
+        Ok(BootTold::System { boot: system, text }) => match schedule {
+            Some(name) => tell_schedule(alloc, name, system.machines.len() as u8, text, shelf),
+            None => Ok(Told {
+                due: Status::Done,
+                text,
+            }),
+        },
+        Err(status) => Err(status),
+    }
+}
+
+/// What is said of the boot file of this name.
+fn tell_boot<F: Shelf>(alloc: Global, name: &str, shelf: &mut F) -> Result<BootTold, Status>
+    ensures tells { IfOk result (λ t. TellsRead (F.told shelf.old) name.now t) }
+    ensures valid { IfOk result IsToldValid }
+    ensures none { IfErr result (λ s. NoBoot (F.told shelf.old) name.now (F.faults shelf.old) (F.faults shelf.new) s) }
+    ensures same { F.told shelf.new ≡ F.told shelf.old }
+    ensures steady { IfOk result (λ _. F.faults shelf.new ≡ F.faults shelf.old) }
+    ensures blames { IfErr result (λ s. BlamesShelf (F.faults shelf.old) (F.faults shelf.new) s) }
+    ensures reads { F.faults shelf.old ≤ F.faults shelf.new }
+    ensures asks { F.asked shelf.old name.now shelf.new }
+{
+    match read_file(alloc, shelf, name, MOST_BOOT) {
+        Ok(bytes) => match explain_boot(alloc, bytes.as_slice()) {
+            Ok(told) => Ok(told),
+            Err(no) => Err(Status::NoMemory(no)),
+        },
+        Err(ReadError::Fault) => Err(Status::ReadFault(Input::Boot)),
+        Err(ReadError::NoMemory(no)) => Err(Status::NoMemory(no)),
+        Err(ReadError::TooLong) => Err(Status::TooLong(Input::Boot)),
+    }
+}
+
+/// What is said of the schedule of this name, for so many machines, behind what is said of the boot file.
+fn tell_schedule<F: Shelf>(
+    alloc: Global,
+    name: &str,
+    machines: u8,
+    first: Vec<u8>,
+    shelf: &mut F,
+) -> Result<Told, Status>
+    ensures tells { IfOk result (λ t. TellsSchedule (F.told shelf.old) name.now machines first.items t.due t.text.items) }
+    ensures none { IfErr result (λ s. NoDirectives (F.told shelf.old) name.now machines (F.faults shelf.old) (F.faults shelf.new) s) }
+    ensures same { F.told shelf.new ≡ F.told shelf.old }
+    ensures steady { IfOk result (λ _. F.faults shelf.new ≡ F.faults shelf.old) }
+    ensures blames { IfErr result (λ s. BlamesShelf (F.faults shelf.old) (F.faults shelf.new) s) }
+    ensures reads { F.faults shelf.old ≤ F.faults shelf.new }
+    ensures asks { F.asked shelf.old name.now shelf.new }
+{
+    match read_file(alloc, shelf, name, MOST_SCHEDULE) {
+        Ok(bytes) => match tell_lines(alloc, bytes.as_slice(), machines, first) {
+            Ok(told) => Ok(told),
+            Err(no) => Err(Status::NoMemory(no)),
+        },
+        Err(ReadError::Fault) => Err(Status::ReadFault(Input::Schedule)),
+        Err(ReadError::NoMemory(no)) => Err(Status::NoMemory(no)),
+        Err(ReadError::TooLong) => Err(Status::TooLong(Input::Schedule)),
+    }
+}
+
+/// What is said of a schedule, for so many machines, behind what is said of the boot file.
+fn tell_lines(alloc: Global, bytes: &[u8], machines: u8, first: Vec<u8>) -> Result<Told, NoMemory>
+    ensures { IfOk result (λ t. TellsLines bytes.now machines first.items t.due t.text.items) }
+{
+    let mut text = first;
+    match explain_schedule(alloc, bytes, machines)? {
+        ScheduleTold::Directives { text: more, .. } => {
+            extend_from_slice(&mut text, more.as_slice())?;
+            Ok(Told {
+                due: Status::Done,
+                text,
+            })
+        }
+        ScheduleTold::Refused {
+            line,
+            fault,
+            text: more,
+        } => {
+            extend_from_slice(&mut text, more.as_slice())?;
+            Ok(Told {
+                due: Status::ScheduleRefused {
+                    line,
+                    why: fault.number(),
+                },
+                text,
+            })
+        }
+    }
+}

@@ -1,0 +1,163 @@
+//! What the program reads before it does something: the boot file, and the schedule or the trace.
+ghost use Rattle.std.specs.Prelude.{◌≡◌, ◌≤◌, IfErr, IfOk, length};
+ghost use Rattle.std.specs.List.{All};
+ghost use Rattle.dm_onekernel.specs.Boot.{IsValid};
+ghost use Rattle.dm_commands.specs.Asked.{AsksFiles, FailsAlone, FailsSecond};
+ghost use Rattle.dm_commands.specs.Checks.{HasTrace, NoBytes, NoTrace, most_trace};
+ghost use Rattle.dm_commands.specs.Inputs.{AcceptsFiles, HasFile, NoBoot, NoDirectives, NoFiles, SaysBoot, SaysDirectives};
+ghost use Rattle.dm_words.specs.Status.{BlamesShelf};
+ghost use Rattle.dm_run.specs.Coming.{IsFor};
+
+use crate::read::{ReadError, read_file};
+use dm_boot::{BootError, read_boot};
+use dm_check::MOST_TRACE;
+use dm_onekernel::Boot;
+use dm_outside::Shelf;
+use dm_schedule::{Directive, MOST_SCHEDULE, ScheduleError, read_schedule};
+use dm_words::status::{Input, Status};
+use std::alloc::Global;
+
+/// The most bytes of a boot file.
+pub const MOST_BOOT: u32 = 1_048_576;
+
+/// What a run begins with.
+#[derive(Drop)]
+pub struct Inputs {
+    pub boot: Boot,
+    pub directives: Vec<Directive>,
+}
+
+/// What files of these names say, or why there is no run.
+pub fn read_files<F: Shelf>(
+    alloc: Global,
+    boot: &str,
+    schedule: &str,
+    shelf: &mut F,
+) -> Result<Inputs, Status>
+    ensures accepts { IfOk result (λ i. AcceptsFiles (F.told shelf.old) boot.now schedule.now i.boot i.directives.items) }
+    ensures valid { IfOk result (λ i. IsValid i.boot) }
+    ensures each { IfOk result (λ i. All (IsFor (length i.boot.machines)) i.directives.items) }
+    ensures few { IfOk result (λ i. length i.directives.items ≤ MOST_SCHEDULE) }
+    ensures none { IfErr result (λ s. NoFiles (F.told shelf.old) boot.now schedule.now (F.faults shelf.old) (F.faults shelf.new) s) }
+    ensures same { F.told shelf.new ≡ F.told shelf.old }
+    ensures steady { IfOk result (λ _. F.faults shelf.new ≡ F.faults shelf.old) }
+    ensures blames { IfErr result (λ s. BlamesShelf (F.faults shelf.old) (F.faults shelf.new) s) }
+    ensures reads { F.faults shelf.old ≤ F.faults shelf.new }
+    ensures asks { AsksFiles F.asked (F.told shelf.old) boot.now schedule.now shelf.old shelf.new }
+    ensures boot_fault { IfErr result (λ s. s ≡ Status.ReadFault Input.Boot → FailsAlone F.asked F.faults boot.now shelf.old shelf.new) }
+    ensures schedule_fault { IfErr result (λ s. s ≡ Status.ReadFault Input.Schedule →
+        FailsSecond F.asked F.faults (F.told shelf.old) boot.now schedule.now shelf.old shelf.new) }
+{
+    let boot = read_system(alloc, boot, shelf)?;
+    let machines = boot.machines.len() as u8;
+    let directives = read_directives(alloc, schedule, machines, shelf)?;
+    Ok(Inputs { boot, directives })
+}
+
+/// What there is to check: a system, and the bytes of a trace.
+#[derive(Drop)]
+pub struct Traced {
+    pub boot: Boot,
+    pub trace: Vec<u8>,
+}
+
+/// The system of the boot file of the first name, and the trace of the second, or why there is nothing to check.
+pub fn read_trace_files<F: Shelf>(
+    alloc: Global,
+    boot: &str,
+    trace: &str,
+    shelf: &mut F,
+) -> Result<Traced, Status>
+    ensures has { IfOk result (λ t. HasTrace (F.told shelf.old) boot.now trace.now t.boot t.trace.items) }
+    ensures valid { IfOk result (λ t. IsValid t.boot) }
+    ensures short { IfOk result (λ t. length t.trace.items ≤ MOST_TRACE) }
+    ensures none { IfErr result (λ s. NoTrace (F.told shelf.old) boot.now trace.now (F.faults shelf.old) (F.faults shelf.new) s) }
+    ensures same { F.told shelf.new ≡ F.told shelf.old }
+    ensures steady { IfOk result (λ _. F.faults shelf.new ≡ F.faults shelf.old) }
+    ensures blames { IfErr result (λ s. BlamesShelf (F.faults shelf.old) (F.faults shelf.new) s) }
+    ensures reads { F.faults shelf.old ≤ F.faults shelf.new }
+    ensures asks { AsksFiles F.asked (F.told shelf.old) boot.now trace.now shelf.old shelf.new }
+    ensures boot_fault { IfErr result (λ s. s ≡ Status.ReadFault Input.Boot → FailsAlone F.asked F.faults boot.now shelf.old shelf.new) }
+    ensures trace_fault { IfErr result (λ s. s ≡ Status.ReadFault Input.Trace →
+        FailsSecond F.asked F.faults (F.told shelf.old) boot.now trace.now shelf.old shelf.new) }
+{
+    let boot = read_system(alloc, boot, shelf)?;
+    let trace = read_trace(alloc, trace, shelf)?;
+    Ok(Traced { boot, trace })
+}
+
+/// The bytes of the trace of this name.
+fn read_trace<F: Shelf>(alloc: Global, name: &str, shelf: &mut F) -> Result<Vec<u8>, Status>
+    ensures file { IfOk result (λ t. HasFile (F.told shelf.old) name.now most_trace t.items) }
+    ensures none { IfErr result (λ s. NoBytes (F.told shelf.old) name.now (F.faults shelf.old) (F.faults shelf.new) s) }
+    ensures same { F.told shelf.new ≡ F.told shelf.old }
+    ensures steady { IfOk result (λ _. F.faults shelf.new ≡ F.faults shelf.old) }
+    ensures blames { IfErr result (λ s. BlamesShelf (F.faults shelf.old) (F.faults shelf.new) s) }
+    ensures reads { F.faults shelf.old ≤ F.faults shelf.new }
+    ensures asks { F.asked shelf.old name.now shelf.new }
+{
+    match read_file(alloc, shelf, name, MOST_TRACE) {
+        Ok(bytes) => Ok(bytes),
+        Err(ReadError::Fault) => Err(Status::ReadFault(Input::Trace)),
+        Err(ReadError::NoMemory(no)) => Err(Status::NoMemory(no)),
+        Err(ReadError::TooLong) => Err(Status::TooLong(Input::Trace)),
+    }
+}
+
+/// The system that the boot file of this name says.
+fn read_system<F: Shelf>(alloc: Global, name: &str, shelf: &mut F) -> Result<Boot, Status>
+    ensures says { IfOk result (λ b. SaysBoot (F.told shelf.old) name.now b) }
+    ensures valid { IfOk result (λ b. IsValid b) }
+    ensures none { IfErr result (λ s. NoBoot (F.told shelf.old) name.now (F.faults shelf.old) (F.faults shelf.new) s) }
+    ensures same { F.told shelf.new ≡ F.told shelf.old }
+    ensures steady { IfOk result (λ _. F.faults shelf.new ≡ F.faults shelf.old) }
+    ensures blames { IfErr result (λ s. BlamesShelf (F.faults shelf.old) (F.faults shelf.new) s) }
+    ensures reads { F.faults shelf.old ≤ F.faults shelf.new }
+    ensures asks { F.asked shelf.old name.now shelf.new }
+{
+    match read_file(alloc, shelf, name, MOST_BOOT) {
+        Ok(bytes) => match read_boot(alloc, bytes.as_slice()) {
+            Ok(boot) => Ok(boot),
+            Err(BootError::Refused { rule, place }) => Err(Status::BootRefused {
+                number: rule.number(),
+                place,
+            }),
+            Err(BootError::NoMemory(no)) => Err(Status::NoMemory(no)),
+        },
+        Err(ReadError::Fault) => Err(Status::ReadFault(Input::Boot)),
+        Err(ReadError::NoMemory(no)) => Err(Status::NoMemory(no)),
+        Err(ReadError::TooLong) => Err(Status::TooLong(Input::Boot)),
+    }
+}
+
+/// The directives that the schedule of this name says for so many machines.
+fn read_directives<F: Shelf>(
+    alloc: Global,
+    name: &str,
+    machines: u8,
+    shelf: &mut F,
+) -> Result<Vec<Directive>, Status>
+    ensures says { IfOk result (λ ds. SaysDirectives (F.told shelf.old) name.now machines ds.items) }
+    ensures each { IfOk result (λ ds. All (IsFor machines) ds.items) }
+    ensures few { IfOk result (λ ds. length ds.items ≤ MOST_SCHEDULE) }
+    ensures none { IfErr result (λ s. NoDirectives (F.told shelf.old) name.now machines (F.faults shelf.old) (F.faults shelf.new) s) }
+    ensures same { F.told shelf.new ≡ F.told shelf.old }
+    ensures steady { IfOk result (λ _. F.faults shelf.new ≡ F.faults shelf.old) }
+    ensures blames { IfErr result (λ s. BlamesShelf (F.faults shelf.old) (F.faults shelf.new) s) }
+    ensures reads { F.faults shelf.old ≤ F.faults shelf.new }
+    ensures asks { F.asked shelf.old name.now shelf.new }
+{
+    match read_file(alloc, shelf, name, MOST_SCHEDULE) {
+        Ok(bytes) => match read_schedule(alloc, bytes.as_slice(), machines) {
+            Ok(directives) => Ok(directives),
+            Err(ScheduleError::Refused { line, fault }) => Err(Status::ScheduleRefused {
+                line,
+                why: fault.number(),
+            }),
+            Err(ScheduleError::NoMemory(no)) => Err(Status::NoMemory(no)),
+        },
+        Err(ReadError::Fault) => Err(Status::ReadFault(Input::Schedule)),
+        Err(ReadError::NoMemory(no)) => Err(Status::NoMemory(no)),
+        Err(ReadError::TooLong) => Err(Status::TooLong(Input::Schedule)),
+    }
+}

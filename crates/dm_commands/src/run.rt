@@ -1,0 +1,86 @@
+//! The command `run`: it runs a schedule on the system of a boot file, and writes what happens.
+ghost use Rattle.std.specs.Prelude.{◌≡◌, ◌≤◌, length};
+ghost use Rattle.std.specs.List.{All};
+ghost use Rattle.dm_onekernel.specs.Boot.{IsValid};
+ghost use Rattle.dm_run.specs.Coming.{IsFor};
+ghost use Rattle.dm_words.specs.declared.status.Input.TheVariants as input_;
+ghost use Rattle.dm_commands.specs.Asked.{AsksFiles, FailsAlone, FailsSecond};
+ghost use Rattle.dm_commands.specs.Outside.{around};
+ghost use Rattle.dm_commands.specs.Runs.{Completes, Refuses, RunSays, SaysRun, WearsOut};
+ghost use Rattle.dm_words.specs.Status.{BlamesShelf, BlamesSink};
+ghost use Rattle.dm_commands.specs.Ended.{ended_with};
+
+use crate::inputs::{Inputs, read_files};
+use dm_outside::{Shelf, Sink};
+use dm_run::{Stop, begin, run_to_end};
+use dm_schedule::MOST_SCHEDULE;
+use dm_words::status::Status;
+use dm_world::World;
+use std::alloc::Global;
+
+/// Runs the schedule of the second name on the system of the boot file of the first, and writes what happens. The world of
+/// the run is left in `world`, which is empty where there was no run.
+pub fn run_files<F: Shelf, K: Sink>(
+    alloc: Global,
+    boot: &str,
+    schedule: &str,
+    shelf: &mut F,
+    out: &mut K,
+    world: &mut Option<World>,
+) -> Status
+    ensures says { SaysRun boot.now schedule.now
+        (around F.told F.faults K.told K.faults shelf.old shelf.new out.old out.new world.new) result }
+    ensures completes { Completes boot.now schedule.now
+        (around F.told F.faults K.told K.faults shelf.old shelf.new out.old out.new world.new) result }
+    ensures wears { WearsOut boot.now schedule.now
+        (around F.told F.faults K.told K.faults shelf.old shelf.new out.old out.new world.new) result }
+    ensures refuses { Refuses boot.now schedule.now
+        (around F.told F.faults K.told K.faults shelf.old shelf.new out.old out.new world.new) result }
+    ensures asks { AsksFiles F.asked (F.told shelf.old) boot.now schedule.now shelf.old shelf.new }
+    ensures boot_fault { result ≡ Status.ReadFault input_.Boot → FailsAlone F.asked F.faults boot.now shelf.old shelf.new }
+    ensures schedule_fault { result ≡ Status.ReadFault input_.Schedule →
+        FailsSecond F.asked F.faults (F.told shelf.old) boot.now schedule.now shelf.old shelf.new }
+    ensures same { F.told shelf.new ≡ F.told shelf.old }
+    ensures shelf { BlamesShelf (F.faults shelf.old) (F.faults shelf.new) result }
+    ensures sink { BlamesSink (K.faults out.old) (K.faults out.new) result }
+    ensures reads { F.faults shelf.old ≤ F.faults shelf.new }
+    ensures writes { K.faults out.old ≤ K.faults out.new }
+{
+    *world = None;
+    match read_files(alloc, boot, schedule, shelf) {
+        Ok(inputs) => run(alloc, inputs, out, world),
+        Err(status) => status,
+    }
+}
+
+/// Runs a system by these directives, and writes the lines of the run.
+fn run<K: Sink>(alloc: Global, inputs: Inputs, out: &mut K, world: &mut Option<World>) -> Status
+    requires valid { IsValid inputs.boot }
+    requires each { All (IsFor (length inputs.boot.machines)) inputs.directives.items }
+    requires few { length inputs.directives.items ≤ MOST_SCHEDULE }
+    ensures says { RunSays inputs.boot inputs.directives.items (K.told out.old) (K.told out.new) world.new result }
+    ensures sink { BlamesSink (K.faults out.old) (K.faults out.new) result }
+    ensures writes { K.faults out.old ≤ K.faults out.new }
+{
+    let Inputs { boot, directives } = inputs;
+    match begin(alloc, boot) {
+        Ok(mut begun) => {
+            let ended = run_to_end(alloc, directives.as_slice(), &mut begun, out);
+            *world = Some(begun);
+            status_of(ended)
+        }
+        Err(no) => Status::NoMemory(no),
+    }
+}
+
+/// The status of a run that came to its end, or stopped.
+pub fn status_of(ended: Result<(), Stop>) -> Status
+    ensures { result ≡ ended_with ended }
+{
+    match ended {
+        Ok(()) => Status::Done,
+        Err(Stop::NoMemory(no)) => Status::NoMemory(no),
+        Err(Stop::WriteFault) => Status::WriteFault,
+        Err(Stop::Worn { from, to }) => Status::Worn { from, to },
+    }
+}

@@ -1,5 +1,0 @@
-use Rattle.dm_program.proofs.Names.{◌∙◌, found_of, first_value-rows}
-use Rattle.dm_program.proofs.words.value.Goals as goal
-
-pub returns : goal.returns
-returns c = c.get_str.ensures ∙ first_value-rows (found_of c.args.matches.now) c.args.name.now

@@ -1,0 +1,68 @@
+-- The words, as the command takes them.
+use Rattle.dm_words.proofs.Names.{◌≡◌, List, [], ◌∷◌, codes, true, false, arith, refl, ap, sym, subst, ◌∙◌, None, if◌then◌else◌, option_map, ap₂, ne_eqb, option_and_then, Option, App, HasMatchesOf, Kinds, Text, fault_of, first_value}
+use Rattle.dm_words.proofs.Names.{is_simple, is_simple_and_free, rows_of, subcommand_of, subcommand_rows_of, Row, first_of, is_empty, ArgMatches, Found, clap_on_literals, first_value-rows, explain_request, explaining, both, two_files}
+use Rattle.dm_words.proofs.Names.{Request, demosmp, request_at, request_of, Some}
+
+-- no option of the command has a rule on another
+is_free : is_simple_and_free demosmp ≡ true
+unfolding clap_on_literals
+is_free = refl
+
+is_plain : is_simple demosmp ≡ true
+unfolding clap_on_literals
+is_plain = refl
+
+-- what is asked for, by what fails
+abbrev asked_by : List Text → Kinds → Option Request
+asked_by words kinds = if is_empty kinds then option_and_then request_at (subcommand_of demosmp words) else None
+
+-- what the matches of a parse ask for
+pub taken : (a : App) (words : List Text) (m : ArgMatches) → a ≡ demosmp → (is_simple_and_free a ≡ true → fault_of a words ≡ []) → HasMatchesOf a words m → request_of words ≡ option_and_then request_at (subcommand_rows_of m)
+taken a words m e k h =
+    let free : is_simple_and_free demosmp ≡ true → fault_of demosmp words ≡ [] = subst (λ x. is_simple_and_free x ≡ true → fault_of x words ≡ []) e k in
+    let has : HasMatchesOf demosmp words m = subst (λ x. HasMatchesOf x words m) e h in
+    ap (asked_by words) (free is_free) ∙ ap (option_and_then request_at) (sym (has is_plain).1)
+
+-- a step that fails
+fails : (words : List Text) (kinds : Kinds) → (kinds ≡ [] → ⊥) → asked_by words kinds ≡ None
+fails words [] some = absurd (some refl)
+fails words (x ∷ xs) some =
+    let kinds : is_empty (x ∷ xs) ≡ false = ne_eqb _ _ (λ e. omega arith) in
+    ap (λ empty. if empty then option_and_then request_at (subcommand_of demosmp words) else None) kinds
+
+-- words that are refused ask for nothing
+pub refused : (a : App) (words : List Text) → a ≡ demosmp → (is_simple_and_free a ≡ true → fault_of a words ≡ [] → ⊥) → request_of words ≡ None
+refused a words is k =
+    let free : is_simple_and_free demosmp ≡ true → fault_of demosmp words ≡ [] → ⊥ = subst (λ x. is_simple_and_free x ≡ true → fault_of x words ≡ [] → ⊥) is k in
+    fails words (fault_of demosmp words) (free is_free)
+
+-- and are none that the command takes
+pub not_taken : (a : App) (words : List Text) → a ≡ demosmp → (is_simple_and_free a ≡ true → fault_of a words ≡ [] → ⊥) → fault_of demosmp words ≡ [] → ⊥
+not_taken a words is k =
+    let free : is_simple_and_free demosmp ≡ true → fault_of demosmp words ≡ [] → ⊥ = subst (λ x. is_simple_and_free x ≡ true → fault_of x words ≡ [] → ⊥) is k in
+    free is_free
+
+-- what the getters of the matches read
+pub no_first : (asked : Text → Text → Request) (one other : Text) (f : Found) (first : Option Text) → first ≡ first_value f one → first ≡ None → two_files asked one other (rows_of f) ≡ None
+no_first asked one other f first is none = ap (λ o. both asked o (first_of other (rows_of f))) (sym (first_value-rows f one) ∙ sym is ∙ none)
+
+pub both_found : (asked : Text → Text → Request) (one other : Text) (f : Found) (first second : Option Text) → first ≡ first_value f one → second ≡ first_value f other → two_files asked one other (rows_of f) ≡ both asked first second
+both_found asked one other f first second is also = sym (ap₂ (both asked) (is ∙ first_value-rows f one) (also ∙ first_value-rows f other))
+
+pub no_explain : (f : Found) (first : Option Text) → first ≡ first_value f (codes "boot") → first ≡ None → explain_request (rows_of f) ≡ None
+no_explain f first is none = ap (λ o. explaining o (first_of (codes "schedule") (rows_of f))) (sym (first_value-rows f (codes "boot")) ∙ sym is ∙ none)
+
+pub explain_found : (f : Found) (first second : Option Text) → first ≡ first_value f (codes "boot") → second ≡ first_value f (codes "schedule") → explain_request (rows_of f) ≡ explaining first second
+explain_found f first second is also = sym (ap₂ explaining (is ∙ first_value-rows f (codes "boot")) (also ∙ first_value-rows f (codes "schedule")))
+
+-- what is asked for by the name and the matches of the subcommand that was used
+pub used_rows : {B : Type 0} (name : B → Text) (rows : B → List Row) (o : Option B) (n : Text) (rs : List Row) → Some n ≡ option_map name o → Some rs ≡ option_map (λ (p : Text × List Row). p.1) (option_map (λ b. (name b, rows b)) o) → option_and_then request_at (option_map (λ b. (name b, rows b)) o) ≡ request_at (n, rs)
+used_rows name rows None n rs e f = cc
+used_rows name rows (Some b) n rs e f =
+    let one : n ≡ name b = cc in
+    let two : rs ≡ rows b = cc in
+    ap₂ (λ (m : Text) (ms : List Row). request_at (m, ms)) (sym one) (sym two)
+
+pub unused : {B : Type 0} (name : B → Text) (rows : B → List Row) (o : Option B) → None ≡ option_map name o → option_and_then request_at (option_map (λ b. (name b, rows b)) o) ≡ None
+unused name rows None e = refl
+unused name rows (Some b) e = cc

@@ -1,0 +1,45 @@
+-- What the proofs of this crate name of what lies below it.
+unfoldable pub use Rattle.clap.proofs.OnLiterals.{clap_on_literals}
+pub use Rattle.clap.proofs.WalkLemmas.{first_value-rows}
+pub use Rattle.clap.specs.Facts.{explicit_source, unwrap_or_range}
+pub use Rattle.clap.specs.Faults.{action_fault, bundle_step_fault, check_fault, defaults_fault, entered_fault, flag_word_fault, level_fault, long_fault, option_fault, other_fault, positional_fault, react_fault, settle_fault, short_fault}
+pub use Rattle.clap.specs.Faults.{step_fault, stray_fault, use_fault, word_fault}
+unfoldable pub use Rattle.clap.specs.Faults.{flags_fault, walk_fault}
+pub use Rattle.clap.specs.Kinds.{check_kinds, or_else, range_kinds}
+pub use Rattle.clap.specs.Lexer.{long_of, short_of}
+pub use Rattle.clap.specs.Simple.{Shape, app_of_fields, argument_words, built, entered, label_of, names_of as labels_of, on_top, rows_at}
+pub use Rattle.clap.specs.Takes.{is_given}
+pub use Rattle.clap.specs.Walk.{Held, Names, Outcome, Row, Rule, Step, Waiting, Walk, action_of, after_flag, after_step, answers_to, arg_by_id, arg_by_index, arg_by_long, arg_by_short, at_row, attached_value, bundle_step, default_rows}
+pub use Rattle.clap.specs.Walk.{done, finished, first_of, flag_met, has_row, idle, is_empty, is_pending, long_met, long_or_other, more_values, most_values, next, nothing_held, option, option_met, option_word, plain, plain_word, positional}
+pub use Rattle.clap.specs.Walk.{positional_held, pushed, reacted, reading_by, refused, settled, settled_rows, short_met, short_or_plain, stop_after, subcommand, subcommand_met, subcommand_or_other, takes_several, takes_values}
+pub use Rattle.clap.specs.Walk.{to_positional, trailing, used, used_as, used_by_id, value, values_or_missing, waits, walk, walk_from, walked_from, with_default, with_values, without, word_met}
+unfoldable pub use Rattle.clap.specs.Walk.{bundle_met, walked}
+pub use Rattle.clap.specs.Words.{App, HasMatchesOf, Kinds, Text, app_of, fault_of, first_value, found_of, is_simple, is_simple_and_free, new_app, rows_of, subcommand_of, subcommand_rows_of, with_rule, with_subcommand}
+pub use Rattle.clap.specs.declared.builder.value_parser.Reading.{Reading}
+pub use Rattle.clap.specs.declared.parser.matches.ArgMatches.{ArgMatches}
+pub use Rattle.clap.specs.declared.parser.matches.Found.{Found}
+pub use Rattle.clap.specs.declared.parser.matches.ValueSource.{ValueSource}
+pub use Rattle.clap.specs.declared.parser.matches.ValueSource.TheVariants.{CommandLine, DefaultValue}
+pub use Rattle.std.proofs.Common.{ap₂}
+pub use Rattle.std.proofs.lemmas.Result.{IfOk-weaker}
+pub use Rattle.std.specs.Option.{option_map_or}
+pub use Rattle.std.specs.Prelude.{encode_utf8, find, fold, option_and_then, option_map, ⊤}
+pub use Rattle.std.specs.Str.{chars}
+pub use Rattle.dm_memory.specs.Clap.{FailsBy}
+pub use Rattle.dm_memory.specs.declared.of_clap.MatchesError.{MatchesError}
+pub use Rattle.dm_outside.proofs.Names.{drop, ◌≡◌}
+pub use Rattle.dm_processor.proofs.Names.{Bool, List, None, Some, [], ap, arith, cond, false, length, length-append, refl, suc, sym, true, zero, ℕ, ◌++◌, ◌<◌, ◌∙◌, ◌∷◌}
+pub use Rattle.dm_linktable.proofs.Names.{map, rules, subst, ◌&&◌}
+pub use Rattle.dm_schedule.proofs.Names.{codes, if◌then◌else◌, not}
+pub use Rattle.dm_draw.proofs.Names.{inl, inr, ◌⊎◌}
+pub use Rattle.dm_process.proofs.Names.{slice_get}
+pub use Rattle.dm_text.proofs.Names.{Err, Option, ne_eqb, ◌||◌}
+pub use Rattle.dm_shape.proofs.Imports.{bytes_eq, is_some}
+pub use Rattle.dm_words.specs.ChartWords.{chart_command}
+pub use Rattle.dm_words.specs.CheckWords.{check_command}
+pub use Rattle.dm_words.specs.DrillWords.{drawn_by, drill_command, flag_option, lines_of, machines_of, number_option, seed_of, trace_of}
+pub use Rattle.dm_words.specs.ExplainWords.{explain_command, explain_request, explaining}
+pub use Rattle.dm_words.specs.FileWords.{both, file_option, free_option, two_files}
+pub use Rattle.dm_words.specs.Request.{Chart, Check, Drill, Explain, Request, Run}
+pub use Rattle.dm_words.specs.RunWords.{run_command}
+pub use Rattle.dm_words.specs.Words.{AreTaken, IsTaken, demosmp, request_at, request_of, request_said}

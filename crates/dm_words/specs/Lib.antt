@@ -1,0 +1,9 @@
+pub mod Status
+pub mod Request
+pub mod FileWords
+pub mod RunWords
+pub mod CheckWords
+pub mod DrillWords
+pub mod ChartWords
+pub mod ExplainWords
+pub mod Words

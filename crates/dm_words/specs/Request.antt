@@ -1,0 +1,17 @@
+-- What the program is asked to do: a command, and what its words name.
+use Rattle.std.specs.Prelude.{ℕ, List}
+use Rattle.std.specs.declared.option.Option.{Option}
+use Rattle.dm_draw.specs.declared.drill.Drill.{Drill as TheDrill}
+
+-- a row a command
+pub data Request : Type 0 where
+  -- to run the schedule of the second name on the system of the boot file of the first
+  Run : (boot : List ℕ) → (schedule : List ℕ) → Request
+  -- to check that the trace of the second name is what the system of the boot file of the first prints
+  Check : (boot : List ℕ) → (trace : List ℕ) → Request
+  -- to draw the run of the schedule of the second name on the system of the boot file of the first
+  Chart : (boot : List ℕ) → (schedule : List ℕ) → Request
+  -- to say what the boot file of the first name says, and the schedule of the second where there is one, or what is wrong
+  Explain : (boot : List ℕ) → (schedule : Option (List ℕ)) → Request
+  -- to do the drill that is drawn from these numbers
+  Drill : (drill : TheDrill) → Request

@@ -1,0 +1,87 @@
+-- The number and the line of each status.
+use Rattle.std.specs.Prelude.{◌≡◌, ℕ, List, [], ◌∷◌, ◌++◌, codes}
+use Rattle.std.specs.Fmt.{decimal}
+use Rattle.dm_outside.specs.Outside.{RoseOrFull}
+use Rattle.dm_memory.specs.declared.NoMemory.{NoMemory as TheNoMemory}
+use Rattle.dm_words.specs.declared.status.Input.{Input}
+use Rattle.dm_words.specs.declared.status.Input.TheVariants.{Boot, Schedule, Trace}
+use Rattle.dm_words.specs.declared.words.WordsError.{WordsError}
+use Rattle.dm_words.specs.declared.words.WordsError.TheVariants as why
+use Rattle.dm_words.specs.declared.status.Status.{Status}
+use Rattle.dm_words.specs.declared.status.Status.TheVariants.{Done, Usage, ReadFault, NoMemory, WriteFault, BootRefused, ScheduleRefused, TooLong, Worn, TraceRefused}
+
+-- the number that the program ends with
+abbrev pub code_of : Status → ℕ
+code_of Done = 0
+code_of Usage = 2
+code_of (ReadFault input) = 3
+code_of (NoMemory lack) = 4
+code_of WriteFault = 5
+code_of (BootRefused number place) = 6
+code_of (ScheduleRefused line why) = 7
+code_of (TooLong input) = 8
+code_of (Worn from to) = 9
+code_of (TraceRefused line why) = 10
+
+-- the name of a file that is too long
+abbrev pub input_text : Input → List ℕ
+input_text Boot = codes "boot"
+input_text Schedule = codes "schedule"
+input_text Trace = codes "trace"
+
+-- the line that the program says at its end
+abbrev pub text_of : Status → List ℕ
+text_of Done = []
+text_of Usage = codes "usage: demosmp run --boot FILE --schedule FILE"
+text_of (ReadFault input) = codes "read fault"
+text_of (NoMemory lack) = codes "no memory"
+text_of WriteFault = codes "write fault"
+text_of (BootRefused number place) = codes "boot refused: " ++ decimal number ++ codes " at " ++ decimal place
+text_of (ScheduleRefused line why) = codes "schedule refused: line " ++ decimal line ++ codes ", why " ++ decimal why
+text_of (TooLong input) = codes "too long: " ++ input_text input
+text_of (Worn from to) = codes "worn: " ++ decimal from ++ codes " to " ++ decimal to
+text_of (TraceRefused line why) = codes "trace refused: line " ++ decimal line ++ codes ", why " ++ decimal why
+
+-- a text that isn't empty, with a line feed
+abbrev pub as_line : List ℕ → List ℕ
+as_line [] = []
+as_line (x ∷ xs) = (x ∷ xs) ++ 10 ∷ []
+
+-- what the program writes of its status on standard error
+abbrev pub line_of : Status → List ℕ
+line_of s = as_line (text_of s)
+
+-- the status of words that name no files
+abbrev pub status_of_no : WordsError → Status
+status_of_no why.Usage = Usage
+status_of_no (why.NoMemory lack) = NoMemory lack
+
+-- a status says that no memory was left
+abbrev pub IsWant : Status → Type 0
+IsWant s = (lack : TheNoMemory) × (s ≡ NoMemory lack)
+
+-- the shelf's count of faults is as it was, unless it is blamed: then it rose
+abbrev pub BlamesShelf : ℕ → ℕ → Status → Type 0
+BlamesShelf old new (ReadFault input) = RoseOrFull old new
+BlamesShelf old new Done = new ≡ old
+BlamesShelf old new Usage = new ≡ old
+BlamesShelf old new (NoMemory lack) = new ≡ old
+BlamesShelf old new WriteFault = new ≡ old
+BlamesShelf old new (BootRefused number place) = new ≡ old
+BlamesShelf old new (ScheduleRefused line why) = new ≡ old
+BlamesShelf old new (TooLong input) = new ≡ old
+BlamesShelf old new (Worn from to) = new ≡ old
+BlamesShelf old new (TraceRefused line why) = new ≡ old
+
+-- and so the sink's
+abbrev pub BlamesSink : ℕ → ℕ → Status → Type 0
+BlamesSink old new WriteFault = RoseOrFull old new
+BlamesSink old new Done = new ≡ old
+BlamesSink old new Usage = new ≡ old
+BlamesSink old new (ReadFault input) = new ≡ old
+BlamesSink old new (NoMemory lack) = new ≡ old
+BlamesSink old new (BootRefused number place) = new ≡ old
+BlamesSink old new (ScheduleRefused line why) = new ≡ old
+BlamesSink old new (TooLong input) = new ≡ old
+BlamesSink old new (Worn from to) = new ≡ old
+BlamesSink old new (TraceRefused line why) = new ≡ old

@@ -1,0 +1,86 @@
+-- The words of the command line, as `clap` takes them, and what they ask for.
+use Rattle.std.specs.Prelude.{◌≡◌, ⊤, ℕ, Bool, true, List, [], ◌∷◌, codes, option_and_then, option_map, if◌then◌else◌}
+use Rattle.std.specs.Str.{bytes_eq}
+use Rattle.std.specs.declared.option.Option.{Option}
+use Rattle.std.specs.declared.option.Option.TheVariants.{None, Some}
+use Rattle.clap.specs.Walk.{Row, is_empty}
+use Rattle.clap.specs.Simple.{App, Shape, new_shape, subcommand_of, with_subcommand}
+use Rattle.clap.specs.Faults.{fault_of}
+use Rattle.dm_words.specs.declared.words.Request.{Request as TheRequest}
+use Rattle.dm_words.specs.declared.words.Request.TheVariants as the
+use Rattle.dm_words.specs.Request.{Request, Chart, Check, Drill, Explain, Run}
+use Rattle.dm_words.specs.ChartWords.{chart_command, chart_request}
+use Rattle.dm_words.specs.CheckWords.{check_command, check_request}
+use Rattle.dm_words.specs.DrillWords.{IsWithin, drill_command, drill_request, has_numbers}
+use Rattle.dm_words.specs.ExplainWords.{explain_command, explain_request}
+use Rattle.dm_words.specs.RunWords.{run_command, run_request}
+
+-- a command: its name and its options, which of their values it takes, and what its matches ask for
+pub record Command : Type 0 where
+  pub shape : Shape
+  pub takes : List Row → Bool
+  pub request : List Row → Option Request
+
+-- any values
+abbrev pub any : List Row → Bool
+any rows = true
+
+-- the commands of the program, a row each
+abbrev pub commands : List Command
+commands =
+    record { shape = run_command; takes = any; request = run_request } ∷
+    record { shape = check_command; takes = any; request = check_request } ∷
+    record { shape = chart_command; takes = any; request = chart_request } ∷
+    record { shape = explain_command; takes = any; request = explain_request } ∷
+    record { shape = drill_command; takes = has_numbers; request = drill_request } ∷ []
+
+abbrev pub with_commands : App → List Command → App
+with_commands a [] = a
+with_commands a (c ∷ cs) = with_commands (with_subcommand a c.shape) cs
+
+-- `demosmp COMMAND ..`, with no other word in place of a command
+abbrev pub demosmp : App
+demosmp = with_commands (record { top = record (new_shape (codes "demosmp")) { disable_help_subcommand = true; subcommand_required = true }; subs = [] }) commands
+
+-- what the matches of the command of this name ask for
+abbrev pub request_in : List Command → List ℕ → List Row → Option Request
+request_in [] name rows = None
+request_in (c ∷ cs) name rows = if bytes_eq name c.shape.name then c.request rows else request_in cs name rows
+
+-- the same of a name and its matches
+abbrev pub request_at : List ℕ × List Row → Option Request
+request_at found = request_in commands found.0 found.1
+
+-- whether the command of this name takes the values of its options
+abbrev pub takes_in : List Command → List ℕ → List Row → Bool
+takes_in [] name rows = true
+takes_in (c ∷ cs) name rows = if bytes_eq name c.shape.name then c.takes rows else takes_in cs name rows
+
+abbrev pub AreTaken : Option (List ℕ × List Row) → Type 0
+AreTaken None = ⊤
+AreTaken (Some found) = takes_in commands found.0 found.1 ≡ true
+
+-- the command takes the words: no step of their parse fails, and the numbers that they say are in their ranges
+pub record IsTaken (words : List (List ℕ)) : Type 0 where
+  pub passes : fault_of demosmp words ≡ []
+  pub values : AreTaken (subcommand_of demosmp words)
+
+-- what the words ask for, where the command takes them
+abbrev pub request_of : List (List ℕ) → Option Request
+request_of words = if is_empty (fault_of demosmp words) then option_and_then request_at (subcommand_of demosmp words) else None
+
+-- a request of the code, by its names alone
+abbrev pub request_said : TheRequest → Request
+request_said (the.Run boot schedule) = Run boot.now schedule.now
+request_said (the.Check boot trace) = Check boot.now trace.now
+request_said (the.Chart boot schedule) = Chart boot.now schedule.now
+request_said (the.Explain boot schedule) = Explain boot.now (option_map (λ s. s.now) schedule)
+request_said (the.Drill drill) = Drill drill
+
+-- the numbers of a drill are in their ranges
+abbrev pub IsInRange : TheRequest → Type 0
+IsInRange (the.Run boot schedule) = ⊤
+IsInRange (the.Check boot trace) = ⊤
+IsInRange (the.Chart boot schedule) = ⊤
+IsInRange (the.Explain boot schedule) = ⊤
+IsInRange (the.Drill drill) = IsWithin drill

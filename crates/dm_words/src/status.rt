@@ -1,0 +1,166 @@
+//! How the program ends.
+ghost use Rattle.std.specs.Prelude.{◌≡◌, ◌+◌, ◌≤◌, ◌++◌, length, decimal};
+ghost use Rattle.dm_words.specs.Status.{code_of, line_of, text_of};
+
+use arrayvec::ArrayString;
+use dm_memory::NoMemory;
+use itoa::Buffer;
+
+/// The room for the line of a status, its line feed included.
+pub const LONGEST_LINE: usize = 96;
+
+/// The most bytes of what a status says, without its line feed.
+pub const LONGEST_TEXT: usize = 95;
+
+/// One of the files that the program reads.
+#[derive(Clone, Copy, Debug, PartialEq, Eq)]
+pub enum Input {
+    Boot,
+    Schedule,
+    Trace,
+}
+
+/// How a run of the program ended.
+#[derive(Clone, Copy, Debug, PartialEq, Eq)]
+pub enum Status {
+    /// The schedule was read to its end, and all lines are written.
+    Done,
+    /// The words of the command line aren't those of a command.
+    Usage,
+    /// The shelf failed at this file.
+    ReadFault(Input),
+    /// No memory was left.
+    NoMemory(NoMemory),
+    /// The sink failed.
+    WriteFault,
+    /// The boot file breaks this rule, at the element of this place.
+    BootRefused { number: u8, place: u64 },
+    /// The first bad line of the schedule, counted from 1, and what is wrong with it.
+    ScheduleRefused { line: u64, why: u8 },
+    /// A file is longer than it may be.
+    TooLong(Input),
+    /// A message was to be routed between two machines that count as many as they may.
+    Worn { from: u8, to: u8 },
+    /// The first line of the trace that isn't what the system prints, counted from 1, and what is wrong with it.
+    TraceRefused { line: u64, why: u8 },
+}
+
+impl Status {
+    /// The number that the program ends with.
+    pub fn code(&self) -> u8
+        ensures { result ≡ code_of self.now }
+    {
+        match *self {
+            Status::Done => 0,
+            Status::Usage => 2,
+            Status::ReadFault(_) => 3,
+            Status::NoMemory(_) => 4,
+            Status::WriteFault => 5,
+            Status::BootRefused { .. } => 6,
+            Status::ScheduleRefused { .. } => 7,
+            Status::TooLong(_) => 8,
+            Status::Worn { .. } => 9,
+            Status::TraceRefused { .. } => 10,
+        }
+    }
+}
+
+/// The line of a status with its line feed, nothing where all is done. It takes no memory.
+pub fn status_line(status: &Status) -> ArrayString<96>
+    ensures { result.bytes ≡ line_of status.now }
+{
+    let mut line = status_text(status);
+    if !line.is_empty() {
+        line.push_str("\n");
+    }
+    line
+}
+
+/// What a status says in one line, nothing where all is done.
+pub fn status_text(status: &Status) -> ArrayString<96>
+    ensures text { result.bytes ≡ text_of status.now }
+    ensures short { length result.bytes ≤ LONGEST_TEXT }
+{
+    match *status {
+        Status::Done => words(""),
+        Status::Usage => words("usage: demosmp run --boot FILE --schedule FILE"),
+        Status::ReadFault(_) => words("read fault"),
+        Status::NoMemory(_) => words("no memory"),
+        Status::WriteFault => words("write fault"),
+        Status::BootRefused { number, place } => boot_refused(number, place),
+        Status::ScheduleRefused { line, why } => schedule_refused(line, why),
+        Status::TooLong(Input::Boot) => words("too long: boot"),
+        Status::TooLong(Input::Schedule) => words("too long: schedule"),
+        Status::TooLong(Input::Trace) => words("too long: trace"),
+        Status::Worn { from, to } => worn(from, to),
+        Status::TraceRefused { line, why } => trace_refused(line, why),
+    }
+}
+
+/// A text of these words.
+pub fn words(s: &str) -> ArrayString<96>
+    requires { length s.now ≤ LONGEST_TEXT }
+    ensures { result.bytes ≡ s.now }
+{
+    let mut text = ArrayString::new();
+    text.push_str(s);
+    text
+}
+
+/// What a refused boot file is told.
+fn boot_refused(number: u8, place: u64) -> ArrayString<96>
+    ensures short { length result.bytes ≤ LONGEST_TEXT }
+    ensures text { result.bytes ≡ text_of (Status.BootRefused number place) }
+{
+    let mut text = words("boot refused: ");
+    push_number(&mut text, number as u64);
+    text.push_str(" at ");
+    push_number(&mut text, place);
+    text
+}
+
+/// What a refused schedule is told.
+fn schedule_refused(line: u64, why: u8) -> ArrayString<96>
+    ensures short { length result.bytes ≤ LONGEST_TEXT }
+    ensures text { result.bytes ≡ text_of (Status.ScheduleRefused line why) }
+{
+    let mut text = words("schedule refused: line ");
+    push_number(&mut text, line);
+    text.push_str(", why ");
+    push_number(&mut text, why as u64);
+    text
+}
+
+/// What a refused trace is told.
+fn trace_refused(line: u64, why: u8) -> ArrayString<96>
+    ensures short { length result.bytes ≤ LONGEST_TEXT }
+    ensures text { result.bytes ≡ text_of (Status.TraceRefused line why) }
+{
+    let mut text = words("trace refused: line ");
+    push_number(&mut text, line);
+    text.push_str(", why ");
+    push_number(&mut text, why as u64);
+    text
+}
+
+/// What is told of two machines that count as many messages as they may.
+fn worn(from: u8, to: u8) -> ArrayString<96>
+    ensures short { length result.bytes ≤ LONGEST_TEXT }
+    ensures text { result.bytes ≡ text_of (Status.Worn from to) }
+{
+    let mut text = words("worn: ");
+    push_number(&mut text, from as u64);
+    text.push_str(" to ");
+    push_number(&mut text, to as u64);
+    text
+}
+
+/// Adds a number in decimal digits.
+pub fn push_number(text: &mut ArrayString<96>, n: u64)
+    requires { length text.old.bytes + 20 ≤ LONGEST_LINE }
+    ensures written { text.new.bytes ≡ text.old.bytes ++ decimal n }
+    ensures room { length text.new.bytes ≤ length text.old.bytes + 20 }
+{
+    let mut digits = Buffer::new();
+    text.push_str(digits.format(n));
+}

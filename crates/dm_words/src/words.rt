@@ -1,0 +1,354 @@
+//! The words of the command line, and what they ask for.
+ghost use Rattle.std.specs.Prelude.{◌≡◌, ◌≤◌, map, option_and_then, option_map, false, Some, None, IfOk, IfErr, IfSome};
+ghost use Rattle.clap.specs.Built.{AddsSubcommand};
+ghost use Rattle.clap.specs.Words.{app_of, found_of, rows_of, rule_of, subcommand_rows_of, with_subcommand as with_shape};
+ghost use Rattle.clap.specs.declared.builder.command.Command.{Command as TheCommand};
+ghost use Rattle.dm_words.specs.Status.{status_of_no};
+ghost use Rattle.dm_words.specs.CheckWords.{check_command as check_shape, check_request as check_asked};
+ghost use Rattle.clap.specs.Walk.{first_of};
+ghost use Rattle.dm_words.specs.DrillWords.{drill_command as drill_shape, drill_request as drill_asked, flag_option, lines_in, lines_of, machines_in, machines_of, number_option, seed_of, trace_of};
+ghost use Rattle.dm_words.specs.ChartWords.{chart_command as chart_shape, chart_request as chart_asked};
+ghost use Rattle.dm_words.specs.ExplainWords.{explain_command as explain_shape, explain_request as explain_asked};
+ghost use Rattle.dm_words.specs.FileWords.{file_option, free_option};
+ghost use Rattle.dm_words.specs.RunWords.{run_command as run_shape, run_request as run_asked};
+ghost use Rattle.dm_words.specs.Words.{IsInRange, IsTaken, demosmp, request_at, request_of, request_said};
+
+use crate::status::Status;
+use clap::{Arg, ArgAction, ArgMatches, Command};
+use dm_draw::drill::Drill;
+use dm_link::MACHINES;
+use dm_memory::NoMemory;
+use dm_memory::of_clap::{MatchesError, matches_from, with_arg, with_subcommand};
+use dm_shape::names::{byte, count};
+use std::alloc::Global;
+
+/// The most directives that a drill draws.
+pub const MOST_LINES: u32 = 10_000;
+
+/// Why the words ask for nothing.
+#[derive(Clone, Copy, Debug, PartialEq, Eq)]
+pub enum WordsError {
+    /// The words aren't those of a command.
+    Usage,
+    /// No memory was left.
+    NoMemory(NoMemory),
+}
+
+impl WordsError {
+    /// How the program ends then.
+    pub fn status(self) -> Status
+        ensures { result ≡ status_of_no self }
+    {
+        match self {
+            WordsError::Usage => Status::Usage,
+            WordsError::NoMemory(no) => Status::NoMemory(no),
+        }
+    }
+}
+
+/// What the words ask for, a row a command.
+#[derive(Clone, Copy)]
+pub enum Request<'a> {
+    /// To run the schedule of a file on the system of a boot file.
+    Run {
+        boot: &'a str,
+        schedule: &'a str,
+    },
+    /// To check that the trace of a file is what the system of a boot file prints.
+    Check {
+        boot: &'a str,
+        trace: &'a str,
+    },
+    /// To draw the run of the schedule of a file on the system of a boot file.
+    Chart {
+        boot: &'a str,
+        schedule: &'a str,
+    },
+    /// To say what a boot file says, and a schedule where there is one, or what is wrong with them.
+    Explain {
+        boot: &'a str,
+        schedule: Option<&'a str>,
+    },
+    /// To do a drill: its machines are 2 to 16, its directives 1 to 10,000.
+    Drill(Drill),
+}
+
+/// What the words ask for, where they are those of a command.
+pub fn read_words<'a>(alloc: Global, words: &'a [&'a str]) -> Result<Request<'a>, WordsError>
+    ensures asks { IfOk result (λ r. request_of (map (λ w. w.now) words.now) ≡ Some (request_said r)) }
+    ensures within { IfOk result IsInRange }
+    ensures refused { IfErr result (λ e. e ≡ WordsError.Usage → IsTaken (map (λ w. w.now) words.now) → ⊥) }
+    ensures usage { IfErr result (λ e. e ≡ WordsError.Usage → request_of (map (λ w. w.now) words.now) ≡ None) }
+{
+    let command = match command(alloc) {
+        Ok(command) => command,
+        Err(no) => return Err(WordsError::NoMemory(no)),
+    };
+    match matches_from(command, words) {
+        Ok(matches) => match request_in(&matches) {
+            Some(request) => Ok(request),
+            None => Err(WordsError::Usage),
+        },
+        Err(MatchesError::Refused) => Err(WordsError::Usage),
+        Err(MatchesError::NoMemory(no)) => Err(WordsError::NoMemory(no)),
+    }
+}
+
+/// The command line of the program, a row a command.
+fn command<'a>(alloc: Global) -> Result<Command<'a>, NoMemory>
+    ensures { IfOk result (λ c. app_of c ≡ demosmp) }
+{
+    let top = Command::new(alloc, "demosmp")
+        .disable_help_subcommand(true)
+        .subcommand_required(true);
+    let one = with_subcommand(top, run_command(alloc)?)?;
+    let two = with_subcommand(one, check_command(alloc)?)?;
+    let three = with_subcommand(two, chart_command(alloc)?)?;
+    let four = with_subcommand(three, explain_command(alloc)?)?;
+    with_subcommand(four, drill_command(alloc)?)
+}
+
+/// The command `run`: whatever command line takes it in has its shape behind the others.
+fn run_command<'a>(alloc: Global) -> Result<Command<'a>, NoMemory>
+    ensures { IfOk result (λ c. (old new : TheCommand) → AddsSubcommand old c new → app_of new ≡ with_shape (app_of old) run_shape) }
+{
+    let run = with_arg(Command::new(alloc, "run"), file(alloc, "boot"))?;
+    let run = with_arg(run, file(alloc, "schedule"))?;
+    Ok(run)
+}
+
+/// The command `check`: whatever command line takes it in has its shape behind the others.
+fn check_command<'a>(alloc: Global) -> Result<Command<'a>, NoMemory>
+    ensures { IfOk result (λ c. (old new : TheCommand) → AddsSubcommand old c new → app_of new ≡ with_shape (app_of old) check_shape) }
+{
+    let check = with_arg(Command::new(alloc, "check"), file(alloc, "boot"))?;
+    let check = with_arg(check, file(alloc, "trace"))?;
+    Ok(check)
+}
+
+/// The command `chart`: whatever command line takes it in has its shape behind the others.
+fn chart_command<'a>(alloc: Global) -> Result<Command<'a>, NoMemory>
+    ensures { IfOk result (λ c. (old new : TheCommand) → AddsSubcommand old c new → app_of new ≡ with_shape (app_of old) chart_shape) }
+{
+    let chart = with_arg(Command::new(alloc, "chart"), file(alloc, "boot"))?;
+    let chart = with_arg(chart, file(alloc, "schedule"))?;
+    Ok(chart)
+}
+
+/// The command `explain`: whatever command line takes it in has its shape behind the others.
+fn explain_command<'a>(alloc: Global) -> Result<Command<'a>, NoMemory>
+    ensures { IfOk result (λ c. (old new : TheCommand) → AddsSubcommand old c new → app_of new ≡ with_shape (app_of old) explain_shape) }
+{
+    let explain = with_arg(Command::new(alloc, "explain"), file(alloc, "boot"))?;
+    let explain = with_arg(explain, free(alloc, "schedule"))?;
+    Ok(explain)
+}
+
+/// The command `drill`: whatever command line takes it in has its shape behind the others.
+fn drill_command<'a>(alloc: Global) -> Result<Command<'a>, NoMemory>
+    ensures { IfOk result (λ c. (old new : TheCommand) → AddsSubcommand old c new → app_of new ≡ with_shape (app_of old) drill_shape) }
+{
+    let drill = with_arg(Command::new(alloc, "drill"), number(alloc, "seed"))?;
+    let drill = with_arg(drill, number(alloc, "machines"))?;
+    let drill = with_arg(drill, number(alloc, "lines"))?;
+    let drill = with_arg(drill, flag(alloc, "trace"))?;
+    Ok(drill)
+}
+
+/// The option `--name FILE`, which has to be there.
+fn file<'a>(alloc: Global, name: &'a str) -> Arg<'a>
+    ensures rule { rule_of result ≡ file_option name.now }
+    ensures local { result.global ≡ false }
+{
+    Arg::new(alloc, name).long(name).required(true)
+}
+
+/// The option `--name FILE`, which may be there.
+fn free<'a>(alloc: Global, name: &'a str) -> Arg<'a>
+    ensures rule { rule_of result ≡ free_option name.now }
+    ensures local { result.global ≡ false }
+{
+    Arg::new(alloc, name).long(name)
+}
+
+/// The option `--name NUMBER`, which has to be there.
+fn number<'a>(alloc: Global, name: &'a str) -> Arg<'a>
+    ensures rule { rule_of result ≡ number_option name.now }
+    ensures local { result.global ≡ false }
+{
+    Arg::new(alloc, name).long(name).required(true)
+}
+
+/// The option `--name`, which may be there.
+fn flag<'a>(alloc: Global, name: &'a str) -> Arg<'a>
+    ensures rule { rule_of result ≡ flag_option name.now }
+    ensures local { result.global ≡ false }
+{
+    Arg::new(alloc, name).long(name).action(ArgAction::SetTrue)
+}
+
+/// What the matches of the subcommand ask for.
+fn request_in<'a>(matches: &ArgMatches<'a>) -> Option<Request<'a>>
+    ensures asked { option_map request_said result ≡ option_and_then request_at (subcommand_rows_of matches.now) }
+    ensures within { IfSome result IsInRange }
+{
+    match matches.subcommand() {
+        Some((name, found)) => request_of_command(name, found),
+        None => None,
+    }
+}
+
+/// What the matches of the command of this name ask for, a row a command.
+fn request_of_command<'a>(name: &str, found: &ArgMatches<'a>) -> Option<Request<'a>>
+    ensures asked { option_map request_said result ≡ request_at (name.now, rows_of (found_of found.now)) }
+    ensures within { IfSome result IsInRange }
+{
+    if name == "run" {
+        return run_request(found);
+    }
+    if name == "check" {
+        return check_request(found);
+    }
+    if name == "chart" {
+        return chart_request(found);
+    }
+    if name == "explain" {
+        return explain_request(found);
+    }
+    if name == "drill" {
+        return drill_request(found);
+    }
+    None
+}
+
+/// The two files that the matches of `run` name.
+fn run_request<'a>(matches: &ArgMatches<'a>) -> Option<Request<'a>>
+    ensures asked { option_map request_said result ≡ run_asked (rows_of (found_of matches.now)) }
+    ensures within { IfSome result IsInRange }
+{
+    let boot = matches.get_str("boot")?;
+    let schedule = matches.get_str("schedule")?;
+    Some(Request::Run { boot, schedule })
+}
+
+/// The two files that the matches of `check` name.
+fn check_request<'a>(matches: &ArgMatches<'a>) -> Option<Request<'a>>
+    ensures asked { option_map request_said result ≡ check_asked (rows_of (found_of matches.now)) }
+    ensures within { IfSome result IsInRange }
+{
+    let boot = matches.get_str("boot")?;
+    let trace = matches.get_str("trace")?;
+    Some(Request::Check { boot, trace })
+}
+
+/// The two files that the matches of `chart` name.
+fn chart_request<'a>(matches: &ArgMatches<'a>) -> Option<Request<'a>>
+    ensures { option_map request_said result ≡ chart_asked (rows_of (found_of matches.now)) }
+{
+    let boot = matches.get_str("boot")?;
+    let schedule = matches.get_str("schedule")?;
+    Some(Request::Chart { boot, schedule })
+}
+
+/// The file that the matches of `explain` name, and the other one where they name it.
+fn explain_request<'a>(matches: &ArgMatches<'a>) -> Option<Request<'a>>
+    ensures { option_map request_said result ≡ explain_asked (rows_of (found_of matches.now)) }
+{
+    let boot = matches.get_str("boot")?;
+    let schedule = matches.get_str("schedule");
+    Some(Request::Explain { boot, schedule })
+}
+
+/// The drill that the matches of `drill` ask for, where its numbers are in their ranges.
+fn drill_request<'a>(matches: &ArgMatches<'a>) -> Option<Request<'a>>
+    ensures asked { option_map request_said result ≡ drill_asked (rows_of (found_of matches.now)) }
+    ensures within { IfSome result IsInRange }
+{
+    let seed = seed(matches)?;
+    let machines = machines(matches)?;
+    let lines = lines(matches)?;
+    let trace = has_trace(matches);
+    Some(Request::Drill(Drill {
+        seed,
+        machines,
+        lines,
+        trace,
+    }))
+}
+
+/// The number of the option `--seed`.
+fn seed(matches: &ArgMatches<'_>) -> Option<u32>
+    ensures { result ≡ seed_of (rows_of (found_of matches.now)) }
+{
+    match value(matches, "seed") {
+        Some(word) => count(word.as_bytes()),
+        None => None,
+    }
+}
+
+/// The number of the option `--machines`, if it is in its range.
+fn machines(matches: &ArgMatches<'_>) -> Option<u8>
+    ensures number { result ≡ machines_of (rows_of (found_of matches.now)) }
+    ensures least { IfSome result (λ n. 2 ≤ n) }
+    ensures most { IfSome result (λ n. n ≤ MACHINES) }
+{
+    match value(matches, "machines") {
+        Some(word) => machines_in(word),
+        None => None,
+    }
+}
+
+/// The number of machines that a word says.
+fn machines_in(word: &str) -> Option<u8>
+    ensures number { result ≡ machines_in word.now }
+    ensures least { IfSome result (λ n. 2 ≤ n) }
+    ensures most { IfSome result (λ n. n ≤ MACHINES) }
+{
+    let n = byte(word.as_bytes())?;
+    if 2 <= n && n <= MACHINES {
+        Some(n)
+    } else {
+        None
+    }
+}
+
+/// The number of the option `--lines`, if it is in its range.
+fn lines(matches: &ArgMatches<'_>) -> Option<u32>
+    ensures number { result ≡ lines_of (rows_of (found_of matches.now)) }
+    ensures most { IfSome result (λ n. n ≤ MOST_LINES) }
+{
+    match value(matches, "lines") {
+        Some(word) => lines_in(word),
+        None => None,
+    }
+}
+
+/// The number of directives that a word says.
+fn lines_in(word: &str) -> Option<u32>
+    ensures number { result ≡ lines_in word.now }
+    ensures most { IfSome result (λ n. n ≤ MOST_LINES) }
+{
+    let n = count(word.as_bytes())?;
+    if 1 <= n && n <= MOST_LINES {
+        Some(n)
+    } else {
+        None
+    }
+}
+
+/// Whether the option `--trace` is there.
+fn has_trace(matches: &ArgMatches<'_>) -> bool
+    ensures { result ≡ trace_of (rows_of (found_of matches.now)) }
+{
+    match value(matches, "trace") {
+        Some(word) => word == "true",
+        None => false,
+    }
+}
+
+/// The first value of an option.
+fn value<'a>(matches: &ArgMatches<'a>, name: &str) -> Option<&'a str>
+    ensures { option_map (λ s. s.now) result ≡ first_of name.now (rows_of (found_of matches.now)) }
+{
+    matches.get_str(name)
+}
