@@ -88,7 +88,7 @@ impl Kernel {
     ) -> Result<Vec<Part>, NoMemory>
         requires image { image_is_valid image.now ≡ true }
         requires links { length links.now ≤ 3 }
-        requires counts { 3 + self.old.made < u32.MAX }
+        requires counts { FIRST_NUMBER + self.old.made < u32.MAX }
         ensures { Answers result self.new (makes boot.now (state_of self.old) message.now links.now image.now (has_room self.old.room image.now.blocks)) }
     {
         match self.room.reserve(image.blocks) {
@@ -103,7 +103,7 @@ impl Kernel {
 
     /// The name of the next process that is made here.
     fn next_pid(&self) -> Pid
-        requires { 3 + self.now.made < u32.MAX }
+        requires { FIRST_NUMBER + self.now.made < u32.MAX }
         ensures { result ≡ next_pid (state_of self.now) }
     {
         Pid {

@@ -13,7 +13,7 @@ use crate::streams;
 use dm_link::MACHINES;
 use dm_message::Message;
 use dm_packet::Packet;
-use dm_stream::{Arrived, GiveError};
+use dm_stream::{Arrived, GiveError, WINDOW};
 
 impl Node {
     /// Whether all messages to machine `to` have gone out.
@@ -75,7 +75,7 @@ impl Node {
         requires streams { HasStreams self.now }
         requires to { to < MACHINES }
         ensures count { result ≡ count_out ((state_of self.now).senders to) }
-        ensures few { result ≤ 8 }
+        ensures few { result ≤ WINDOW }
     {
         streams::count_out(&self.senders, to)
     }
@@ -104,7 +104,7 @@ impl Node {
     pub(crate) fn receive(&mut self, from: u8, seq: u32, message: Message) -> Arrived<Message>
         requires streams { HasStreams self.old }
         requires from { from < MACHINES }
-        requires in_window { seq < ((state_of self.old).receivers from).count + 8 }
+        requires in_window { seq < ((state_of self.old).receivers from).count + WINDOW }
         requires numbered { seq < 2 ^ 32 - 1 }
         ensures value { result ≡ arrival ((state_of self.old).receivers from) seq message }
         ensures state { state_of self.new ≡ with_receiver (state_of self.old) from (after_arrival ((state_of self.old).receivers from) seq message) }

@@ -11,7 +11,7 @@ ghost use Rattle.dm_line.specs.Sets.{at_machine};
 
 use dm_message::Message;
 use dm_packet::Packet;
-use dm_stream::{Arrived, GiveError, Receiver, Sender};
+use dm_stream::{Arrived, GiveError, Receiver, Sender, WINDOW};
 
 /// Whether all messages to machine `to` have gone out.
 pub fn none_waits(senders: &[Sender<Message>], to: u8) -> bool
@@ -83,7 +83,7 @@ pub fn outstanding(senders: &[Sender<Message>], here: u8, to: u8, place: usize) 
 pub fn count_out(senders: &[Sender<Message>], to: u8) -> u32
     requires { to < length senders.now }
     ensures count { result ≡ count_out (sender_of senders.now to) }
-    ensures few { result ≤ 8 }
+    ensures few { result ≤ WINDOW }
 {
     senders[usize::from(to)].out()
 }
@@ -114,7 +114,7 @@ pub fn arrive(
     message: Message,
 ) -> Arrived<Message>
     requires within { from < length receivers.old }
-    requires in_window { seq < (receiver_of receivers.old from).count + 8 }
+    requires in_window { seq < (receiver_of receivers.old from).count + WINDOW }
     requires numbered { seq < 2 ^ 32 - 1 }
     ensures value { result ≡ arrival (receiver_of receivers.old from) seq message }
     ensures after { (c : ℕ) → receiver_of receivers.new c ≡

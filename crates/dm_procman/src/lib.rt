@@ -23,7 +23,7 @@ mod starting;
 use children::Children;
 use dm_link::{Addr, Link, Pid};
 use dm_memory::NoMemory;
-use dm_message::{Message, MsgId, What};
+use dm_message::{MOST_LINKS, Message, MsgId, What};
 use dm_onekernel::Boot;
 use making::{answer_over, control_link};
 pub use moving::MoveError;
@@ -143,7 +143,7 @@ impl ProcMan {
         links: &[Link],
     ) -> Result<Option<Message>, NoMemory>
         requires counts { self.old.sent < u32.MAX }
-        requires links { length links.now ≤ 4 }
+        requires links { length links.now ≤ MOST_LINKS }
         ensures exact { IfOk result (λ sent. takes_user self.old code body.now links.now ≡ record { manager = self.new; message = sent }) }
         ensures err { OnErr result (self.new ≡ self.old) }
     {

@@ -3,7 +3,7 @@ ghost use Rattle.std.specs.Prelude.{◌≡◌, ◌≤◌, length};
 ghost use Rattle.dm_procman.specs.Making.{answer_over, control_link, message_to};
 
 use dm_link::{Addr, Area, Kind, Link, MANAGER};
-use dm_message::{Body, Enclosed, Message, MsgId, What};
+use dm_message::{Body, Enclosed, MOST_LINKS, Message, MsgId, What};
 
 /// Where the manager is.
 pub const ADDRESS: Addr = Addr {
@@ -30,7 +30,7 @@ pub fn message_to(number: u32, to: Addr, what: What) -> Message
 
 /// The manager's message of this number over a link: one byte, with at most 4 links.
 pub fn answer_over(number: u32, link: &Link, code: u8, links: &[Link]) -> Message
-    requires { length links.now ≤ 4 }
+    requires { length links.now ≤ MOST_LINKS }
     ensures { result ≡ answer_over number link.now code links.now }
 {
     let mut body = Body::new();

@@ -9,7 +9,7 @@ use crate::{Pending, ProcMan};
 use arrayvec::ArrayVec;
 use dm_link::{Addr, Link};
 use dm_memory::{NoMemory, push};
-use dm_message::{Message, What};
+use dm_message::{MOST_LINKS, Message, What};
 
 /// The first byte of a request over a link with code 0: a process is to be made.
 const CREATE: u8 = 1;
@@ -64,7 +64,7 @@ impl ProcMan {
     /// One byte goes over the link of an answer, with at most 4 links.
     pub(crate) fn answer(&mut self, link: &Link, code: u8, links: &[Link]) -> Message
         requires counts { self.old.sent < u32.MAX }
-        requires links { length links.now ≤ 4 }
+        requires links { length links.now ≤ MOST_LINKS }
         ensures { record { manager = self.new; message = Some result } ≡ answers self.old link.now code links.now }
     {
         let message = answer_over(self.sent, link, code, links);
@@ -90,7 +90,7 @@ impl ProcMan {
         links: &[Link],
     ) -> Result<Option<Message>, NoMemory>
         requires counts { self.old.sent < u32.MAX }
-        requires links { length links.now ≤ 4 }
+        requires links { length links.now ≤ MOST_LINKS }
         ensures exact { IfOk result (λ sent. requests self.old body.now links.now ≡ record { manager = self.new; message = sent }) }
         ensures err { OnErr result (self.new ≡ self.old) }
     {
@@ -111,7 +111,7 @@ impl ProcMan {
         links: &[Link],
     ) -> Result<Option<Message>, NoMemory>
         requires counts { self.old.sent < u32.MAX }
-        requires links { length links.now ≤ 4 }
+        requires links { length links.now ≤ MOST_LINKS }
         ensures exact { IfOk result (λ sent. wants_child self.old machine image links.now ≡ record { manager = self.new; message = sent }) }
         ensures err { OnErr result (self.new ≡ self.old) }
     {

@@ -2,11 +2,13 @@
 //! system's tables: both tables, `runs` and `rows`, lie in data/ beside the files that they name. Then what no run shows.
 #![tactic(auto)]
 
+mod failing;
 mod others;
 mod row;
 mod run;
 
 use anyhow::{Context, Result};
+use failing::fail_in_turn;
 use others::{read_files, say_errors, step_flat, write_out};
 use row::Row;
 use run::{Ending, Run};
@@ -17,6 +19,7 @@ fn main(rt: HostRuntime) -> Result<()> {
     let rows = fs::read_to_string(&rt, "rows")?;
     let good = do_runs(&rt, &runs)?;
     show_rows(&rt, &rows, good.as_slice())?;
+    fail_in_turn(&rt)?;
     read_files(&rt)?;
     write_out(&rt)?;
     step_flat(&rt)?;

@@ -101,7 +101,7 @@ impl<M: Drop> Receiver<M> {
 
     /// A message has arrived: the next is taken, a lower number is old, a higher one is kept unless it is kept already.
     pub fn arrive(&mut self, number: u32, message: M) -> Arrived<M>
-        requires in_window { number < self.old.count + 8 }
+        requires in_window { number < self.old.count + WINDOW }
         requires numbered { number < u32.MAX }
         ensures value { result ≡ arrival self.old number message }
         ensures after { self.new ≡ after_arrival self.old number message }

@@ -83,7 +83,7 @@ impl<M> Sender<M> {
     /// How many messages have gone out and aren't acknowledged, 0 to 8.
     pub fn out(&self) -> u32
         ensures count { result ≡ self.now.gone - self.now.acked }
-        ensures few { result ≤ 8 }
+        ensures few { result ≤ WINDOW }
     {
         self.gone - self.acked
     }

@@ -14,7 +14,7 @@ ghost use Rattle.dm_syscall.specs.Completing.{IsAwaited, completes, completion, 
 use crate::Completed;
 use dm_link::Link;
 use dm_linktable::Table;
-use dm_message::What;
+use dm_message::{MOST_LINKS, What};
 use dm_onekernel::Reply;
 use dm_process::{Process, Status};
 use dm_processor::{Cells, REGISTERS, Regs};
@@ -125,7 +125,7 @@ fn set_received(regs: &mut Regs, code: u32, channel: u8, len: u32, count: u32)
 
 /// Puts links into the lowest empty slots, in order, whose numbers stand in the registers from r5 on then.
 fn place_links(regs: &mut Regs, table: &mut Table, links: &[Link])
-    requires { length links.now ≤ 4 }
+    requires { length links.now ≤ MOST_LINKS }
     ensures regs { regs.new ≡ (place_links (record { regs = regs.old; table = table.old }) 5 links.now).regs }
     ensures table { table.new ≡ (place_links (record { regs = regs.old; table = table.old }) 5 links.now).table }
 {

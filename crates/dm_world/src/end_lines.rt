@@ -56,7 +56,7 @@ impl World {
         requires may { MayEnd (length self.now.boot.machines) (state_of self.now) }
         requires within { home < length self.now.boot.machines }
         ensures all { result ≡ ((state_of self.now).nodes home).kernel.made }
-        ensures numbered { 3 + result ≤ 2 ^ 32 }
+        ensures numbered { FIRST_NUMBER + result ≤ 2 ^ 32 }
     {
         self.machine(home).kernel().count_made()
     }

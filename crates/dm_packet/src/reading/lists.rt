@@ -8,7 +8,7 @@ use super::fields::{byte_at, link_at, run_at, u16_at};
 use crate::PacketError;
 use arrayvec::ArrayVec;
 use dm_link::Link;
-use dm_message::Enclosed;
+use dm_message::{Enclosed, MOST_LINKS};
 
 /// So many bytes.
 pub fn items_at<const N: usize>(
@@ -40,7 +40,7 @@ pub fn bytes_within_at<const N: usize>(
 
 /// So many links.
 fn link_run_at(bytes: &[u8], count: u8) -> Result<(Enclosed, &[u8]), PacketError>
-    requires { count ≤ 4 }
+    requires { count ≤ MOST_LINKS }
     ensures read { ReadsItems result (read_times link.read count bytes.now) }
     ensures count { IfOk result (λ x. length x.0.items ≡ count) }
 {
@@ -56,7 +56,7 @@ fn link_run_at(bytes: &[u8], count: u8) -> Result<(Enclosed, &[u8]), PacketError
 
 /// At most so many links, behind their number.
 pub fn links_at(bytes: &[u8], most: u8) -> Result<(Enclosed, &[u8]), PacketError>
-    requires { most ≤ 4 }
+    requires { most ≤ MOST_LINKS }
     ensures read { ReadsItems result ((links most).read bytes.now) }
     ensures few { IfOk result (λ x. length x.0.items ≤ most) }
 {

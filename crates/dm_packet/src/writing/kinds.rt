@@ -12,12 +12,12 @@ use super::fields::{put_addr, put_bool, put_byte, put_bytes, put_pid, put_u16, p
 use super::lists::{put_counted, put_links};
 use crate::MOST_PACKET;
 use dm_link::{Link, Pid};
-use dm_message::{Asker, CHUNK, MOST_BODY, Outcome, What};
+use dm_message::{Asker, CHUNK, MOST_BODY, MOST_LINKS, Outcome, What};
 
 fn put_user(out: &mut Buffer, code: u32, channel: u8, body: &[u8], links: &[Link])
     requires room { length out.old.items + 600 ≤ MOST_PACKET }
     requires body { length body.now ≤ MOST_BODY }
-    requires links { length links.now ≤ 4 }
+    requires links { length links.now ≤ MOST_LINKS }
     ensures put { Puts out.old out.new (user.spell (code, (channel, (body.now, links.now)))) }
     ensures code { Fits 4 code }
     ensures links { All FitsLink links.now }

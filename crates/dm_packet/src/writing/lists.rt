@@ -10,7 +10,7 @@ use super::Buffer;
 use super::fields::{put_byte, put_bytes, put_link, put_u16};
 use crate::MOST_PACKET;
 use dm_link::Link;
-use dm_message::CHUNK;
+use dm_message::{CHUNK, MOST_LINKS};
 
 /// Bytes behind their number.
 pub fn put_counted(out: &mut Buffer, bytes: &[u8])
@@ -35,8 +35,8 @@ fn put_link_run(out: &mut Buffer, links: &[Link])
 /// Links behind their number.
 pub fn put_links(out: &mut Buffer, links: &[Link])
     requires room { length out.old.items + 97 ≤ MOST_PACKET }
-    requires few { length links.now ≤ 4 }
-    ensures put { Puts out.old out.new ((links_field 4).spell links.now) }
+    requires few { length links.now ≤ MOST_LINKS }
+    ensures put { Puts out.old out.new ((links_field MOST_LINKS).spell links.now) }
     ensures fits { All FitsLink links.now }
 {
     put_byte(out, links.len() as u8);
