@@ -8,5 +8,6 @@ mod ChartOutcomes
 mod CheckOutcomes
 mod ExplainOutcomes
 mod RunsChecked
+mod Sound
 mod DrillsChecked
 mod Whose

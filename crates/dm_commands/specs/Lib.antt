@@ -9,3 +9,4 @@ pub mod Drills
 pub mod Charts
 pub mod Explains
 pub mod Laws
+pub mod Theorem

@@ -1,0 +1,31 @@
+-- What `run` has printed at its end is sound.
+use Rattle.dm_commands.proofs.Names.{◌≡◌, ◌⊎◌, inl, inr, ℕ, List, Option, Boot, Directive, Line, Status, Outside, joined}
+use Rattle.dm_message.specs.declared.MsgId.{MsgId}
+use Rattle.dm_rule.proofs.Groups.{stands_once_always}
+use Rattle.dm_movelaws.proofs.Open.Moves.{leads_of}
+use Rattle.dm_mirror.proofs.Leading.{good_leads}
+use Rattle.dm_rule.specs.Point.{first_point}
+use Rattle.dm_run.specs.Printed.{IsWhole}
+use Rattle.dm_commands.specs.Theorem.{IsSound, PrintsSoundly, RunsAreSound}
+
+pub runs_are_sound : RunsAreSound
+runs_are_sound boot schedule o says = elim says [
+  | inl r ↦
+      let w : IsWhole r.system r.directives o.before o.after o.world = r.says.1 in
+      let l = good_leads r.system r.directives w.groups w.end w.left r.valid r.within w.good in
+      let sound : IsSound r.system (joined w.groups) w.end =
+            record {
+              replays = w.good.replays;
+              received = w.good.received;
+              stands = λ (id : MsgId). stands_once_always r.system l.0 w.end id r.valid (leads_of r.system l.0 (joined w.groups) (first_point r.system) w.end l.1);
+              directives = l.0;
+              leads = l.1;
+            } in
+      record {
+        system = r.system;
+        directives = r.directives;
+        accepts = r.accepts;
+        prints = record { lines = joined w.groups; end = w.end; sound = sound; written = w.written };
+      }
+  | inr r ↦ absurd r.why
+]
