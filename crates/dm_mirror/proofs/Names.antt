@@ -97,10 +97,10 @@ pub use Rattle.dm_rule.specs.Phases.{is_unknown, leaves}
 pub use Rattle.dm_rule.specs.Rule.{and, blocks_of, taken_at, taken_by, taken_of_home, takes_room}
 pub use Rattle.dm_rule.specs.View.{serving}
 pub use Rattle.dm_rule.specs.Worn.{full_pair, is_full, worn_in}
-pub use Rattle.dm_places.proofs.AnyLine.{no_process}
-pub use Rattle.dm_places.proofs.AnyRun.{group_needs, places_follow_by}
-pub use Rattle.dm_places.proofs.Changed.{free_off, plain_sent_on}
-pub use Rattle.dm_places.proofs.Followed.{among_times, forwarded_mirrors, moves_forwarded, restarted_mirrors, sent_on_mirrors, update_gets}
+pub use Rattle.dm_places.proofs.Any.AnyLine.{no_process}
+pub use Rattle.dm_places.proofs.Any.AnyRun.{group_needs, places_follow_by}
+pub use Rattle.dm_places.proofs.Following.Changed.{free_off, plain_sent_on}
+pub use Rattle.dm_places.proofs.Following.Followed.{among_times, forwarded_mirrors, moves_forwarded, restarted_mirrors, sent_on_mirrors, update_gets}
 pub use Rattle.dm_places.proofs.Keeps.{of_map, parts, there_of}
 pub use Rattle.dm_places.proofs.Lines.{lines_keep, mirrors_view, moves_label, routed_keeps, told_keeps}
 pub use Rattle.dm_places.proofs.Matches.{Ends, acted_with, answers_match, call_matches, completed_matches, fault_matches, lands_match, ran_matches}
@@ -109,11 +109,11 @@ pub use Rattle.dm_places.proofs.Names.{first_told, goes_on_plainly, gone_answer,
 pub use Rattle.dm_places.proofs.Names.{status_plainly}
 pub use Rattle.dm_places.proofs.OwnPuts.{child_place, no_child, own_put_mirrors}
 pub use Rattle.dm_places.proofs.Queues.{calls_with, with_queue}
-pub use Rattle.dm_places.proofs.Serves.{plainly, plainly_is}
+pub use Rattle.dm_places.proofs.Labels.Serves.{plainly, plainly_is}
 pub use Rattle.dm_places.proofs.Starts.{start_mirrors}
 pub use Rattle.dm_places.proofs.Steps.{placed_follows}
-pub use Rattle.dm_places.proofs.Updated.{board_told, manager_told, updated_board_mirrors, updated_ended_mirrors, updated_manager_mirrors, updated_mirrors}
-pub use Rattle.dm_places.proofs.UpdatedCounts.{updated_board_count, updated_count, updated_manager_count}
+pub use Rattle.dm_places.proofs.Following.Updated.{board_told, manager_told, updated_board_mirrors, updated_ended_mirrors, updated_manager_mirrors, updated_mirrors}
+pub use Rattle.dm_places.proofs.Following.UpdatedCounts.{updated_board_count, updated_count, updated_manager_count}
 pub use Rattle.dm_places.proofs.Whats.{block_what, create_what, created_what, gone_what, kill_what, no_room_what, read_what, resume_what, stop_what, user_what, write_what, written_what}
 pub use Rattle.dm_kernel.proofs.Fitting.{managed_fits, user_fits}
 pub use Rattle.dm_kernel.proofs.LawfulRows.{of_known}

@@ -9,7 +9,7 @@ use Rattle.dm_onekernel.specs.Step as kernel
 use Rattle.dm_rule.specs.View.{Ended}
 use Rattle.dm_rule.specs.Migrating as migrating
 use Rattle.dm_rule.specs.Rule as rule
-use Rattle.dm_places.proofs.AnyPart.{EasyParts}
+use Rattle.dm_places.proofs.Any.AnyPart.{EasyParts}
 
 -- parts that need nothing beside
 abbrev pub Easy : Option (List Part) → Type 0

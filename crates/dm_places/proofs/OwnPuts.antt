@@ -4,7 +4,7 @@ use Rattle.dm_places.proofs.Names.{pid_of, place_of, MsgId, Message, What, Line,
 use Rattle.dm_places.proofs.Names.{view_after, Addresses, Child, Gets, Receiver, Sender, child_from, child_number, first_gives, given, own_gives, place_of_child, unmoved, Point, moved, SameMessage, SameProcess, SameServers, two, two_off}
 use Rattle.dm_places.proofs.Names.{two_process, two_servers, Placed, Mirrors, MirrorsMessage, enclosed, MirrorsPoint, with_message, KeepsPlaces}
 use Rattle.dm_places.proofs.Keeps.{stays_message, stays_process, stays_servers}
-use Rattle.dm_places.proofs.Changed.{free_mirrors, kernel_again, places_message, this_message}
+use Rattle.dm_places.proofs.Following.Changed.{free_mirrors, kernel_again, places_message, this_message}
 use Rattle.dm_places.proofs.Lines.{mirrors_view}
 
 -- it gets nothing then, or a receiver's and a sender's place

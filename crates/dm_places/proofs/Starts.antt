@@ -4,7 +4,7 @@ use Rattle.dm_places.proofs.Names.{place_of, plain_link, Process, begun, BootIma
 use Rattle.dm_places.proofs.Names.{first_addresses, home_of, links_at, nth_child, place_in, unmoved, MirrorsProcess, started, started_at, StartMirrors}
 use Rattle.dm_onekernel.specs.Start as one
 use Rattle.dm_onekernel.specs.Step as kernel
-use Rattle.dm_places.proofs.Creates.{begun_link, begun_plainly}
+use Rattle.dm_places.proofs.Labels.Creates.{begun_link, begun_plainly}
 
 -- without places
 started_plainly_of : (b : Boot) (p : BootProcess) (o : Option BootImage)

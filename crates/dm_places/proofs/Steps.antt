@@ -3,13 +3,13 @@ use Rattle.dm_places.proofs.Names.{◌≡◌, ◌∙◌, ap, subst, sym, true, �
 use Rattle.dm_places.proofs.Names.{MirrorsPoint}
 use Rattle.dm_onekernel.specs.Step as kernel
 use Rattle.dm_places.proofs.Lines.{mirrors_view, moves_label}
-use Rattle.dm_places.proofs.Acts.{ran_follows, call_follows, send_follows, wait_follows, out_follows, end_follows}
-use Rattle.dm_places.proofs.Receives.{receive_follows, refuse_follows}
-use Rattle.dm_places.proofs.Answers.{dropped_follows, gone_follows, no_space_follows}
-use Rattle.dm_places.proofs.Serves.{served_follows}
-use Rattle.dm_places.proofs.Creates.{created_follows}
-use Rattle.dm_places.proofs.Managers.{InOrder}
-use Rattle.dm_places.proofs.Takes.{took_follows}
+use Rattle.dm_places.proofs.Labels.Acts.{ran_follows, call_follows, send_follows, wait_follows, out_follows, end_follows}
+use Rattle.dm_places.proofs.Labels.Receives.{receive_follows, refuse_follows}
+use Rattle.dm_places.proofs.Labels.Answers.{dropped_follows, gone_follows, no_space_follows}
+use Rattle.dm_places.proofs.Labels.Serves.{served_follows}
+use Rattle.dm_places.proofs.Labels.Creates.{created_follows}
+use Rattle.dm_places.proofs.Labels.Managers.{InOrder}
+use Rattle.dm_places.proofs.Labels.Takes.{took_follows}
 
 in_order : (s : OneKernel) (v : View) (a : Addresses) (l : Placed) → Mirrors s v a l → ascends 0 s.manager.pending s.manager.sent ≡ true → InOrder l.manager
 in_order s v a l h e = ap (λ (g : Manager). ascends 0 g.pending g.sent) h.plain.manager ∙ e

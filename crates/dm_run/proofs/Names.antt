@@ -32,11 +32,11 @@ pub use Rattle.dm_kernel.proofs.Names.{All-head, All-tail, Forward, Frozen, Here
 pub use Rattle.dm_rulelaws.proofs.Decided.{shorter_begins}
 pub use Rattle.dm_rulelaws.proofs.Names.{IsRun}
 pub use Rattle.dm_movelaws.proofs.Names.{EndLine, Standing, block_line, each_machine, home_with, list_line, memory_lines, or, trimmed}
-pub use Rattle.dm_settlelaws.proofs.EndsAtRest.{ends_at_rest}
-pub use Rattle.dm_settlelaws.proofs.EndsQuiet.{ends_quiet}
-pub use Rattle.dm_settlelaws.proofs.Few.{turns_left_few}
+pub use Rattle.dm_settlelaws.proofs.Rests.EndsAtRest.{ends_at_rest}
+pub use Rattle.dm_settlelaws.proofs.Rests.EndsQuiet.{ends_quiet}
+pub use Rattle.dm_settlelaws.proofs.FewSteps.Few.{turns_left_few}
 pub use Rattle.dm_settlelaws.proofs.Names.{IsKept, IsSettleStep, Settle, Two, ends_settled, is_at_rest, stands_once_always, sum_below, turns_left}
-pub use Rattle.dm_settlelaws.proofs.TurnsFall.{turns_fall}
+pub use Rattle.dm_settlelaws.proofs.Falls.TurnsFall.{turns_fall}
 pub use Rattle.dm_settlelaws.specs.Passes.{turns_in}
 pub use Rattle.dm_text.proofs.Names.{EndFits, LineFits, text}
 pub use Rattle.dm_text.specs.Fits.{HidesNothing}

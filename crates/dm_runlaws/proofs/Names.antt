@@ -18,11 +18,11 @@ pub use Rattle.dm_rulelaws.proofs.Names.{IsNetLine, IsRun, LeadsBy, group_is, is
 pub use Rattle.dm_rulelaws.proofs.RunsAlways.{goes_on_always, receives_in_order}
 pub use Rattle.dm_movelaws.proofs.Names.{count, group_replay, labels-append, line_view, onward, or, pair_same, replay-append, run_always, said, taken_pair}
 pub use Rattle.dm_movelaws.proofs.Real.Always.{head_less}
-pub use Rattle.dm_settlelaws.proofs.EndsQuiet.{or_is, pass_stays, settles_is, unless_is}
-pub use Rattle.dm_settlelaws.proofs.FewPuts.{few_puts}
+pub use Rattle.dm_settlelaws.proofs.Rests.EndsQuiet.{or_is, pass_stays, settles_is, unless_is}
+pub use Rattle.dm_settlelaws.proofs.FewSteps.FewPuts.{few_puts}
 pub use Rattle.dm_settlelaws.proofs.Grows.{one_longer}
-pub use Rattle.dm_settlelaws.proofs.LeftFalls.{left_falls}
-pub use Rattle.dm_settlelaws.proofs.Less.{Falls, by_left}
+pub use Rattle.dm_settlelaws.proofs.Falls.LeftFalls.{left_falls}
+pub use Rattle.dm_settlelaws.proofs.Falls.Less.{Falls, by_left}
 pub use Rattle.dm_settlelaws.proofs.Names.{IsKept, IsLess, IsSettleStep, Left, Pass, Settle, SettlesBy, Two, begin_pass, below, count-append, first_undelivered, group_after, here_or_later, in_pass, is_over, leads_append, left, next}
 pub use Rattle.dm_settlelaws.proofs.Names.{next_delivery, next_directive, next_pass, next_turn, pairs_of, pass_begun, passes_quiet, quiet_passes, says_put, says_view, settles, stands_once_always, takes_turn, transmits_view, undelivered}
 pub use Rattle.dm_settlelaws.proofs.PassHas.{settles_always}

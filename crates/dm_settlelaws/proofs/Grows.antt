@@ -3,8 +3,8 @@ use Rattle.dm_settlelaws.proofs.Names.{◌≡◌, ℕ, ◌+◌, ◌<◌, ◌≤�
 use Rattle.dm_settlelaws.proofs.Names.{nat_tests, Pid, MsgId, MessageKind, plain_kind, Line, Load, at_pair, Receiver, Part, Says, Routes, Again, Owns, Transmits, Spelled, goes_out, packet_line, puts, spelled, Point, after, Pair, View}
 use Rattle.dm_settlelaws.proofs.Names.{own_id, routed_on, view_after, hushed, is_put, set_is, set_other, set_same, Onward, bind-is, one_view, onward, pair_same, says_view, touches, transmits_view, two_views, weight_of}
 use Rattle.dm_settlelaws.proofs.Effects.{Effect, Returns, back_in, calm_weight, comes_in, effect}
-use Rattle.dm_settlelaws.proofs.Handles.{AllCalm, IsCalm, is_back}
-use Rattle.dm_settlelaws.proofs.RestsPairs.{repeated}
+use Rattle.dm_settlelaws.proofs.Falls.Handles.{AllCalm, IsCalm, is_back}
+use Rattle.dm_settlelaws.proofs.Rests.RestsPairs.{repeated}
 
 pub record Grows (f g : ℕ → ℕ → Pair) : Type 0 where
   pub ids : (a c : ℕ) → length (f a c).ids ≤ length (g a c).ids

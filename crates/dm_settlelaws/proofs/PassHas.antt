@@ -3,7 +3,7 @@ use Rattle.dm_settlelaws.proofs.Names.{◌≡◌, ◌≢◌, ◌⊎◌, ℕ, zer
 use Rattle.dm_settlelaws.proofs.Names.{leb_tells, nat_tests, Boot, Directive, Step, Load, Pass, Settle, Next, Todo, Two, all_of, begin_pass, below, here_or_later, in_pass, is_over, next, next_delivery, next_directive, next_pass, next_turn}
 use Rattle.dm_settlelaws.proofs.Names.{or, pairs_of, pairs_with, pass_begun, settles, takes_turn, first_undelivered, next_step, undelivered, Leads, PairStands, Point, first_point, IsQuiet, has_mail, is_quiet, Pair, View, pairs_stand_always}
 use Rattle.dm_settlelaws.proofs.Names.{passes_quiet, quiet_passes, SettlesAlways, IsSettleStep, SettleGoes, PairRests}
-use Rattle.dm_settlelaws.proofs.RestsAlways.{pairs_rest_always}
+use Rattle.dm_settlelaws.proofs.Rests.RestsAlways.{pairs_rest_always}
 use Rattle.dm_settlelaws.proofs.Wires.{all_come}
 
 -- what a pass of a settle finds is a step of one

@@ -1,4 +1,4 @@
-use Rattle.dm_settlelaws.proofs.EndsAtRest.{ends_at_rest}
+use Rattle.dm_settlelaws.proofs.Rests.EndsAtRest.{ends_at_rest}
 use Rattle.dm_settlelaws.proofs.laws.ends_at_rest.Goals as goal
 
 pub returns : goal.returns

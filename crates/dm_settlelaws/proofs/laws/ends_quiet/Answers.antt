@@ -1,4 +1,4 @@
-use Rattle.dm_settlelaws.proofs.EndsQuiet.{ends_quiet}
+use Rattle.dm_settlelaws.proofs.Rests.EndsQuiet.{ends_quiet}
 use Rattle.dm_settlelaws.proofs.laws.ends_quiet.Goals as goal
 
 pub returns : goal.returns

@@ -1,4 +1,4 @@
-use Rattle.dm_settlelaws.proofs.EndsResting.{ends_resting}
+use Rattle.dm_settlelaws.proofs.Rests.EndsResting.{ends_resting}
 use Rattle.dm_settlelaws.proofs.laws.ends_resting.Goals as goal
 
 pub returns : goal.returns

@@ -1,4 +1,4 @@
-use Rattle.dm_settlelaws.proofs.LeftFalls.{left_falls}
+use Rattle.dm_settlelaws.proofs.Falls.LeftFalls.{left_falls}
 use Rattle.dm_settlelaws.proofs.laws.left_falls.Goals as goal
 
 pub returns : goal.returns

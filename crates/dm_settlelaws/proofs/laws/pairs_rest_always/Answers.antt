@@ -1,4 +1,4 @@
-use Rattle.dm_settlelaws.proofs.RestsAlways.{pairs_rest_always}
+use Rattle.dm_settlelaws.proofs.Rests.RestsAlways.{pairs_rest_always}
 use Rattle.dm_settlelaws.proofs.laws.pairs_rest_always.Goals as goal
 
 pub returns : goal.returns

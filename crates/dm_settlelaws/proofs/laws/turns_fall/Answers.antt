@@ -1,4 +1,4 @@
-use Rattle.dm_settlelaws.proofs.TurnsFall.{turns_fall}
+use Rattle.dm_settlelaws.proofs.Falls.TurnsFall.{turns_fall}
 use Rattle.dm_settlelaws.proofs.laws.turns_fall.Goals as goal
 
 pub returns : goal.returns

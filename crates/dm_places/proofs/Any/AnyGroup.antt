@@ -1,0 +1,111 @@
+-- Behind each group there is a kernel with places, where there was one before.
+use Rattle.dm_places.proofs.Names.{◌≡◌, ℕ, ◌+◌, ◌<◌, ◌==◌, ◌||◌, Bool, true, false, List, [], ◌∷◌, length, refl, ap, ◌∙◌, subst, is_some, inl, inr, arith, ⊤, if◌then◌else◌, nat_lt, slice_get, Option, None, Some, nat_tests, Pid, pid_eq}
+use Rattle.dm_places.proofs.Names.{pid_of, MsgId, Label, Line, PlainMessage, PlainWhat, Boot, BootImage, first_number, manager, switchboard, Life, OneKernel, bind, Step, bind-is, View, after_head, Part, Routes, Spelled, spelled, Point}
+use Rattle.dm_places.proofs.Names.{after_line, moved, group_of, headed, outcome, Placed, GroupNeeds, MirrorsPoint, or_second}
+use Rattle.dm_onekernel.specs.Manager as manage
+use Rattle.dm_onekernel.specs.Pieces as pieces
+use Rattle.dm_onekernel.specs.Switchboard as board
+use Rattle.dm_rule.specs.Rule as rule
+use Rattle.dm_places.proofs.EasyRows.{Easy, arrives_easy, hears_easy, migrates_easy, process_easy, resends_easy, round_easy, routes_easy}
+use Rattle.dm_places.proofs.Any.AnyPart.{Behind, EasyParts, PartsNeed, SoundAt, parts_follow}
+use Rattle.dm_places.proofs.Lines.{lines_keep}
+
+-- where the first part needs something
+abbrev Fits : OneKernel → View → Option (List Part) → Type 0
+Fits s v None = ⊤
+Fits s v (Some ps) = PartsNeed s v ps
+
+easy_parts : (s : OneKernel) (v : View) (ps : List Part) → EasyParts ps → PartsNeed s v ps
+easy_parts s v [] h = tt
+easy_parts s v (p ∷ ps) h = (inl h.0, h.1)
+
+easy_fits : (s : OneKernel) (v : View) (o : Option (List Part)) → Easy o → Fits s v o
+easy_fits s v None h = tt
+easy_fits s v (Some ps) h = easy_parts s v ps h
+
+if_fits : (s : OneKernel) (v : View) (c : Bool) (o p : Option (List Part)) → (c ≡ true → Fits s v o) → Fits s v p → Fits s v (if c then o else p)
+if_fits s v true o p h k = h refl
+if_fits s v false o p h k = k
+
+board_fits : (pt : Point) (v : View) (id : MsgId) (o : Option board.Took) → v.acting ≡ 0 → GroupNeeds pt → Fits pt.kernel v (rule.board_took id o)
+board_fits pt v id None at needs = tt
+board_fits pt v id (Some t) at needs = (inr (Label.Took id, refl, (at, needs.pending)), routes_easy t.answer)
+
+manager_fits : (pt : Point) (v : View) (id : MsgId) (o : Option manage.Took) → v.acting ≡ 0 → GroupNeeds pt → Fits pt.kernel v (rule.manager_took id o)
+manager_fits pt v id None at needs = tt
+manager_fits pt v id (Some t) at needs = (inr (Label.Took id, refl, (at, needs.pending)), routes_easy t.message)
+
+-- the next process of a home wasn't made
+not_made : (o : Option Life) → (is_some o ≡ true → ⊥) → o ≡ None
+not_made None none = refl
+not_made (Some life) none = absurd (none refl)
+
+next_unmade : (s : OneKernel) (m : ℕ) → SoundAt s → s.processes (pid_of m (first_number + s.made m)) ≡ None
+next_unmade s m h =
+    let p = pid_of m (first_number + s.made m) in
+    not_made (s.processes p) (λ there. let f : nat_lt (3 + s.made m) (3 + s.made m) ≡ true = h.sound.made.most p there in let g : (3 + s.made m) < (3 + s.made m) = grind (arith, nat_tests) in omega (arith, g))
+
+creates_if : (pt : Point) (v : View) (m : ℕ) (id : MsgId) (r : rule.Room) (c : Bool) → v.moves ≡ pt.view.moves → SoundAt pt.kernel → GroupNeeds pt
+    → PartsNeed pt.kernel v ((if c then rule.says (Label.Created id (pid_of m (first_number + pt.kernel.made m))) else rule.says (Label.NoSpace id r.slots r.blocks)) ∷ Routes (pieces.answer_id id) ∷ [])
+creates_if pt v m id r true counts h needs =
+    let p = pid_of m (first_number + pt.kernel.made m) in
+    (inr (Label.Created id p, refl, ap (λ (f : Pid → ℕ). f p) counts ∙ needs.unmoved p (next_unmade pt.kernel m h)), (tt, tt))
+creates_if pt v m id r false counts h needs = (inl tt, (tt, tt))
+
+creates_fit : (pt : Point) (v : View) (m : ℕ) (id : MsgId) (r : rule.Room) (o : Option BootImage) → v.moves ≡ pt.view.moves → SoundAt pt.kernel → GroupNeeds pt → Fits pt.kernel v (rule.creates pt m id r o)
+creates_fit pt v m id r None counts h needs = tt
+creates_fit pt v m id r (Some i) counts h needs = creates_if pt v m id r (rule.has_room r i.blocks) counts h needs
+
+kernel_fits : (b : Boot) (pt : Point) (v : View) (m : ℕ) (id : MsgId) (w : PlainWhat) → v.moves ≡ pt.view.moves → SoundAt pt.kernel → GroupNeeds pt → Fits pt.kernel v (rule.kernel_handles b pt m id w)
+kernel_fits b pt v m id (PlainWhat.Create image links) counts h needs = creates_fit pt v m id (rule.free_room b pt m) (slice_get b.images image) counts h needs
+kernel_fits b pt v m id _ counts h needs = tt
+
+or_first : (b c : Bool) → b ≡ true → (b || c) ≡ true
+or_first true c e = refl
+or_first false c e = cc
+
+comes_fit : (b : Boot) (pt : Point) (v : View) (m : ℕ) (id : MsgId) (o : Option PlainMessage) → v.acting ≡ m → v.moves ≡ pt.view.moves → SoundAt pt.kernel → GroupNeeds pt
+    → ((x : PlainMessage) → o ≡ Some x → (pid_eq x.to switchboard || pid_eq x.to manager) ≡ true → m ≡ 0) → Fits pt.kernel v (rule.comes_to b pt m id o)
+comes_fit b pt v m id None acting counts h needs server = easy_fits pt.kernel v (rule.hears b pt m id (pt.view.told id)) (hears_easy b pt m id (pt.view.told id))
+comes_fit b pt v m id (Some k) acting counts h needs server =
+    let s = pt.kernel in
+    let one = rule.kernel_handles b pt m id k.what in
+    let two = rule.board_took id (board.takes s.switchboard k k.what) in
+    let three = rule.manager_took id (manage.takes s.manager s.machines (length s.images) k k.what) in
+    let four = rule.process_handles pt m id k (pt.view.known m k.to) in
+    let last = if pid_eq k.to manager then three else four in
+    if_fits s v (k.to.num == 0) one (if pid_eq k.to switchboard then two else last) (λ e. kernel_fits b pt v m id k.what counts h needs)
+    (if_fits s v (pid_eq k.to switchboard) two last
+    (λ e. board_fits pt v id (board.takes s.switchboard k k.what) (acting ∙ server k refl (or_first (pid_eq k.to switchboard) (pid_eq k.to manager) e)) needs)
+    (if_fits s v (pid_eq k.to manager) three four
+    (λ e. manager_fits pt v id (manage.takes s.manager s.machines (length s.images) k k.what) (acting ∙ server k refl (or_second (pid_eq k.to switchboard) (pid_eq k.to manager) e)) needs)
+    (easy_fits s v four (process_easy pt m id k (pt.view.known m k.to)))))
+
+turns_fit : (b : Boot) (pt : Point) (v : View) (m : ℕ) (is : List MsgId) → pt.view.inbox m ≡ is → v.acting ≡ m → v.moves ≡ pt.view.moves → SoundAt pt.kernel → GroupNeeds pt → Fits pt.kernel v (rule.turns b pt m is)
+turns_fit b pt v m [] inbox acting counts h needs =
+    let o = rule.first_runnable pt.kernel (pt.view.queue m) (pt.view.ring m) in
+    easy_fits pt.kernel v (rule.goes_round b pt m o) (round_easy b pt m o)
+turns_fit b pt v m (i ∷ is) inbox acting counts h needs = comes_fit b pt v m i (pt.kernel.bag i) acting counts h needs (λ x there to. needs.server m i is x inbox there to)
+
+outcome_fits : (b : Boot) (pt : Point) (d : Step) → SoundAt pt.kernel → GroupNeeds pt → Fits pt.kernel (after_head pt.view d) (outcome b pt d)
+outcome_fits b pt (Step.Turn m) h needs = turns_fit b pt (after_head pt.view (Step.Turn m)) m (pt.view.inbox m) refl refl refl h needs
+outcome_fits b pt (Step.Tick m) h needs = easy_fits pt.kernel (after_head pt.view (Step.Tick m)) (outcome b pt (Step.Tick m)) (tt, resends_easy m pt.view pt.kernel.machines)
+outcome_fits b pt (Step.Deliver a c k) h needs =
+    easy_fits pt.kernel (after_head pt.view (Step.Deliver a c k)) (outcome b pt (Step.Deliver a c k)) (arrives_easy a c (pt.view.pair a c) (pt.view.pair c a) (slice_get (pt.view.pair a c).wire k))
+outcome_fits b pt (Step.Migrate p m) h needs = easy_fits pt.kernel (after_head pt.view (Step.Migrate p m)) (outcome b pt (Step.Migrate p m)) (migrates_easy pt p)
+
+fits_as : (s : OneKernel) (v : View) (o : Option (List Part)) (ps : List Part) → Fits s v o → o ≡ Some ps → PartsNeed s v ps
+fits_as s v o ps h is = subst (Fits s v) is h
+
+-- a group
+group_behind : (b : Boot) (pt : Point) (l : Placed) (d : Step) (w : Spelled) → SoundAt pt.kernel → GroupNeeds pt → group_of b pt d ≡ Some w → MirrorsPoint pt l → Behind w.point
+group_behind b pt l d w sound needs is h =
+    let begun = moved pt (Line.Head d) pt.kernel in
+    let (ps, comes, rest) = bind-is (outcome b pt d) (λ (xs : List Part). bind (after_line pt (Line.Head d)) (λ (q : Point). bind (spelled q xs) (λ (z : Spelled). Some (headed (Line.Head d) z)))) w is in
+    let (z, more, end) = bind-is (spelled begun ps) (λ (y : Spelled). Some (headed (Line.Head d) y)) w rest in
+    let f : headed (Line.Head d) z ≡ w = cc in
+    subst (λ (x : Spelled). Behind x.point) f
+    (parts_follow ps begun z l (fits_as pt.kernel (after_head pt.view d) (outcome b pt d) ps (outcome_fits b pt d sound needs) comes) sound (lines_keep pt begun l (Line.Head d) tt h refl) more)
+
+pub group_follows : (b : Boot) (pt : Point) (l : Placed) (d : Step) (w : Spelled) → SoundAt pt.kernel → GroupNeeds pt → group_of b pt d ≡ Some w → MirrorsPoint pt l → (m : Placed) × MirrorsPoint w.point m × SoundAt w.point.kernel
+group_follows b pt l d w sound needs is h = let z = group_behind b pt l d w sound needs is h in (z.l, z.mirrors, z.sound)

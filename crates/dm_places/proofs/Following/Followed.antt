@@ -1,0 +1,177 @@
+-- Messages that follow a process to another machine, and the process that has come there.
+use Rattle.dm_places.proofs.Names.{◌≡◌, ℕ, ◌+◌, ◌≤◌, ◌||◌, Bool, true, false, List, [], ◌∷◌, ◌++◌, refl, ap, ◌∙◌, sym, subst, inl, inr, arith, if◌then◌else◌, option_map, Option, None, Some, cases_Bool, Pid, Place, pid_eq, place_of, MsgId}
+use Rattle.dm_places.proofs.Names.{Message, id_eq, Process, sent_on, OneKernel, plain_process, id_eq-is, id_eq-same, id_eq-swap, pid_eq-is, pid_eq-same, Line, Stage, at_pid, times, Forward, Frozen, Known, Told, View, forwarded_for, handled}
+use Rattle.dm_places.proofs.Names.{own_id, receiver_of, view_after, Addresses, Gets, Receiver, Sender, all_follow, forwards, gets, given, is_told_back, place_known, tells_back, unmoved, Point, moved, Placed, Mirrors, MirrorsKernel}
+use Rattle.dm_places.proofs.Names.{MirrorsProcess, with_message, with_process, MirrorsPoint, is_among, sent_all, or_first}
+use Rattle.dm_migrate.specs.Way as way
+use Rattle.dm_onekernel.specs.Step as kernel
+use Rattle.dm_places.proofs.Following.Changed.{free_mirrors, free_off, sent_on_any, sent_on_one}
+use Rattle.dm_places.proofs.Lines.{mirrors_view}
+
+-- forwarded: the message goes on, and the next message of the kernel gets the places of an update
+pub moves_forwarded : (v : View) (o : Option Pid) → (forwarded_for v o).moves ≡ v.moves
+moves_forwarded v None = refl
+moves_forwarded v (Some p) = refl
+
+pub tells_mirrors : (s : OneKernel) (v : View) (a : Addresses) (l : Placed) (id : MsgId) (b : Bool) → l.bag (own_id v) ≡ None → Mirrors s v a l → Mirrors s v (given a (tells_back v a id b)) l
+tells_mirrors s v a l id true none h = free_mirrors s v a l (own_id v) (a (Sender id)) (unmoved v.acting) none h
+tells_mirrors s v a l id false none h = h
+
+-- the address in full
+forwards_is : (v : View) (a : Addresses) (id : MsgId) (t : Told) (at moves : ℕ) → v.told id ≡ Some t → v.known v.acting t.receiver ≡ Forward at moves
+    → forwards v a id (v.told id) ≡ gets (Receiver id) (record { at = at; moves = moves }) ∷ tells_back v a id (is_told_back t.kind)
+forwards_is v a id t at moves told knows =
+    ap (forwards v a id) told ∙ ap (λ (k : Known). gets (Receiver id) (place_known k (v.moves t.receiver) (a (Receiver id))) ∷ tells_back v a id (is_told_back t.kind)) knows
+
+pub forwarded_mirrors : (pt : Point) (l : Placed) (id : MsgId) (x : Message) (t : Told) (m at moves : ℕ) → MirrorsPoint pt l → l.bag id ≡ Some x → pt.view.told id ≡ Some t → pt.view.known pt.view.acting t.receiver ≡ Forward at moves
+    → l.bag (own_id pt.view) ≡ None → MirrorsPoint (moved pt (Line.Forwarded id m) pt.kernel) (with_message l id (Some (sent_on at moves x)))
+forwarded_mirrors pt l id x t m at moves h there told knows none =
+    let v = pt.view in
+    let a = pt.addresses in
+    let l' = with_message l id (Some (sent_on at moves x)) in
+    let w = view_after v (Line.Forwarded id m) in
+    let gone = sent_on_one pt.kernel v (given a (tells_back v a id (is_told_back t.kind))) l id x at moves there (tells_mirrors pt.kernel v a l id (is_told_back t.kind) none h) in
+    subst (λ (g : List Gets). Mirrors pt.kernel w (given a g) l') (sym (forwards_is v a id t at moves told knows))
+    (mirrors_view pt.kernel v w (given a (gets (Receiver id) (record { at = at; moves = moves }) ∷ tells_back v a id (is_told_back t.kind))) l' (moves_forwarded (handled v id) (receiver_of (v.told id))) gone)
+
+-- the update goes to where the message came from
+pub update_gets : (pt : Point) (l : Placed) (id : MsgId) (x : Message) (t : Told) (m at moves : ℕ) → MirrorsPoint pt l → l.bag id ≡ Some x → pt.view.told id ≡ Some t → pt.view.known pt.view.acting t.receiver ≡ Forward at moves
+    → l.bag (own_id pt.view) ≡ None → is_told_back t.kind ≡ true
+    → ((moved pt (Line.Forwarded id m) pt.kernel).addresses (Receiver (own_id pt.view)) ≡ place_of x.sender) × ((moved pt (Line.Forwarded id m) pt.kernel).addresses (Sender (own_id pt.view)) ≡ unmoved pt.view.acting)
+update_gets pt l id x t m at moves h there told knows none back =
+    let v = pt.view in
+    let a = pt.addresses in
+    let own = own_id v in
+    let place : Place = record { at = at; moves = moves } in
+    let gives = forwards_is v a id t at moves told knows ∙ ap (λ (b : Bool). gets (Receiver id) place ∷ tells_back v a id b) back in
+    let apart : id_eq id own ≡ false = id_eq-swap id own ∙ free_off l own id x none there in (
+      ap (λ (g : List Gets). given a g (Receiver own)) gives
+          ∙ ap (λ (c : Bool). if c then place else if id_eq own own then a (Sender id) else a (Receiver own)) apart
+          ∙ ap (λ (c : Bool). if c then a (Sender id) else a (Receiver own)) (id_eq-same own)
+          ∙ (h.places.message id x there).sender,
+      ap (λ (g : List Gets). given a g (Sender own)) gives ∙ ap (λ (c : Bool). if c then unmoved v.acting else a (Sender own)) (id_eq-same own),
+    )
+
+-- sent on: all of these messages
+onward : Place → List MsgId → List Gets
+onward place [] = []
+onward place (i ∷ is) = gets (Receiver i) place ∷ onward place is
+
+all_onward : (v : View) (a : Addresses) (p : Pid) (to : ℕ) (ids : List MsgId) → v.known v.acting p ≡ Frozen to → all_follow v a p ids ≡ onward (record { at = to; moves = v.moves p + 1 }) ids
+unfolding onward
+all_onward v a p to [] knows = refl
+all_onward v a p to (i ∷ is) knows =
+    let rest = all_onward v a p to is knows in
+    λ c. gets (Receiver i) (place_known (knows c) (v.moves p) (a (Receiver i))) ∷ rest c
+
+more_bag : (l : Placed) (at moves : ℕ) (i : MsgId) (is : List MsgId) (j : MsgId) → (with_message (sent_all l at moves is) i (option_map (sent_on at moves) (l.bag i))).bag j ≡ (sent_all l at moves (i ∷ is)).bag j
+more_bag l at moves i is j = elim (cases_Bool (id_eq i j)) [
+  | inl same ↦
+      ap (λ (c : Bool). if c then option_map (sent_on at moves) (l.bag i) else (sent_all l at moves is).bag j) same
+      ∙ ap (λ (k : MsgId). option_map (sent_on at moves) (l.bag k)) (id_eq-is i j same)
+      ∙ sym (ap (λ (c : Bool). if c || is_among j is then option_map (sent_on at moves) (l.bag j) else l.bag j) same)
+  | inr apart ↦
+      ap (λ (c : Bool). if c then option_map (sent_on at moves) (l.bag i) else (sent_all l at moves is).bag j) apart
+      ∙ sym (ap (λ (c : Bool). if c || is_among j is then option_map (sent_on at moves) (l.bag j) else l.bag j) apart)
+]
+
+one_more : (l : Placed) (at moves : ℕ) (i : MsgId) (is : List MsgId) → with_message (sent_all l at moves is) i (option_map (sent_on at moves) (l.bag i)) ≡ sent_all l at moves (i ∷ is)
+one_more l at moves i is = λ c. record l { bag = λ j. more_bag l at moves i is j c }
+
+-- what goes on twice stands where it stood
+on_twice : (at moves : ℕ) (b : Bool) (o : Option Message) → option_map (sent_on at moves) (if b then option_map (sent_on at moves) o else o) ≡ option_map (sent_on at moves) o
+on_twice at moves true None = refl
+on_twice at moves true (Some x) = refl
+on_twice at moves false o = refl
+
+all_on : (s : OneKernel) (v : View) (a : Addresses) (l : Placed) (at moves : ℕ) (ids : List MsgId) → Mirrors s v a l → Mirrors s v (given a (onward (record { at = at; moves = moves }) ids)) (sent_all l at moves ids)
+unfolding onward
+all_on s v a l at moves [] h = h
+all_on s v a l at moves (i ∷ is) h =
+    let place : Place = record { at = at; moves = moves } in
+    let before = all_on s v a l at moves is h in
+    let k = sent_all l at moves is in
+    let on = sent_on_any s v (given a (onward place is)) k i (k.bag i) place refl before in
+    subst (λ (m : Placed). Mirrors s v (given a (onward place (i ∷ is))) m) (ap (with_message k i) (on_twice at moves (is_among i is) (l.bag i)) ∙ one_more l at moves i is) on
+
+-- the queue, then what was held
+pub sent_on_mirrors : (pt : Point) (l : Placed) (p : Pid) (n to : ℕ) → MirrorsPoint pt l → pt.view.known pt.view.acting p ≡ Frozen to
+    → MirrorsPoint (moved pt (Line.SentOn p n) pt.kernel) (sent_all l to (pt.view.moves p + 1) (pt.view.queue pt.view.acting p ++ pt.view.held pt.view.acting p))
+sent_on_mirrors pt l p n to h knows =
+    let v = pt.view in
+    let a = pt.addresses in
+    let ids = v.queue v.acting p ++ v.held v.acting p in
+    let l' = sent_all l to (v.moves p + 1) ids in
+    let w = view_after v (Line.SentOn p n) in
+    subst (λ (g : List Gets). Mirrors pt.kernel w (given a g) l') (sym (all_onward v a p to ids knows))
+    (mirrors_view pt.kernel v w (given a (onward (record { at = to; moves = v.moves p + 1 }) ids)) l' refl (all_on pt.kernel v a l to (v.moves p + 1) ids h))
+
+pub among_times : (i : MsgId) (ids : List MsgId) → 1 ≤ times i ids → is_among i ids ≡ true
+among_times i [] e = absurd (omega arith)
+among_times i (j ∷ js) e = elim (cases_Bool (id_eq j i)) [
+  | inl same ↦ ap (λ (c : Bool). c || is_among i js) same
+  | inr apart ↦
+      let f : times i (j ∷ js) ≡ 0 + times i js = ap (λ (c : Bool). (if c then 1 else 0) + times i js) (id_eq-swap i j ∙ apart) in
+      let g : 1 ≤ times i js = omega (arith, f, e) in
+      or_first (id_eq j i) (is_among i js) (among_times i js g)
+]
+
+-- restarted: the process has moved once more
+alive_again : (s : OneKernel) (l : Placed) (p : Pid) (x y : Process) (q : Pid) → l.processes p ≡ Some x → plain_process y ≡ plain_process x → MirrorsKernel s l → kernel.alive (s.processes q) ≡ option_map plain_process ((with_process l p (Some y)).processes q)
+alive_again s l p x y q there same h = elim (cases_Bool (pid_eq p q)) [
+  | inl is ↦
+      ap (λ (r : Pid). kernel.alive (s.processes r)) (sym (pid_eq-is p q is)) ∙ h.processes p ∙ ap (option_map plain_process) there ∙ ap Some (sym same)
+      ∙ sym (ap (λ (c : Bool). option_map plain_process (if c then Some y else l.processes q)) is)
+  | inr apart ↦ h.processes q ∙ sym (ap (λ (c : Bool). option_map plain_process (if c then Some y else l.processes q)) apart)
+]
+
+-- a process that means the same
+pub kernel_process_again : (s : OneKernel) (l : Placed) (p : Pid) (x y : Process) → l.processes p ≡ Some x → plain_process y ≡ plain_process x → MirrorsKernel s l → MirrorsKernel s (with_process l p (Some y))
+kernel_process_again s l p x y there same h = record {
+  processes = λ q. alive_again s l p x y q there same h;
+  bag = h.bag;
+  board = h.board;
+  manager = h.manager;
+  machines = h.machines;
+  images = h.images;
+}
+
+moved_places : (v w : View) (a : Addresses) (l : Placed) (p : Pid) (x : Process) (q : Pid) (z : Process) → w.moves ≡ at_pid v.moves p (v.moves p + 1) → l.processes p ≡ Some x → ((r : Pid) (y : Process) → l.processes r ≡ Some y → MirrorsProcess v a r y)
+    → (with_process l p (Some (way.moved x))).processes q ≡ Some z → MirrorsProcess w a q z
+moved_places v w a l p x q z counts there h e = elim (cases_Bool (pid_eq p q)) [
+  | inl is ↦
+      let k = h p x there in
+      let f : Some (way.moved x) ≡ Some z = sym (ap (λ (c : Bool). if c then Some (way.moved x) else l.processes q) is) ∙ e in
+      let g : way.moved x ≡ z = cc in
+      let m : MirrorsProcess w a p (way.moved x) = record {
+        pid = k.pid;
+        moves = ap (λ (n : ℕ). n + 1) k.moves ∙ sym (ap (λ (c : Bool). if c then v.moves p + 1 else v.moves p) (pid_eq-same p)) ∙ ap (λ (n : Pid → ℕ). n p) (sym counts);
+        slots = k.slots;
+        owner = k.owner;
+      } in
+      subst (MirrorsProcess w a q) g (subst (λ (r : Pid). MirrorsProcess w a r (way.moved x)) (pid_eq-is p q is) m)
+  | inr apart ↦
+      let k = h q z (sym (ap (λ (c : Bool). if c then Some (way.moved x) else l.processes q) apart) ∙ e) in
+      record {
+        pid = k.pid;
+        moves = k.moves ∙ sym (ap (λ (c : Bool). if c then v.moves p + 1 else v.moves q) apart) ∙ ap (λ (n : Pid → ℕ). n q) (sym counts);
+        slots = k.slots;
+        owner = k.owner;
+      }
+]
+
+pub restarted_mirrors : (pt : Point) (l : Placed) (p : Pid) (x : Process) → MirrorsPoint pt l → l.processes p ≡ Some x → MirrorsPoint (moved pt (Line.Migration Stage.Restarted p) pt.kernel) (with_process l p (Some (way.moved x)))
+restarted_mirrors pt l p x h there =
+    let v = pt.view in
+    let w = view_after v (Line.Migration Stage.Restarted p) in
+    let g = h.places in
+    record {
+      plain = kernel_process_again pt.kernel l p x (way.moved x) there refl h.plain;
+      places = record {
+        process = λ q z e. moved_places v w pt.addresses l p x q z refl there g.process e;
+        message = g.message;
+        name = g.name;
+        child = g.child;
+        answer = g.answer;
+      };
+    }

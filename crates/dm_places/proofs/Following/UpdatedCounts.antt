@@ -1,0 +1,125 @@
+-- How many addresses an update changes: as many as know fewer moves among those of its receiver.
+use Rattle.dm_places.proofs.Names.{◌≡◌, ℕ, zero, suc, ◌+◌, ◌≤◌, ◌==◌, ◌&&◌, Bool, true, false, List, [], ◌∷◌, ◌++◌, map, cond, count_by, refl, ap, ◌∙◌, sym, subst, arith, if◌then◌else◌, nat_le, nat_lt, slice_get, Option, None, Some}
+use Rattle.dm_places.proofs.Names.{nat_tests, sum_by-cons, Pid, Link, pid_eq, PlainLink, link_at, plain_slot, slot_is_behind, Process, manager, switchboard, Manager, OneKernel, Switchboard, named_is_behind, plain_named, Pending}
+use Rattle.dm_places.proofs.Names.{pending_is_behind, plain_child, plain_pending, pending_numbered, pid_eq-same, About, View, Addresses, Answer, Child, Holder, Name, Slot, is_pid, place_told, ascends, answers_in, behind_among, behind_count}
+use Rattle.dm_places.proofs.Names.{holders_of, numbered, slots_from, slots_in, and-both, Placed, Mirrors}
+use Rattle.dm_link.specs.Places as places
+use Rattle.dm_onekernel.specs.Kernel as one
+use Rattle.dm_onekernel.specs.Step as kernel
+use Rattle.dm_rule.specs.Addresses as addresses
+use Rattle.dm_places.proofs.Following.Updated.{alive_is, answer_leads, behind_led, child_leads, name_leads, slot_leads}
+
+count_cons : {X : Type 0} (p : X → Bool) (x : X) (xs : List X) → count_by p (x ∷ xs) ≡ cond (p x) 1 0 + count_by p xs
+count_cons p x xs = sum_by-cons (λ y. cond (p y) 1 0) x xs
+
+-- holders in order of their numbers
+among_numbered : {X Y : Type 0} (f : Holder → Bool) (g : ℕ → Holder) (plain : X → Y) (p : X → Bool) (n : ℕ) (xs : List X) → ((j : ℕ) (x : X) → slice_get xs j ≡ Some x → f (g (n + j)) ≡ p x)
+    → behind_among f (numbered g n (map plain xs)) ≡ count_by p xs
+among_numbered f g plain p n [] each = refl
+among_numbered f g plain p n (x ∷ xs) each =
+    let at : n ≡ n + 0 = omega arith in
+    let first : f (g n) ≡ p x = ap (λ (k : ℕ). f (g k)) at ∙ each zero x refl in
+    let rest = among_numbered f g plain p (n + 1) xs (λ j y there. let on : (n + 1) + j ≡ n + suc j = omega arith in ap (λ (k : ℕ). f (g k)) on ∙ each (suc j) y there) in
+    (λ i. (if first i then 1 else 0) + rest i) ∙ sym (count_cons p x xs)
+
+-- holders that their elements name
+among_named : {X Y : Type 0} (f : Holder → Bool) (g : Y → Holder) (plain : X → Y) (p : X → Bool) (xs : List X) → ((j : ℕ) (x : X) → slice_get xs j ≡ Some x → f (g (plain x)) ≡ p x) → behind_among f (map g (map plain xs)) ≡ count_by p xs
+among_named f g plain p [] each = refl
+among_named f g plain p (x ∷ xs) each =
+    let first = each zero x refl in
+    let rest = among_named f g plain p xs (λ j y there. each (suc j) y there) in
+    (λ i. (if first i then 1 else 0) + rest i) ∙ sym (count_cons p x xs)
+
+among_both : (f : Holder → Bool) (hs gs : List Holder) → behind_among f (hs ++ gs) ≡ behind_among f hs + behind_among f gs
+among_both f [] gs = let e : behind_among f gs ≡ 0 + behind_among f gs = omega arith in e
+among_both f (h ∷ hs) gs =
+    let c = if f h then 1 else 0 in
+    let e : c + (behind_among f hs + behind_among f gs) ≡ (c + behind_among f hs) + behind_among f gs = omega arith in
+    ap (λ (n : ℕ). c + n) (among_both f hs gs) ∙ e
+
+-- a process's links
+slots_numbered : (q : Pid) (n : ℕ) (ls : List (Option PlainLink)) → slots_from q n ls ≡ numbered (Slot q) n ls
+slots_numbered q n [] = refl
+slots_numbered q n (l ∷ ls) = ap (λ (hs : List Holder). Slot q n ∷ hs) (slots_numbered q (n + 1) ls)
+
+slot_there : (ts : List (Option Link)) (j : ℕ) (o : Option Link) → slice_get ts j ≡ Some o → link_at ts j ≡ o
+slot_there [] j o e = cc
+slot_there (t ∷ ts) zero o e = cc
+slot_there (t ∷ ts) (suc j) o e = slot_there ts j o e
+
+none_behind : (b c : Bool) → (b && (false && c)) ≡ false
+none_behind true c = refl
+none_behind false c = refl
+
+slot_behind : (s : OneKernel) (v : View) (a : Addresses) (l : Placed) (q r : Pid) (moves : ℕ) (x : Process) (k : ℕ) (o : Option Link) → Mirrors s v a l → l.processes q ≡ Some x → link_at x.table k ≡ o
+    → addresses.is_behind s a q r moves (Slot q k) ≡ slot_is_behind r moves o
+slot_behind s v a l q r moves x k None h there at =
+    ap (λ (w : Option Pid). pid_eq q q && (is_pid r w && nat_lt (a (Slot q k)).moves moves)) (slot_leads s q x k None (alive_is s v a l q x h there) at)
+    ∙ none_behind (pid_eq q q) (nat_lt (a (Slot q k)).moves moves)
+slot_behind s v a l q r moves x k (Some w) h there at =
+    behind_led s a q r moves (Slot q k) w.addr (pid_eq-same q) (slot_leads s q x k (Some w) (alive_is s v a l q x h there) at) ((h.places.process q x there).slots k w at)
+
+holders_if : (s : OneKernel) (q : Pid) (hs gs os : List Holder) (b c : Bool) → b ≡ false → c ≡ false → (if b then hs else if c then gs else os) ≡ os
+holders_if s q hs gs os b c e f = ap (λ (x : Bool). if x then hs else if c then gs else os) e ∙ ap (λ (x : Bool). if x then gs else os) f
+
+-- what the line of an update at a process counts
+pub updated_count : (s : OneKernel) (v : View) (a : Addresses) (l : Placed) (q r : Pid) (at moves : ℕ) (about : About) (x : Process) → Mirrors s v a l → about ≡ About.Place r at moves → pid_eq q switchboard ≡ false → pid_eq q manager ≡ false → l.processes q ≡ Some x
+    → behind_count s a q (place_told about) ≡ count_by (slot_is_behind r moves) x.table
+updated_count s v a l q r at moves about x h is no_board no_manager there =
+    let f = addresses.is_behind s a q r moves in
+    let holders : holders_of s q ≡ numbered (Slot q) 0 (map plain_slot x.table) =
+    holders_if s q (numbered Name 0 s.switchboard.names) (numbered Child 1 s.manager.children ++ answers_in s.manager.pending) (slots_in q (kernel.alive (s.processes q))) (pid_eq q switchboard) (pid_eq q manager) no_board no_manager
+    ∙ ap (slots_in q) (alive_is s v a l q x h there)
+    ∙ slots_numbered q 0 (map plain_slot x.table)
+    in
+    ap (λ (w : About). behind_count s a q (place_told w)) is
+    ∙ ap (behind_among f) holders
+    ∙ among_numbered f (Slot q) plain_slot (slot_is_behind r moves) 0 x.table
+    (λ j o there_. let k : 0 + j ≡ j = omega arith in ap (λ (n : ℕ). f (Slot q n)) k ∙ slot_behind s v a l q r moves x j o h there (slot_there x.table j o there_))
+
+-- at the switchboard
+pub updated_board_count : (s : OneKernel) (v : View) (a : Addresses) (l : Placed) (q r : Pid) (at moves : ℕ) (about : About) → Mirrors s v a l → about ≡ About.Place r at moves → q ≡ switchboard
+    → behind_count s a q (place_told about) ≡ count_by (named_is_behind r moves) l.board.names
+updated_board_count s v a l q r at moves about h is to =
+    let f = addresses.is_behind s a switchboard r moves in
+    (λ i. behind_count s a (to i) (place_told (is i)))
+    ∙ ap (λ (b : Switchboard). behind_among f (numbered Name 0 b.names)) (sym h.plain.board)
+    ∙ among_numbered f Name plain_named (named_is_behind r moves) 0 l.board.names
+    (λ j k there. let n : 0 + j ≡ j = omega arith in
+    ap (λ (c : ℕ). f (Name c)) n ∙ behind_led s a switchboard r moves (Name j) k.link.addr refl (name_leads s v a l j k h there) (h.places.name j k there))
+
+-- at the manager: its children, and its requests, which have ascending numbers
+own_number : (ps : List Pending) (from to j : ℕ) (y : Pending) → ascends from (map plain_pending ps) to ≡ true → slice_get ps j ≡ Some y → (pending_numbered y.n ps ≡ Some y) × (from ≤ y.n)
+own_number [] from to j y order there = cc
+own_number (p ∷ ps) from to zero y order there =
+    let w = and-both (nat_le from p.n) (ascends (p.n + 1) (map plain_pending ps) to) order in
+    let f : p ≡ y = cc in
+    let least : from ≤ p.n = grind (arith, nat_tests) in
+    let same : (p.n == p.n) ≡ true = grind (arith, nat_tests) in
+    let one : pending_numbered p.n (p ∷ ps) ≡ Some p = ap (λ (b : Bool). if b then Some p else pending_numbered p.n ps) same in
+    subst (λ (z : Pending). (pending_numbered z.n (p ∷ ps) ≡ Some z) × (from ≤ z.n)) f (one, least)
+own_number (p ∷ ps) from to (suc j) y order there =
+    let w = and-both (nat_le from p.n) (ascends (p.n + 1) (map plain_pending ps) to) order in
+    let (found, above) = own_number ps (p.n + 1) to j y w.1 there in
+    let least : from ≤ p.n = grind (arith, nat_tests) in
+    let apart : (p.n == y.n) ≡ false = grind (arith, nat_tests) in
+    (ap (λ (b : Bool). if b then Some p else pending_numbered y.n ps) apart ∙ found, omega (arith, least, above))
+
+pub updated_manager_count : (s : OneKernel) (v : View) (a : Addresses) (l : Placed) (q r : Pid) (at moves : ℕ) (about : About) → Mirrors s v a l → about ≡ About.Place r at moves → q ≡ manager → ascends 0 s.manager.pending s.manager.sent ≡ true
+    → behind_count s a q (place_told about) ≡ count_by (places.is_behind r moves) l.manager.children + count_by (pending_is_behind r moves) l.manager.pending
+updated_manager_count s v a l q r at moves about h is to order =
+    let f = addresses.is_behind s a manager r moves in
+    let g = l.manager in
+    let ordered : ascends 0 (map plain_pending g.pending) g.sent ≡ true = ap (λ (m : Manager). ascends 0 m.pending m.sent) h.plain.manager ∙ order in
+    let children = among_numbered f Child plain_child (places.is_behind r moves) 1 g.children
+    (λ j c there. let n : 1 + j ≡ suc j = omega arith in
+    ap (λ (k : ℕ). f (Child k)) n ∙ behind_led s a manager r moves (Child (suc j)) c refl (child_leads s v a l (suc j) c h there) (h.places.child (suc j) c there))
+    in
+    let answers = among_named f (λ (y : one.Pending). Answer y.n) plain_pending (pending_is_behind r moves) g.pending
+    (λ j y there. let own = (own_number g.pending 0 g.sent j y ordered there).0 in
+    behind_led s a manager r moves (Answer y.n) y.answer.addr refl (answer_leads s v a l y.n y h own) (h.places.answer y.n y own))
+    in
+    (λ i. behind_count s a (to i) (place_told (is i)))
+    ∙ ap (λ (m : Manager). behind_among f (numbered Child 1 m.children ++ answers_in m.pending)) (sym h.plain.manager)
+    ∙ among_both f (numbered Child 1 (map plain_child g.children)) (answers_in (map plain_pending g.pending))
+    ∙ (λ i. children i + answers i)

@@ -1,0 +1,279 @@
+-- What a process that executes does, with places: plain instructions, calls and faults, a lemma a label.
+use Rattle.dm_places.proofs.Names.{◌≡◌, ℕ, ◌==◌, ◌&&◌, Bool, true, false, refl, ap, ◌∙◌, sym, subst, arith, if◌then◌else◌, Option, None, Some, nat_tests, Pid, MsgId, Message, id_eq, PlainMessage, plain_message, Process, Status, Label, Regs}
+use Rattle.dm_places.proofs.Names.{Row, instruction, past, Reply, Why, reply_eq, why_eq, bind, Alive, Ended, OneKernel, plain_process, plain_status, PlainProcess, Called, calls, plain_called, call_plainly, id_eq-is, bind-is, when-is, View}
+use Rattle.dm_places.proofs.Names.{Addresses, given, gives, made, sends_what, past_call, gives_by, made_is, gives_same, only_gives_by, Placed, Mirrors, MirrorsKernel, MirrorsProcess, Acted, acted, acts, after_call, after_done, if_ready}
+use Rattle.dm_places.proofs.Names.{machine_of, ran, running, with_acted, with_machine, with_process, with_sent}
+use Rattle.dm_onekernel.specs.Kernel as kernels
+use Rattle.dm_onekernel.specs.Calls as one
+use Rattle.dm_onekernel.specs.Step as kernel
+use Rattle.dm_rule.specs.Addresses as addresses
+use Rattle.dm_places.proofs.Keeps.{alive_of, goes_mirrors, ends_mirrors, kernel_process, kernel_sent, places_process, places_sends, this_process}
+use Rattle.dm_places.proofs.Labels.Calls.{MirrorsCalled, MirrorsSent, behind, does_call_kept}
+
+-- a step with places that leads to what mirrors a kernel
+abbrev pub Follows : OneKernel → View → Addresses → Option Placed → Type 0
+Follows t v b o = (l : Placed) × (o ≡ Some l) × Mirrors t v b l
+
+pub mirrors_as : (s t : OneKernel) (v : View) (a b : Addresses) (l m : Placed) → s ≡ t → a ≡ b → l ≡ m → Mirrors s v a l → Mirrors t v b m
+mirrors_as s t v a b l m e f g h = subst (λ (u : OneKernel). Mirrors u v b m) e (subst (λ (c : Addresses). Mirrors s v c m) f (subst (Mirrors s v a) g h))
+
+-- the process that executes
+ready_if : (y : Process) (b : Bool) (x : PlainProcess) → (if b then None else Some (plain_process y)) ≡ Some x → ((if b then None else Some y) ≡ Some y) × (plain_process y ≡ x)
+ready_if y true x e = cc
+ready_if y false x e = (refl, let g : plain_process y ≡ x = cc in g)
+
+ready_of : (y : Process) (st : Status) (x : PlainProcess) → kernel.if_ready (plain_process y) (plain_status st) ≡ Some x → (if_ready y st ≡ Some y) × (plain_process y ≡ x)
+ready_of y Status.Ready x e = ready_if y y.stopped x e
+ready_of y (Status.Waiting mask base size) x e = cc
+ready_of y (Status.Moving dir owner base own left pending) x e = cc
+
+record Runs (l : Placed) (p : Pid) (x : PlainProcess) : Type 0 where
+  y : Process
+  there : l.processes p ≡ Some y
+  is : plain_process y ≡ x
+  runs : running l p ≡ Some y
+
+runs_of : (s : OneKernel) (l : Placed) (p : Pid) (x : PlainProcess) → MirrorsKernel s l → kernel.running s p ≡ Some x → Runs l p x
+runs_of s l p x h e =
+    let (w, alive, ready) = bind-is (kernel.alive (s.processes p)) (λ (z : PlainProcess). kernel.if_ready z z.status) x e in
+    let (y, there, is) = alive_of s l p w h alive in
+    let k = ready_of y y.status x (ap (λ (z : PlainProcess). kernel.if_ready z z.status) is ∙ ready) in
+    record { y = y; there = there; is = k.1; runs = ap (λ (o : Option Process). bind o (λ (z : Process). if_ready z z.status)) there ∙ k.0 }
+
+-- ran
+pub ran_follows : (s t : OneKernel) (v : View) (a : Addresses) (l : Placed) (p : Pid) (k : ℕ) → kernel.step s (Label.Ran p k) ≡ Some t → Mirrors s v a l → Follows t v a (ran l p k)
+ran_follows s t v a l p k is h =
+    let (x, runs, rest) = bind-is (kernel.running s p) (λ (w : PlainProcess). bind (kernel.plain_steps k (kernel.machine_of w)) (λ (m : kernel.Machine). Some (kernel.goes_on s p (kernel.with_machine w m)))) t is in
+    let (m, plain, last) = bind-is (kernel.plain_steps k (kernel.machine_of x)) (λ (m : kernel.Machine). Some (kernel.goes_on s p (kernel.with_machine x m))) t rest in
+    let f : kernel.goes_on s p (kernel.with_machine x m) ≡ t = cc in
+    let r = runs_of s l p x h.plain runs in
+    let y = r.y in
+    let w = h.places.process p y r.there in
+    let steps : kernel.plain_steps k (machine_of y) ≡ Some m = ap (λ (z : PlainProcess). kernel.plain_steps k (kernel.machine_of z)) r.is ∙ plain in
+    let on = with_process l p (Some (with_machine y m)) in (
+      on,
+      ap (λ (o : Option Process). bind o (λ (z : Process). bind (kernel.plain_steps k (machine_of z)) (λ (n : kernel.Machine). Some (with_process l p (Some (with_machine z n)))))) r.runs
+          ∙ ap (λ (o : Option kernel.Machine). bind o (λ (n : kernel.Machine). Some (with_process l p (Some (with_machine y n))))) steps,
+      subst (λ (u : OneKernel). Mirrors u v a on) (ap (λ (z : PlainProcess). kernel.goes_on s p (kernel.with_machine z m)) r.is ∙ f)
+          (goes_mirrors s v a l p (with_machine y m) h (record { pid = w.pid; moves = w.moves; slots = w.slots; owner = w.owner })),
+    )
+
+-- what a call comes to
+record Goes (v : View) (b : Addresses) (p : Pid) (w : Acted) (z : PlainProcess) : Type 0 where
+  y : Process
+  acted : w ≡ record { process = Some y; message = None }
+  is : plain_process y ≡ z
+  kept : MirrorsProcess v b p y
+
+record Sends (v : View) (a b : Addresses) (p : Pid) (w : Acted) (k : PlainMessage) (z : PlainProcess) : Type 0 where
+  y : Process
+  m : Message
+  acted : w ≡ record { process = Some y; message = Some m }
+  says : plain_message m ≡ Some k
+  is : plain_process y ≡ z
+  kept : MirrorsSent v a b p m y
+
+abbrev ended : Acted
+ended = record { process = None; message = None }
+
+abbrev CalledAs : View → Addresses → Pid → Process → one.CallNumber → Acted → one.Called → Type 0
+CalledAs v a p x n w (one.Replies c z) = Goes v (given a (gives_by v a p (plain_process x) n c)) p w z
+CalledAs v a p x n w (one.Sends k z) = Sends v a (given a (sends_what v a p (plain_process x) k.id k.what)) p w k z
+CalledAs v a p x n w (one.Waits z) = Goes v a p w z
+CalledAs v a p x n w (one.Outputs u z) = Goes v a p w z
+CalledAs v a p x n w (one.Ends y) = w ≡ ended
+
+sent_as : (v : View) (a : Addresses) (p : Pid) (x : Process) (n : one.CallNumber) (m : Message) (y : Process) (k : one.Called) → bind (plain_message m) (λ (u : PlainMessage). Some (one.Sends u (plain_process y))) ≡ Some k
+    → MirrorsCalled v a p x n (Called.Sent m) y → CalledAs v a p x n (record { process = Some y; message = Some m }) k
+sent_as v a p x n m y k e h =
+    let w : Acted = record { process = Some y; message = Some m } in
+    let (u, says, last) = bind-is (plain_message m) (λ (u : PlainMessage). Some (one.Sends u (plain_process y))) k e in
+    let f : one.Sends u (plain_process y) ≡ k = cc in
+    subst (CalledAs v a p x n w) f (record { y = y; m = m; acted = refl; says = says; is = refl; kept = h u says })
+
+called_as : (v : View) (a : Addresses) (p : Pid) (x : Process) (n : one.CallNumber) (c : Called) (y : Process) (k : one.Called) → plain_called c y ≡ Some k → MirrorsCalled v a p x n c y → CalledAs v a p x n (after_call c y) k
+called_as v a p x n (Called.Replied c) y k e h =
+    let f : one.Replies c (plain_process y) ≡ k = cc in
+    subst (CalledAs v a p x n (after_call (Called.Replied c) y)) f (record { y = y; acted = refl; is = refl; kept = h })
+called_as v a p x n (Called.Sent m) y k e h = sent_as v a p x n m y k e h
+called_as v a p x n (Called.Moving m) y k e h = sent_as v a p x n m y k e h
+called_as v a p x n Called.Waits y k e h =
+    let f : one.Waits (plain_process y) ≡ k = cc in
+    subst (CalledAs v a p x n (after_call Called.Waits y)) f (record { y = y; acted = refl; is = refl; kept = h })
+called_as v a p x n (Called.Out w) y k e h =
+    let f : one.Outputs w (plain_process y) ≡ k = cc in
+    subst (CalledAs v a p x n (after_call (Called.Out w) y)) f (record { y = y; acted = refl; is = refl; kept = h })
+called_as v a p x n (Called.Ended because) y k e h =
+    let f : one.Ends because ≡ k = cc in
+    subst (CalledAs v a p x n ended) f refl
+
+abbrev ActsNext : View → Addresses → Pid → Process → Acted → kernel.Next → Type 0
+ActsNext v a p x w (kernel.Calls number k) = CalledAs v a p x (one.call_number number) w k
+ActsNext v a p x w (kernel.Faults fault) = w ≡ ended
+
+acts_row : (v : View) (a : Addresses) (p : Pid) (x : Process) (w : Row) (n : kernel.Next) → instruction x.regs x.memory ≡ w → kernel.next_row p (plain_process x) w ≡ Some n → MirrorsProcess v a p x
+    → (d : Acted) × (acted v.acting x w ≡ Some d) × ActsNext v a p x d n
+acts_row v a p x (Row.Plain regs bytes) n w e h = cc
+acts_row v a p x (Row.Calls number regs) n w e h =
+    let f : regs ≡ past x.regs = past_call x.regs x.memory number regs w in
+    let g : kernel.Calls number (one.call p (record (plain_process x) { regs = regs }) number) ≡ n = cc in
+    let d = calls v.acting (behind x) number in
+    let plain : plain_called d.called d.process ≡ Some (one.call p (plain_process (behind x)) number) =
+    call_plainly v.acting (behind x) d.process number d.called refl refl ∙ ap (λ (q : Pid). Some (one.call q (plain_process (behind x)) number)) h.pid
+    in
+    let base = called_as v a p x (one.call_number number) d.called d.process (one.call p (plain_process (behind x)) number) plain (does_call_kept v a p x (one.call_number number) h) in (
+      after_done (calls v.acting (record x { regs = regs }) number),
+      refl,
+      subst (ActsNext v a p x (after_done (calls v.acting (record x { regs = regs }) number))) g
+          (subst (λ (r : Regs). ActsNext v a p x (after_done (calls v.acting (record x { regs = r }) number)) (kernel.Calls number (one.call p (record (plain_process x) { regs = r }) number))) (sym f) base),
+    )
+acts_row v a p x (Row.Faults fault) n w e h = let g : kernel.Faults fault ≡ n = cc in (ended, refl, subst (ActsNext v a p x ended) g refl)
+
+record ActsOf (s : OneKernel) (v : View) (a : Addresses) (l : Placed) (p : Pid) (n : kernel.Next) : Type 0 where
+  x : Process
+  w : Acted
+  acts : acts v.acting l p ≡ Some (with_acted l p w)
+  runs : kernel.running s p ≡ Some (plain_process x)
+  next : ActsNext v a p x w n
+
+acts_of : (s : OneKernel) (v : View) (a : Addresses) (l : Placed) (p : Pid) (n : kernel.Next) → Mirrors s v a l → kernel.next s p ≡ Some n → ActsOf s v a l p n
+acts_of s v a l p n h e =
+    let (z, runs, row_is) = bind-is (kernel.running s p) (λ (w : PlainProcess). kernel.next_row p w (instruction w.regs w.memory)) n e in
+    let r = runs_of s l p z h.plain runs in
+    let x = r.y in
+    let (w, acted_is, next) = acts_row v a p x (instruction x.regs x.memory) n refl (ap (λ (u : PlainProcess). kernel.next_row p u (instruction u.regs u.memory)) r.is ∙ row_is) (h.places.process p x r.there) in
+    record {
+      x = x;
+      w = w;
+      acts = ap (λ (o : Option Process). bind o (λ (u : Process). bind (acted v.acting u (instruction u.regs u.memory)) (λ (d : Acted). Some (with_acted l p d)))) r.runs
+          ∙ ap (λ (o : Option Acted). bind o (λ (d : Acted). Some (with_acted l p d))) acted_is;
+      runs = runs ∙ ap Some (sym r.is);
+      next = next;
+    }
+
+-- call
+reply_row : (s t : OneKernel) (v : View) (a : Addresses) (l : Placed) (p : Pid) (n : ℕ) (c : Reply) (next : kernel.Next) → ActsOf s v a l p next → kernel.replies s p n c next ≡ Some t → Mirrors s v a l
+    → Follows t v (given a (made v a p n c (kernel.running s p))) (acts v.acting l p)
+reply_row s t v a l p n c (kernel.Calls number (one.Replies d z)) q is h =
+    let k = when-is ((n == number) && reply_eq c d) (kernel.goes_on s p z) t is in
+    let both = k.0 in
+    let number_is : number ≡ n = grind (arith, nat_tests) in
+    let same : reply_eq c d ≡ true = grind (arith, nat_tests) in
+    let x = plain_process q.x in
+    let g = q.next in
+    let gs = gives_by v a p x (one.call_number number) d in
+    let gs_is : gs ≡ made v a p n c (kernel.running s p) =
+    sym (gives_same v a p x (one.call_number number) c d same) ∙ ap (λ (i : ℕ). gives_by v a p x (one.call_number i) c) number_is ∙ sym (made_is v a p n c x) ∙ ap (made v a p n c) (sym q.runs) in
+    let o = only_gives_by v a p x (one.call_number number) d in (
+      with_acted l p q.w,
+      q.acts,
+      mirrors_as (kernel.goes_on s p (plain_process g.y)) t v (given a gs) (given a (made v a p n c (kernel.running s p))) (with_process l p (Some g.y)) (with_acted l p q.w)
+          (ap (kernel.goes_on s p) g.is ∙ k.1) (ap (given a) gs_is) (ap (with_acted l p) (sym g.acted))
+          (record {
+            plain = kernel_process s l p (Alive (plain_process g.y)) (Some g.y) refl h.plain;
+            places = places_process v a (given a gs) l p (Some g.y) h.places o.others (this_process v (given a gs) p g.y g.kept) o.messages o.servers;
+          }),
+    )
+reply_row s t v a l p n c (kernel.Calls number (one.Sends m y)) q is h = cc
+reply_row s t v a l p n c (kernel.Calls number (one.Waits y)) q is h = cc
+reply_row s t v a l p n c (kernel.Calls number (one.Outputs word y)) q is h = cc
+reply_row s t v a l p n c (kernel.Calls number (one.Ends because)) q is h = cc
+reply_row s t v a l p n c (kernel.Faults fault) q is h = cc
+
+pub call_follows : (s t : OneKernel) (v : View) (a : Addresses) (l : Placed) (p : Pid) (n : ℕ) (c : Reply) → kernel.step s (Label.Call p n c) ≡ Some t → Mirrors s v a l → Follows t v (given a (gives s v a (Label.Call p n c))) (acts v.acting l p)
+call_follows s t v a l p n c is h =
+    let (x, next, rest) = bind-is (kernel.next s p) (kernel.replies s p n c) t is in
+    reply_row s t v a l p n c x (acts_of s v a l p x h next) rest h
+
+-- send
+send_row : (s t : OneKernel) (v : View) (a : Addresses) (l : Placed) (p : Pid) (id : MsgId) (next : kernel.Next) → kernel.next s p ≡ Some next → ActsOf s v a l p next → kernel.sends s p id next ≡ Some t → Mirrors s v a l
+    → Follows t v (given a (gives s v a (Label.Send p id))) (acts v.acting l p)
+send_row s t v a l p id (kernel.Calls number (one.Sends m z)) nx q is h =
+    let k = when-is (id_eq id m.id) (kernels.with_sent (kernel.goes_on s p z) (Some m)) t is in
+    let name : m.id ≡ id = sym (id_eq-is id m.id k.0) in
+    let x = plain_process q.x in
+    let g = q.next in
+    let gs = sends_what v a p x m.id m.what in
+    let gs_is : gs ≡ gives s v a (Label.Send p id) =
+    ap (λ (i : MsgId). sends_what v a p x i m.what) name ∙ ap (addresses.sends_next v a p x id) (sym nx) ∙ ap (addresses.sends s v a p id) (sym q.runs) in
+    let o = g.kept in (
+      with_acted l p q.w,
+      q.acts,
+      mirrors_as (kernels.with_sent (kernel.goes_on s p (plain_process g.y)) (Some m)) t v (given a gs) (given a (gives s v a (Label.Send p id))) (with_sent (with_process l p (Some g.y)) (Some g.m)) (with_acted l p q.w)
+          (ap (λ (u : PlainProcess). kernels.with_sent (kernel.goes_on s p u) (Some m)) g.is ∙ k.1) (ap (given a) gs_is) (ap (with_acted l p) (sym g.acted))
+          (record {
+            plain = kernel_sent (kernel.goes_on s p (plain_process g.y)) (with_process l p (Some g.y)) m g.m g.says (kernel_process s l p (Alive (plain_process g.y)) (Some g.y) refl h.plain);
+            places = places_sends v a (given a gs) l p (Some g.y) g.m h.places o.others (this_process v (given a gs) p g.y o.process) o.messages o.message o.servers;
+          }),
+    )
+send_row s t v a l p id (kernel.Calls number (one.Replies d y)) nx q is h = cc
+send_row s t v a l p id (kernel.Calls number (one.Waits y)) nx q is h = cc
+send_row s t v a l p id (kernel.Calls number (one.Outputs word y)) nx q is h = cc
+send_row s t v a l p id (kernel.Calls number (one.Ends because)) nx q is h = cc
+send_row s t v a l p id (kernel.Faults fault) nx q is h = cc
+
+pub send_follows : (s t : OneKernel) (v : View) (a : Addresses) (l : Placed) (p : Pid) (id : MsgId) → kernel.step s (Label.Send p id) ≡ Some t → Mirrors s v a l → Follows t v (given a (gives s v a (Label.Send p id))) (acts v.acting l p)
+send_follows s t v a l p id is h =
+    let (x, next, rest) = bind-is (kernel.next s p) (kernel.sends s p id) t is in
+    send_row s t v a l p id x next (acts_of s v a l p x h next) rest h
+
+-- a process goes on, and nothing is sent or given
+goes_follows : (s t : OneKernel) (v : View) (a : Addresses) (l : Placed) (p : Pid) (w : Acted) (z : PlainProcess) → acts v.acting l p ≡ Some (with_acted l p w) → Goes v a p w z → kernel.goes_on s p z ≡ t → Mirrors s v a l → Follows t v a (acts v.acting l p)
+goes_follows s t v a l p w z is g f h = (
+  with_acted l p w,
+  is,
+  mirrors_as (kernel.goes_on s p (plain_process g.y)) t v a a (with_process l p (Some g.y)) (with_acted l p w) (ap (kernel.goes_on s p) g.is ∙ f) refl (ap (with_acted l p) (sym g.acted))
+      (goes_mirrors s v a l p g.y h g.kept),
+)
+
+-- wait
+wait_row : (s t : OneKernel) (v : View) (a : Addresses) (l : Placed) (p : Pid) (next : kernel.Next) → ActsOf s v a l p next → kernel.waits s p next ≡ Some t → Mirrors s v a l → Follows t v a (acts v.acting l p)
+wait_row s t v a l p (kernel.Calls number (one.Waits z)) q is h = goes_follows s t v a l p q.w z q.acts q.next (let f : kernel.goes_on s p z ≡ t = cc in f) h
+wait_row s t v a l p (kernel.Calls number (one.Replies d y)) q is h = cc
+wait_row s t v a l p (kernel.Calls number (one.Sends m y)) q is h = cc
+wait_row s t v a l p (kernel.Calls number (one.Outputs word y)) q is h = cc
+wait_row s t v a l p (kernel.Calls number (one.Ends because)) q is h = cc
+wait_row s t v a l p (kernel.Faults fault) q is h = cc
+
+pub wait_follows : (s t : OneKernel) (v : View) (a : Addresses) (l : Placed) (p : Pid) → kernel.step s (Label.Wait p) ≡ Some t → Mirrors s v a l → Follows t v a (acts v.acting l p)
+wait_follows s t v a l p is h =
+    let (x, next, rest) = bind-is (kernel.next s p) (kernel.waits s p) t is in
+    wait_row s t v a l p x (acts_of s v a l p x h next) rest h
+
+-- out
+out_row : (s t : OneKernel) (v : View) (a : Addresses) (l : Placed) (p : Pid) (word : ℕ) (next : kernel.Next) → ActsOf s v a l p next → kernel.outputs s p word next ≡ Some t → Mirrors s v a l → Follows t v a (acts v.acting l p)
+out_row s t v a l p word (kernel.Calls number (one.Outputs other z)) q is h =
+    let k = when-is (word == other) (kernel.goes_on s p z) t is in goes_follows s t v a l p q.w z q.acts q.next k.1 h
+out_row s t v a l p word (kernel.Calls number (one.Replies d y)) q is h = cc
+out_row s t v a l p word (kernel.Calls number (one.Sends m y)) q is h = cc
+out_row s t v a l p word (kernel.Calls number (one.Waits y)) q is h = cc
+out_row s t v a l p word (kernel.Calls number (one.Ends because)) q is h = cc
+out_row s t v a l p word (kernel.Faults fault) q is h = cc
+
+pub out_follows : (s t : OneKernel) (v : View) (a : Addresses) (l : Placed) (p : Pid) (word : ℕ) → kernel.step s (Label.Out p word) ≡ Some t → Mirrors s v a l → Follows t v a (acts v.acting l p)
+out_follows s t v a l p word is h =
+    let (x, next, rest) = bind-is (kernel.next s p) (kernel.outputs s p word) t is in
+    out_row s t v a l p word x (acts_of s v a l p x h next) rest h
+
+-- end
+ends_follows : (s t : OneKernel) (v : View) (a : Addresses) (l : Placed) (p : Pid) (y : Why) (w : Acted) → acts v.acting l p ≡ Some (with_acted l p w) → w ≡ ended → kernels.with_process s p (Ended y) ≡ t → Mirrors s v a l → Follows t v a (acts v.acting l p)
+ends_follows s t v a l p y w is e f h = (
+  with_acted l p w,
+  is,
+  mirrors_as (kernels.with_process s p (Ended y)) t v a a (with_process l p None) (with_acted l p w) f refl (ap (with_acted l p) (sym e)) (ends_mirrors s v a l p y h),
+)
+
+end_row : (s t : OneKernel) (v : View) (a : Addresses) (l : Placed) (p : Pid) (y : Why) (next : kernel.Next) → ActsOf s v a l p next → kernel.ends s p y next ≡ Some t → Mirrors s v a l → Follows t v a (acts v.acting l p)
+end_row s t v a l p y (kernel.Calls number (one.Ends because)) q is h =
+    let k = when-is (why_eq y because) (kernels.with_process s p (Ended y)) t is in ends_follows s t v a l p y q.w q.acts q.next k.1 h
+end_row s t v a l p y (kernel.Faults fault) q is h =
+    let k = when-is (why_eq y (Why.Fault fault)) (kernels.with_process s p (Ended y)) t is in ends_follows s t v a l p y q.w q.acts q.next k.1 h
+end_row s t v a l p y (kernel.Calls number (one.Replies d z)) q is h = cc
+end_row s t v a l p y (kernel.Calls number (one.Sends m z)) q is h = cc
+end_row s t v a l p y (kernel.Calls number (one.Waits z)) q is h = cc
+end_row s t v a l p y (kernel.Calls number (one.Outputs word z)) q is h = cc
+
+pub end_follows : (s t : OneKernel) (v : View) (a : Addresses) (l : Placed) (p : Pid) (y : Why) → kernel.step s (Label.End p y) ≡ Some t → Mirrors s v a l → Follows t v a (acts v.acting l p)
+end_follows s t v a l p y is h =
+    let (x, next, rest) = bind-is (kernel.next s p) (kernel.ends s p y) t is in
+    end_row s t v a l p y x (acts_of s v a l p x h next) rest h

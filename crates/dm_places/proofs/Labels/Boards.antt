@@ -1,0 +1,199 @@
+-- What the switchboard takes, with places: each link that it keeps or hands out has the place that the lines say.
+use Rattle.dm_places.proofs.Names.{◌≡◌, ℕ, zero, suc, ◌+◌, ◌==◌, ◌&&◌, Bool, true, false, List, [], ◌∷◌, ◌++◌, refl, ap, ◌∙◌, sym, subst, inl, inr, arith, if◌then◌else◌, map, slice_get, Option, None, Some, cases_Bool, nat_tests, length-map}
+use Rattle.dm_places.proofs.Names.{Pid, Link, Place, place_of, PlainLink, plain_link, MsgId, Message, What, id_eq, id_of, PlainMessage, PlainWhat, plain_what, is_general, switchboard, bind, OneKernel, Switchboard, bytes_eq, is_name, Named}
+use Rattle.dm_places.proofs.Names.{plain_board, plain_named, Asked, plain_answer, plain_asks, plain_asked, plain_reply, id_eq-same, View, Addresses, gets, given, Receiver, Sender, Enclosed, Child, Name, Answer, unmoved, place_named}
+use Rattle.dm_places.proofs.Names.{board_asks, board_finds, board_keeps, board_takes, SameProcess, SameMessage, two, two_off, get_last, Placed, Mirrors, MirrorsKernel, MirrorsMessage, enclosed, board_took, without_message}
+use Rattle.dm_onekernel.specs.Service as service
+use Rattle.dm_onekernel.specs.Switchboard as one
+use Rattle.dm_switchboard.specs.declared.reply.Reply.{Reply}
+use Rattle.dm_switchboard.specs.Taking as board
+use Rattle.dm_places.proofs.Keeps.{came_places, kernel_out, kernel_sent, out_mirrors, places_out, process_same}
+use Rattle.dm_places.proofs.Labels.Acts.{Follows}
+use Rattle.dm_places.proofs.Whats.{user_what}
+
+-- the names and the answer after a request, where b is a with what the request gives
+record AskedKept (a b : Addresses) (sent : MsgId) (k : Asked) : Type 0 where
+  name : (n : ℕ) (w : Named) → slice_get k.names n ≡ Some w → b (Name n) ≡ place_of w.link.addr
+  enclosed : (n : ℕ) (w : Link) → slice_get (board.links_of_reply k.reply) n ≡ Some w → b (Enclosed sent n) ≡ place_of w.addr
+  process : (q : Pid) → SameProcess a b q
+  message : (i : MsgId) → id_eq sent i ≡ false → SameMessage a b i
+  child : (n : ℕ) → b (Child n) ≡ a (Child n)
+  answer : (n : ℕ) → b (Answer n) ≡ a (Answer n)
+
+abbrev NamesKept : Addresses → List Named → Type 0
+NamesKept a names = (n : ℕ) (w : Named) → slice_get names n ≡ Some w → a (Name n) ≡ place_of w.link.addr
+
+abbrev AsksKept : Addresses → MsgId → MsgId → List Named → List ℕ → Asked → Type 0
+AsksKept a id sent names body k =
+    AskedKept a (given a (board_finds a sent (map plain_named names) body (plain_reply k.reply) ++ board_keeps a id (map plain_named names) (plain_reply k.reply))) sent k
+
+nothing_given : (a : Addresses) (sent : MsgId) (names : List Named) (r : Reply) → board.links_of_reply r ≡ [] → NamesKept a names → AskedKept a a sent (record { names = names; reply = r })
+nothing_given a sent names r none h = record {
+  name = h;
+  enclosed = λ n w e. absurd (let f : None ≡ Some w = ap (λ (ls : List Link). slice_get ls n) (sym none) ∙ e in cc);
+  process = λ q. record { slot = λ n. refl; owner = refl };
+  message = λ i e. record { receiver = refl; sender = refl; enclosed = λ n. refl };
+  child = λ n. refl;
+  answer = λ n. refl;
+}
+
+asks_if : (a : Addresses) (id sent : MsgId) (names : List Named) (body : List ℕ) (b : Bool) (k l : Asked) → AsksKept a id sent names body k → AsksKept a id sent names body l → AsksKept a id sent names body (if b then k else l)
+asks_if a id sent names body true k l h j = h
+asks_if a id sent names body false k l h j = j
+
+record FoundAt (name : List ℕ) (names : List Named) (n : ℕ) (w : Link) : Type 0 where
+  i : ℕ
+  k : Named
+  there : slice_get names i ≡ Some k
+  link : k.link ≡ w
+  place : place_named name (map plain_named names) n ≡ n + i
+
+found_at : (name : List ℕ) (names : List Named) (n : ℕ) (w : Link) → board.link_named name names ≡ Some w → FoundAt name names n w
+found_at name [] n w e = cc
+found_at name (k ∷ ks) n w e = elim (cases_Bool (bytes_eq k.name name)) [
+  | inl same ↦
+      let f : Some k.link ≡ Some w = sym (ap (λ (b : Bool). if b then Some k.link else board.link_named name ks) same) ∙ e in
+      record { i = 0; k = k; there = refl; link = let g : k.link ≡ w = cc in g; place = ap (λ (b : Bool). if b then n else place_named name (map plain_named ks) (n + 1)) same ∙ (let g : n ≡ n + 0 = omega arith in g) }
+  | inr apart ↦
+      let h = found_at name ks (n + 1) w (sym (ap (λ (b : Bool). if b then Some k.link else board.link_named name ks) apart) ∙ e) in
+      let hp = h.place in
+      let hi = h.i in
+      record { i = suc hi; k = h.k; there = h.there; link = h.link; place = ap (λ (b : Bool). if b then n else place_named name (map plain_named ks) (n + 1)) apart ∙ hp ∙ (let g : (n + 1) + hi ≡ n + suc hi = omega arith in g) }
+]
+
+found_one : (a : Addresses) (sent : MsgId) (pl : Place) (l : Link) → pl ≡ place_of l.addr → (n : ℕ) (w : Link) → slice_get (l ∷ []) n ≡ Some w → given a (gets (Enclosed sent 0) pl ∷ []) (Enclosed sent n) ≡ place_of w.addr
+found_one a sent pl l at zero w e =
+    let f : l ≡ w = cc in
+    let same : (id_eq sent sent && (0 == 0)) ≡ true = let g = id_eq-same sent in grind (arith, nat_tests) in
+    ap (λ (c : Bool). if c then pl else a (Enclosed sent 0)) same ∙ at ∙ ap (λ (k : Link). place_of k.addr) f
+found_one a sent pl l at (suc n) w e = absurd (let f : None ≡ Some w = e in cc)
+
+looks_up_kept : (a : Addresses) (id sent : MsgId) (names : List Named) (op : ℕ) (name : List ℕ) (o : Option Link) → board.link_named name names ≡ o → NamesKept a names
+    → AsksKept a id sent names (op ∷ name) (record { names = names; reply = board.found_or_unknown o })
+looks_up_kept a id sent names op name None is h = nothing_given a sent names Reply.Unknown refl h
+looks_up_kept a id sent names op name (Some l) is h =
+    let f = found_at name names 0 l is in
+    let place : place_named name (map plain_named names) 0 ≡ f.i = let p = f.place in omega (arith, p) in
+    let pl = a (Name (place_named name (map plain_named names) 0)) in
+    let at : pl ≡ place_of l.addr = ap (λ (n : ℕ). a (Name n)) place ∙ h f.i f.k f.there ∙ ap (λ (w : Link). place_of w.addr) f.link in
+    record {
+      name = h;
+      enclosed = λ n w e. found_one a sent pl l at n w e;
+      process = λ q. record { slot = λ n. refl; owner = refl };
+      message = λ i e. record { receiver = refl; sender = refl; enclosed = λ n. ap (λ (c : Bool). if c && (0 == n) then pl else a (Enclosed i n)) e };
+      child = λ n. refl;
+      answer = λ n. refl;
+    }
+
+registers_kept : (a : Addresses) (id sent : MsgId) (names : List Named) (op : ℕ) (name : List ℕ) (l : Link) (o : Option Link) → a (Enclosed id 1) ≡ place_of l.addr → NamesKept a names
+    → AsksKept a id sent names (op ∷ name) (board.registers_new names name l o)
+registers_kept a id sent names op name l (Some k) at h = nothing_given a sent names Reply.Taken refl h
+registers_kept a id sent names op name l None at h = record {
+  name = λ n w e. elim (get_last names (record { name = name; link = l }) n w e) [
+    | inl g ↦ ap (λ (k : ℕ). if k == n then a (Enclosed id 1) else a (Name n)) (length-map names plain_named) ∙ ap (λ (c : Bool). if c then a (Enclosed id 1) else a (Name n)) g.0 ∙ at ∙ ap (λ (k : Named). place_of k.link.addr) g.1
+    | inr g ↦ ap (λ (k : ℕ). if k == n then a (Enclosed id 1) else a (Name n)) (length-map names plain_named) ∙ ap (λ (c : Bool). if c then a (Enclosed id 1) else a (Name n)) g.0 ∙ h n w g.1
+  ];
+  enclosed = λ n w e. absurd (let f : None ≡ Some w = e in cc);
+  process = λ q. record { slot = λ n. refl; owner = refl };
+  message = λ i e. record { receiver = refl; sender = refl; enclosed = λ n. refl };
+  child = λ n. refl;
+  answer = λ n. refl;
+}
+
+to_register : (a : Addresses) (id sent : MsgId) (names : List Named) (op : ℕ) (name : List ℕ) (ls : List Link) → ((n : ℕ) (w : Link) → slice_get ls n ≡ Some w → a (Enclosed id (suc n)) ≡ place_of w.addr) → NamesKept a names
+    → AsksKept a id sent names (op ∷ name) (board.asks_to_register names name ls)
+to_register a id sent names op name [] en h = nothing_given a sent names Reply.BadRequest refl h
+to_register a id sent names op name (l ∷ k ∷ ks) en h = nothing_given a sent names Reply.BadRequest refl h
+to_register a id sent names op name (l ∷ []) en h =
+    asks_if a id sent names (op ∷ name) (is_name name) (board.registers names name l) (board.bad_request names)
+    (asks_if a id sent names (op ∷ name) (is_general l.kind) (board.registers_new names name l (board.link_named name names)) (record { names = names; reply = Reply.BadLink })
+    (registers_kept a id sent names op name l (board.link_named name names) (en 0 l refl) h) (nothing_given a sent names Reply.BadLink refl h))
+    (nothing_given a sent names Reply.BadRequest refl h)
+
+to_look_up : (a : Addresses) (id sent : MsgId) (names : List Named) (op : ℕ) (name : List ℕ) (ls : List Link) → NamesKept a names → AsksKept a id sent names (op ∷ name) (board.asks_to_look_up names name ls)
+to_look_up a id sent names op name [] h =
+    asks_if a id sent names (op ∷ name) (is_name name) (board.looks_up names name) (board.bad_request names) (looks_up_kept a id sent names op name (board.link_named name names) refl h) (nothing_given a sent names Reply.BadRequest refl h)
+to_look_up a id sent names op name (l ∷ ls) h = nothing_given a sent names Reply.BadRequest refl h
+
+asks_kept : (a : Addresses) (id sent : MsgId) (names : List Named) (body : List ℕ) (ls : List Link) → ((n : ℕ) (w : Link) → slice_get ls n ≡ Some w → a (Enclosed id (suc n)) ≡ place_of w.addr) → NamesKept a names
+    → AsksKept a id sent names body (board.asks names body ls)
+asks_kept a id sent names [] ls en h = nothing_given a sent names Reply.BadRequest refl h
+asks_kept a id sent names (op ∷ name) ls en h =
+    asks_if a id sent names (op ∷ name) (op == 1) (board.asks_to_register names name ls) (if op == 2 then board.asks_to_look_up names name ls else board.bad_request names)
+    (to_register a id sent names op name ls en h)
+    (asks_if a id sent names (op ∷ name) (op == 2) (board.asks_to_look_up names name ls) (board.bad_request names) (to_look_up a id sent names op name ls h) (nothing_given a sent names Reply.BadRequest refl h))
+
+-- the kernel's board after a request is this one without places
+abbrev BoardAt : OneKernel → View → Addresses → Placed → MsgId → List ℕ → Link → List Link → Switchboard → one.Asked → Type 0
+BoardAt s v a l id body w ws b k =
+    Mirrors (service.switchboard_took s id (one.answers b (plain_link w) k)) v (given a (board_asks v a id (id_of switchboard b.sent) b.names body k))
+    (board_took (without_message l id) (board.answers l.board.sent w (board.asks l.board.names body ws)))
+
+request_mirrors : (s : OneKernel) (v : View) (a : Addresses) (l : Placed) (id : MsgId) (body : List ℕ) (w : Link) (ws : List Link) → ((n : ℕ) (u : Link) → slice_get (w ∷ ws) n ≡ Some u → a (Enclosed id n) ≡ place_of u.addr) → v.acting ≡ 0 → Mirrors s v a l
+    → BoardAt s v a l id body w ws (plain_board l.board) (plain_asked (board.asks l.board.names body ws))
+request_mirrors s v a l id body w ws en at h =
+    let names = l.board.names in
+    let n = l.board.sent in
+    let sent = id_of switchboard n in
+    let asked = board.asks names body ws in
+    let k = asks_kept a id sent names body ws (λ i u e. en (suc i) u e) h.places.name in
+    let b = given a (board_finds a sent (map plain_named names) body (plain_reply asked.reply) ++ board_keeps a id (map plain_named names) (plain_reply asked.reply)) in
+    let to = a (Enclosed id 0) in
+    let from = unmoved v.acting in
+    let m = board.answer_over n w asked.reply in
+    let q = one.goes_over switchboard n (plain_link w) (one.code_of_answer (plain_reply asked.reply) ∷ []) (one.links_of_answer (plain_reply asked.reply)) in
+    let u = kernel_out s l id h.plain in
+    let g = places_out v a l id h.places in
+    let s' = record (service.without_message s id) { switchboard = record { names = map plain_named asked.names; sent = n + 1 } } in
+    let l' = record (without_message l id) { board = record { names = asked.names; sent = n + 1 } } in
+    let plain : MirrorsKernel s' l' = record { processes = u.processes; bag = u.bag; board = refl; manager = u.manager; machines = u.machines; images = u.images } in
+    record {
+      plain = kernel_sent s' l' q m (plain_answer n w asked.reply) plain;
+      places = record {
+        process = λ p x e. process_same v a (given b (two sent to from)) p x (let z = k.process p in record { slot = z.slot; owner = z.owner }) (h.places.process p x e);
+        message = came_places a (given b (two sent to from)) l' m g.message
+            (λ i e. let z = k.message i e in let y = two_off b sent to from i e in record { receiver = y.receiver ∙ z.receiver; sender = y.sender ∙ z.sender; enclosed = z.enclosed })
+            (record {
+              id = refl;
+              receiver = ap (λ (c : Bool). if c then to else b (Receiver sent)) (id_eq-same sent) ∙ en 0 w refl;
+              sender = ap (λ (c : Bool). if c then from else b (Sender sent)) (id_eq-same sent) ∙ ap unmoved at;
+              enclosed = k.enclosed;
+            });
+        name = k.name;
+        child = λ j c e. k.child j ∙ h.places.child j c e;
+        answer = λ j r e. k.answer j ∙ h.places.answer j r e;
+      };
+    }
+
+board_request : (s : OneKernel) (v : View) (a : Addresses) (l : Placed) (id : MsgId) (code channel : ℕ) (body : List ℕ) (links : List Link) → ((n : ℕ) (u : Link) → slice_get links n ≡ Some u → a (Enclosed id n) ≡ place_of u.addr) → v.acting ≡ 0 → Mirrors s v a l
+    → Mirrors (service.switchboard_took s id (one.takes_request s.switchboard body (map plain_link links))) v (given a (board_takes s v a id (PlainWhat.User code channel body (map plain_link links)))) (board_took (without_message l id) (board.takes_request l.board body links))
+board_request s v a l id code channel body [] en at h =
+    let u = out_mirrors s v a l id h in
+    let p = u.plain in
+    let g = u.places in
+    record {
+      plain = record { processes = p.processes; bag = p.bag; board = p.board; manager = p.manager; machines = p.machines; images = p.images };
+      places = record { process = g.process; message = g.message; name = g.name; child = g.child; answer = g.answer };
+    }
+board_request s v a l id code channel body (w ∷ ws) en at h =
+    let asked = board.asks l.board.names body ws in
+    subst (λ (b : Switchboard). BoardAt s v a l id body w ws b (one.asks b.names body (map plain_link ws))) h.plain.board
+    (subst (BoardAt s v a l id body w ws (plain_board l.board)) (sym (plain_asks l.board.names body ws)) (request_mirrors s v a l id body w ws en at h))
+
+pub board_row : (s t : OneKernel) (v : View) (a : Addresses) (l : Placed) (id : MsgId) (m : Message) (k : PlainMessage) (u : PlainWhat) → plain_what m.what ≡ Some u → MirrorsMessage a id m → v.acting ≡ 0 → Mirrors s v a l
+    → bind (one.takes s.switchboard k u) (λ (z : one.Took). Some (service.switchboard_took s id z)) ≡ Some t
+    → Follows t v (given a (board_takes s v a id u)) (bind (board.takes l.board m.what) (λ (z : board.Taken). Some (board_took (without_message l id) z)))
+board_row s t v a l id m k (PlainWhat.User code channel bytes ls) says hm at h e =
+    let w = user_what m.what code channel bytes ls says in
+    let f : service.switchboard_took s id (one.takes_request s.switchboard bytes ls) ≡ t = cc in
+    let body = w.body.items in
+    let links = w.links.items in
+    let on = board_took (without_message l id) (board.takes_request l.board body links) in (
+      on,
+      ap (λ (x : What). bind (board.takes l.board x) (λ (z : board.Taken). Some (board_took (without_message l id) z))) w.is,
+      subst (λ (q : OneKernel). Mirrors q v (given a (board_takes s v a id (PlainWhat.User code channel bytes ls))) on) f
+          (subst (λ (bs : List ℕ). Mirrors (service.switchboard_took s id (one.takes_request s.switchboard bs ls)) v (given a (board_takes s v a id (PlainWhat.User code channel bs ls))) on) w.bytes_are
+          (subst (λ (ks : List PlainLink). Mirrors (service.switchboard_took s id (one.takes_request s.switchboard body ks)) v (given a (board_takes s v a id (PlainWhat.User code channel body ks))) on) w.links_are
+          (board_request s v a l id code channel body links (λ n x g. hm.enclosed n x (ap (λ (y : What). slice_get (enclosed y) n) w.is ∙ g)) at h))),
+    )
+board_row s t v a l id m k u says hm at h e = cc

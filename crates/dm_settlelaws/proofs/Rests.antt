@@ -1,0 +1,8 @@
+-- What is at rest, on each pair and at the end, by file.
+pub mod RestsPairs
+pub mod RestsParts
+pub mod RestsComes
+pub mod RestsAlways
+pub mod EndsQuiet
+pub mod EndsAtRest
+pub mod EndsResting
