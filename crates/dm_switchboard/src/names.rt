@@ -1,5 +1,6 @@
 //! The list of names.
 ghost use Rattle.std.specs.Prelude.{◌≡◌, ◌<◌, ◌^◌, IfOk, OnErr, count_by, length, map};
+ghost use Rattle.dm_onekernel.specs.Boot.{is_general};
 ghost use Rattle.dm_switchboard.specs.Board.{listed, named_is_behind, retargeted_named};
 ghost use Rattle.dm_switchboard.specs.Following.{behind_at, told_at};
 ghost use Rattle.dm_switchboard.specs.Taking.{found_or_unknown, link_named, name_of, registers, registers_new};
@@ -36,9 +37,26 @@ pub fn name_of(bytes: &[u8]) -> Option<Name>
 pub fn look_up(names: &Names, name: &Name) -> Reply
     ensures { result ≡ found_or_unknown (link_named name.now.items (listed names.now.entries)) }
 {
-    match names.get(name) {
-        Some(link) => Reply::Found(*link),
+    found(names.get(name).copied())
+}
+
+/// What is answered where a name has this link, or none.
+fn found(link: Option<Link>) -> Reply
+    ensures { result ≡ found_or_unknown link }
+{
+    match link {
+        Some(link) => Reply::Found(link),
         None => Reply::Unknown,
+    }
+}
+
+/// Whether a link may be kept: a reply link serves for one message.
+fn may_be_kept(link: &Link) -> bool
+    ensures { result ≡ is_general link.now.kind }
+{
+    match link.kind {
+        Kind::General => true,
+        Kind::Reply => false,
     }
 }
 
@@ -47,9 +65,10 @@ pub fn register(names: &mut Names, name: Name, link: Link) -> Result<Reply, NoMe
     ensures ok { IfOk result (λ r. registers (listed names.old.entries) name.items link ≡ record { names = listed names.new.entries; reply = r }) }
     ensures err { OnErr result (names.new.entries ≡ names.old.entries) }
 {
-    match link.kind {
-        Kind::General => register_general(names, name, link),
-        Kind::Reply => Ok(Reply::BadLink),
+    if may_be_kept(&link) {
+        register_general(names, name, link)
+    } else {
+        Ok(Reply::BadLink)
     }
 }
 

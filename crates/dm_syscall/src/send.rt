@@ -105,7 +105,14 @@ fn any_empty(table: &Table, slots: &[u8]) -> bool
 fn holds_reply(table: &Table, slot: u32) -> bool
     ensures { result ≡ holds_reply (plain_slot (link_at table.now slot)) }
 {
-    match link_in(table, slot) {
+    serves_once(link_in(table, slot))
+}
+
+/// Whether there is a link that serves for one message alone.
+fn serves_once(link: Option<Link>) -> bool
+    ensures { result ≡ holds_reply (plain_slot link) }
+{
+    match link {
         Some(link) => match link.kind {
             Kind::Reply => true,
             Kind::General => false,

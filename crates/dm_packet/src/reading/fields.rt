@@ -1,7 +1,7 @@
 //! One reader for each kind of field: the value, and the bytes behind it.
-ghost use Rattle.std.specs.Prelude.{◌≡◌, IfOk, length};
+ghost use Rattle.std.specs.Prelude.{◌≡◌, IfOk, None, Some, if◌then◌else◌, length};
 ghost use Rattle.dm_packet.specs.Field.{number, run};
-ghost use Rattle.dm_packet.specs.Fields.{addr, channel, flags, len_from, link, machine, pid};
+ghost use Rattle.dm_packet.specs.Fields.{addr, are_flags, channel, flags, flags_of, len_from, link, machine, pid};
 ghost use Rattle.dm_packet.specs.Reads.{Reads, ReadsSlice};
 
 use crate::PacketError;
@@ -77,19 +77,28 @@ pub fn addr_at(bytes: &[u8]) -> Result<(Addr, &[u8]), PacketError>
 fn flags_at(bytes: &[u8]) -> Result<((Kind, bool, bool), &[u8]), PacketError>
     ensures { Reads result (flags.read bytes.now) }
 {
-    let (flags, rest) = byte_at(bytes)?;
-    let flags = match flags {
-        0 => (Kind::General, false, false),
-        1 => (Kind::Reply, false, false),
-        4 => (Kind::General, true, false),
-        5 => (Kind::Reply, true, false),
-        8 => (Kind::General, false, true),
-        9 => (Kind::Reply, false, true),
-        12 => (Kind::General, true, true),
-        13 => (Kind::Reply, true, true),
-        _ => return Err(PacketError::Flags),
-    };
-    Ok((flags, rest))
+    let (byte, rest) = byte_at(bytes)?;
+    match flags_of(byte) {
+        Some(flags) => Ok((flags, rest)),
+        None => Err(PacketError::Flags),
+    }
+}
+
+/// What the flags of an enclosed link stand for.
+fn flags_of(byte: u8) -> Option<(Kind, bool, bool)>
+    ensures { result ≡ (if are_flags byte then Some (flags_of byte) else None) }
+{
+    match byte {
+        0 => Some((Kind::General, false, false)),
+        1 => Some((Kind::Reply, false, false)),
+        4 => Some((Kind::General, true, false)),
+        5 => Some((Kind::Reply, true, false)),
+        8 => Some((Kind::General, false, true)),
+        9 => Some((Kind::Reply, false, true)),
+        12 => Some((Kind::General, true, true)),
+        13 => Some((Kind::Reply, true, true)),
+        _ => None,
+    }
 }
 
 pub fn channel_at(bytes: &[u8]) -> Result<(u8, &[u8]), PacketError>
