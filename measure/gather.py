@@ -98,6 +98,9 @@ class Crate:
             while path.endswith((".proofs.Names", ".proofs.Imports")) and path in self.book.modules and self.book.modules[path].lines[0] == HEAD:
                 path, there = self.book.modules[path].names[there]
             for n in below:
+                # a crate's own types can't be named by way of its proofs
+                if path.startswith(n.split(".proofs.")[0] + ".specs.declared."):
+                    continue
                 if here in self.book.modules[n].names and self.meaning(n, here) == what and here not in opened:
                     path, there = n, here
                     break

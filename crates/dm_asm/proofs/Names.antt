@@ -13,8 +13,9 @@ pub use Rattle.std.specs.Option.{option_and_then}
 pub use Rattle.std.specs.Ordering.{nat_cmp}
 pub use Rattle.std.specs.Prelude.{Err, Ok, Result, if◌then◌else◌, is_some, option_map}
 pub use Rattle.std.specs.Str.{bytes_eq}
-pub use Rattle.dm_processor.proofs.Names.{Bool, List, None, Opcode, Option, Some, [], ap, arith, common_steps, cond, drop, drop-cons, false, get_or, length, length-drop, length-take-le, nat_tests, refl, replicate, suc, sym, take}
-pub use Rattle.dm_processor.proofs.Names.{take-append_seam, take_all, true, zero, ℕ, ◌*◌, ◌++◌, ◌+◌, ◌-◌, ◌<◌, ◌^◌, ◌∙◌, ◌∷◌, ◌≡◌, ◌≤◌}
+pub use Rattle.dm_processor.proofs.Names.{Bool, List, None, Option, Some, [], ap, arith, common_steps, cond, drop, drop-cons, false, get_or, length, length-drop, length-take-le, nat_tests, refl, replicate, suc, sym, take, take-append_seam}
+pub use Rattle.dm_processor.proofs.Names.{take_all, true, zero, ℕ, ◌*◌, ◌++◌, ◌+◌, ◌-◌, ◌<◌, ◌^◌, ◌∙◌, ◌∷◌, ◌≡◌, ◌≤◌}
+pub use Rattle.dm_processor.specs.declared.opcodes.Opcode.{Opcode}
 pub use Rattle.dm_asm.specs.Assembled.{Answers, StandsBehind, from_line, not_too_long, with_lines}
 unfoldable pub use Rattle.dm_asm.specs.Assembled.{assembled, places_of, with_line}
 pub use Rattle.dm_asm.specs.Forms.{shape_of}

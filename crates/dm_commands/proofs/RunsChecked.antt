@@ -1,7 +1,7 @@
 -- What `run` writes, `check` finds good.
 use Rattle.dm_commands.proofs.Names.{◌≡◌, ◌⊎◌, inl, inr, ℕ, Bool, true, false, List, [], ◌++◌, length, ap, sym, subst, ◌∙◌, append-nil, All, Option, Some, Boot, Directive, Line, IsGood, appended, good_verdict, verdict, HasHome}
-use Rattle.dm_commands.proofs.Names.{beginnings_open, runs_ended, Status, Accepts, GivesGood, HasTrace, AcceptsFiles, SaysBoot, SaysDirectives, IsKept, RunsCheck, SaysItIs, WornRunsCheck, Outside, NeverFails, IsWant}
-use Rattle.dm_run.specs.Printed.{IsWhole, IsWorn}
+use Rattle.dm_commands.proofs.Names.{beginnings_open, runs_ended, Status, Accepts, GivesGood, HasTrace, AcceptsFiles, SaysBoot, SaysDirectives, IsKept, RunsCheck, SaysItIs, WornRunsCheck, Outside, NeverFails, IsWant, IsWhole}
+use Rattle.dm_run.specs.Printed.{IsWorn}
 use Rattle.dm_commands.proofs.Schedules.{are_read}
 
 -- the directives of a schedule name processes that are at home on machines that there are

@@ -1,12 +1,5 @@
 -- What `run` has printed at its end is sound.
-use Rattle.dm_commands.proofs.Names.{◌≡◌, ◌⊎◌, inl, inr, ℕ, List, Option, Boot, Directive, Line, Status, Outside, joined}
-use Rattle.dm_message.specs.declared.MsgId.{MsgId}
-use Rattle.dm_rule.proofs.Groups.{stands_once_always}
-use Rattle.dm_movelaws.proofs.Open.Moves.{leads_of}
-use Rattle.dm_mirror.proofs.Leading.{good_leads}
-use Rattle.dm_rule.specs.Point.{first_point}
-use Rattle.dm_run.specs.Printed.{IsWhole}
-use Rattle.dm_commands.specs.Theorem.{IsSound, PrintsSoundly, RunsAreSound}
+use Rattle.dm_commands.proofs.Names.{◌≡◌, ◌⊎◌, inl, inr, ℕ, List, Option, Boot, Directive, Line, Status, Outside, joined, MsgId, stands_once_always, leads_of, good_leads, first_point, IsWhole, IsSound, PrintsSoundly, RunsAreSound}
 
 pub runs_are_sound : RunsAreSound
 runs_are_sound boot schedule o says = elim says [

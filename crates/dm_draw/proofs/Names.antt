@@ -5,7 +5,8 @@ pub use Rattle.std.proofs.lemmas.Nat.{mod-mul-add, mod_below}
 pub use Rattle.std.specs.List.{All}
 pub use Rattle.dm_processor.proofs.Names.{Bool, List, [], ap, arith, false, length, length-append, nat_tests, refl, suc, sym, true, zero, ℕ, ◌%◌, ◌*◌, ◌++◌, ◌+◌, ◌-◌, ◌/◌, ◌<◌, ◌^◌, ◌∙◌, ◌∷◌, ◌≡◌, ◌≤◌}
 pub use Rattle.dm_linktable.proofs.Names.{rules, subst, ◌&&◌, ◌==◌, ◌≢◌}
-pub use Rattle.dm_schedule.proofs.Names.{Directive, if◌then◌else◌, nat_lt}
+pub use Rattle.dm_schedule.proofs.Names.{if◌then◌else◌, nat_lt}
+pub use Rattle.dm_schedule.specs.declared.Directive.{Directive}
 pub use Rattle.dm_draw.specs.Boot.{machine, machines_of, processes_of}
 unfoldable pub use Rattle.dm_draw.specs.Boot.{boot_of}
 pub use Rattle.dm_draw.specs.Directives.{Drawn, IsDrawn, deliver_drawn, migrate_drawn, round_drawn, tick_drawn, turn_drawn}

@@ -14,7 +14,7 @@ pub use Rattle.dm_records.proofs.Names.{Bool, IsSome, Option, Pid, ap, arith, at
 pub use Rattle.dm_records.specs.Records.{frozen_of, here_of, incoming_of, with_record}
 pub use Rattle.dm_records.specs.declared.record.Record.TheVariants.{Ended, Forward, Frozen, Here, Incoming}
 pub use Rattle.dm_processor.proofs.Lengths.{instruction-lengths}
-pub use Rattle.dm_processor.proofs.Names.{KeepsLengths, List, None, Regs, Row, Some, [], drop, get_or, length, nat_tests, replicate, suc, take, zero, ℕ, ◌*◌, ◌++◌, ◌+◌, ◌-◌, ◌/◌, ◌<◌, ◌∷◌, ◌≤◌}
+pub use Rattle.dm_processor.proofs.Names.{KeepsLengths, List, None, Row, Some, [], drop, get_or, length, nat_tests, replicate, suc, take, zero, ℕ, ◌*◌, ◌++◌, ◌+◌, ◌-◌, ◌/◌, ◌<◌, ◌∷◌, ◌≤◌}
 pub use Rattle.dm_processor.specs.Instructions.{DoesRow}
 unfoldable pub use Rattle.dm_processor.specs.Instructions.{instruction}
 pub use Rattle.dm_room.proofs.Names.{HasTaken, remove, slice_get}
@@ -32,13 +32,14 @@ pub use Rattle.dm_process.specs.declared.process.Service.TheVariants.{Execute}
 pub use Rattle.dm_linkupdate.proofs.Lawful.{applied_lawful}
 pub use Rattle.dm_linkupdate.proofs.Names.{Addr, All, All-map, IsLawfulAddr, IsLawfulEnclosed, IsLawfulProcess, IsLawfulStatus, IsMachine, Process, Ready, SlotIsLawful, Status}
 pub use Rattle.dm_linkupdate.specs.Notice.{is_told_back, kernel_at, update_of}
-pub use Rattle.dm_statebytes.proofs.Names.{Direction, General, IfOk, IfSome, IsLawfulMessage, direction_numbered, inl, inr, length-drop, nat_le, ◌⊎◌}
+pub use Rattle.dm_statebytes.proofs.Names.{Direction, General, IfOk, IfSome, IsLawfulMessage, Regs, direction_numbered, inl, inr, length-drop, nat_le, ◌⊎◌}
 unfoldable pub use Rattle.dm_statebytes.specs.Shell.{registers, shell_of_bytes, spelling}
 pub use Rattle.dm_migrate.proofs.Messages.{lawful_all}
-pub use Rattle.dm_migrate.proofs.Names.{All-append, All-cons, Arrival, Asker, Block, Chunk, Departure, Err, HasChunk, Nothing, Ok, Result, Wanted, What, block_of, chunk_bytes, chunk_of, into_iter_items, length-take, pull, sent_on}
-pub use Rattle.dm_migrate.proofs.Names.{with_chunk, with_piece}
+pub use Rattle.dm_migrate.proofs.Names.{All-append, All-cons, Arrival, Asker, Departure, Err, HasChunk, Ok, Result, What, block_of, chunk_bytes, chunk_of, into_iter_items, length-take, pull, sent_on, with_chunk, with_piece}
 pub use Rattle.dm_migrate.specs.Arrival.{expected, with_block, with_held as with_held_too}
 pub use Rattle.dm_migrate.specs.Departure.{all_sent_on, ask_of, frozen, with_held}
+pub use Rattle.dm_migrate.specs.declared.arriving.Wanted.{Wanted}
+pub use Rattle.dm_migrate.specs.declared.arriving.Wanted.TheVariants.{Block, Chunk, Nothing}
 pub use Rattle.dm_onekernel.specs.Boot.{blocks_at, blocks_of_image, controls_child, image_is_valid, images_are_valid, leads_somewhere, leads_to_process, leads_to_server, link_is_valid, links_are_valid, machine_is_valid, machines_are_valid}
 pub use Rattle.dm_onekernel.specs.Boot.{memory_size, process_named, slots_of}
 pub use Rattle.dm_onekernel.specs.Start.{memory_of, slots_with}
@@ -48,22 +49,25 @@ pub use Rattle.dm_onekernel.specs.declared.boot.BootMachine.{BootMachine}
 pub use Rattle.dm_onekernel.specs.declared.boot.Format.{Format}
 pub use Rattle.dm_onekernel.specs.declared.boot.Format.TheVariants.{One, Two}
 pub use Rattle.dm_onekernel.specs.declared.label.Why.{Why}
-pub use Rattle.dm_switchboard.proofs.Lawful.{answer_after, board_after}
 pub use Rattle.dm_switchboard.proofs.Imports.{All-push, IsLawfulNamed, IsLawfulWhat, NoMemory, is_some, plain_link, switchboard}
+pub use Rattle.dm_switchboard.proofs.Lawful.{answer_after, board_after}
 pub use Rattle.dm_procman.proofs.Hearing.{heard}
 pub use Rattle.dm_procman.proofs.Lawful.{manager_after, message_after, moves_lawful, started_lawful}
 pub use Rattle.dm_procman.proofs.Names.{Boot, BootProcess, IsForManager, IsValid, is_answer, kind_of, manager, moves_child, process_is_valid, processes_are_valid, starting, starting_at, ◌||◌}
 pub use Rattle.dm_procman.specs.declared.moving.MoveError.{MoveError}
 pub use Rattle.dm_datamove.proofs.Landings.{lands_lawfully}
-pub use Rattle.dm_datamove.proofs.Names.{All-nil, IsAwaited, IsLawfulLanded, IsWithin, Landed, Landing, Reply, after_serving, answer, bind, landing, plain_process, serving_answer}
+pub use Rattle.dm_datamove.proofs.Names.{All-nil, IsAwaited, IsLawfulLanded, IsWithin, Landing, Reply, after_serving, answer, bind, landing, plain_process, serving_answer}
 pub use Rattle.dm_datamove.proofs.Services.{answers_lawfully, serves_lawfully}
 pub use Rattle.dm_datamove.proofs.Tested.{none_lawful}
 pub use Rattle.dm_datamove.specs.Serving.{gone_answer}
+pub use Rattle.dm_datamove.specs.declared.Landed.{Landed}
 pub use Rattle.dm_syscall.proofs.Completes.{completes_lawfully}
 pub use Rattle.dm_syscall.proofs.LawfulCalls.{IsLawfulDone, call_lawfully}
-pub use Rattle.dm_syscall.proofs.Names.{CallNumber, Called, Completed, Completion, Copy, Done, Drop, Exit, IsLawfulCalled, IsLawfulLanding, Make, Move, Out, Receive, Send, Unknown, after_send, call_number, calls, completes}
-pub use Rattle.dm_syscall.proofs.Names.{completes_unless, completion, copies, does_call, drop-cons, first_failed, is_outside, is_reply, make_refusals, message_over, move_refusals, moves, moves_bytes, moves_over, own_link, pid_eq_self}
-pub use Rattle.dm_syscall.proofs.Names.{puts_link, receive_refusals, refusal, reg, replied, send_refusals, sends, unless_refused, waits, whole}
+pub use Rattle.dm_syscall.proofs.Names.{CallNumber, Completion, Copy, Done, Drop, Exit, IsLawfulCalled, IsLawfulLanding, Make, Move, Out, Receive, Send, Unknown, after_send, call_number, calls, completes, completes_unless, completion}
+pub use Rattle.dm_syscall.proofs.Names.{copies, does_call, drop-cons, first_failed, is_outside, is_reply, make_refusals, message_over, move_refusals, moves, moves_bytes, moves_over, own_link, pid_eq_self, puts_link, receive_refusals}
+pub use Rattle.dm_syscall.proofs.Names.{refusal, reg, replied, send_refusals, sends, unless_refused, waits, whole}
+pub use Rattle.dm_syscall.specs.declared.Called.{Called}
+pub use Rattle.dm_syscall.specs.declared.Completed.{Completed}
 pub use Rattle.dm_line.specs.Sets.{moved_back, without}
 pub use Rattle.dm_line.specs.declared.line.Line.{Line}
 pub use Rattle.dm_kernel.specs.Asking.{asks_manager, asks_move, told_to_move}

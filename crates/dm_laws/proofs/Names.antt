@@ -1,19 +1,18 @@
 -- What the proofs of this crate name of what lies below it.
-pub use Rattle.std.proofs.Common.{Bool, List, [], ap, arith, false, inl, inr, is_none, is_some, length, nat_le, nat_lt, refl, subst, sym, true, ℕ, ◌&&◌, ◌*◌, ◌++◌, ◌+◌, ◌-◌, ◌==◌, ◌∙◌, ◌∷◌, ◌≡◌, ◌≤◌, ◌⊎◌}
+pub use Rattle.std.proofs.Common.{inl, inr, is_none, is_some, nat_le, nat_lt, ◌⊎◌}
 pub use Rattle.std.proofs.lemmas.Bool.{cases_Bool, false≢true}
-pub use Rattle.std.proofs.lemmas.Bool.Decides.{nat_tests}
-pub use Rattle.std.specs.Prelude.{drop, if◌then◌else◌, map, option_map, slice_get, take, ⊤}
+pub use Rattle.std.specs.Prelude.{if◌then◌else◌, option_map, ⊤}
 pub use Rattle.std.specs.declared.option.Option.{Option}
 pub use Rattle.std.specs.declared.option.Option.TheVariants.{None, Some}
 pub use mathlib.Core.Path.{fun_ext}
-pub use Rattle.dm_link.specs.Names.{pid_eq, pid_of}
+pub use Rattle.dm_link.specs.Names.{pid_of}
 pub use Rattle.dm_link.specs.Plain.{PlainLink, plain_link}
-pub use Rattle.dm_link.specs.declared.Pid.{Pid}
-pub use Rattle.dm_processor.specs.Instructions.{Row, instruction}
+pub use Rattle.dm_processor.proofs.Names.{Bool, List, Row, [], ap, arith, drop, false, instruction, length, nat_tests, refl, sym, take, true, ℕ, ◌*◌, ◌++◌, ◌+◌, ◌-◌, ◌∙◌, ◌∷◌, ◌≡◌, ◌≤◌}
 pub use Rattle.dm_message.specs.Ids.{bool_eq, id_eq, id_of}
 pub use Rattle.dm_message.specs.Plain.{PlainMessage, PlainWhat}
 pub use Rattle.dm_message.specs.declared.MsgId.{MsgId}
-pub use Rattle.dm_linktable.specs.Slots.{first_empty, link_at}
+pub use Rattle.dm_linktable.proofs.Names.{Pid, first_empty, link_at, map, pid_eq, subst, ◌&&◌, ◌==◌}
+pub use Rattle.dm_process.proofs.Names.{slice_get}
 pub use Rattle.dm_process.specs.Directions.{direction_numbered}
 pub use Rattle.dm_process.specs.declared.process.Direction.{Direction}
 pub use Rattle.dm_onekernel.specs.Boot.{IsValid, first_number, manager, processes_are_valid, starting_at, switchboard}

@@ -14,9 +14,11 @@ pub use Rattle.dm_message.specs.declared.What.{What}
 pub use Rattle.dm_linktable.proofs.Names.{map, subst}
 pub use Rattle.dm_process.proofs.Names.{Message, min}
 pub use Rattle.dm_statebytes.proofs.Lawful.{shell_is_lawful}
-pub use Rattle.dm_statebytes.proofs.Names.{All, FitsShell, IfOk, IsLawfulMessage, IsLawfulProcess, IsLawfulShell, IsLawfulStatus, IsMachine, Process, Shell, StateBytesError, if◌then◌else◌, length-drop, nat_lt, shell_of, shell_of_bytes, ◌⊎◌}
+pub use Rattle.dm_statebytes.proofs.Names.{All, FitsShell, IfOk, IsLawfulMessage, IsLawfulProcess, IsLawfulShell, IsLawfulStatus, IsMachine, Process, if◌then◌else◌, length-drop, nat_lt, shell_of, shell_of_bytes, ◌⊎◌}
 pub use Rattle.dm_statebytes.proofs.Shells.{shell_again}
 pub use Rattle.dm_statebytes.proofs.Sizes.{lawful_size}
+pub use Rattle.dm_statebytes.specs.declared.Shell.{Shell}
+pub use Rattle.dm_statebytes.specs.declared.StateBytesError.{StateBytesError}
 pub use Rattle.dm_migrate.specs.Arrival.{Arrival, IsNextChunk, IsNextPiece, IsStateFor, after_block, after_chunk, pull, restarted, revived, revived_from, with_chunk, with_piece}
 pub use Rattle.dm_migrate.specs.Coming.{IsComing, IsStage, Parts, come_of, memory_come, state_come}
 pub use Rattle.dm_migrate.specs.Departure.{CanMove, Departure, sent_on}

@@ -4,7 +4,7 @@ pub use Rattle.std.proofs.lemmas.List.{drop-drop, drop-map}
 pub use Rattle.dm_link.specs.Places.{kernel_at as kernel_of}
 pub use Rattle.dm_records.proofs.Names.{Bool, IsSome, Option, Pid, Some, ap, arith, common_steps, cond, false, if◌then◌else◌, pid_eq, refl, sym, true, ◌∙◌, ◌≡◌}
 pub use Rattle.dm_records.specs.declared.record.Record.{Record}
-pub use Rattle.dm_processor.proofs.Names.{List, Regs, Row, [], drop, drop-append-le, instruction, length, nat_tests, replicate, suc, take, zero, ℕ, ◌*◌, ◌++◌, ◌+◌, ◌-◌, ◌/◌, ◌<◌, ◌^◌, ◌∷◌, ◌≤◌}
+pub use Rattle.dm_processor.proofs.Names.{List, Row, [], drop, drop-append-le, instruction, length, nat_tests, replicate, suc, take, zero, ℕ, ◌*◌, ◌++◌, ◌+◌, ◌-◌, ◌/◌, ◌<◌, ◌^◌, ◌∷◌, ◌≤◌}
 pub use Rattle.dm_room.proofs.Names.{HasTaken, slice_get}
 pub use Rattle.dm_room.specs.Room.{with_released}
 pub use Rattle.dm_wire.proofs.Cursor.{length_marked}
@@ -22,26 +22,27 @@ pub use Rattle.dm_message.specs.Kinds.{IsKindOfPlain}
 pub use Rattle.dm_linktable.proofs.Names.{Link, Ok, count_by, eqb, length-map, link_at, map, slot_is_behind, ◌&&◌, ◌==◌}
 pub use Rattle.dm_packet.proofs.Coded.{packet_kind_is}
 pub use Rattle.dm_packet.proofs.Fields.{machine_is}
-pub use Rattle.dm_packet.proofs.Names.{Addr, All, All-push, IfSome, IsLawfulMessage, IsMachine, IsRoute, Message, MessageKind, MsgId, Opening, Packet, PacketError, PacketKind, What, append-nil, append_assoc, ended, eq-eqb, eqb-true}
-pub use Rattle.dm_packet.proofs.Names.{flat_map, flat_map-cons, kind_of, length-append, machine, message, nat_le, not, number, numbered_message, opening, other_machine, packet_kind, spell_message, version, ◌>>=◌}
+pub use Rattle.dm_packet.proofs.Names.{Addr, All, All-push, IfSome, IsLawfulMessage, IsMachine, IsRoute, Message, MessageKind, MsgId, What, append-nil, append_assoc, ended, eq-eqb, eqb-true, flat_map, flat_map-cons, kind_of, length-append}
+pub use Rattle.dm_packet.proofs.Names.{machine, message, nat_le, not, number, numbered_message, opening, other_machine, packet_kind, spell_message, version, ◌>>=◌}
 pub use Rattle.dm_packet.proofs.Packets.{packet_again}
 unfoldable pub use Rattle.dm_packet.specs.Packets.{packet_of, read_rest, spelling}
-pub use Rattle.dm_schedule.proofs.Names.{Directive}
+pub use Rattle.dm_packet.specs.declared.front.Opening.{Opening}
+pub use Rattle.dm_packet.specs.declared.front.PacketKind.{PacketKind}
 pub use Rattle.dm_process.proofs.Names.{first_on, is_on, without_first_on}
 pub use Rattle.dm_process.specs.Begun.{begun as begun_process}
 pub use Rattle.dm_process.specs.Process.{status_is_runnable}
 pub use Rattle.dm_linkupdate.proofs.Names.{IsLawfulProcess, IsLawfulStatus, None, Process, Status, applied}
-pub use Rattle.dm_statebytes.proofs.Names.{Direction, IsField, IsField-both, IsField-for, IsField-made, IsField-number, IsField-tested, Shell, guard_ok, length-drop, mask_of, shell_of, spell_slot, spell_status}
+pub use Rattle.dm_statebytes.proofs.Names.{Direction, IsField, IsField-both, IsField-for, IsField-made, IsField-number, IsField-tested, PacketError, Regs, guard_ok, length-drop, mask_of, shell_of, spell_slot, spell_status}
 pub use Rattle.dm_statebytes.proofs.Sizes.{numbers_size}
 unfoldable pub use Rattle.dm_statebytes.specs.Shell.{registers}
-pub use Rattle.dm_migrate.proofs.Names.{All-append, All-cons, Arrival, Block, CanMove, Chunk, ComesByPieces, Departure, Err, HasBlock, HasChunk, HasPiece, IsNextPiece, Nothing, PlainWhat, Result, Wanted, after_block, after_chunk, block_of}
-pub use Rattle.dm_migrate.proofs.Names.{chunk_of, coming, is_last, map-append, plain_message, plain_what, pull, restarted, sent_on, state_of, with_piece, with_what}
+pub use Rattle.dm_migrate.proofs.Names.{All-append, All-cons, Arrival, CanMove, ComesByPieces, Departure, Err, HasBlock, HasChunk, HasPiece, IsNextPiece, PlainWhat, Result, Shell, after_block, after_chunk, block_of, chunk_of, coming}
+pub use Rattle.dm_migrate.proofs.Names.{is_last, map-append, plain_message, plain_what, pull, restarted, sent_on, state_of, with_piece, with_what}
 pub use Rattle.dm_migrate.proofs.Way.{by_pieces}
 pub use Rattle.dm_migrate.specs.Answer.{IsAskOfProcess}
 pub use Rattle.dm_switchboard.proofs.Imports.{ArrayVec, Board, Named, is_general, named_is_behind, plain_board, plain_link, plain_named, switchboard}
 pub use Rattle.dm_switchboard.proofs.Plain.{plain_request}
-pub use Rattle.dm_procman.proofs.Names.{Boot, BootProcess, IsForManager, IsValid, Managing, Pending, PlainLink, answer_over, at_home, child_named, control_link, manager, message_to, moves_child, pending_is_behind, pending_numbered}
-pub use Rattle.dm_procman.proofs.Names.{plain_child, plain_manager, plain_pending, process_is_valid, processes_are_valid, slice_get-map, starting_at, tells_to_move, ◌||◌}
+pub use Rattle.dm_procman.proofs.Names.{Boot, BootProcess, IsForManager, IsValid, Managing, PlainLink, answer_over, at_home, child_named, control_link, manager, message_to, moves_child, pending_is_behind, pending_numbered, plain_child}
+pub use Rattle.dm_procman.proofs.Names.{plain_manager, plain_pending, process_is_valid, processes_are_valid, slice_get-map, starting_at, tells_to_move, ◌||◌}
 pub use Rattle.dm_procman.proofs.Plain.{plain_created, plain_no_room, plain_user}
 pub use Rattle.dm_laws.proofs.Names.{Alive, BootImage, Called, Label, Life, Manager, Moving, OneKernel, PlainMessage, PlainProcess, PlainStatus, Ready, Reply, Switchboard, Waiting, Why, answer_id, answer_to, bind, entry, false≢true}
 pub use Rattle.dm_laws.proofs.Names.{first_failed, first_life, first_number, id_eq, id_of, is_of_memory, life_at, option_map, pid_of, reception, replay, start, when, with_process, without_message, ⊤}
@@ -49,8 +50,8 @@ pub use Rattle.dm_laws.proofs.Runs.{reached, received_once}
 pub use Rattle.dm_laws.proofs.Servers.{board_takes, manager_takes}
 pub use Rattle.dm_laws.proofs.Sound.{not_counted}
 pub use Rattle.dm_laws.proofs.Steps.{Completing, after_ran}
-pub use Rattle.dm_datamove.proofs.Names.{All-nil, IsAnswerOf, IsAwaited, IsWithin, Landed, Landing, Rest, after_serving, answer, answer_of, answer_with, piece_of, plain_landed, plain_process, plain_status, serving_answer, written_at}
-pub use Rattle.dm_syscall.proofs.Names.{All-drop, Completion, length-written, plain_called, plain_completed, receive_refusals, reply_code, what_is_on}
+pub use Rattle.dm_datamove.proofs.Names.{All-nil, IsAnswerOf, IsAwaited, IsWithin, Landing, after_serving, answer, answer_of, answer_with, piece_of, plain_landed, plain_process, plain_status, serving_answer, written_at}
+pub use Rattle.dm_syscall.proofs.Names.{All-drop, Completion, Rest, length-written, plain_called, plain_completed, receive_refusals, reply_code, what_is_on}
 pub use Rattle.dm_syscall.specs.Plainly.{plain_sent}
 pub use Rattle.dm_line.proofs.Below.{all_same}
 pub use Rattle.dm_line.proofs.Names.{all_below, eqb_tells}
@@ -62,12 +63,12 @@ pub use Rattle.dm_rule.proofs.Groups.{GroupIs, stands_once_always}
 pub use Rattle.dm_rule.proofs.Homes.Lines.{acting_label}
 pub use Rattle.dm_rule.proofs.Letters.{letter_of}
 pub use Rattle.dm_rule.proofs.Moves.Sent.{fits_packet, fits_put}
-pub use Rattle.dm_rule.proofs.Names.{About, Addresses, Again, Child, Ended, Fault, Forward, Frozen, Gets, Held, Here, HomeStands, Inbox, Incoming, IsIn, IsStep, IsToken, Known, LandsSo, Leads, Line, Load, Made, Moves, Name, NamedLink, Next}
-pub use Rattle.dm_rule.proofs.Names.{Nexts, NothingElse, Nowhere, Of, Over, Owns, Pair, Part, Phase, Place, Point, Queue, Receiver, Rests, Room, Routes, Says, Sender, ServerSends, Slot, Sound, Spelled, Spot, Stage, StandsAsBag}
-pub use Rattle.dm_rule.proofs.Names.{StandsNowhere, StandsOnce, StandsOutside, StandsRight, Step, Todo, Told, Transmits, Unknown, Untaken, View, actor, addresses_after, after, after_label, after_line, after_packet, after_proto, after_put}
-pub use Rattle.dm_rule.proofs.Names.{after_step, alive-is, all_of, ascends, at_id, at_least, at_machine, at_pair, at_pid, at_record, begins, bind-is, child_number, chunks_of, comes, comes_to, counts, counts_process, dropped_for, ended_told}
-pub use Rattle.dm_rule.proofs.Names.{filter, first_gives, first_point, first_view, fits, forward_about, forwarded_for, forwards_on, free_room, front_of, front_told, gets, given, goes_out, gone_after, gone_to, group_of, handled, has}
-pub use Rattle.dm_rule.proofs.Names.{has_mail, headed, hears, here_told, id_eq-is, id_eq-same, id_eq-swap, ids_at, is_apart, is_away, is_between, is_counted, is_due, is_early, is_here, is_kernels, is_quiet, is_restart, is_told_back}
+pub use Rattle.dm_rule.proofs.Names.{About, Addresses, Again, Child, Directive, Ended, Fault, Forward, Frozen, Gets, Held, Here, HomeStands, Inbox, Incoming, IsIn, IsStep, IsToken, Known, LandsSo, Leads, Line, Load, Made, Moves, Name}
+pub use Rattle.dm_rule.proofs.Names.{NamedLink, Next, Nexts, NothingElse, Nowhere, Of, Over, Owns, Pair, Part, Phase, Place, Point, Queue, Receiver, Rests, Room, Routes, Says, Sender, ServerSends, Slot, Sound, Spelled, Spot, Stage}
+pub use Rattle.dm_rule.proofs.Names.{StandsAsBag, StandsNowhere, StandsOnce, StandsOutside, StandsRight, Step, Todo, Told, Transmits, Unknown, Untaken, View, actor, addresses_after, after, after_label, after_line, after_packet, after_proto}
+pub use Rattle.dm_rule.proofs.Names.{after_put, after_step, alive-is, all_of, ascends, at_id, at_least, at_machine, at_pair, at_pid, at_record, begins, bind-is, child_number, chunks_of, comes, comes_to, counts, counts_process, dropped_for}
+pub use Rattle.dm_rule.proofs.Names.{ended_told, filter, first_gives, first_point, first_view, fits, forward_about, forwarded_for, forwards_on, free_room, front_of, front_told, gets, given, goes_out, gone_after, gone_to, group_of, handled}
+pub use Rattle.dm_rule.proofs.Names.{has, has_mail, headed, hears, here_told, id_eq-is, id_eq-same, id_eq-swap, ids_at, is_apart, is_away, is_between, is_counted, is_due, is_early, is_here, is_kernels, is_quiet, is_restart, is_told_back}
 pub use Rattle.dm_rule.proofs.Names.{kept_from, kernel_after, kernel_hears, kernel_told, known_at, knows, label_of, lands-is, left_true, less, lines_of, marked, migrates, migrates_child, more, moved, moved_back, next_step, nexts}
 pub use Rattle.dm_rule.proofs.Names.{not_server, numbers_from, oldest, outcome, own_gives, own_id, packet_line, pair_is_quiet, pid_eq-is, pid_eq-same, pieces_of, place_of, place_of_child, place_told, plain_kind, process_told, puts}
 pub use Rattle.dm_rule.proofs.Names.{queued_for, receiver_in, receiver_of, repeats, resends, right_true, ring_at, routed_on, sender_in, sends_on, server_told, slice_get_cases, slots_of, slots_with, spelled, standing, takes, takes_block}
@@ -101,29 +102,29 @@ pub use Rattle.dm_places.proofs.Any.AnyLine.{no_process}
 pub use Rattle.dm_places.proofs.Any.AnyRun.{group_needs, places_follow_by}
 pub use Rattle.dm_places.proofs.Following.Changed.{free_off, plain_sent_on}
 pub use Rattle.dm_places.proofs.Following.Followed.{among_times, forwarded_mirrors, moves_forwarded, restarted_mirrors, sent_on_mirrors, update_gets}
-pub use Rattle.dm_places.proofs.Keeps.{of_map, parts, there_of}
-pub use Rattle.dm_places.proofs.Lines.{lines_keep, mirrors_view, moves_label, routed_keeps, told_keeps}
-pub use Rattle.dm_places.proofs.Matches.{Ends, acted_with, answers_match, call_matches, completed_matches, fault_matches, lands_match, ran_matches}
-pub use Rattle.dm_places.proofs.Names.{Format, GroupNeeds, KeepsPlaces, Machine, Mirrors, MirrorsKernel, MirrorsPoint, Placed, StepNeeds, address, after_landing, and-both, behind_count, board_took, call_plainly, enclosed, ends_plainly}
-pub use Rattle.dm_places.proofs.Names.{first_told, goes_on_plainly, gone_answer, is_among, is_own, manager_took, memory_of, not_kernels, or-right, or_second, placed_start, placed_step, plain_pending_numbered, sent_all, started, started_at}
-pub use Rattle.dm_places.proofs.Names.{status_plainly}
-pub use Rattle.dm_places.proofs.OwnPuts.{child_place, no_child, own_put_mirrors}
-pub use Rattle.dm_places.proofs.Queues.{calls_with, with_queue}
-pub use Rattle.dm_places.proofs.Labels.Serves.{plainly, plainly_is}
-pub use Rattle.dm_places.proofs.Starts.{start_mirrors}
-pub use Rattle.dm_places.proofs.Steps.{placed_follows}
 pub use Rattle.dm_places.proofs.Following.Updated.{board_told, manager_told, updated_board_mirrors, updated_ended_mirrors, updated_manager_mirrors, updated_mirrors}
 pub use Rattle.dm_places.proofs.Following.UpdatedCounts.{updated_board_count, updated_count, updated_manager_count}
+pub use Rattle.dm_places.proofs.Keeps.{of_map, parts, there_of}
+pub use Rattle.dm_places.proofs.Labels.Serves.{plainly, plainly_is}
+pub use Rattle.dm_places.proofs.Lines.{lines_keep, mirrors_view, moves_label, routed_keeps, told_keeps}
+pub use Rattle.dm_places.proofs.Matches.{Ends, acted_with, answers_match, call_matches, completed_matches, fault_matches, lands_match, ran_matches}
+pub use Rattle.dm_places.proofs.Names.{Format, GroupNeeds, KeepsPlaces, Landed, Machine, Mirrors, MirrorsKernel, MirrorsPoint, Pending, Placed, StepNeeds, address, after_landing, and-both, behind_count, board_took, call_plainly, enclosed}
+pub use Rattle.dm_places.proofs.Names.{ends_plainly, first_told, goes_on_plainly, gone_answer, is_among, is_own, manager_took, memory_of, not_kernels, or-right, or_second, placed_start, placed_step, plain_pending_numbered, sent_all}
+pub use Rattle.dm_places.proofs.Names.{started, started_at, status_plainly}
+pub use Rattle.dm_places.proofs.OwnPuts.{child_place, no_child, own_put_mirrors}
+pub use Rattle.dm_places.proofs.Queues.{calls_with, with_queue}
+pub use Rattle.dm_places.proofs.Starts.{start_mirrors}
+pub use Rattle.dm_places.proofs.Steps.{placed_follows}
 pub use Rattle.dm_places.proofs.Whats.{block_what, create_what, created_what, gone_what, kill_what, no_room_what, read_what, resume_what, stop_what, user_what, write_what, written_what}
 pub use Rattle.dm_kernel.proofs.Fitting.{managed_fits, user_fits}
 pub use Rattle.dm_kernel.proofs.LawfulRows.{of_known}
 pub use Rattle.dm_kernel.proofs.LawfulStart.{opened_lawful, opened_may}
 pub use Rattle.dm_kernel.proofs.Making.{image_fits}
-pub use Rattle.dm_kernel.proofs.Names.{All-head, All-tail, BootMachine, FitsBoardWhat, FitsEnded, FitsHere, FitsKernel, FitsKnown, FitsManager, FitsManagerWhat, FrontMay, Halt, IsLawfulPair, IsLawfulPart, IsLawfulState, IsLawfulTurned}
-pub use Rattle.dm_kernel.proofs.Names.{IsSuch, KernelState, MayHandle, MayRestart, MayTurn, MoveError, Servers, Taken, Turned, accepts, all_sent_on, ask_of, asks_manager, asks_move, blocks_at, blocks_of_image, board_follows, board_handles}
-pub use Rattle.dm_kernel.proofs.Names.{child_of, empty, ended_handles, expected, forwards_and, free_blocks, free_slots, freezes, frozen, frozen_of, gives_piece, handles, here_handles, image_is_valid, images_are_valid, incoming_of}
-pub use Rattle.dm_kernel.proofs.Names.{kernel_at, kernel_handles, links_are_valid, makes, manager_follows, manager_handles, next_pid, opened, own, process_handles, process_named, restarts, restarts_as, room_of, stays, takes_piece}
-pub use Rattle.dm_kernel.proofs.Names.{told_to_move, took_piece, turn, turned, turns, update_of, with_all, with_child, with_here, with_record, with_reserved, without_process}
+pub use Rattle.dm_kernel.proofs.Names.{All-head, All-tail, Block, BootMachine, Chunk, FitsBoardWhat, FitsEnded, FitsHere, FitsKernel, FitsKnown, FitsManager, FitsManagerWhat, FrontMay, IsLawfulPair, IsLawfulPart, IsLawfulState}
+pub use Rattle.dm_kernel.proofs.Names.{IsLawfulTurned, IsSuch, KernelState, MayHandle, MayRestart, MayTurn, MoveError, Nothing, Taken, Turned, Wanted, accepts, all_sent_on, ask_of, asks_manager, asks_move, blocks_at, blocks_of_image}
+pub use Rattle.dm_kernel.proofs.Names.{board_follows, board_handles, child_of, empty, ended_handles, expected, forwards_and, free_blocks, free_slots, freezes, frozen, frozen_of, gives_piece, handles, here_handles, image_is_valid}
+pub use Rattle.dm_kernel.proofs.Names.{images_are_valid, incoming_of, kernel_at, kernel_handles, links_are_valid, makes, manager_follows, manager_handles, next_pid, opened, own, process_handles, process_named, restarts, restarts_as}
+pub use Rattle.dm_kernel.proofs.Names.{room_of, stays, takes_piece, told_to_move, took_piece, turn, turned, turns, update_of, with_all, with_child, with_here, with_record, with_reserved, without_process}
 pub use Rattle.dm_kernel.proofs.Opening.{room_from}
 pub use Rattle.dm_kernel.proofs.Serving.{call_keeps, ran_keeps}
 pub use Rattle.dm_kernel.specs.Carried.{FreezesReceiverWhole, KnownIsWhole}
@@ -162,17 +163,17 @@ pub use Rattle.dm_rulelaws.proofs.Runs.{Run}
 pub use Rattle.dm_rulelaws.proofs.RunsAlways.{run_always, run_group, run_start}
 pub use Rattle.dm_rulelaws.proofs.Tables.Always.{format_always, tables_always}
 pub use Rattle.dm_node.proofs.Here.{StaysAt, asks_move_stays, turn_stays}
-pub use Rattle.dm_node.proofs.Names.{Acted, Acts, All-get_or, Arrived, Early, FreezesWhole, Goes, MayAct, MayArrive, MayAskMove, NodeState, Old, Out, Sends, Worn, acknowledges, acts, after_arrival, after_next, again, all_out, arrival}
-pub use Rattle.dm_node.proofs.Names.{asked_lawful, before, behind, comes_in, count_out, counts_out, first_out, fresh_receiving, fresh_sender, fresh_sending, get_or_from_slice_get, gives, here, is_worn, lets_next, none_waits, numbered}
-pub use Rattle.dm_node.proofs.Names.{put_line, routes, routes_away, routes_home, sends_due, takes_next, then_, then_acknowledges, tick, turn_lawful, with_acked, with_given, with_message, with_receiver, with_sender, with_sent}
+pub use Rattle.dm_node.proofs.Names.{Acted, Acts, All-get_or, Arrived, Early, FreezesWhole, Goes, Halt, MayAct, MayArrive, MayAskMove, NodeState, Old, Packet, Servers, Worn, acknowledges, acts, after_arrival, after_next, again, all_out}
+pub use Rattle.dm_node.proofs.Names.{arrival, asked_lawful, before, behind, comes_in, count_out, counts_out, first_out, fresh_receiving, fresh_sender, fresh_sending, get_or_from_slice_get, gives, here, is_worn, lets_next, none_waits}
+pub use Rattle.dm_node.proofs.Names.{numbered, put_line, routes, routes_away, routes_home, sends_due, takes_next, then_, then_acknowledges, tick, turn_lawful, with_acked, with_given, with_message, with_receiver, with_sender, with_sent}
 pub use Rattle.dm_node.proofs.Staying.{MayAfter, arrives_may, turn_may}
 pub use Rattle.dm_node.specs.Acts.{sends}
 unfoldable pub use Rattle.dm_node.specs.Acts.{lets_go, takes_kept}
 pub use Rattle.dm_node.specs.May.{FitsLoad}
 pub use Rattle.dm_node.specs.Wired.{says}
-pub use Rattle.dm_world.proofs.Names.{AreReadBack, EndLine, MayDeliver, MayRead, MayStep, Pass, Said, Spoken, Two, WorldState, acted, after_mark, arrives, awaited_lines, begin_pass, below, bytes_at, delivers, drop_all, each_machine}
-pub use Rattle.dm_world.proofs.Names.{first_awaited, first_had, first_says, first_unseen, gave_bytes, gave_read, gave_some, here_or_later, home_with, in_pass, is_over, is_pair, lines_in, list_line, memory_lines, names_of, next_delivery}
-pub use Rattle.dm_world.proofs.Names.{next_directive, next_pass, next_turn, or, pairs_of, pairs_with, reads, record_lines, record_queue, settles, slice_get_past, spoken, takes_turn, with_packet, world_step}
+pub use Rattle.dm_world.proofs.Names.{AreReadBack, EndLine, MayDeliver, MayRead, MayStep, Out, Pass, Said, Sends, Spoken, Two, WorldState, acted, after_mark, arrives, awaited_lines, begin_pass, below, bytes_at, delivers, drop_all}
+pub use Rattle.dm_world.proofs.Names.{each_machine, first_awaited, first_had, first_says, first_unseen, gave_bytes, gave_read, gave_some, here_or_later, home_with, in_pass, is_over, is_pair, lines_in, list_line, memory_lines, names_of}
+pub use Rattle.dm_world.proofs.Names.{next_delivery, next_directive, next_pass, next_turn, or, pairs_of, pairs_with, reads, record_lines, record_queue, settles, slice_get_past, spoken, takes_turn, with_packet, world_step}
 pub use Rattle.dm_world.specs.Ends.{HasPlainEnd, alive_lines, come_lines, come_whole, held_for}
 pub use Rattle.dm_world.specs.Readable.{IsReadable, NodeReads, SenderReads, WiresRead, gave}
 pub use Rattle.dm_world.specs.Whole.{AreWhole}

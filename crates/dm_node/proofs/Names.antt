@@ -17,24 +17,29 @@ pub use Rattle.dm_stream.specs.Sending.{fresh_sending, numbered, with_acked, wit
 pub use Rattle.dm_stream.specs.declared.receiver.Arrived.{Arrived}
 pub use Rattle.dm_stream.specs.declared.receiver.Arrived.TheVariants.{Early, Old, Taken}
 pub use Rattle.dm_linktable.proofs.Names.{Link, Result, ◌==◌}
-pub use Rattle.dm_packet.proofs.Names.{All, All-push, Asker, IsLawfulMessage, IsMachine, IsRoute, Message, Packet, What, append_assoc, err_from_is_err_and, get_or_past, kind_of}
+pub use Rattle.dm_packet.proofs.Names.{All, All-push, Asker, IsLawfulMessage, IsMachine, IsRoute, Message, What, append_assoc, err_from_is_err_and, get_or_past, kind_of}
+pub use Rattle.dm_packet.specs.declared.Packet.{Packet}
 pub use Rattle.dm_process.proofs.Names.{first_on}
 pub use Rattle.dm_linkupdate.proofs.Names.{None, Process, Status}
 pub use Rattle.dm_migrate.proofs.Names.{All-append, All-cons, Arrival, Departure, Err, Ok, block_of, chunk_of, into_iter_items, restarted, with_piece}
 pub use Rattle.dm_switchboard.proofs.Imports.{NoMemory, switchboard}
 pub use Rattle.dm_procman.proofs.Names.{Boot, BootProcess, manager, moves_child}
-pub use Rattle.dm_datamove.proofs.Names.{All-nil, Landed, Landing, after_serving, bind, landing, serving_answer}
-pub use Rattle.dm_syscall.proofs.Names.{All-drop, Called, Completed, Completion, calls, completion}
+pub use Rattle.dm_datamove.proofs.Names.{All-nil, Landing, after_serving, bind, landing, serving_answer}
+pub use Rattle.dm_syscall.proofs.Names.{All-drop, Completion, calls, completion}
 pub use Rattle.dm_line.proofs.Names.{eqb_tells}
 pub use Rattle.dm_line.specs.Sets.{at_machine}
 pub use Rattle.dm_kernel.proofs.LawfulTurns.{asked_lawful, turn_lawful}
-pub use Rattle.dm_kernel.proofs.Names.{All-head, All-tail, BootImage, Ended, Forward, Frozen, Halt, Here, Incoming, IsLawfulPart, IsLawfulState, IsLawfulTurned, Kernel, KernelState, Known, Line, MeetsSome, MoveError, Part, Servers, Turned}
+pub use Rattle.dm_kernel.proofs.Names.{All-head, All-tail, BootImage, Called, Completed, Ended, Forward, Frozen, Here, Incoming, IsLawfulPart, IsLawfulState, IsLawfulTurned, KernelState, Known, Landed, Line, MeetsSome, MoveError, Turned}
 pub use Rattle.dm_kernel.proofs.Names.{accepts, answers_with, asks_manager, asks_move, begins, board_handles, board_took, called_with, child_of, empty, ended_handles, first_runnable, forwards_and, frozen_of, gives_piece, goes_round, halts}
 pub use Rattle.dm_kernel.proofs.Names.{handles, here_handles, images_are_valid, incoming_of, is_told_back, kernel_handles, lands, lands_as, leaves, makes, makes_of, manager_handles, manager_took, moved_back, own_id, process_handles}
 pub use Rattle.dm_kernel.proofs.Names.{processor_of, ran, received, received_by, receives, restarts, restarts_as, serves, serves_status, stays, takes_piece, told_board, told_manager, told_to_move, took_piece, turn, with_all, with_child}
 pub use Rattle.dm_kernel.proofs.Names.{with_here, with_machine, ⊤}
 pub use Rattle.dm_kernel.specs.Carried.{FreezesWhole}
 pub use Rattle.dm_kernel.specs.Handle.{has_room}
+pub use Rattle.dm_kernel.specs.declared.kernel.Kernel.{Kernel}
+pub use Rattle.dm_kernel.specs.declared.kernel.Servers.{Servers}
+pub use Rattle.dm_kernel.specs.declared.part.Part.{Part}
+pub use Rattle.dm_kernel.specs.declared.run.Halt.{Halt}
 pub use Rattle.dm_node.specs.Acts.{acknowledges, acts, again, all_out, arrives, arrives_packet, before, comes, comes_in, count_out, counts_out, first_out, gives, is_worn, lets_next, none_waits, put_line, routes, routes_away, routes_home}
 pub use Rattle.dm_node.specs.Acts.{sends_due, takes_next, then_acknowledges, tick, turns}
 unfoldable pub use Rattle.dm_node.specs.Acts.{lets_go, takes_kept}

@@ -1,6 +1,6 @@
 -- What the proofs of this crate name of what lies below it.
 pub use Rattle.std.proofs.lemmas.List.Sums.{sum_by-cons}
-pub use Rattle.dm_processor.proofs.Names.{Bool, List, Regs, Row, [], ap, arith, cond, drop, false, length, nat_tests, past, refl, replicate, suc, sym, take, true, zero, ℕ, ◌*◌, ◌++◌, ◌+◌, ◌-◌, ◌/◌, ◌<◌, ◌∙◌, ◌∷◌, ◌≡◌, ◌≤◌}
+pub use Rattle.dm_processor.proofs.Names.{Bool, List, Row, [], ap, arith, cond, drop, false, length, nat_tests, past, refl, replicate, suc, sym, take, true, zero, ℕ, ◌*◌, ◌++◌, ◌+◌, ◌-◌, ◌/◌, ◌<◌, ◌∙◌, ◌∷◌, ◌≡◌, ◌≤◌}
 unfoldable pub use Rattle.dm_processor.specs.Instructions.{instruction}
 pub use Rattle.dm_room.proofs.Names.{remove, slice_get}
 pub use Rattle.dm_message.specs.Plain.{Read, Write}
@@ -10,7 +10,7 @@ pub use Rattle.dm_linktable.proofs.Plain.{plain_map_retargeted}
 pub use Rattle.dm_schedule.proofs.Names.{if◌then◌else◌, nat_lt}
 pub use Rattle.dm_process.proofs.Names.{Message}
 pub use Rattle.dm_linkupdate.proofs.Names.{Addr, None, Option, Process, Some, Status, applied, relocated, retargeted, retargeted_link, status_after}
-pub use Rattle.dm_statebytes.proofs.Names.{Direction, begun, direction_numbered, inl, inr, nat_le, slice_set, ◌⊎◌}
+pub use Rattle.dm_statebytes.proofs.Names.{Direction, Regs, begun, direction_numbered, inl, inr, nat_le, slice_set, ◌⊎◌}
 pub use Rattle.dm_migrate.proofs.Names.{PlainWhat, What, plain_message, plain_what, sent_on, with_what}
 pub use Rattle.dm_onekernel.specs.Start.{memory_of, zero_regs}
 pub use Rattle.dm_onekernel.specs.Step.{Machine, plain_steps}
@@ -18,21 +18,25 @@ pub use Rattle.dm_onekernel.specs.Switchboard.{goes_over}
 pub use Rattle.dm_onekernel.specs.declared.boot.Format.{Format}
 pub use Rattle.dm_switchboard.proofs.Imports.{ArrayVec, Asked, Named, bytes_eq, is_general, is_name, is_some, named_is_behind, plain_board, plain_link, plain_named, retargeted_named, switchboard}
 pub use Rattle.dm_switchboard.proofs.Plain.{plain_answer, plain_asked, plain_asks, plain_reply}
-pub use Rattle.dm_procman.proofs.Names.{Boot, BootProcess, IsValid, Managing, MsgId, Pending, PlainLink, Taken, answer_over, at_home, child_named, child_numbered, child_of, control_link, kernel, manager, message_to, pending_is_behind}
+pub use Rattle.dm_procman.proofs.Names.{Boot, BootProcess, IsValid, Managing, MsgId, PlainLink, Taken, answer_over, at_home, child_named, child_numbered, child_of, control_link, kernel, manager, message_to, pending_is_behind}
 pub use Rattle.dm_procman.proofs.Names.{pending_numbered, plain_child, plain_manager, plain_pending, retargeted_manager, retargeted_pending, slice_get-map, without_pending, ◌||◌}
 pub use Rattle.dm_procman.proofs.Plain.{plain_bear, plain_numbered, plain_pending_numbered, plain_push, plain_without}
 pub use Rattle.dm_procman.specs.Making.{address}
+pub use Rattle.dm_procman.specs.declared.pending.Pending.{Pending}
 pub use Rattle.dm_laws.proofs.Equal.{pid_eq-swap}
 pub use Rattle.dm_laws.proofs.Names.{Alive, BootImage, CallNumber, Copy, Drop, Ended, Label, Life, Make, Manager, Move, Moving, OneKernel, PlainMessage, PlainProcess, PlainStatus, Ready, Receive, Reply, Send, Switchboard, Waiting, Why}
 pub use Rattle.dm_laws.proofs.Names.{answer_id, answer_to, bind, call_number, cases_Bool, false≢true, first_failed, first_number, id_eq, id_of, option_map, pid_of, reg, ⊤}
 pub use Rattle.dm_datamove.proofs.Landings.{ends_plainly, goes_on_plainly}
-pub use Rattle.dm_datamove.proofs.Names.{Landed, Landing, Rest, after_serving, answer, answer_of, answer_with, landing, piece_of, plain_landed, plain_process, plain_status, serving_answer, written_at}
+pub use Rattle.dm_datamove.proofs.Names.{Landing, after_serving, answer, answer_of, answer_with, landing, piece_of, plain_landed, plain_process, plain_status, serving_answer, written_at}
 pub use Rattle.dm_datamove.specs.Requests.{address_of, moving, request}
 pub use Rattle.dm_datamove.specs.Serving.{gone_answer}
+pub use Rattle.dm_datamove.specs.declared.Landed.{Landed}
 pub use Rattle.dm_syscall.proofs.Completes.{status_plainly}
-pub use Rattle.dm_syscall.proofs.Names.{Called, Completed, Completion, Done, User, calls, completes, completes_unless, completion, cons_option, emptied, is_outside, is_reply, links_in, make_refusals, map-set, move_refusals, on_mask}
-pub use Rattle.dm_syscall.proofs.Names.{plain_called, plain_completed, receive_refusals, send_refusals, what_is_on}
+pub use Rattle.dm_syscall.proofs.Names.{Completion, Done, Rest, User, calls, completes, completes_unless, completion, cons_option, emptied, is_outside, is_reply, links_in, make_refusals, map-set, move_refusals, on_mask, plain_called}
+pub use Rattle.dm_syscall.proofs.Names.{plain_completed, receive_refusals, send_refusals, what_is_on}
 pub use Rattle.dm_syscall.proofs.PlainCalls.{call_plainly, first_of, slot_at}
+pub use Rattle.dm_syscall.specs.declared.Called.{Called}
+pub use Rattle.dm_syscall.specs.declared.Completed.{Completed}
 pub use Rattle.dm_rule.proofs.Homes.Calls.{gives_by, no_gives, or-left, or-right}
 pub use Rattle.dm_rule.proofs.Homes.Lines.{first_none, own_none}
 pub use Rattle.dm_rule.proofs.Homes.Manager.{enclosed_at}

@@ -7,14 +7,17 @@ pub use Rattle.std.specs.List.{cons_option}
 pub use Rattle.std.specs.Prelude.{filter, filter_map, slice_set}
 pub use Rattle.dm_link.specs.Names.{Place, place_of}
 pub use Rattle.dm_link.specs.declared.Kind.TheVariants.{General}
-pub use Rattle.dm_processor.proofs.Names.{Bool, List, Opcode, Regs, Row, [], ap, arith, cond, drop, drop-append-le, false, length, nat_tests, opcode_of, past, refl, replicate, slice_index, suc, sym, take, true, zero, ℕ, ◌%◌, ◌*◌, ◌++◌, ◌+◌}
-pub use Rattle.dm_processor.proofs.Names.{◌-◌, ◌/◌, ◌<◌, ◌∙◌, ◌∷◌, ◌≡◌, ◌≤◌}
+pub use Rattle.dm_processor.proofs.Names.{Bool, List, Row, [], ap, arith, cond, drop, drop-append-le, false, length, nat_tests, opcode_of, past, refl, replicate, slice_index, suc, sym, take, true, zero, ℕ, ◌%◌, ◌*◌, ◌++◌, ◌+◌, ◌-◌, ◌/◌}
+pub use Rattle.dm_processor.proofs.Names.{◌<◌, ◌∙◌, ◌∷◌, ◌≡◌, ◌≤◌}
 unfoldable pub use Rattle.dm_processor.specs.Instructions.{instruction}
+pub use Rattle.dm_processor.specs.declared.opcodes.Opcode.{Opcode}
 pub use Rattle.dm_processor.specs.declared.registers.Fault.{Fault}
+pub use Rattle.dm_processor.specs.declared.registers.Regs.{Regs}
 pub use Rattle.dm_message.specs.Kinds.{plain_kind}
 pub use Rattle.dm_message.specs.declared.kind.MessageKind.{MessageKind}
 pub use Rattle.dm_linktable.proofs.Names.{Link, Pid, first_empty, is_none, link_at, map, pid_eq, subst, ◌&&◌, ◌==◌, ◌≢◌}
-pub use Rattle.dm_schedule.proofs.Names.{Directive, append-nil, drop-length, if◌then◌else◌, nat_lt, not, position_or_len}
+pub use Rattle.dm_schedule.proofs.Names.{append-nil, drop-length, if◌then◌else◌, nat_lt, not, position_or_len}
+pub use Rattle.dm_schedule.specs.declared.Directive.{Directive}
 pub use Rattle.dm_schedule.specs.declared.Step.{Step}
 pub use Rattle.dm_process.proofs.Names.{slice_get}
 pub use Rattle.dm_process.specs.Mail.{on_mask}

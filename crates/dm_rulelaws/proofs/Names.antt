@@ -1,8 +1,8 @@
 -- What the proofs of this crate name of what lies below it.
 pub use Rattle.std.proofs.lemmas.List.{length-drop, length-replicate, length-take}
 pub use Rattle.dm_processor.proofs.Lengths.{instruction-lengths}
-pub use Rattle.dm_processor.proofs.Names.{Bool, KeepsLengths, List, Regs, Row, [], ap, arith, common_steps, drop, false, instruction, length, nat_tests, refl, replicate, suc, sym, take, true, zero, ℕ, ◌*◌, ◌++◌, ◌+◌, ◌-◌, ◌/◌, ◌<◌, ◌∙◌}
-pub use Rattle.dm_processor.proofs.Names.{◌∷◌, ◌≡◌, ◌≤◌}
+pub use Rattle.dm_processor.proofs.Names.{Bool, KeepsLengths, List, Row, [], ap, arith, common_steps, drop, false, instruction, length, nat_tests, refl, replicate, suc, sym, take, true, zero, ℕ, ◌*◌, ◌++◌, ◌+◌, ◌-◌, ◌/◌, ◌<◌, ◌∙◌, ◌∷◌, ◌≡◌}
+pub use Rattle.dm_processor.proofs.Names.{◌≤◌}
 pub use Rattle.dm_linktable.proofs.Names.{Link, Pid, first_empty, length-map, link_at, map, pid_eq, subst, ◌&&◌, ◌==◌, ◌≢◌}
 pub use Rattle.dm_schedule.proofs.Names.{if◌then◌else◌, nat_lt, not}
 pub use Rattle.dm_process.proofs.Names.{min, slice_get}
@@ -42,8 +42,8 @@ pub use Rattle.dm_rule.proofs.Moves.Lists.{both_lists, both_times, first_off, fl
 pub use Rattle.dm_rule.proofs.Moves.Sent.{least_of, sent_way}
 pub use Rattle.dm_rule.proofs.Moves.States.{front_kernels, front_one, front_way, not_first}
 pub use Rattle.dm_rule.proofs.Names.{About, Addresses, Again, Answer, AreStill, Child, Enclosed, Forward, Frozen, Gets, Held, Here, Holder, Inbox, Incoming, IsIn, IsStep, IsStill, Known, LandsSo, Leads, LifeGrows, Line, Load, Made}
-pub use Rattle.dm_rule.proofs.Names.{MessageKind, Moves, Name, NamedLink, Next, Nexts, NothingElse, Of, Owner, Owns, Pair, Part, Phase, Place, Point, Queue, Receiver, Rests, Routes, Says, Sender, ServerSends, Slot, Sound, Spelled, Spot}
-pub use Rattle.dm_rule.proofs.Names.{Stage, StandsAsBag, StandsNowhere, StandsOutside, StandsRight, Step, Todo, Told, Transmits, Unknown, Untaken, View, accepts, after, after_head, after_label, after_line, after_proto, after_put}
+pub use Rattle.dm_rule.proofs.Names.{MessageKind, Moves, Name, NamedLink, Next, Nexts, NothingElse, Of, Owner, Owns, Pair, Part, Phase, Place, Point, Queue, Receiver, Regs, Rests, Routes, Says, Sender, ServerSends, Slot, Sound, Spelled}
+pub use Rattle.dm_rule.proofs.Names.{Spot, Stage, StandsAsBag, StandsNowhere, StandsOutside, StandsRight, Step, Todo, Told, Transmits, Unknown, Untaken, View, accepts, after, after_head, after_label, after_line, after_proto, after_put}
 pub use Rattle.dm_rule.proofs.Names.{after_stage, after_step, after_taken, alive-is, all_follow, answer_link, are_for_home, are_home, ascends, asks_on, at_id, at_machine, at_pair, at_record, begins, behind, bind-is, board_finds}
 pub use Rattle.dm_rule.proofs.Names.{board_keeps, board_takes, child_from, child_number, chunks_of, comes, cons_option, counts, dropped_for, enclosed_of, ended, ended_told, filter, filter_map, first_gives, first_point, first_view, fits}
 pub use Rattle.dm_rule.proofs.Names.{follows_up, forward_about, forwarded_for, forwards, forwards_on, free_room, front_of, front_told, gets, given, gives, gives_piece, goes_out, gone_to, group_of, handled, handled_first, headed, hears}

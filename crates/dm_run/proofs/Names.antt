@@ -6,47 +6,52 @@ pub use Rattle.std.specs.Result.{IfErr, IsErr}
 pub use Rattle.dm_records.proofs.Names.{Bool, Option, Pid, Some, ap, arith, false, if◌then◌else◌, refl, sym, true, ◌∙◌, ◌≡◌}
 pub use Rattle.dm_outside.proofs.Names.{drop}
 pub use Rattle.dm_outside.specs.Outside.{appended}
-pub use Rattle.dm_processor.proofs.Names.{List, Regs, [], get_or, length, nat_tests, suc, take, zero, ℕ, ◌%◌, ◌*◌, ◌++◌, ◌+◌, ◌-◌, ◌/◌, ◌<◌, ◌^◌, ◌∷◌, ◌≤◌}
+pub use Rattle.dm_processor.proofs.Names.{List, [], get_or, length, nat_tests, suc, take, zero, ℕ, ◌%◌, ◌*◌, ◌++◌, ◌+◌, ◌-◌, ◌/◌, ◌<◌, ◌^◌, ◌∷◌, ◌≤◌}
 pub use Rattle.dm_stream.proofs.Names.{Ack, Data, inl, inr, subst, ◌≢◌, ◌⊎◌}
 pub use Rattle.dm_linktable.proofs.Names.{Link, ◌&&◌, ◌==◌}
 pub use Rattle.dm_packet.proofs.Field.{ok_is}
-pub use Rattle.dm_packet.proofs.Names.{Addr, All, Field, IfSome, MessageKind, MsgId, OnOk, Packet, PacketError, addr, append-nil, append_assoc, both, channel, flags, len_from, length-append, link, link_of, nat_le, not, number}
-pub use Rattle.dm_packet.proofs.Names.{optional_read, packet_of, take-append-drop, ◌>>=◌}
+pub use Rattle.dm_packet.proofs.Names.{Addr, All, Field, IfSome, MessageKind, MsgId, OnOk, addr, append-nil, append_assoc, both, channel, flags, len_from, length-append, link, link_of, nat_le, not, number, optional_read, packet_of}
+pub use Rattle.dm_packet.proofs.Names.{take-append-drop, ◌>>=◌}
 pub use Rattle.dm_packet.specs.Fields.{LinkParts}
-pub use Rattle.dm_schedule.proofs.Names.{Directive}
 pub use Rattle.dm_process.proofs.Names.{add-one}
 pub use Rattle.dm_linkupdate.proofs.Names.{None, Process, SlotIsLawful}
-pub use Rattle.dm_statebytes.proofs.Names.{Front, Shell, StateBytesError, bind_ok, by_rule, ended, front, length-drop, mask, read_slots, shell, shell_with, slots, table}
+pub use Rattle.dm_statebytes.proofs.Names.{Front, PacketError, Regs, bind_ok, by_rule, ended, front, length-drop, mask, read_slots, shell, shell_with, slots, table}
 pub use Rattle.dm_statebytes.specs.Shell.{read_shell}
 unfoldable pub use Rattle.dm_statebytes.specs.Shell.{shell_of_bytes}
-pub use Rattle.dm_migrate.proofs.Names.{All-append, All-cons, Arrival, Block, Chunk, Err, Nothing, Ok, Result, Wanted, restarted, revived, revived_from, take_rest}
+pub use Rattle.dm_migrate.proofs.Names.{All-append, All-cons, Arrival, Err, Ok, Result, Shell, StateBytesError, restarted, revived, revived_from, take_rest}
 pub use Rattle.dm_switchboard.proofs.Imports.{IsLawfulNamed, Named, switchboard}
-pub use Rattle.dm_procman.proofs.Names.{Boot, IsValid, Pending, manager}
+pub use Rattle.dm_procman.proofs.Names.{Boot, IsValid, manager}
 pub use Rattle.dm_laws.proofs.Names.{Label, OneKernel, bind, false≢true, first_number, pid_of, ⊤}
 pub use Rattle.dm_datamove.proofs.Names.{All-nil}
 pub use Rattle.dm_syscall.proofs.Names.{drop-cons}
-pub use Rattle.dm_rule.proofs.Names.{About, IsStep, Leads, Line, Next, Pair, Part, Point, Spelled, Stage, Step, Todo, Told, View, after, after_label, after_line, all_of, at_pair, behind, bind-is, filter, first_point, group_of, headed}
-pub use Rattle.dm_rule.proofs.Names.{kernel_after, label_of, lines_of, moved, outcome, receiver_of, spelled, view_after}
+pub use Rattle.dm_rule.proofs.Names.{About, Directive, IsStep, Leads, Line, Next, Pair, Part, Point, Spelled, Stage, Step, Todo, Told, View, after, after_label, after_line, all_of, at_pair, behind, bind-is, filter, first_point, group_of}
+pub use Rattle.dm_rule.proofs.Names.{headed, kernel_after, label_of, lines_of, moved, outcome, receiver_of, spelled, view_after}
 pub use Rattle.dm_rule.specs.Worn.{IsWorn}
-pub use Rattle.dm_kernel.proofs.Names.{All-head, All-tail, Forward, Frozen, Here, Incoming, IsLawfulKnown, IsLawfulPair, IsLawfulState, Known, Servers}
+pub use Rattle.dm_places.proofs.Names.{Pending}
+pub use Rattle.dm_kernel.proofs.Names.{All-head, All-tail, Block, Chunk, Forward, Frozen, Here, Incoming, IsLawfulKnown, IsLawfulPair, IsLawfulState, Known, Nothing, Wanted}
 pub use Rattle.dm_rulelaws.proofs.Decided.{shorter_begins}
 pub use Rattle.dm_rulelaws.proofs.Names.{IsRun}
 pub use Rattle.dm_movelaws.proofs.Names.{EndLine, Standing, block_line, each_machine, home_with, list_line, memory_lines, or, trimmed}
-pub use Rattle.dm_settlelaws.proofs.Rests.EndsAtRest.{ends_at_rest}
-pub use Rattle.dm_settlelaws.proofs.Rests.EndsQuiet.{ends_quiet}
+pub use Rattle.dm_settlelaws.proofs.Falls.TurnsFall.{turns_fall}
 pub use Rattle.dm_settlelaws.proofs.FewSteps.Few.{turns_left_few}
 pub use Rattle.dm_settlelaws.proofs.Names.{IsKept, IsSettleStep, Settle, Two, ends_settled, is_at_rest, stands_once_always, sum_below, turns_left}
-pub use Rattle.dm_settlelaws.proofs.Falls.TurnsFall.{turns_fall}
+pub use Rattle.dm_settlelaws.proofs.Rests.EndsAtRest.{ends_at_rest}
+pub use Rattle.dm_settlelaws.proofs.Rests.EndsQuiet.{ends_quiet}
 pub use Rattle.dm_settlelaws.specs.Passes.{turns_in}
 pub use Rattle.dm_text.proofs.Names.{EndFits, LineFits, text}
 pub use Rattle.dm_text.specs.Fits.{HidesNothing}
 unfoldable pub use Rattle.dm_text.specs.Text.{text_of_ends, text_of_lines}
-pub use Rattle.dm_node.proofs.Names.{Acts, Goes, IsErrAnd, OrNoMemory}
-pub use Rattle.dm_world.proofs.Names.{Answers, AreReadBack, Cursor, End, Falls, Happened, IsWorld, IsWornOut, MayStep, MeetsSome, NextIs, One, Packets, Passing, Place, Round, Said, Says, SettleGoes, Turns, World, WorldState, WornOut, acted}
-pub use Rattle.dm_world.proofs.Names.{after_mark, bytes_at, delivers, drop_all, has_mail, is_quiet, next_step, reads, room_of, state_of, turned, turns_at, turns_of, undelivered, world_step}
+pub use Rattle.dm_node.proofs.Names.{Acts, Goes, IsErrAnd, OrNoMemory, Packet, Servers}
+pub use Rattle.dm_world.proofs.Names.{Answers, AreReadBack, Falls, Happened, IsWorld, IsWornOut, MayStep, MeetsSome, NextIs, Round, Said, Says, SettleGoes, WorldState, WornOut, acted, after_mark, bytes_at, delivers, drop_all, has_mail}
+pub use Rattle.dm_world.proofs.Names.{is_quiet, next_step, reads, room_of, state_of, turned, turns_at, turns_of, undelivered, world_step}
 pub use Rattle.dm_world.specs.Cursor.{IsSettling, left, todo_of}
 unfoldable pub use Rattle.dm_world.specs.Cursor.{room}
 pub use Rattle.dm_world.specs.Ends.{MayEnd}
+pub use Rattle.dm_world.specs.declared.cursor.Cursor.{Cursor}
+pub use Rattle.dm_world.specs.declared.cursor.Cursor.TheVariants.{One, Passing}
+pub use Rattle.dm_world.specs.declared.cursor.Place.{Place}
+pub use Rattle.dm_world.specs.declared.cursor.Place.TheVariants.{End, Packets, Turns}
+pub use Rattle.dm_world.specs.declared.world.World.{World}
 pub use Rattle.dm_mirror.proofs.Names.{AreWhole, EndIsSaid, EndMay, GoesOn, IsDirective, NextIsSaid, Ran, RanBegins, RanGoesOn, RunBegins, RunGoesOn, RunIsRan, RunStands, Stands, first_world, full_pair, gave, is_full, joined, of_known}
 pub use Rattle.dm_mirror.proofs.Names.{worn_in}
 pub use Rattle.dm_mirror.proofs.Next.{machines_stay, next_fits, undelivered_said}

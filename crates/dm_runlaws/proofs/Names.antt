@@ -1,15 +1,18 @@
 -- What the proofs of this crate name of what lies below it.
+pub use Rattle.dm_records.proofs.Names.{Bool, Option, Pid, Some, ap, arith, false, if◌then◌else◌, refl, sym, true, ◌∙◌, ◌≡◌}
+pub use Rattle.dm_processor.proofs.Names.{List, [], drop, length, nat_tests, suc, zero, ℕ, ◌++◌, ◌+◌, ◌-◌, ◌<◌, ◌∷◌, ◌≤◌}
+pub use Rattle.dm_room.proofs.Names.{slice_get}
+pub use Rattle.dm_stream.proofs.Names.{cases_Bool, inl, inr, is_some, nat_lt, subst, ◌≢◌, ◌⊎◌}
 unfoldable pub use Rattle.dm_stream.specs.Packets.{load_at}
-pub use Rattle.dm_packet.proofs.Names.{All, Bool, List, Message, MessageKind, MsgId, Pid, [], ap, append-nil, arith, drop, false, if◌then◌else◌, inl, inr, length, nat_le, nat_tests, not, refl, spelling, subst, suc, sym, true, zero, ℕ, ◌&&◌}
-pub use Rattle.dm_packet.proofs.Names.{◌++◌, ◌+◌, ◌-◌, ◌<◌, ◌==◌, ◌∙◌, ◌∷◌, ◌≡◌, ◌≢◌, ◌≤◌, ◌⊎◌}
-pub use Rattle.dm_schedule.proofs.Names.{Directive, map, nat_lt}
-pub use Rattle.dm_switchboard.proofs.Imports.{None, Option, is_some, slice_get}
+pub use Rattle.dm_linktable.proofs.Names.{map, ◌&&◌, ◌==◌}
+pub use Rattle.dm_packet.proofs.Names.{All, Message, MessageKind, MsgId, append-nil, nat_le, not, spelling}
+pub use Rattle.dm_linkupdate.proofs.Names.{None}
 pub use Rattle.dm_procman.proofs.Names.{Boot, IsValid}
-pub use Rattle.dm_laws.proofs.Names.{Some, cases_Bool, false≢true, option_map, replay, ⊤}
-pub use Rattle.dm_syscall.proofs.Names.{All-nil}
-pub use Rattle.dm_rule.proofs.Names.{Again, AreStill, IsStep, IsStill, Leads, Line, Load, Next, Owns, Pair, Part, Point, Routes, Says, Sent, Spelled, Step, Todo, Transmits, View, actor, after, after_head, after_line, after_packet}
-pub use Rattle.dm_rule.proofs.Names.{after_put, all_of, at_least, at_pair, bind-is, filter, first_point, gone_after, group_of, has_mail, is_quiet, marked, marked_at, moved, next_step, oldest, routed_on, spelled, view_after, window}
-pub use Rattle.dm_rule.proofs.Names.{with_pair}
+pub use Rattle.dm_laws.proofs.Names.{false≢true, option_map, replay, ⊤}
+pub use Rattle.dm_datamove.proofs.Names.{All-nil}
+pub use Rattle.dm_rule.proofs.Names.{Again, AreStill, Directive, IsStep, IsStill, Leads, Line, Load, Next, Owns, Pair, Part, Point, Routes, Says, Sent, Spelled, Step, Todo, Transmits, View, actor, after, after_head, after_line}
+pub use Rattle.dm_rule.proofs.Names.{after_packet, after_put, all_of, at_least, at_pair, bind-is, filter, first_point, gone_after, group_of, has_mail, is_quiet, marked, marked_at, moved, next_step, oldest, routed_on, spelled, view_after}
+pub use Rattle.dm_rule.proofs.Names.{window, with_pair}
 pub use Rattle.dm_rule.specs.Worn.{IsWorn}
 pub use Rattle.dm_places.proofs.Names.{Placed}
 pub use Rattle.dm_kernel.proofs.Names.{All-head, All-tail}
@@ -18,14 +21,14 @@ pub use Rattle.dm_rulelaws.proofs.Names.{IsNetLine, IsRun, LeadsBy, group_is, is
 pub use Rattle.dm_rulelaws.proofs.RunsAlways.{goes_on_always, receives_in_order}
 pub use Rattle.dm_movelaws.proofs.Names.{count, group_replay, labels-append, line_view, onward, or, pair_same, replay-append, run_always, said, taken_pair}
 pub use Rattle.dm_movelaws.proofs.Real.Always.{head_less}
-pub use Rattle.dm_settlelaws.proofs.Rests.EndsQuiet.{or_is, pass_stays, settles_is, unless_is}
-pub use Rattle.dm_settlelaws.proofs.FewSteps.FewPuts.{few_puts}
-pub use Rattle.dm_settlelaws.proofs.Grows.{one_longer}
 pub use Rattle.dm_settlelaws.proofs.Falls.LeftFalls.{left_falls}
 pub use Rattle.dm_settlelaws.proofs.Falls.Less.{Falls, by_left}
+pub use Rattle.dm_settlelaws.proofs.FewSteps.FewPuts.{few_puts}
+pub use Rattle.dm_settlelaws.proofs.Grows.{one_longer}
 pub use Rattle.dm_settlelaws.proofs.Names.{IsKept, IsLess, IsSettleStep, Left, Pass, Settle, SettlesBy, Two, begin_pass, below, count-append, first_undelivered, group_after, here_or_later, in_pass, is_over, leads_append, left, next}
 pub use Rattle.dm_settlelaws.proofs.Names.{next_delivery, next_directive, next_pass, next_turn, pairs_of, pass_begun, passes_quiet, quiet_passes, says_put, says_view, settles, stands_once_always, takes_turn, transmits_view, undelivered}
 pub use Rattle.dm_settlelaws.proofs.PassHas.{settles_always}
+pub use Rattle.dm_settlelaws.proofs.Rests.EndsQuiet.{or_is, pass_stays, settles_is, unless_is}
 pub use Rattle.dm_node.specs.Out.{packet_of}
 pub use Rattle.dm_world.proofs.Names.{Round, WorldState, bytes_at, is_pair}
 pub use Rattle.dm_mirror.proofs.Deliver.Events.{mark_next}

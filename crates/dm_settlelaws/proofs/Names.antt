@@ -1,28 +1,31 @@
 -- What the proofs of this crate name of what lies below it.
-pub use Rattle.std.proofs.Common.{length-append, mul-add, mul-one, mul-suc, suc-mul}
-pub use Rattle.std.proofs.lemmas.Bool.Decides.{eqb_tells, leb_tells}
+pub use Rattle.std.proofs.Common.{mul-add, mul-one, mul-suc, suc-mul}
+pub use Rattle.std.proofs.lemmas.Bool.Decides.{leb_tells}
 pub use Rattle.std.proofs.lemmas.List.Elements.{All-append, All-cons, All-nil}
 pub use Rattle.std.proofs.lemmas.Nat.{mul-le}
 pub use Rattle.std.specs.List.{All}
+pub use Rattle.dm_processor.proofs.Names.{Bool, List, [], ap, arith, drop, false, length, length-append, length-drop, nat_tests, refl, suc, sym, take, true, zero, ℕ, ◌*◌, ◌++◌, ◌+◌, ◌-◌, ◌/◌, ◌<◌, ◌^◌, ◌∙◌, ◌∷◌, ◌≡◌, ◌≤◌}
 unfoldable pub use Rattle.dm_processor.specs.Instructions.{instruction}
-pub use Rattle.dm_schedule.proofs.Names.{Bool, Directive, List, [], ap, arith, drop, false, if◌then◌else◌, length, length-drop, nat_lt, nat_tests, not, refl, suc, sym, take, true, zero, ℕ, ◌&&◌, ◌++◌, ◌+◌, ◌-◌, ◌<◌, ◌==◌, ◌^◌, ◌∙◌, ◌∷◌}
-pub use Rattle.dm_schedule.proofs.Names.{◌≡◌, ◌≤◌}
-pub use Rattle.dm_laws.proofs.Names.{Alive, Boot, BootImage, IsValid, Label, Life, MsgId, None, Option, Pending, Pid, PlainLink, PlainMessage, PlainProcess, PlainWhat, Some, answer_id, bind, cases_Bool, false≢true, first_number, id_eq}
-pub use Rattle.dm_laws.proofs.Names.{id_of, inl, inr, is_some, manager, nat_le, pid_eq, pid_of, slice_get, subst, switchboard, ⊤, ◌*◌, ◌⊎◌}
+pub use Rattle.dm_linktable.proofs.Names.{Pid, pid_eq, subst, ◌&&◌, ◌==◌, ◌≢◌}
+pub use Rattle.dm_schedule.proofs.Names.{if◌then◌else◌, nat_lt, not}
+pub use Rattle.dm_process.proofs.Names.{slice_get}
+pub use Rattle.dm_laws.proofs.Names.{Alive, Boot, BootImage, IsValid, Label, Life, MsgId, None, Option, Pending, PlainLink, PlainMessage, PlainProcess, PlainWhat, Some, answer_id, bind, cases_Bool, false≢true, first_number, id_eq, id_of}
+pub use Rattle.dm_laws.proofs.Names.{inl, inr, is_some, manager, nat_le, pid_of, switchboard, ⊤, ◌⊎◌}
+pub use Rattle.dm_line.proofs.Names.{eqb_tells}
 pub use Rattle.dm_line.specs.Each.{sum_below}
 pub use Rattle.dm_line.specs.Todo.{Two, begin_pass, below, here_or_later, in_pass, is_over, next, next_delivery, next_directive, next_pass, next_turn, pairs_of, pairs_with, pass_begun, settles, takes_turn}
 pub use Rattle.dm_line.specs.declared.pass.Pass.{Pass}
 pub use Rattle.dm_line.specs.declared.pass.Pass.TheVariants.{Settle}
 pub use Rattle.dm_rule.proofs.Groups.{GroupIs, stands_once_always}
 pub use Rattle.dm_rule.proofs.Homes.Calls.{or-left}
-pub use Rattle.dm_rule.proofs.Names.{About, Addresses, Again, Child, Forward, Held, Here, Inbox, IsQuiet, IsStep, Known, Leads, Line, Load, MessageKind, Name, NamedLink, Next, NothingElse, Of, Owns, Pair, PairStands, Part, Point, Receiver}
-pub use Rattle.dm_rule.proofs.Names.{Room, Routes, Says, Sender, Sent, Slot, Spelled, Spot, Stage, StandsOutside, StandsRight, Step, TellsRight, Todo, Told, Transmits, Untaken, View, accepts, after, after_line, all_of, arrives, asks_on}
-pub use Rattle.dm_rule.proofs.Names.{at_id, at_least, at_machine, at_pair, behind, bind-is, board_took, chunks_of, comes_to, creates, dropped_for, drops, ended_handles, ended_told, filter, first_point, first_view, fits, follows_up}
+pub use Rattle.dm_rule.proofs.Names.{About, Addresses, Again, Child, Directive, Forward, Held, Here, Inbox, IsQuiet, IsStep, Known, Leads, Line, Load, MessageKind, Name, NamedLink, Next, NothingElse, Of, Owns, Pair, PairStands, Part, Point}
+pub use Rattle.dm_rule.proofs.Names.{Receiver, Room, Routes, Says, Sender, Sent, Slot, Spelled, Spot, Stage, StandsOutside, StandsRight, Step, TellsRight, Todo, Told, Transmits, Untaken, View, accepts, after, after_line, all_of, arrives}
+pub use Rattle.dm_rule.proofs.Names.{asks_on, at_id, at_least, at_machine, at_pair, behind, bind-is, board_took, chunks_of, comes_to, creates, dropped_for, drops, ended_handles, ended_told, filter, first_point, first_view, fits, follows_up}
 pub use Rattle.dm_rule.proofs.Names.{forwarded_for, forwards_on, free_room, goes_out, gone_after, group_of, handled, has, has_mail, has_room, hears, held_for, here_handles, here_told, id_eq-is, id_eq-same, is_between, is_kernels, is_quiet}
 pub use Rattle.dm_rule.proofs.Names.{is_told_back, kept_from, kernel_handles, kernel_hears, kernel_told, kills, leads, leads_on, leaves, less, let_go, lines_of, manager_took, marked, marked_at, migrates, more, moved, next_step}
 pub use Rattle.dm_rule.proofs.Names.{numbers_from, oldest, outcome, outstanding, own_id, packet_line, pieces_of, place_told, plain_kind, process_handles, process_told, puts, queued_for, receiver_of, repeats, resends, right_true, routed_on}
 pub use Rattle.dm_rule.proofs.Names.{routes, says, sends_on, served_told, server_told, slice_set, spelled, standing, taken_id, takes, takes_block, takes_chunk, takes_on, target_of, times, to_kernel, to_of, turns, untaken, view_after}
-pub use Rattle.dm_rule.proofs.Names.{window, without_first, without_front, ◌/◌, ◌||◌, ◌≢◌}
+pub use Rattle.dm_rule.proofs.Names.{window, without_first, without_front, ◌||◌}
 pub use Rattle.dm_rule.proofs.Pairs.{Pairs, Pairs-always, Pairs-group, Pairs-start, acked_out_by, pair_home, pairs_stand_always}
 pub use Rattle.dm_rule.proofs.Pairs.Comes.{less-left}
 pub use Rattle.dm_rule.proofs.Pairs.Lines.{AllFit-later, Fits, Onward, fitting_goes, one_view, says_view, transmits_view, two_views}

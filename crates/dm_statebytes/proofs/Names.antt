@@ -5,18 +5,20 @@ pub use Rattle.std.proofs.lemmas.Bool.{lt-ltb}
 pub use Rattle.std.proofs.lemmas.List.{length-drop, length-replicate, take_more_set}
 pub use Rattle.std.proofs.lemmas.Nat.{mod-pow-add, mod_below}
 pub use Rattle.std.specs.Prelude.{nat_lt}
-pub use Rattle.dm_processor.proofs.Names.{Bool, List, None, Option, Regs, Some, [], ap, arith, common_steps, drop, false, get_or, length, nat_tests, refl, suc, sym, take, take_all, true, zero, ℕ, ◌%◌, ◌*◌, ◌++◌, ◌+◌, ◌-◌, ◌/◌, ◌<◌, ◌^◌}
-pub use Rattle.dm_processor.proofs.Names.{◌∙◌, ◌∷◌, ◌≡◌, ◌≤◌}
+pub use Rattle.dm_processor.proofs.Names.{Bool, List, None, Option, Some, [], ap, arith, common_steps, drop, false, get_or, length, nat_tests, refl, suc, sym, take, take_all, true, zero, ℕ, ◌%◌, ◌*◌, ◌++◌, ◌+◌, ◌-◌, ◌/◌, ◌<◌, ◌^◌, ◌∙◌, ◌∷◌}
+pub use Rattle.dm_processor.proofs.Names.{◌≡◌, ◌≤◌}
+pub use Rattle.dm_processor.specs.declared.registers.Regs.{Regs}
 pub use Rattle.dm_linktable.proofs.Names.{Err, Link, Ok, Pid, Result, eqb, link_at, replicate, set, subst, ◌==◌}
 pub use Rattle.dm_packet.proofs.Coded.{coded_is, none_left, one_or_later, yes_or_no_is}
 pub use Rattle.dm_packet.proofs.Field.{IsField, IsField-both, IsField-for, IsField-made, IsField-number, IsField-tested, IsField-times, Took, bind_ok, guard_ok, then_parts, took_same}
 pub use Rattle.dm_packet.proofs.Fields.{IsSpelledAddr, IsSpelledLink, IsSpelledPid, addr_is, length_within_is, link_is, pid_is}
 pub use Rattle.dm_packet.proofs.Loop.{goes_on, with_front}
-pub use Rattle.dm_packet.proofs.Names.{Addr, All, All-from_recursion, AllByRecursion, Fits, General, IfOk, IfSome, IsLawfulMessage, IsMachine, Message, OnOk, PacketError, Reply, addr, append-nil, append_assoc, bit_of, both, eq-eqb}
-pub use Rattle.dm_packet.proofs.Names.{eqb-true, err_from_is_err_and, flat_map, flat_map-cons, if◌then◌else◌, inl, inr, length-append, link, ltb-true, mod-eq_of_lt, nat_le, nil_from_length, number, pid, pow-succ', read_times}
-pub use Rattle.dm_packet.proofs.Names.{recursion_from_All, take_at_read, yes_or_no, ◌>>=◌, ◌⊎◌}
+pub use Rattle.dm_packet.proofs.Names.{Addr, All, All-from_recursion, AllByRecursion, Fits, General, IfOk, IfSome, IsLawfulMessage, IsMachine, Message, OnOk, Reply, addr, append-nil, append_assoc, bit_of, both, eq-eqb, eqb-true}
+pub use Rattle.dm_packet.proofs.Names.{err_from_is_err_and, flat_map, flat_map-cons, if◌then◌else◌, inl, inr, length-append, link, ltb-true, mod-eq_of_lt, nat_le, nil_from_length, number, pid, pow-succ', read_times, recursion_from_All}
+pub use Rattle.dm_packet.proofs.Names.{take_at_read, yes_or_no, ◌>>=◌, ◌⊎◌}
 pub use Rattle.dm_packet.proofs.Numbers.{IsBytes}
 pub use Rattle.dm_packet.proofs.Writes.{all_next, next_has_room, pieces_next, then_put}
+pub use Rattle.dm_packet.specs.declared.PacketError.{PacketError}
 pub use Rattle.dm_process.specs.Begun.{begun}
 pub use Rattle.dm_process.specs.Directions.{direction_numbered, number_of_direction}
 pub use Rattle.dm_process.specs.Lawful.{IsLawfulProcess, IsLawfulStatus, SlotIsLawful}

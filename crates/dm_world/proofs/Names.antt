@@ -15,10 +15,11 @@ pub use Rattle.dm_wire.specs.Sent.{bytes_at}
 pub use Rattle.dm_wire.specs.Wire.{after_mark, is_pair, packets_on}
 pub use Rattle.dm_stream.proofs.Names.{Ack, Data, Load, append-nil, inl, inr, slice_get_within, subst, ◌≢◌, ◌⊎◌}
 pub use Rattle.dm_linktable.proofs.Names.{Result, map, ◌&&◌, ◌==◌}
-pub use Rattle.dm_packet.proofs.Names.{All, Message, MsgId, Packet, PacketError, append_assoc, drop_at, leb-true, not, packet_of, spelling}
-pub use Rattle.dm_schedule.proofs.Names.{Directive}
+pub use Rattle.dm_packet.proofs.Names.{All, Message, MsgId, append_assoc, drop_at, leb-true, not, packet_of, spelling}
+pub use Rattle.dm_schedule.specs.declared.Directive.{Directive}
 pub use Rattle.dm_schedule.specs.declared.Step.{Step}
 pub use Rattle.dm_linkupdate.proofs.Names.{None}
+pub use Rattle.dm_statebytes.proofs.Names.{PacketError}
 pub use Rattle.dm_migrate.proofs.Names.{Err, Ok, into_iter_items}
 pub use Rattle.dm_switchboard.proofs.Imports.{IsLawfulNamed, Named}
 pub use Rattle.dm_procman.proofs.Names.{Boot, IsValid, ◌||◌}
@@ -32,13 +33,17 @@ pub use Rattle.dm_line.specs.declared.pass.Pass.{Pass}
 pub use Rattle.dm_line.specs.declared.pass.Pass.TheVariants.{Round, Settle}
 pub use Rattle.dm_kernel.proofs.Names.{All-head, All-tail, Global, IsLawfulState, Line, Vec, images_are_valid, ⊤}
 pub use Rattle.dm_node.proofs.Here.{opened_here}
-pub use Rattle.dm_node.proofs.Names.{Acted, Acts, ActsLawfully, All-rest, AnswersSome, FreezesWhole, Gave, Goes, HasStreams, IsLawfulOut, MayAct, MayArrive, MayArrivePacket, MayAskMove, MayTurn, Node, NodeState, Out, Sends, Stop, Worn}
-pub use Rattle.dm_node.proofs.Names.{arrives_packet, at_machine, get_or_from_slice_get, here, leb_tells, opened, tick, with_items, with_items_is}
+pub use Rattle.dm_node.proofs.Names.{Acted, Acts, ActsLawfully, All-rest, AnswersSome, FreezesWhole, Gave, Goes, HasStreams, IsLawfulOut, MayAct, MayArrive, MayArrivePacket, MayAskMove, MayTurn, NodeState, Packet, Worn, arrives_packet}
+pub use Rattle.dm_node.proofs.Names.{at_machine, get_or_from_slice_get, here, leb_tells, opened, tick, with_items, with_items_is}
 pub use Rattle.dm_node.proofs.Sends.{arrives_lawfully, asks_lawfully, ticks_lawfully, turns_lawfully}
 pub use Rattle.dm_node.specs.Acts.{asks_move, turn}
 pub use Rattle.dm_node.specs.Lawful.{IsFrom}
 pub use Rattle.dm_node.specs.Meets.{GaveSome, IfWorn, IsWornSome}
 pub use Rattle.dm_node.specs.Wired.{Spoken, packet_line, spoken, with_packet}
+pub use Rattle.dm_node.specs.declared.node.Node.{Node}
+pub use Rattle.dm_node.specs.declared.out.Out.{Out}
+pub use Rattle.dm_node.specs.declared.out.Out.TheVariants.{Sends}
+pub use Rattle.dm_node.specs.declared.stop.Stop.{Stop}
 pub use Rattle.dm_world.specs.Cursor.{Falls, FirstIs, FirstTurnIs, InPassIs, IsFresh, LeavesFewer, LeavesNoMore, NextIs, NextPassIs, RoundGoes, SettleGoes, TakesTurn, as_next, found_at, machines_left, pairs_left, room_of, row_at}
 pub use Rattle.dm_world.specs.Cursor.{seen_count, todo_at, turn_at, turns_at, turns_of}
 unfoldable pub use Rattle.dm_world.specs.Cursor.{pairs_at, room}

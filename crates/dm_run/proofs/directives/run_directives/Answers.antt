@@ -1,7 +1,7 @@
 use Rattle.dm_run.proofs.Names.{[], ap, length, refl, sym, ◌∙◌, arith, all_of, state_of, WorldState}
 use Rattle.dm_run.proofs.Comes.{comes_first}
 use Rattle.dm_run.proofs.Steps.{running_come}
-use Rattle.dm_run.proofs.Stepping.{all_done, are_directives, blames_err, carries_on, ended_err, halts_on}
+use Rattle.dm_run.proofs.Stepping.{all_done, are_directives, blames_err, carries_on, halts_on}
 use Rattle.dm_run.proofs.Stepping as stepping
 use Rattle.dm_run.proofs.directives.run_directives.Goals as goal
 

@@ -1,7 +1,7 @@
 use Rattle.dm_run.proofs.Names.{[], length, sym, subst, Boot, all_of, state_of, Ended, HasCome}
 use Rattle.dm_run.proofs.Endings.{ended_lasts}
 use Rattle.dm_run.proofs.Steps.{may_end_there}
-use Rattle.dm_run.proofs.Stepping.{blames_err, ended_err}
+use Rattle.dm_run.proofs.Stepping.{blames_err}
 use Rattle.dm_run.proofs.directives.run_to_end.Goals as goal
 
 pub say_end-requires-clause-may : goal.say_end-requires-clause-may

@@ -1,5 +1,5 @@
 use Rattle.dm_world.proofs.Names.{◌+◌, ◌<◌, ◌≤◌, length, sym, ◌∙◌, arith, state_of, has_mail}
-use Rattle.dm_world.proofs.Passes.{first_from, none_left, passes_over, stays_on, takes_next}
+use Rattle.dm_world.proofs.Passes.{none_left, passes_over, stays_on, takes_next}
 use Rattle.dm_world.proofs.world.World.first_turn.Goals as goal
 
 pub returns-then-takes_turn-clause-first : goal.returns-then-takes_turn-clause-first
