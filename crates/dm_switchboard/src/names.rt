@@ -2,6 +2,7 @@
 ghost use Rattle.std.specs.Prelude.{◌≡◌, ◌<◌, ◌^◌, IfOk, OnErr, count_by, length, map};
 ghost use Rattle.dm_onekernel.specs.Boot.{is_general};
 ghost use Rattle.dm_switchboard.specs.Board.{listed, named_is_behind, retargeted_named};
+ghost use Rattle.dm_switchboard.specs.declared.reply.Reply.TheVariants as reply_;
 ghost use Rattle.dm_switchboard.specs.Following.{behind_at, told_at};
 ghost use Rattle.dm_switchboard.specs.Taking.{found_or_unknown, link_named, name_of, registers, registers_new};
 
@@ -37,24 +38,24 @@ pub fn name_of(bytes: &[u8]) -> Option<Name>
 pub fn look_up(names: &Names, name: &Name) -> Reply
     ensures { result ≡ found_or_unknown (link_named name.now.items (listed names.now.entries)) }
 {
-    found(names.get(name).copied())
-}
-
-/// What is answered where a name has this link, or none.
-fn found(link: Option<Link>) -> Reply
-    ensures { result ≡ found_or_unknown link }
-{
-    match link {
-        Some(link) => Reply::Found(link),
+    match names.get(name) {
+        Some(link) => found(*link),
         None => Reply::Unknown,
     }
 }
 
-/// Whether a link may be kept: a reply link serves for one message.
-fn may_be_kept(link: &Link) -> bool
-    ensures { result ≡ is_general link.now.kind }
+/// What is answered where a name has this link.
+fn found(link: Link) -> Reply
+    ensures { result ≡ reply_.Found link }
 {
-    match link.kind {
+    Reply::Found(link)
+}
+
+/// Whether a link of this kind may be kept: a reply link serves for one message.
+fn may_be_kept(kind: Kind) -> bool
+    ensures { result ≡ is_general kind }
+{
+    match kind {
         Kind::General => true,
         Kind::Reply => false,
     }
@@ -65,7 +66,7 @@ pub fn register(names: &mut Names, name: Name, link: Link) -> Result<Reply, NoMe
     ensures ok { IfOk result (λ r. registers (listed names.old.entries) name.items link ≡ record { names = listed names.new.entries; reply = r }) }
     ensures err { OnErr result (names.new.entries ≡ names.old.entries) }
 {
-    if may_be_kept(&link) {
+    if may_be_kept(link.kind) {
         register_general(names, name, link)
     } else {
         Ok(Reply::BadLink)

@@ -1,7 +1,7 @@
 //! One reader for each kind of field: the value, and the bytes behind it.
-ghost use Rattle.std.specs.Prelude.{◌≡◌, IfOk, None, Some, if◌then◌else◌, length};
+ghost use Rattle.std.specs.Prelude.{◌≡◌, IfOk, length};
 ghost use Rattle.dm_packet.specs.Field.{number, run};
-ghost use Rattle.dm_packet.specs.Fields.{addr, are_flags, channel, flags, flags_of, len_from, link, machine, pid};
+ghost use Rattle.dm_packet.specs.Fields.{addr, are_flags, channel, flags, kind_of_bit, len_from, link, machine, pid};
 ghost use Rattle.dm_packet.specs.Reads.{Reads, ReadsSlice};
 
 use crate::PacketError;
@@ -78,27 +78,24 @@ fn flags_at(bytes: &[u8]) -> Result<((Kind, bool, bool), &[u8]), PacketError>
     ensures { Reads result (flags.read bytes.now) }
 {
     let (byte, rest) = byte_at(bytes)?;
-    match flags_of(byte) {
-        Some(flags) => Ok((flags, rest)),
-        None => Err(PacketError::Flags),
+    if !are_flags(byte) {
+        return Err(PacketError::Flags);
     }
+    let flags = (kind_of_bit(byte % 2), byte / 4 % 2 == 1, byte / 8 == 1);
+    Ok((flags, rest))
 }
 
-/// What the flags of an enclosed link stand for.
-fn flags_of(byte: u8) -> Option<(Kind, bool, bool)>
-    ensures { result ≡ (if are_flags byte then Some (flags_of byte) else None) }
+/// Whether a byte is the flags of an enclosed link: no bit is spare, and the one of a link to a kernel isn't set.
+fn are_flags(byte: u8) -> bool
+    ensures { result ≡ are_flags byte }
 {
-    match byte {
-        0 => Some((Kind::General, false, false)),
-        1 => Some((Kind::Reply, false, false)),
-        4 => Some((Kind::General, true, false)),
-        5 => Some((Kind::Reply, true, false)),
-        8 => Some((Kind::General, false, true)),
-        9 => Some((Kind::Reply, false, true)),
-        12 => Some((Kind::General, true, true)),
-        13 => Some((Kind::Reply, true, true)),
-        _ => None,
-    }
+    byte < 16 && byte / 2 % 2 == 0
+}
+
+fn kind_of_bit(bit: u8) -> Kind
+    ensures { result ≡ kind_of_bit bit }
+{
+    if bit == 0 { Kind::General } else { Kind::Reply }
 }
 
 pub fn channel_at(bytes: &[u8]) -> Result<(u8, &[u8]), PacketError>
