@@ -1,5 +1,5 @@
 //! Assembling a text, line by line.
-ghost use Rattle.std.specs.Prelude.{◌≡◌, ◌≤◌, [], IfOk, OnOk, length};
+ghost use Rattle.std.specs.Prelude.{◌≡◌, ◌≤◌, [], IfOk, OnOk, length, nat_lt};
 ghost use Rattle.std.specs.Option.{option_copied};
 ghost use Rattle.dm_asm.specs.Assembled.{Answers, assembled, at_line, with_line, with_lines};
 ghost use Rattle.dm_asm.specs.Labels.{place_in};
@@ -25,6 +25,13 @@ fn defined_before(labels: &Labels, line: usize, label: Option<&[u8]>) -> bool
     }
 }
 
+/// Whether an image of so many bytes is too long.
+fn is_too_long(bytes: usize) -> bool
+    ensures { result ≡ nat_lt MOST_MEMORY bytes }
+{
+    bytes > MOST_MEMORY as usize
+}
+
 /// Adds a line, by its number.
 #[tactic(auto, unfolding(crate::specs::Assembled::with_line, crate::specs::Statements::line_bytes))]
 fn add_line(labels: &Labels, image: &mut Vec<u8>, number: usize, line: &[u8]) -> Result<(), Stop>
@@ -34,7 +41,7 @@ fn add_line(labels: &Labels, image: &mut Vec<u8>, number: usize, line: &[u8]) ->
     let (label, statement) = split_label(uncommented(line));
     let twice = defined_before(labels, number, label);
     add_statement(labels, image, twice, statement)?;
-    if image.len() > MOST_MEMORY as usize {
+    if is_too_long(image.len()) {
         return Err(Stop::Fault(Why::TooLong));
     }
     Ok(())

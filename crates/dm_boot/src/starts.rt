@@ -1,5 +1,5 @@
 //! The processes without their links, and whether they fit their machines.
-ghost use Rattle.std.specs.Prelude.{◌≡◌, ◌≤◌, ◌<◌, ◌+◌, ℕ, OnOk, slice_get};
+ghost use Rattle.std.specs.Prelude.{◌≡◌, ◌≤◌, ◌<◌, ◌+◌, ◌^◌, ℕ, OnOk, nat_le, slice_get};
 ghost use Rattle.std.specs.Bool.{OnTrue};
 ghost use Rattle.toml.specs.View.{view};
 ghost use Rattle.dm_onekernel.specs.Boot.{blocks_at, blocks_of_image, starting_at};
@@ -76,6 +76,14 @@ fn start_of(
     }
 }
 
+/// Whether a room has place for so many blocks more where so many are taken.
+fn has_place_for(more: u32, taken: u32, room: u16) -> bool
+    requires { taken + more < 2 ^ 32 }
+    ensures { result ≡ nat_le (taken + more) room }
+{
+    taken + more <= u32::from(room)
+}
+
 /// Whether a process fits its machine with the earlier ones.
 #[tactic(auto, unfolding(crate::specs::Rules::fits_after), using(std::proofs::lemmas::Option::gets))]
 fn fits_after(
@@ -99,12 +107,12 @@ fn fits_after(
     if starting_at(home, earlier) >= u32::from(slots) {
         return false;
     }
-    let room = machines[place].blocks;
-    let blocks = blocks_at(home, images, earlier) + blocks_of_image(images, process.image);
-    if blocks > u32::from(room) {
-        return false;
-    }
-    true
+    let taken = blocks_at(home, images, earlier);
+    has_place_for(
+        blocks_of_image(images, process.image),
+        taken,
+        machines[place].blocks,
+    )
 }
 
 /// How many of these processes start on a machine.

@@ -1,7 +1,7 @@
 //! The links that a process holds, each in a slot of its table, by whose number the process names it (1977).
 #![tactic(auto)]
 
-ghost use Rattle.std.specs.Prelude.{◌≡◌, ◌⊎◌, ◌<◌, List, length, map, count_by, slice_set, IfOk, IfErr, MatchResult, option_copied, Some, None};
+ghost use Rattle.std.specs.Prelude.{◌≡◌, ◌⊎◌, ◌<◌, ◌↔◌, IsTrue, List, length, map, count_by, slice_set, IfOk, IfErr, MatchResult, option_copied, Some, None};
 ghost use Rattle.std.proofs.Math.ListN.{replicate};
 ghost use Rattle.std.specs.Option.{is_none};
 ghost use Rattle.dm_linktable.specs.Slots.{copy_of, first_empty, link_at, plain_slot, retargeted_slot, slot_is_behind};
@@ -140,7 +140,7 @@ impl Table {
             Some(link) => *link,
             None => return Err(CopyError::Empty),
         };
-        if link.kind == Kind::Reply {
+        if serves_once(&link) {
             return Err(CopyError::ReplyLink);
         }
         match self.put(link) {
@@ -158,4 +158,11 @@ impl Table {
         let slots = index::slots_of(&self.index, about);
         retarget_slots(&mut self.slots, slots, about, at, moves)
     }
+}
+
+/// Whether a link serves for one message alone.
+fn serves_once(link: &Link) -> bool
+    ensures { IsTrue result ↔ link.now.kind ≡ Kind.Reply }
+{
+    link.kind == Kind::Reply
 }

@@ -1,5 +1,6 @@
 //! Lists that grow at both ends.
-ghost use Rattle.std.specs.Prelude.{◌≡◌, ◌+◌, ◌++◌, ◌∷◌, [], IfErr, IfOk, if◌then◌else◌, is_ok, length, vec_capacity, vec_len};
+ghost use Rattle.std.specs.Prelude.{◌≡◌, ◌+◌, ◌<◌, ◌≤◌, ◌++◌, ◌∷◌, [], IfErr, IfOk, IsOk, if◌then◌else◌, is_ok, length, vec_capacity, vec_len};
+ghost use Rattle.std.specs.VecDeque.{deque_capacity, deque_len};
 
 use crate::NoMemory;
 use std::alloc::Global;
@@ -7,7 +8,9 @@ use std::collections::VecDeque;
 
 /// Adds a value at the back. Where memory lacks the list stays, and the value is let go.
 pub fn push_back<T: Drop>(list: &mut VecDeque<T>, item: T) -> Result<(), NoMemory>
-    ensures { list.new.items ≡ (if is_ok result then list.old.items ++ item ∷ [] else list.old.items) }
+    ensures items { list.new.items ≡ (if is_ok result then list.old.items ++ item ∷ [] else list.old.items) }
+    ensures capacity { deque_capacity list.old ≤ deque_capacity list.new }
+    ensures succeeds { deque_len list.old < deque_capacity list.old → IsOk result }
 {
     match list.push_back(item) {
         Ok(()) => Ok(()),
@@ -18,6 +21,8 @@ pub fn push_back<T: Drop>(list: &mut VecDeque<T>, item: T) -> Result<(), NoMemor
 /// Adds a value at the back, or hands it back where memory lacks.
 pub fn push_back_or_return<T>(list: &mut VecDeque<T>, item: T) -> Result<(), (T, NoMemory)>
     ensures items { list.new.items ≡ (if is_ok result then list.old.items ++ item ∷ [] else list.old.items) }
+    ensures capacity { deque_capacity list.old ≤ deque_capacity list.new }
+    ensures succeeds { deque_len list.old < deque_capacity list.old → IsOk result }
     ensures returned { IfErr result (λ back. back.0 ≡ item) }
 {
     match list.push_back(item) {
@@ -28,7 +33,9 @@ pub fn push_back_or_return<T>(list: &mut VecDeque<T>, item: T) -> Result<(), (T,
 
 /// Puts a value before the front. Where memory lacks the list stays, and the value is let go.
 pub fn push_front<T: Drop>(list: &mut VecDeque<T>, item: T) -> Result<(), NoMemory>
-    ensures { list.new.items ≡ (if is_ok result then item ∷ list.old.items else list.old.items) }
+    ensures items { list.new.items ≡ (if is_ok result then item ∷ list.old.items else list.old.items) }
+    ensures capacity { deque_capacity list.old ≤ deque_capacity list.new }
+    ensures succeeds { deque_len list.old < deque_capacity list.old → IsOk result }
 {
     match list.push_front(item) {
         Ok(()) => Ok(()),

@@ -64,6 +64,7 @@ pub fn append_zeros(list: &mut Vec<u8>, n: u32) -> Result<(), NoMemory>
     ensures items { list.new.items ≡ (if is_ok result then list.old.items ++ replicate n 0 else list.old.items) }
     ensures len { vec_len list.new ≡ (if is_ok result then vec_len list.old + n else vec_len list.old) }
     ensures capacity { vec_capacity list.old ≤ vec_capacity list.new }
+    ensures succeeds { vec_len list.old + n ≤ vec_capacity list.old → IsOk result }
 {
     let len = list.len();
     match list.resize(len + n as usize, 0) {

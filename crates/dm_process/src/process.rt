@@ -1,5 +1,5 @@
 //! A process.
-ghost use Rattle.std.specs.Prelude.{◌≡◌, ◌*◌, ◌-◌, ◌≤◌, ◌++◌, IfOk, IfSome, is_some, length, replicate};
+ghost use Rattle.std.specs.Prelude.{◌≡◌, ◌*◌, ◌-◌, ◌≤◌, ◌++◌, IfOk, IfSome, is_some, length, option_map, replicate};
 ghost use Rattle.dm_process.specs.Begun.{begun};
 ghost use Rattle.dm_process.specs.Directions.{direction_numbered, number_of_direction};
 ghost use Rattle.dm_process.specs.Process.{is_runnable};
@@ -134,11 +134,18 @@ impl Process {
         }
         match self.status {
             Status::Ready => Some(Service::Execute),
-            Status::Waiting { mask, .. } => match self.queue.first_match(mask) {
-                Some(place) => Some(Service::Receive { mask, place }),
-                None => None,
-            },
+            Status::Waiting { mask, .. } => receiving(mask, self.queue.first_match(mask)),
             Status::Moving { .. } => None,
         }
+    }
+}
+
+/// What a process does that waits on a mask, by where the first message on it stands.
+fn receiving(mask: u32, place: Option<usize>) -> Option<Service>
+    ensures { result ≡ option_map (λ p. Service.Receive mask p) place }
+{
+    match place {
+        Some(place) => Some(Service::Receive { mask, place }),
+        None => None,
     }
 }

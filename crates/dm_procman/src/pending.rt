@@ -13,11 +13,20 @@ pub struct Pending {
     pub answer: Link,
 }
 
+/// Whether a request has this number.
+fn has_number(request: &Pending, number: u32) -> bool
+    ensures { result ≡ has_number number request.now }
+{
+    request.n == number
+}
+
 /// Where the first request of this number stands.
 fn place_of(pending: &[Pending], number: u32) -> Option<usize>
     ensures { result ≡ position (has_number number) pending.now }
 {
-    pending.iter().position(|request| request.n == number)
+    pending
+        .iter()
+        .position(|request| has_number(request, number))
 }
 
 /// Takes the request of this number out of the list.

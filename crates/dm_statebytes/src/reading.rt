@@ -1,5 +1,5 @@
 //! Reading from the left, each field tested as soon as it is there.
-ghost use Rattle.std.specs.Prelude.{◌≡◌, ◌⊎◌};
+ghost use Rattle.std.specs.Prelude.{◌≡◌, ◌⊎◌, ◌==◌};
 ghost use Rattle.dm_packet.specs.Field.{number};
 ghost use Rattle.dm_packet.specs.Reads.{Reads};
 ghost use Rattle.dm_statebytes.specs.Shell.{blocks, read_shell, registers, regs, shell, shell_of_bytes, version};
@@ -226,13 +226,20 @@ fn shell_at(bytes: &[u8], cap: u8) -> Result<(Shell, &[u8]), PacketError>
     Ok((shell, rest))
 }
 
+/// Whether the bytes end where so many are left.
+fn is_end(left: usize) -> bool
+    ensures { result ≡ (left == 0) }
+{
+    left == 0
+}
+
 /// The process that the bytes spell, all of them, or the first rule that they break.
 fn whole_at(bytes: &[u8], cap: u8) -> Result<Shell, PacketError>
     requires { (cap ≡ FEW_SLOTS) ⊎ (cap ≡ MOST_SLOTS) }
     ensures { result ≡ read_shell bytes.now cap }
 {
     let (shell, rest) = shell_at(bytes, cap)?;
-    if !rest.is_empty() {
+    if !is_end(rest.len()) {
         return Err(PacketError::Trailing);
     }
     Ok(shell)

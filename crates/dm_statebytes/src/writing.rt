@@ -120,6 +120,13 @@ fn put_regs(out: &mut Buffer, regs: &Regs)
     put_u32(out, regs.pc);
 }
 
+/// How many messages a process has sent, and how often it has moved.
+fn counts_of(process: &Process) -> (u32, u32)
+    ensures { result ≡ (process.now.sent, process.now.moves) }
+{
+    (process.sent, process.moves)
+}
+
 /// What stands before the links, where nothing was put yet.
 pub fn put_front(out: &mut Buffer, process: &Process)
     requires empty { out.old.items ≡ [] }
@@ -137,8 +144,9 @@ pub fn put_front(out: &mut Buffer, process: &Process)
     put_u16(out, process.memory.blocks());
     put_bool(out, process.stopped);
     put_status(out, process.status);
-    put_u32(out, process.sent);
-    put_u32(out, process.moves);
+    let (sent, moves) = counts_of(process);
+    put_u32(out, sent);
+    put_u32(out, moves);
     put_regs(out, &process.regs);
 }
 

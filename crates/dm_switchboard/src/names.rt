@@ -1,6 +1,8 @@
 //! The list of names.
 ghost use Rattle.std.specs.Prelude.{◌≡◌, ◌<◌, ◌^◌, IfOk, OnErr, count_by, length, map};
+ghost use Rattle.dm_onekernel.specs.Boot.{is_general};
 ghost use Rattle.dm_switchboard.specs.Board.{listed, named_is_behind, retargeted_named};
+ghost use Rattle.dm_switchboard.specs.declared.reply.Reply.TheVariants as reply_;
 ghost use Rattle.dm_switchboard.specs.Following.{behind_at, told_at};
 ghost use Rattle.dm_switchboard.specs.Taking.{found_or_unknown, link_named, name_of, registers, registers_new};
 
@@ -37,8 +39,25 @@ pub fn look_up(names: &Names, name: &Name) -> Reply
     ensures { result ≡ found_or_unknown (link_named name.now.items (listed names.now.entries)) }
 {
     match names.get(name) {
-        Some(link) => Reply::Found(*link),
+        Some(link) => found(*link),
         None => Reply::Unknown,
+    }
+}
+
+/// What is answered where a name has this link.
+fn found(link: Link) -> Reply
+    ensures { result ≡ reply_.Found link }
+{
+    Reply::Found(link)
+}
+
+/// Whether a link of this kind may be kept: a reply link serves for one message.
+fn may_be_kept(kind: Kind) -> bool
+    ensures { result ≡ is_general kind }
+{
+    match kind {
+        Kind::General => true,
+        Kind::Reply => false,
     }
 }
 
@@ -47,9 +66,10 @@ pub fn register(names: &mut Names, name: Name, link: Link) -> Result<Reply, NoMe
     ensures ok { IfOk result (λ r. registers (listed names.old.entries) name.items link ≡ record { names = listed names.new.entries; reply = r }) }
     ensures err { OnErr result (names.new.entries ≡ names.old.entries) }
 {
-    match link.kind {
-        Kind::General => register_general(names, name, link),
-        Kind::Reply => Ok(Reply::BadLink),
+    if may_be_kept(link.kind) {
+        register_general(names, name, link)
+    } else {
+        Ok(Reply::BadLink)
     }
 }
 

@@ -2,7 +2,7 @@
 ghost use Rattle.std.specs.Prelude.{◌≡◌, ◌+◌, ◌≤◌, ◌<◌, ◌∷◌, [], ◌==◌, IfNone, None, Some, if◌then◌else◌, length, map};
 ghost use Rattle.dm_linktable.specs.Slots.{link_at, plain_slot};
 ghost use Rattle.dm_onekernel.specs.declared.label.Reply.TheVariants as reply;
-ghost use Rattle.dm_onekernel.specs.Calls.{any_empty, holds_reply, is_among, reply_named_twice, send_refusals};
+ghost use Rattle.dm_onekernel.specs.Calls.{any_empty, holds_reply, is_among, is_reply, reply_named_twice, send_refusals};
 ghost use Rattle.dm_onekernel.specs.Plain.{plain_process};
 ghost use Rattle.dm_onekernel.specs.PlainProcess.{reg};
 ghost use Rattle.dm_onekernel.specs.Refusals.{first_failed};
@@ -106,11 +106,18 @@ fn holds_reply(table: &Table, slot: u32) -> bool
     ensures { result ≡ holds_reply (plain_slot (link_at table.now slot)) }
 {
     match link_in(table, slot) {
-        Some(link) => match link.kind {
-            Kind::Reply => true,
-            Kind::General => false,
-        },
+        Some(link) => serves_once(link.kind),
         None => false,
+    }
+}
+
+/// Whether a link of this kind serves for one message alone.
+fn serves_once(kind: Kind) -> bool
+    ensures { result ≡ is_reply kind }
+{
+    match kind {
+        Kind::Reply => true,
+        Kind::General => false,
     }
 }
 

@@ -5,12 +5,13 @@ ghost use Rattle.std.specs.Prelude.{◌≡◌, ◌∷◌, ◌++◌, [], OnErr, O
 ghost use Rattle.std.specs.Fmt.{decimal};
 ghost use Rattle.dm_message.specs.Kinds.{word_of};
 ghost use Rattle.dm_onekernel.specs.Codes.{reply_code};
+ghost use Rattle.dm_text.specs.declared.word.Word.TheVariants as word_;
 ghost use Rattle.dm_text.specs.Text.{spelled};
 ghost use Rattle.dm_text.specs.Words.{id_word, pid_word};
 ghost use Rattle.dm_text.specs.Written.{Keeps};
 
 use crate::word::Word::{Byte, Message, Name, Number, Process, Wide};
-use crate::word::put_line;
+use crate::word::{Word, put_line};
 use dm_link::Pid;
 use dm_memory::NoMemory;
 use dm_message::{MessageKind, MsgId};
@@ -103,7 +104,15 @@ pub(crate) fn put_pair_number(
     ensures ok { OnOk result (into.new.items ≡ into.old.items ++ spelled (name.now ∷ decimal a ∷ decimal b ∷ decimal n ∷ [])) }
     ensures err { OnErr result (Keeps into.old.items into.new.items) }
 {
-    put_line(into, name, &[Byte(a), Byte(b), Number(n)])
+    put_line(into, name, &pair_words(a, b, n))
+}
+
+/// Two machines and a number as the words of a line.
+#[inline(always)]
+fn pair_words(a: u8, b: u8, n: u32) -> [Word<'static>; 3]
+    ensures { result ≡ word_.Byte a ∷ word_.Byte b ∷ word_.Number n ∷ [] }
+{
+    [Byte(a), Byte(b), Number(n)]
 }
 
 /// Writes a line of a process and what is free.

@@ -3,6 +3,7 @@ ghost use Rattle.std.specs.Prelude.{◌≡◌, ◌++◌, ◌∷◌, ℕ, IfOk, O
 ghost use Rattle.std.specs.List.{All};
 ghost use Rattle.dm_packet.specs.Lawful.{IsLawfulPacket};
 ghost use Rattle.dm_packet.specs.Packets.{packet_of, spelling};
+ghost use Rattle.dm_line.specs.declared.line.Line.TheVariants as line_;
 ghost use Rattle.dm_wire.specs.Wire.{packets_on};
 ghost use Rattle.dm_node.specs.Wired.{packet_line, spoken, with_packet};
 ghost use Rattle.dm_world.specs.Meets.{IsSendable, Spoke};
@@ -45,17 +46,20 @@ fn send(alloc: Global, wires: &mut Wire, packet: &Packet) -> Result<Line, NoMemo
     let mut bytes = Vec::new(alloc);
     encode(packet, &mut bytes)?;
     match *packet {
-        Packet::Data { from, to, seq, .. } => Ok(Line::Packet {
-            from,
-            to,
-            k: wires.put(from, to, bytes)?,
-            load: Load::Data(seq),
-        }),
-        Packet::Ack { from, to, count } => Ok(Line::Packet {
-            from,
-            to,
-            k: wires.put(from, to, bytes)?,
-            load: Load::Ack(count),
-        }),
+        Packet::Data { from, to, seq, .. } => {
+            let k = wires.put(from, to, bytes)?;
+            Ok(packet_line(from, to, k, Load::Data(seq)))
+        }
+        Packet::Ack { from, to, count } => {
+            let k = wires.put(from, to, bytes)?;
+            Ok(packet_line(from, to, k, Load::Ack(count)))
+        }
     }
+}
+
+/// The line of a packet that is put from one machine to another as number `k` of their wire.
+fn packet_line(from: u8, to: u8, k: u64, load: Load) -> Line
+    ensures { result ≡ line_.Packet from to k load }
+{
+    Line::Packet { from, to, k, load }
 }

@@ -183,10 +183,17 @@ fn take_turn(alloc: Global, nodes: &mut [Node], boot: &Boot, m: u8) -> Result<Ve
     ensures whole { OrNoMemory result (FreezesWhole (node_in boot.now nodes.old m).kernel (node_in boot.now nodes.old m).kernel.inbox) }
 {
     let mut outs = Vec::new(alloc);
-    match nodes[usize::from(m)].turn(boot, &mut outs) {
+    match nodes[place_of(m)].turn(boot, &mut outs) {
         Ok(()) => Ok(outs),
         Err(stop) => Err(stop),
     }
+}
+
+/// The place of a machine among all.
+fn place_of(m: u8) -> usize
+    ensures { result ≡ m }
+{
+    usize::from(m)
 }
 
 /// Machine 0 is asked to have a process move; what it gives.

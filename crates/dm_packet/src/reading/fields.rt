@@ -1,7 +1,7 @@
 //! One reader for each kind of field: the value, and the bytes behind it.
 ghost use Rattle.std.specs.Prelude.{◌≡◌, IfOk, length};
 ghost use Rattle.dm_packet.specs.Field.{number, run};
-ghost use Rattle.dm_packet.specs.Fields.{addr, channel, flags, len_from, link, machine, pid};
+ghost use Rattle.dm_packet.specs.Fields.{addr, are_flags, channel, flags, kind_of_bit, len_from, link, machine, pid};
 ghost use Rattle.dm_packet.specs.Reads.{Reads, ReadsSlice};
 
 use crate::PacketError;
@@ -77,19 +77,25 @@ pub fn addr_at(bytes: &[u8]) -> Result<(Addr, &[u8]), PacketError>
 fn flags_at(bytes: &[u8]) -> Result<((Kind, bool, bool), &[u8]), PacketError>
     ensures { Reads result (flags.read bytes.now) }
 {
-    let (flags, rest) = byte_at(bytes)?;
-    let flags = match flags {
-        0 => (Kind::General, false, false),
-        1 => (Kind::Reply, false, false),
-        4 => (Kind::General, true, false),
-        5 => (Kind::Reply, true, false),
-        8 => (Kind::General, false, true),
-        9 => (Kind::Reply, false, true),
-        12 => (Kind::General, true, true),
-        13 => (Kind::Reply, true, true),
-        _ => return Err(PacketError::Flags),
-    };
+    let (byte, rest) = byte_at(bytes)?;
+    if !are_flags(byte) {
+        return Err(PacketError::Flags);
+    }
+    let flags = (kind_of_bit(byte % 2), byte / 4 % 2 == 1, byte / 8 == 1);
     Ok((flags, rest))
+}
+
+/// Whether a byte is the flags of an enclosed link: no bit is spare, and the one of a link to a kernel isn't set.
+fn are_flags(byte: u8) -> bool
+    ensures { result ≡ are_flags byte }
+{
+    byte < 16 && byte / 2 % 2 == 0
+}
+
+fn kind_of_bit(bit: u8) -> Kind
+    ensures { result ≡ kind_of_bit bit }
+{
+    if bit == 0 { Kind::General } else { Kind::Reply }
 }
 
 pub fn channel_at(bytes: &[u8]) -> Result<(u8, &[u8]), PacketError>
