@@ -2,8 +2,10 @@
 """A model of the system, apart from the program.
 
     python3 outside/model/model.py run --boot FILE --schedule FILE
+    python3 outside/model/model.py check --boot FILE --trace FILE
+    python3 outside/model/model.py drill --seed N --machines M --lines L [--trace]
 
-writes what the program writes, and ends with its status and its line on standard error. It was written from the documents
+writes what the program writes, and ends with its status and its line on standard error. It was written from the rules
 alone (README.md beside this file says how, and what it was compared with)."""
 
 import re
@@ -12,13 +14,15 @@ import sys
 sys.dont_write_bytecode = True
 
 import boot as boot_file
+import check as trace_check
 import schedule as schedule_file
+from drill import drill
 from ends import end_lines
 from world import World, Worn
 
 USAGE = "usage: demosmp run --boot FILE --schedule FILE"
 LONGEST_BOOT = 1_048_576
-LONGEST_SCHEDULE = 16_777_216
+LONGEST = 16_777_216  # a schedule or a trace
 
 
 class Stop(Exception):
@@ -30,24 +34,29 @@ class Stop(Exception):
         self.line = line
 
 
-def names_of(words):
-    """The names of the two files."""
-    if words[:1] != ["run"]:
-        raise Stop(2, USAGE)
-    names, rest = {}, list(words[1:])
+def options_of(words, wanted, flag=None):
+    """What stands behind each of these options, each given once; a flag, which may be given once, has nothing behind it."""
+    found, rest = {}, list(words)
     while rest:
-        option, equals, name = rest.pop(0).partition("=")
-        if option not in ("--boot", "--schedule") or option in names:
+        option, equals, value = rest.pop(0).partition("=")
+        if option in found or option not in wanted and (option != flag or equals):
             raise Stop(2, USAGE)
-        if not equals:
-            # a word that begins like an option is no name, but for a single dash
+        if not equals and option != flag:
+            # a word that begins like an option is no value, but for a single dash
             if not rest or re.match(r"-.", rest[0], re.DOTALL):
                 raise Stop(2, USAGE)
-            name = rest.pop(0)
-        names[option] = name
-    if len(names) < 2:
+            value = rest.pop(0)
+        found[option] = value
+    if not all(option in found for option in wanted):
         raise Stop(2, USAGE)
-    return names["--boot"], names["--schedule"]
+    return found
+
+
+def number_of(word, low, high):
+    """A number among the words: digits without a leading zero, within limits."""
+    if not re.fullmatch(r"0|[1-9][0-9]{0,9}", word) or not low <= int(word) <= high:
+        raise Stop(2, USAGE)
+    return int(word)
 
 
 def bytes_of(name, most, kind):
@@ -61,16 +70,42 @@ def bytes_of(name, most, kind):
     return data
 
 
+def boot_of(options):
+    return boot_file.read_boot(bytes_of(options["--boot"], LONGEST_BOOT, "boot"))
+
+
+def do_run(words, write):
+    options = options_of(words, ["--boot", "--schedule"])
+    boot = boot_of(options)
+    directives = schedule_file.read_schedule(bytes_of(options["--schedule"], LONGEST, "schedule"), len(boot.machines))
+    world = World(boot, write)
+    for directive in directives:
+        world.do(directive)
+    write(end_lines(world))
+
+
+def do_check(words, write):
+    options = options_of(words, ["--boot", "--trace"])
+    boot = boot_of(options)
+    write([trace_check.check(boot, bytes_of(options["--trace"], LONGEST, "trace"))])
+
+
+def do_drill(words, write):
+    options = options_of(words, ["--seed", "--machines", "--lines"], "--trace")
+    seed = number_of(options["--seed"], 0, 2**32 - 1)
+    machines = number_of(options["--machines"], 2, 16)
+    drill(seed, machines, number_of(options["--lines"], 1, 10_000), "--trace" in options, write)
+
+
+COMMANDS = {"run": do_run, "check": do_check, "drill": do_drill}
+
+
 def run(words, write):
     """Does what the words say, and gives each piece of text to `write`: the status, and the line on standard error."""
     try:
-        boot_name, schedule_name = names_of(words)
-        boot = boot_file.read_boot(bytes_of(boot_name, LONGEST_BOOT, "boot"))
-        directives = schedule_file.read_schedule(bytes_of(schedule_name, LONGEST_SCHEDULE, "schedule"), len(boot.machines))
-        world = World(boot, lambda lines: write(text(lines)))
-        for directive in directives:
-            world.do(directive)
-        write(text(end_lines(world)))
+        if words[:1] == [] or words[0] not in COMMANDS:
+            raise Stop(2, USAGE)
+        COMMANDS[words[0]](words[1:], lambda lines: write(text(lines)))
         return 0, ""
     except Stop as stop:
         return stop.status, stop.line
@@ -80,6 +115,8 @@ def run(words, write):
         return 7, str(refused)
     except Worn as worn:
         return 9, str(worn)
+    except trace_check.Refused as refused:
+        return 10, str(refused)
     except OSError:
         return 5, "write fault"
 
