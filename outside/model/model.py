@@ -37,7 +37,7 @@ class Stop(Exception):
 def options_of(words, wanted, flag=None):
     """What stands behind each of these options, each given once; a flag, which may be given once, has nothing behind it."""
     found, rest = {}, list(words)
-    while rest:
+    while rest and rest != ["--"]:  # which ends the options
         option, equals, value = rest.pop(0).partition("=")
         if option in found or option not in wanted and (option != flag or equals):
             raise Stop(2, USAGE)
@@ -125,14 +125,21 @@ def text(lines):
     return "".join(line + "\n" for line in lines).encode("ascii")
 
 
+def write_out(data):
+    if sys.stdout is None:
+        raise OSError("standard output is closed")
+    sys.stdout.buffer.write(data)
+
+
 def main():
     try:
         words = [word.encode("utf-8").decode("utf-8") for word in sys.argv[1:]]
     except UnicodeEncodeError:
         words = []
-    status, line = run(words, sys.stdout.buffer.write)
+    status, line = run(words, write_out)
     try:
-        sys.stdout.buffer.flush()
+        if sys.stdout is not None:
+            sys.stdout.flush()
     except OSError:
         status, line = 5, "write fault"
         sys.stdout = None
