@@ -9,10 +9,6 @@ REGISTERS.update({operation: 2 for operation in (12, 13, 14, 15, 17, 18, 19)})
 OUT_OF_RANGE, UNKNOWN, NOT_ALIGNED = 1, 2, 3
 
 
-def word_at(memory, address):
-    return int.from_bytes(memory[address : address + 4], "big")
-
-
 def step(process):
     """One step: None where it was a plain instruction, ("call", number), or ("fault", number) with nothing changed."""
     registers, memory, counter = process.registers, process.memory, process.counter
