@@ -1,0 +1,178 @@
+"""The assembler (docs/FORMATS.md, "Assembler")."""
+
+import re
+
+THREE = {"add": 4, "sub": 5, "mul": 6, "and": 7, "or": 8, "xor": 9, "shl": 10, "shr": 11}
+LOADS = {"lw": 12, "sw": 13, "lb": 14, "sb": 15}
+BRANCHES = {"beq": 17, "bne": 18, "bltu": 19}
+
+# What the operands of each word are, and its number. Kinds: r register, v value or label, n number to 255, d distance.
+FORMS = {"li": ("rv", 1), "lih": ("rv", 2), "mov": ("rr", 3), "jmp": ("v", 16), "sys": ("n", 20)}
+FORMS.update({word: ("rrr", number) for word, number in THREE.items()})
+FORMS.update({word: ("rrn", number) for word, number in LOADS.items()})
+FORMS.update({word: ("rrd", number) for word, number in BRANCHES.items()})
+
+LABEL = re.compile(r"[a-z_][a-z0-9_]{0,15}")
+REGISTER = re.compile(r"r([0-9]|1[0-5])")
+NUMBER = re.compile(r"[0-9]+|0x[0-9a-fA-F]+")
+BEGINS_A_LABEL = re.compile(r"[A-Za-z_]")
+MOST_BYTES = 65_536
+
+
+class Fault(Exception):
+    """A line, from 1, and what is wrong there."""
+
+    def __init__(self, line, why):
+        super().__init__(f"line {line}, why {why}")
+        self.line = line
+        self.why = why
+
+
+class Wrong(Exception):
+    """What is wrong with an operand."""
+
+    def __init__(self, why):
+        super().__init__(why)
+        self.why = why
+
+
+def words_of(line):
+    """The words of a line, without its comment."""
+    return [word for word in re.split(r"[ \t\r,]", line.split(";")[0]) if word]
+
+
+def number_of(word, most):
+    if not NUMBER.fullmatch(word):
+        raise Wrong(3)
+    value = int(word[2:], 16) if word.startswith("0x") else within_digits(word)
+    if value > most:
+        raise Wrong(4)
+    return value
+
+
+def within_digits(word):
+    """A decimal number; one of very many digits stands for any that is too large."""
+    digits = word.lstrip("0") or "0"
+    return int(digits) if len(digits) <= 20 else 10**20
+
+
+def register_of(word):
+    found = REGISTER.fullmatch(word)
+    if not found:
+        raise Wrong(2)
+    return int(found[1])
+
+
+def label_of(word, labels):
+    if word not in labels:
+        raise Wrong(5)
+    return labels[word]
+
+
+def value_of(word, labels, most):
+    """A number, or a label's value."""
+    if not BEGINS_A_LABEL.match(word):
+        return number_of(word, most)
+    value = label_of(word, labels)
+    if value > most:
+        raise Wrong(4)
+    return value
+
+
+def distance_of(word, labels, place):
+    """How many words a label is from behind the instruction at this place."""
+    if not BEGINS_A_LABEL.match(word):
+        raise Wrong(3)
+    bytes_off = label_of(word, labels) - (place + 4)
+    if bytes_off % 4 or not -128 <= bytes_off // 4 <= 127:
+        raise Wrong(4)
+    return bytes_off // 4
+
+
+def parts_of(line):
+    """A line's label, as it is written, its other words, and whether a label stands there that isn't one."""
+    words = words_of(line)
+    if words and words[0].endswith(":"):
+        label = words[0][:-1]
+        return (label, words[1:], False) if LABEL.fullmatch(label) else (None, words[1:], True)
+    return None, words, False
+
+
+def size_of(words):
+    """How many bytes a line counts, whether or not something is wrong with it."""
+    if not words:
+        return 0
+    if words[0] in FORMS or words[0] == ".word":
+        return 4
+    if words[0] == ".byte":
+        return len(words) - 1
+    if words[0] == ".zero" and len(words) == 2:
+        try:
+            return number_of(words[1], MOST_BYTES)
+        except Wrong:
+            return 0
+    return 0
+
+
+def count_fits(word, count):
+    if word == ".byte":
+        return count >= 1
+    if word in (".word", ".zero"):
+        return count == 1
+    return count == len(FORMS[word][0])
+
+
+def bytes_of(words, labels, place):
+    """The bytes of an instruction or directive."""
+    word, operands = words[0], words[1:]
+    if word == ".word":
+        return value_of(operands[0], labels, 2**32 - 1).to_bytes(4, "big")
+    if word == ".byte":
+        return bytes(number_of(operand, 255) for operand in operands)
+    if word == ".zero":
+        return bytes(number_of(operands[0], MOST_BYTES))
+    kinds, number = FORMS[word]
+    values = []
+    for kind, operand in zip(kinds, operands):
+        if kind == "r":
+            values.append(register_of(operand))
+        elif kind == "v":
+            values.extend(value_of(operand, labels, 65_535).to_bytes(2, "big"))
+        elif kind == "n":
+            values.append(number_of(operand, 255))
+        else:
+            values.append(distance_of(operand, labels, place) % 256)
+    if word in ("jmp", "sys"):
+        values = [0] * (3 - len(values)) + values
+    return bytes([number] + values + [0] * (3 - len(values)))
+
+
+def assemble(text):
+    """A text's image, or its first fault."""
+    lines = [parts_of(line) for line in text.split("\n")]
+    labels, places, again, place = {}, [], set(), 0
+    for number, (label, words, _) in enumerate(lines, 1):
+        places.append(place)
+        if label is not None:
+            if label in labels:
+                again.add(number)
+            else:
+                labels[label] = place
+        place += size_of(words)
+    image = bytearray()
+    for number, (label, words, bad_label) in enumerate(lines, 1):
+        if bad_label or words and words[0] not in FORMS and words[0] not in (".word", ".byte", ".zero"):
+            raise Fault(number, 1)
+        if number in again:
+            raise Fault(number, 6)
+        if not words:
+            continue
+        if not count_fits(words[0], len(words) - 1):
+            raise Fault(number, 7)
+        try:
+            image += bytes_of(words, labels, places[number - 1])
+        except Wrong as wrong:
+            raise Fault(number, wrong.why) from None
+        if len(image) > MOST_BYTES:
+            raise Fault(number, 8)
+    return bytes(image)

@@ -1,0 +1,152 @@
+#!/usr/bin/env python3
+"""A model of the system, apart from the program.
+
+    python3 outside/model/model.py run --boot FILE --schedule FILE
+    python3 outside/model/model.py check --boot FILE --trace FILE
+    python3 outside/model/model.py drill --seed N --machines M --lines L [--trace]
+
+writes what the program writes, and ends with its status and its line on standard error. It was written from the rules
+alone (README.md beside this file says how, and what it was compared with)."""
+
+import re
+import sys
+
+sys.dont_write_bytecode = True
+
+import boot as boot_file
+import check as trace_check
+import schedule as schedule_file
+from drill import drill
+from ends import end_lines
+from world import World, Worn
+
+USAGE = "usage: demosmp run --boot FILE --schedule FILE"
+LONGEST_BOOT = 1_048_576
+LONGEST = 16_777_216  # a schedule or a trace
+
+
+class Stop(Exception):
+    """A status and its line."""
+
+    def __init__(self, status, line):
+        super().__init__(line)
+        self.status = status
+        self.line = line
+
+
+def options_of(words, wanted, flag=None):
+    """What stands behind each of these options, each given once; a flag, which may be given once, has nothing behind it."""
+    found, rest = {}, list(words)
+    while rest and rest != ["--"]:  # which ends the options
+        option, equals, value = rest.pop(0).partition("=")
+        if option in found or option not in wanted and (option != flag or equals):
+            raise Stop(2, USAGE)
+        if not equals and option != flag:
+            # a word that begins like an option is no value, but for a single dash
+            if not rest or re.match(r"-.", rest[0], re.DOTALL):
+                raise Stop(2, USAGE)
+            value = rest.pop(0)
+        found[option] = value
+    if not all(option in found for option in wanted):
+        raise Stop(2, USAGE)
+    return found
+
+
+def number_of(word, low, high):
+    """A number among the words: digits without a leading zero, within limits."""
+    if not re.fullmatch(r"0|[1-9][0-9]{0,9}", word) or not low <= int(word) <= high:
+        raise Stop(2, USAGE)
+    return int(word)
+
+
+def bytes_of(name, most, kind):
+    try:
+        with open(name, "rb") as file:
+            data = file.read(most + 1)
+    except (OSError, ValueError):
+        raise Stop(3, "read fault") from None
+    if len(data) > most:
+        raise Stop(8, f"too long: {kind}")
+    return data
+
+
+def boot_of(options):
+    return boot_file.read_boot(bytes_of(options["--boot"], LONGEST_BOOT, "boot"))
+
+
+def do_run(words, write):
+    options = options_of(words, ["--boot", "--schedule"])
+    boot = boot_of(options)
+    directives = schedule_file.read_schedule(bytes_of(options["--schedule"], LONGEST, "schedule"), len(boot.machines))
+    world = World(boot, write)
+    for directive in directives:
+        world.do(directive)
+    write(end_lines(world))
+
+
+def do_check(words, write):
+    options = options_of(words, ["--boot", "--trace"])
+    boot = boot_of(options)
+    write([trace_check.check(boot, bytes_of(options["--trace"], LONGEST, "trace"))])
+
+
+def do_drill(words, write):
+    options = options_of(words, ["--seed", "--machines", "--lines"], "--trace")
+    seed = number_of(options["--seed"], 0, 2**32 - 1)
+    machines = number_of(options["--machines"], 2, 16)
+    drill(seed, machines, number_of(options["--lines"], 1, 10_000), "--trace" in options, write)
+
+
+COMMANDS = {"run": do_run, "check": do_check, "drill": do_drill}
+
+
+def run(words, write):
+    """Does what the words say, and gives each piece of text to `write`: the status, and the line on standard error."""
+    try:
+        if words[:1] == [] or words[0] not in COMMANDS:
+            raise Stop(2, USAGE)
+        COMMANDS[words[0]](words[1:], lambda lines: write(text(lines)))
+        return 0, ""
+    except Stop as stop:
+        return stop.status, stop.line
+    except boot_file.Refused as refused:
+        return 6, str(refused)
+    except schedule_file.Refused as refused:
+        return 7, str(refused)
+    except Worn as worn:
+        return 9, str(worn)
+    except trace_check.Refused as refused:
+        return 10, str(refused)
+    except OSError:
+        return 5, "write fault"
+
+
+def text(lines):
+    return "".join(line + "\n" for line in lines).encode("ascii")
+
+
+def write_out(data):
+    if sys.stdout is None:
+        raise OSError("standard output is closed")
+    sys.stdout.buffer.write(data)
+
+
+def main():
+    try:
+        words = [word.encode("utf-8").decode("utf-8") for word in sys.argv[1:]]
+    except UnicodeEncodeError:
+        words = []
+    status, line = run(words, write_out)
+    try:
+        if sys.stdout is not None:
+            sys.stdout.flush()
+    except OSError:
+        status, line = 5, "write fault"
+        sys.stdout = None
+    if line:
+        print(line, file=sys.stderr)
+    sys.exit(status)
+
+
+if __name__ == "__main__":
+    main()

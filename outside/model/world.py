@@ -1,0 +1,455 @@
+"""Machines and what happens on them (docs/SYSTEM.md, "A turn of a machine" and "Between machines"; docs/MIGRATION.md).
+
+Here a process that moves is handed over whole by the last piece of its state; what goes between the machines are the
+messages of its eight steps, as many as its state bytes and its blocks make pieces."""
+
+from collections import deque
+from dataclasses import dataclass, field
+from typing import Any
+
+from network import Stream, Wire
+from process import Process, Waiting, answer, state_size
+from servers import Manager, Switchboard
+from values import MANAGER, SERVERS, SWITCHBOARD, Address, Message, Name, Pid, kernel_of
+
+CHUNK = 512
+TELLS_SENDER = ("user", "stop", "resume", "kill", "read", "write", "migrate")
+
+
+class Worn(Exception):
+    """A pair of machines counts as many messages as it may."""
+
+    def __init__(self, a, b):
+        super().__init__(f"worn: {a} to {b}")
+
+
+# What a machine knows of a process.
+
+
+@dataclass
+class Here:
+    process: Process
+
+
+@dataclass
+class Frozen:
+    process: Process
+    to: int
+    held: list = field(default_factory=list)
+
+
+@dataclass
+class Incoming:
+    source: int
+    blocks: int
+    moves: int
+    process: Any = None
+    held: list = field(default_factory=list)
+
+
+@dataclass
+class Forward:
+    at: int
+    moves: int
+
+
+@dataclass
+class Ended:
+    why: int
+
+
+class Machine:
+    def __init__(self, number, slots, blocks):
+        self.number = number
+        self.slots = slots
+        self.blocks = blocks
+        self.inbox = deque()
+        self.ring = []
+        self.records = {}
+        self.count = 0  # of the kernel's own messages
+        self.made = 0
+
+    def free(self):
+        """The slots and blocks that no process takes."""
+        taken = [
+            record.blocks if isinstance(record, Incoming) else record.process.blocks
+            for record in self.records.values()
+            if isinstance(record, (Here, Frozen, Incoming))
+        ]
+        return self.slots - len(taken), self.blocks - sum(taken)
+
+    def stands(self, process):
+        """A process is here, and last in the ring."""
+        self.records[process.pid] = Here(process)
+        self.ring.append(process.pid)
+
+    def next_pid(self):
+        self.made += 1
+        return Pid(self.number, 2 + self.made)
+
+
+class World:
+    def __init__(self, boot, write):
+        self.boot = boot
+        self.write = write  # takes the lines of each group
+        self.machines = [Machine(number, *room) for number, room in enumerate(boot.machines)]
+        every = range(len(self.machines))
+        self.pairs = [(a, b) for a in every for b in every if a != b]
+        self.routed = {(a, b): 0 for a in every for b in every}
+        self.streams = {pair: Stream() for pair in self.pairs}
+        self.wires = {pair: Wire() for pair in self.pairs}
+        self.switchboard = Switchboard()
+        self.manager = Manager(boot)
+        self.servers = {SWITCHBOARD: self.switchboard, MANAGER: self.manager}
+        self.groups = 0
+        self.lines = []
+        for born in boot.processes:
+            machine = self.machines[born.machine]
+            pid = machine.next_pid()
+            assert pid == born.pid
+            machine.stands(self.fresh(pid, born.image, born.links))
+
+    def fresh(self, pid, image, links):
+        return Process(pid, image, links, self.boot.slots, self.boot.longest)
+
+    def say(self, *words):
+        self.lines.append(" ".join(map(str, words)))
+
+    # Directives
+
+    def do(self, directive):
+        """A directive of the schedule: group after group."""
+        word, operands = directive
+        if word == "round":
+            self.round()
+        elif word == "spin":
+            for _ in range(operands[0]):
+                self.round()
+        elif word == "settle":
+            while not self.is_quiet():
+                self.settling_pass()
+        else:
+            self.group(word, *operands)
+
+    def round(self):
+        for a, b in self.pairs:
+            for k in list(self.wires[a, b].undelivered):
+                self.group("deliver", a, b, k)
+        for machine in self.machines:
+            self.group("turn", machine.number)
+
+    def settling_pass(self):
+        """A round with turns only where the inbox isn't empty, which ends as soon as nothing is on its way."""
+        for a, b in self.pairs:
+            for k in list(self.wires[a, b].undelivered):
+                if self.is_quiet():
+                    return
+                self.group("deliver", a, b, k)
+        for machine in self.machines:
+            if self.is_quiet():
+                return
+            if machine.inbox:
+                self.group("turn", machine.number)
+
+    def is_quiet(self):
+        return not any(machine.inbox for machine in self.machines) and all(stream.is_quiet() for stream in self.streams.values())
+
+    def group(self, word, *operands):
+        self.lines = []
+        self.say(word, *operands)
+        {"turn": self.turn, "tick": self.tick, "deliver": self.deliver, "migrate": self.migrate}[word](*operands)
+        self.groups += 1
+        self.write(self.lines)
+
+    # The network
+
+    def put(self, machine, message):
+        """Routes a message to where its address leads."""
+        a, b = machine.number, message.to.at
+        if self.routed[a, b] == self.boot.numbers:
+            raise Worn(a, b)
+        self.routed[a, b] += 1
+        self.say("put", a, b, message.name, message.kind, message.to.pid)
+        if a == b:
+            machine.inbox.append(message)
+        else:
+            self.streams[a, b].given.append(message)
+            self.let_go(a, b)
+
+    def let_go(self, a, b):
+        for number in self.streams[a, b].due():
+            self.packet(a, b, "data", number)
+
+    def packet(self, a, b, kind, number):
+        self.say("packet", a, b, self.wires[a, b].put((kind, number)), kind, number)
+
+    def tick(self, number):
+        pairs = [pair for pair in self.pairs if pair[0] == number]
+        self.say("resent", number, sum(len(self.streams[pair].outstanding()) for pair in pairs))
+        for a, b in pairs:
+            for sent in self.streams[a, b].outstanding():
+                self.packet(a, b, "data", sent)
+
+    def deliver(self, a, b, k):
+        wire = self.wires[a, b]
+        if k >= len(wire.packets):
+            self.say("none")
+            return
+        wire.undelivered.pop(k, None)
+        kind, number = wire.packets[k]
+        if kind == "ack":
+            self.say("acked", a, b, number)
+            stream = self.streams[b, a]
+            stream.acknowledged = max(stream.acknowledged, number)
+            self.let_go(b, a)
+            return
+        stream = self.streams[a, b]
+        word, taken = stream.arrives(number)
+        if word != "taken":
+            self.say(word, a, b, number)
+        for each in taken:
+            self.say("taken", a, b, each)
+            self.machines[b].inbox.append(stream.given[each])
+        self.packet(b, a, "ack", stream.taken)
+
+    # Turns
+
+    def turn(self, number):
+        machine = self.machines[number]
+        if machine.inbox:
+            self.handle(machine, machine.inbox.popleft())
+            return
+        for pid in machine.ring:
+            process = machine.records[pid].process
+            if process.can_be_served():
+                machine.ring.remove(pid)
+                machine.ring.append(pid)
+                self.serve(machine, process)
+                return
+        self.say("idle", number)
+
+    def serve(self, machine, process):
+        pid = process.pid
+        if isinstance(process.status, Waiting):
+            message, code = process.complete_receive()
+            if code:
+                self.say("refuse", pid, message.name, code)
+            else:
+                self.say("receive", pid, message.name)
+            return
+        count, reached = process.execute(self.boot.quantum)
+        self.say("ran", pid, count)
+        if reached is None:
+            return
+        what, number = reached
+        done = ("end", number) if what == "fault" else process.call(number, machine.number)
+        if done[0] == "call":
+            self.say("call", pid, number, done[1])
+        elif done[0] == "out":
+            self.say("out", pid, done[1])
+        elif done[0] == "wait":
+            self.say("wait", pid)
+        elif done[0] == "send":
+            self.say("send", pid, done[1].name)
+            self.put(machine, done[1])
+        else:
+            self.say("end", pid, done[1])
+            self.end(machine, process, done[1])
+
+    def end(self, machine, process, why):
+        """A process has ended: its queue goes with it."""
+        machine.ring.remove(process.pid)
+        machine.records[process.pid] = Ended(why)
+        for message in process.queue:
+            self.say("dropped", message.name)
+
+    def handle(self, machine, message):
+        pid = message.to.pid
+        if pid == kernel_of(machine.number):
+            getattr(self, "on_" + message.kind)(machine, message)
+        elif pid in SERVERS:
+            self.handle_server(machine, message)
+        else:
+            record = machine.records[pid]
+            if isinstance(record, Here):
+                self.handle_here(machine, record.process, message)
+            elif isinstance(record, (Frozen, Incoming)):
+                record.held.append(message)
+                self.say("held", message.name)
+            elif isinstance(record, Forward):
+                self.forward(machine, record, message)
+            else:
+                self.handle_ended(machine, message)
+
+    def handle_server(self, machine, message):
+        server = self.servers[message.to.pid]
+        if message.kind == "update":
+            self.updated(server, message)
+            return
+        self.say("took", message.name)
+        sent = server.take(message)
+        if sent is not None:
+            self.put(machine, sent)
+
+    def updated(self, follower, message):
+        self.say("updated", message.name, follower.follow(*message.what["address"]))
+
+    def handle_here(self, machine, process, message):
+        name, kind = message.name, message.kind
+        if kind == "user":
+            process.queue.append(message)
+            self.say("queued", name)
+        elif kind == "update":
+            self.updated(process, message)
+        elif kind == "migrate":
+            self.asked_to_move(machine, process, message)
+        elif kind in ("stop", "resume"):
+            process.stopped = kind == "stop"
+            self.say("served", name)
+        elif kind == "kill":
+            self.say("served", name)
+            self.end(machine, process, 5)
+        elif kind in ("read", "write"):
+            self.say("served", name)
+            self.put(machine, process.serve(message, machine.number))
+        else:
+            self.say("served", name)
+            request = process.land(message, machine.number)
+            if request is not None:
+                self.put(machine, request)
+
+    def handle_ended(self, machine, message):
+        name, kind = message.name, message.kind
+        if kind in ("read", "write"):
+            self.say("gone", name)
+            self.put(machine, answer(message, Address(message.to.pid, machine.number, message.to.moves), "gone", {}))
+        elif kind == "migrate":
+            self.say("nomove", name)
+        elif kind == "update":
+            self.say("updated", name, 0)
+        else:
+            self.say("dropped", name)
+
+    def forward(self, machine, record, message):
+        """Sends a message on, and tells its sender where the receiver went."""
+        self.say("forwarded", message.name, record.at)
+        self.put(machine, message.sent_on(record.at, record.moves))
+        if message.kind in TELLS_SENDER:
+            about = Address(message.to.pid, record.at, record.moves)
+            self.put(machine, self.own(machine, message.sender, "update", {"address": about}))
+
+    def own(self, machine, to, kind, what):
+        """The kernel's next message."""
+        machine.count += 1
+        kernel = kernel_of(machine.number)
+        return Message(Name(kernel, machine.count - 1), to, Address(kernel, machine.number), kind, what)
+
+    def to_kernel(self, machine, other, kind, what):
+        """Puts the kernel's next message, which is for another machine's kernel."""
+        self.put(machine, self.own(machine, Address(kernel_of(other), other), kind, what))
+
+    def on_create(self, machine, message):
+        image = self.boot.images[message.what["image"]]
+        slots, blocks = machine.free()
+        kernel = Address(kernel_of(machine.number), machine.number)
+        if slots < 1 or blocks < image.blocks:
+            self.say("nospace", message.name, slots, blocks)
+            self.put(machine, answer(message, kernel, "noroom", {}))
+            return
+        pid = machine.next_pid()
+        machine.stands(self.fresh(pid, image, message.what["links"]))
+        self.say("created", message.name, pid)
+        self.put(machine, answer(message, kernel, "created", {"pid": pid}))
+
+    # Migration
+
+    def migrate(self, pid, to):
+        machine = self.machines[0]
+        if pid in SERVERS:
+            self.say("pinned", pid)
+            return
+        child = self.manager.child(pid)
+        if child is None:
+            self.say("nochild", pid)
+            return
+        request = self.own(machine, child, "migrate", {"machine": to})
+        self.put(machine, Message(request.name, child, Address(MANAGER, 0), "migrate", request.what))
+
+    def asked_to_move(self, machine, process, message):
+        to, pid = message.what["machine"], process.pid
+        if to == machine.number:
+            self.say("here", message.name)
+            return
+        machine.ring.remove(pid)
+        machine.records[pid] = Frozen(process, to)
+        self.say("step", 1, pid)
+        self.say("step", 2, pid)
+        self.to_kernel(machine, to, "ask", {"pid": pid, "blocks": process.blocks, "moves": process.moves})
+
+    def on_ask(self, machine, message):
+        pid, asked, source = message.what["pid"], message.what["blocks"], message.sender.at
+        slots, blocks = machine.free()
+        if slots < 1 or blocks < asked:
+            self.say("lacks", pid, slots, blocks)
+            self.to_kernel(machine, source, "refuse", {"pid": pid})
+            return
+        machine.records[pid] = Incoming(source, asked, message.what["moves"])
+        self.say("step", 3, pid)
+        self.to_kernel(machine, source, "pullstate", {"pid": pid, "chunk": 0})
+
+    def on_refuse(self, machine, message):
+        record = machine.records[message.what["pid"]]
+        self.say("stays", message.what["pid"])
+        machine.stands(record.process)
+        machine.inbox.extendleft(reversed(record.held))
+
+    def on_pullstate(self, machine, message):
+        pid, chunk = message.what["pid"], message.what["chunk"]
+        process = machine.records[pid].process
+        last = CHUNK * (chunk + 1) >= state_size(process)
+        self.say("proto", message.name)
+        self.to_kernel(machine, message.sender.at, "state", {"pid": pid, "chunk": chunk, "last": last, "process": process})
+
+    def on_state(self, machine, message):
+        pid = message.what["pid"]
+        if message.what["last"]:
+            machine.records[pid].process = message.what["process"]
+            self.say("step", 4, pid)
+            self.to_kernel(machine, message.sender.at, "pullblock", {"pid": pid, "block": 0})
+        else:
+            self.say("proto", message.name)
+            self.to_kernel(machine, message.sender.at, "pullstate", {"pid": pid, "chunk": message.what["chunk"] + 1})
+
+    def on_pullblock(self, machine, message):
+        self.say("proto", message.name)
+        self.to_kernel(machine, message.sender.at, "memory", message.what)
+
+    def on_memory(self, machine, message):
+        pid, block = message.what["pid"], message.what["block"]
+        if block == machine.records[pid].blocks - 1:
+            self.say("step", 5, pid)
+            self.to_kernel(machine, message.sender.at, "alltaken", {"pid": pid})
+        else:
+            self.say("proto", message.name)
+            self.to_kernel(machine, message.sender.at, "pullblock", {"pid": pid, "block": block + 1})
+
+    def on_alltaken(self, machine, message):
+        pid = message.what["pid"]
+        record = machine.records[pid]
+        waiting = list(record.process.queue) + record.held
+        record.process.queue.clear()
+        gone = Forward(record.to, record.process.moves + 1)
+        machine.records[pid] = gone
+        self.say("step", 6, pid, len(waiting))
+        for each in waiting:
+            self.put(machine, each.sent_on(gone.at, gone.moves))
+        self.say("step", 7, pid)
+        self.to_kernel(machine, gone.at, "restart", {"pid": pid})
+
+    def on_restart(self, machine, message):
+        pid = message.what["pid"]
+        record = machine.records[pid]
+        record.process.moves = record.moves + 1
+        self.say("step", 8, pid)
+        machine.stands(record.process)
+        machine.inbox.extendleft(reversed(record.held))
