@@ -4,9 +4,8 @@ pub use Rattle.std.proofs.lemmas.List.{drop-take, take-take}
 pub use Rattle.std.proofs.lemmas.List.Elements.{All-more}
 pub use Rattle.std.specs.Result.{IfErr, IsErr}
 pub use Rattle.dm_records.proofs.Names.{Bool, Option, Pid, Some, ap, arith, false, if◌then◌else◌, refl, sym, true, ◌∙◌, ◌≡◌}
-pub use Rattle.dm_outside.proofs.Names.{drop}
 pub use Rattle.dm_outside.specs.Outside.{appended}
-pub use Rattle.dm_processor.proofs.Names.{List, [], get_or, length, nat_tests, suc, take, zero, ℕ, ◌%◌, ◌*◌, ◌++◌, ◌+◌, ◌-◌, ◌/◌, ◌<◌, ◌^◌, ◌∷◌, ◌≤◌}
+pub use Rattle.dm_processor.proofs.Names.{List, [], drop, get_or, length, nat_tests, suc, take, zero, ℕ, ◌%◌, ◌*◌, ◌++◌, ◌+◌, ◌-◌, ◌/◌, ◌<◌, ◌^◌, ◌∷◌, ◌≤◌}
 pub use Rattle.dm_stream.proofs.Names.{Ack, Data, inl, inr, subst, ◌≢◌, ◌⊎◌}
 pub use Rattle.dm_linktable.proofs.Names.{Link, ◌&&◌, ◌==◌}
 pub use Rattle.dm_packet.proofs.Field.{ok_is}

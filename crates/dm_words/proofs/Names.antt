@@ -27,8 +27,7 @@ pub use Rattle.std.specs.Prelude.{encode_utf8, find, fold, option_and_then, opti
 pub use Rattle.std.specs.Str.{chars}
 pub use Rattle.dm_memory.specs.Clap.{FailsBy}
 pub use Rattle.dm_memory.specs.declared.of_clap.MatchesError.{MatchesError}
-pub use Rattle.dm_outside.proofs.Names.{drop, ◌≡◌}
-pub use Rattle.dm_processor.proofs.Names.{Bool, List, None, Some, [], ap, arith, cond, false, length, length-append, refl, suc, sym, true, zero, ℕ, ◌++◌, ◌<◌, ◌∙◌, ◌∷◌}
+pub use Rattle.dm_processor.proofs.Names.{Bool, List, None, Some, [], ap, arith, cond, drop, false, length, length-append, refl, suc, sym, true, zero, ℕ, ◌++◌, ◌<◌, ◌∙◌, ◌∷◌, ◌≡◌}
 pub use Rattle.dm_linktable.proofs.Names.{map, rules, subst, ◌&&◌}
 pub use Rattle.dm_schedule.proofs.Names.{codes, if◌then◌else◌, not}
 pub use Rattle.dm_draw.proofs.Names.{inl, inr, ◌⊎◌}
