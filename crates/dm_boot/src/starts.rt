@@ -79,7 +79,8 @@ fn start_of(
 /// Whether a room has place for so many blocks more where so many are taken.
 fn has_place_for(more: u32, taken: u32, room: u16) -> bool
     requires { taken + more < 2 ^ 32 }
-    ensures { result ≡ nat_le (taken + more) room }
+    ensures fits { result ≡ nat_le (taken + more) room }
+    ensures few { OnTrue result (taken + more ≤ 65535) }
 {
     taken + more <= u32::from(room)
 }
@@ -108,11 +109,11 @@ fn fits_after(
         return false;
     }
     let taken = blocks_at(home, images, earlier);
-    has_place_for(
-        blocks_of_image(images, process.image),
-        taken,
-        machines[place].blocks,
-    )
+    let more = blocks_of_image(images, process.image);
+    if !has_place_for(more, taken, machines[place].blocks) {
+        return false;
+    }
+    true
 }
 
 /// How many of these processes start on a machine.
