@@ -119,7 +119,7 @@ class System(Drawing):
     def part(self, memory, number):
         """A few lines of a program, and those of what stands behind it."""
         kinds = [self.send] * 5 + [self.receive] * 5 + [self.move] * 3 + [self.make] * 2 + [self.ask_switchboard] * 2
-        kinds += [self.ask_manager, self.ask_manager, self.control, self.copy, self.drop, self.out, self.out, self.compute, self.compute, self.odd]
+        kinds += [self.ask_manager] * 2 + [self.out] * 2 + [self.compute] * 2 + [self.control, self.copy, self.drop, self.odd]
         return self.pick(kinds)(memory, f"d{number}")
 
     def rarely(self, n):
@@ -140,7 +140,8 @@ class System(Drawing):
     def receive(self, memory, label):
         capacity = self.pick([0, 1, 4, 16, 64, 64, 64]) if not self.rarely(8) else self.odd_number(memory)
         place = memory - 64 if not self.rarely(8) else self.odd_number(memory)
-        lines = [f"li r1 {self.pick([7, 7, 1, 3] if self.careful else [1, 1, 3, 7, 2, 0, 65535])}", f"li r2 {place}", f"li r3 {capacity}", "sys 7"]
+        mask = self.pick([7, 7, 1, 3] if self.careful else [1, 1, 3, 7, 2, 0, 65535])
+        lines = [f"li r1 {mask}", f"li r2 {place}", f"li r3 {capacity}", "sys 7"]
         if self.one_in(3):
             lines.insert(1, "lih r1 65535")
         if self.one_in(3):
@@ -153,7 +154,9 @@ class System(Drawing):
         length = self.pick([1, 4, 56, 56, 200, 256, 257, 300, memory]) if not self.rarely(8) else self.odd_number(memory)
         offset = self.pick([0, 0, 0, 1, 56])
         own = self.pick([memory - 64, 128, 0, memory - 1]) if self.rarely(3) else max(memory - 64 if length < 65 else 0, memory - length)
-        return [f"li r1 {self.slot()}", f"li r2 {self.pick([0, 1]) if not self.rarely(5) else 2}", f"li r3 {offset}", f"li r4 {own}", f"li r5 {length}", "sys 8"], []
+        direction = self.pick([0, 1]) if not self.rarely(5) else 2
+        lines = [f"li r1 {self.slot()}", f"li r2 {direction}", f"li r3 {offset}", f"li r4 {own}", f"li r5 {length}", "sys 8"]
+        return lines, []
 
     def make(self, memory, label):
         base = self.pick([0, 128, 200, self.odd_number(memory)])
@@ -192,7 +195,8 @@ class System(Drawing):
         a, b, c = (self.between(6, 15) for _ in range(3))
         lines = [f"li r{b} {self.odd_number(memory)}", f"{word} r{a} r{b} r{c}"]
         if self.one_in(2):
-            lines += [f"li r{b} {4 * self.below(memory // 4)}", f"{self.pick(['lw', 'lb', 'lw', 'lb', 'sb'])} r{a} r{b} {self.pick([0, 0, 4, 3])}"]
+            word = self.pick(["lw", "lb", "lw", "lb", "sb"])
+            lines += [f"li r{b} {4 * self.below(memory // 4)}", f"{word} r{a} r{b} {self.pick([0, 0, 4, 3])}"]
         return lines, []
 
     def odd(self, memory, label):
@@ -234,7 +238,8 @@ class System(Drawing):
                 pid = self.pid()
                 for _ in range(self.between(2, 5)):
                     lines.append(f"migrate {pid} {self.between(0, most)}")
-                    lines += self.pick([["settle"], ["round"], [f"spin {self.between(2, 20)}"], ["settle", f"spin {self.between(1, 9)}"], []])
+                    spins = f"spin {self.between(1, 20)}"
+                    lines += self.pick([["settle"], ["round"], [spins], ["settle", spins], []])
             elif d in (10, 11):
                 lines.append("round")
             elif d == 12:
@@ -275,7 +280,9 @@ class Files(Drawing):
         '0 -1 1 64 65 256 257 4096 4097 true 1.5 "A" "" "abcdefghijklmnop" "abcdefghijklmnopq" "manager" "switchboard" "i0" "p0"'
         " [] [1] [[]] {} 1979-05-27 4294967295 4294967296"
     ).split(" ")
-    ODD_NUMBERS = "0 00 003 0000000000 00000000000 4294967295 4294967296 9999999999 65536 65537 x -1 +1 1.0 0x1 0.3.1 0. .3 0.x 9 \u00e9".split(" ")
+    ODD_NUMBERS = (
+        "0 00 003 0000000000 00000000000 4294967295 4294967296 9999999999 65536 65537 9 x -1 +1 1.0 0x1 0.3.1 0. .3 0.x \u00e9"
+    ).split(" ")
 
     def __init__(self, number):
         super().__init__(f"files {number}")
@@ -293,8 +300,11 @@ class Files(Drawing):
         if self.odd == "keys" and self.one_in(5):
             top = {"numbers": "0 1 1048576 1048577", "quantum": "0 1 1000 1001", "format": "0 1 2 3", "Numbers": "1"}
         text = "".join(f"{key} = {self.pick(values.split())}\n" for key, values in top.items() if self.one_in(4))
-        tables = [("machine", {"slots": self.pick("2 3 64".split()), "blocks": self.pick("2 4 4096".split())}) for _ in range(self.machines)]
-        tables += [("image", {"name": f'"i{i}"', "blocks": self.pick("1 1 2 4".split()), "text": self.text()}) for i in range(self.images)]
+        tables = []
+        for _ in range(self.machines):
+            tables.append(("machine", {"slots": self.pick("2 3 64".split()), "blocks": self.pick("2 4 4096".split())}))
+        for i in range(self.images):
+            tables.append(("image", {"name": f'"i{i}"', "blocks": self.pick("1 1 2 4".split()), "text": self.text()}))
         for i in range(self.processes):
             keys = {"name": f'"p{i}"', "machine": str(self.below(self.machines)), "image": f'"i{self.below(self.images)}"'}
             count = self.pick([0, 1, 2, 3, self.pick([1, 32, 33])])

@@ -1,0 +1,5 @@
+machine = [{ slots = 1, blocks = 1 }, { slots = 2, blocks = 2 }]
+image = [{ name = 'a', blocks = 1, text = 'sys 1' }, { name = 'b', blocks = 2, text = '''beq r0 r0 x
+.byte 0
+x: .byte 0''' }]
+process = [{ name = 'p', machine = 0, image = 'a' }]
