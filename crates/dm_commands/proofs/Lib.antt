@@ -6,7 +6,7 @@ pub mod Drills
 mod Outcomes
 mod ChartOutcomes
 mod CheckOutcomes
-mod ExplainOutcomes
+pub mod ExplainOutcomes
 mod RunsChecked
 mod Sound
 mod DrillsChecked
