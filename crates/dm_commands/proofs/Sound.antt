@@ -7,13 +7,13 @@ runs_are_sound boot schedule o says = elim says [
       let w : IsWhole r.system r.directives o.before o.after o.world = r.says.1 in
       let l = good_leads r.system r.directives w.groups w.end w.left r.valid r.within w.good in
       let sound : IsSound r.system (joined w.groups) w.end =
-            record {
-              replays = w.good.replays;
-              received = w.good.received;
-              stands = λ (id : MsgId). stands_once_always r.system l.0 w.end id r.valid (leads_of r.system l.0 (joined w.groups) (first_point r.system) w.end l.1);
-              directives = l.0;
-              leads = l.1;
-            } in
+      record {
+        replays = w.good.replays;
+        received = w.good.received;
+        stands = λ (id : MsgId). stands_once_always r.system l.0 w.end id r.valid (leads_of r.system l.0 (joined w.groups) (first_point r.system) w.end l.1);
+        directives = l.0;
+        leads = l.1;
+      } in
       record {
         system = r.system;
         directives = r.directives;
