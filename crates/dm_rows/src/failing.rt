@@ -125,7 +125,7 @@ fn say_failed(
     reads: &[u64],
     writes: &[u64],
 ) -> Result<()> {
-    let ended = ending(rt, tried, reads, writes, None)?;
+    let ended = ending(rt, tried, reads, writes, false)?;
     let (name, line, written) = (tried.name, ended.line.as_str(), ended.written.len());
     println!(rt; "{name}, {what} fails behind {before}: {line:?}, {written} bytes")?;
     Ok(())
@@ -135,18 +135,18 @@ fn say_failed(
 /// writes before it took. Each call fails in turn.
 fn fail_bytes(rt: &HostRuntime, tried: &Tried) -> Result<()> {
     let whole = fs::read(rt, tried.output)?;
-    let calm = ending(rt, tried, &[], &[], Some(1))?;
+    let calm = ending(rt, tried, &[], &[], true)?;
     let (name, reads, writes) = (tried.name, calm.reads, calm.writes);
     let mut same = calm.is(0, "", whole.as_slice(), whole.len() as u64);
     println!(rt; "{name}, one byte a call: {reads} reads, {writes} writes, the same: {same}")?;
     for read in 0..reads {
-        let ended = ending(rt, tried, &[read + 1], &[], Some(1))?;
+        let ended = ending(rt, tried, &[read + 1], &[], true)?;
         same = same && ended.is(3, "read fault", whole.as_slice(), 0);
     }
     println!(rt; "{name}, one byte a call: each read that fails leaves nothing: {same}")?;
     for write in 0..writes {
         if write.checked_rem(tried.stride) == Some(0) {
-            let ended = ending(rt, tried, &[], &[write + 1], Some(1))?;
+            let ended = ending(rt, tried, &[], &[write + 1], true)?;
             same = same && ended.is(5, "write fault", whole.as_slice(), write);
         }
     }
@@ -162,13 +162,13 @@ fn shelf_of(alloc: Global, boot: Vec<u8>, other: Vec<u8>, fails: &[u64]) -> Resu
     Ok(MemShelf::new(files, Vec::from_slice(alloc, fails)?))
 }
 
-/// What comes of a command where these reads and these writes fail, and no call gives or takes more bytes than so many.
+/// What comes of a command where these reads and these writes fail. With `by_byte` each call gives or takes one byte.
 fn ending(
     rt: &HostRuntime,
     tried: &Tried,
     reads: &[u64],
     writes: &[u64],
-    most: Option<usize>,
+    by_byte: bool,
 ) -> Result<Ended> {
     let alloc = rt.alloc();
     let mut shelf = shelf_of(
@@ -186,9 +186,9 @@ fn ending(
         Vec::with_capacity(alloc, 8_192)?,
         Vec::from_slice(alloc, writes)?,
     );
-    if let Some(most) = most {
-        shelf.cut(most);
-        out.cut(most);
+    if by_byte {
+        shelf.cut(1);
+        out.cut(1);
     }
     let mut errors = MemSink::new(Vec::with_capacity(alloc, 96)?, Vec::new(alloc));
     let status = finish(alloc, Ok(words), &mut shelf, &mut out, &mut errors);
