@@ -73,13 +73,14 @@ pub fn len_in(link: &Value, most: u32) -> Option<u32>
     number_at(link, "len", 0, 0, most)
 }
 
-/// Whether a link's area lies within so many bytes.
+/// Whether a link's area lies within the memory of the process with a name. An area that ends at 0 lies within any, and nothing is
+/// looked up for it.
 #[tactic(auto, unfolding(crate::specs::Rules::has_area))]
-fn has_area(size: u32, link: &Value) -> bool
-    ensures { result ≡ has_area size (view link.now) }
+fn has_area(document: &Document<'_>, name: &str, link: &Value) -> bool
+    ensures { result ≡ has_area (memory_of (view document.now.top.now) name.now) (view link.now) }
 {
     match (base_in(link, MOST_MEMORY), len_in(link, MOST_MEMORY)) {
-        (Some(base), Some(len)) => base + len <= size,
+        (Some(base), Some(len)) => base + len == 0 || base + len <= memory_of(document, name),
         _ => false,
     }
 }
@@ -141,7 +142,7 @@ pub fn is_limited(document: &Document<'_>, link: &Value) -> bool
     if is_control(link) || is_server(name) {
         is_plain(link)
     } else {
-        code_in(link, u32::MAX).is_some() && has_area(memory_of(document, name), link)
+        code_in(link, u32::MAX).is_some() && has_area(document, name, link)
     }
 }
 

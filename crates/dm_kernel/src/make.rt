@@ -170,7 +170,7 @@ pub(crate) fn child_of(
     requires links { length links.now ≤ slots_of boot.now.format }
     ensures { IfOk result (λ x. x ≡ child_of boot.now pid image.now links.now) }
 {
-    let table = table_of(links, boot.format.slots());
+    let table = table_of(alloc, links, boot.format.slots())?;
     let bytes = image.bytes.as_slice();
     Ok(Process::new(alloc, pid, bytes, image.blocks, table)?)
 }
@@ -186,14 +186,14 @@ pub(crate) fn image_of(boot: &Boot, place: u16) -> &BootImage
 }
 
 /// A table with these links from slot 0 on.
-fn table_of(links: &[Link], slots: u8) -> Table
+fn table_of(alloc: Global, links: &[Link], slots: u8) -> Result<Table, NoMemory>
     requires slots { (slots ≡ FEW_SLOTS) ⊎ (slots ≡ MOST_SLOTS) }
     requires fits { length links.now ≤ slots }
-    ensures { result ≡ slots_with slots links.now }
+    ensures { IfOk result (λ table. table ≡ slots_with slots links.now) }
 {
-    let mut table = Table::new(slots);
+    let mut table = Table::new(alloc, slots)?;
     for link in links {
         table.put(*link).unwrap();
     }
-    table
+    Ok(table)
 }

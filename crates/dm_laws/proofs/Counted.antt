@@ -7,9 +7,8 @@ use Rattle.dm_onekernel.specs.Receiving as receiving
 
 -- the number of the request that a process waits for
 abbrev pub pending_of : PlainStatus → Option ℕ
-pending_of Ready = None
-pending_of (Waiting mask base cap_) = None
 pending_of (Moving dir owner base own left pending) = Some pending
+pending_of _ = None
 
 -- what a message that a process sends is to the process: a user message, and it moves no data, or the request that it waits for
 abbrev pub IsSentSo : Pid → PlainProcess → PlainMessage → PlainProcess → Type 0

@@ -83,9 +83,8 @@ stays_or_leaves b ls s t l id m valid is next there =
     stays_or_leaves_of (t.bag id) m (λ x then_. a.only id m x there then_)
 
 ended_stays_of : (l m : Option Life) (y : Why) → LifeGrows l m → l ≡ Some (Ended y) → m ≡ Some (Ended y)
-ended_stays_of None m y g e = cc
 ended_stays_of (Some (Ended z)) m y g e = g ∙ e
-ended_stays_of (Some (Alive x)) m y g e = cc
+ended_stays_of _ m y g e = cc
 
 leads_grown : (b : Boot) (ls ms : List Label) (s t : OneKernel) → IsValid b → Leads b ls s ms t → Grown s t
 leads_grown b ls ms s t valid leads =

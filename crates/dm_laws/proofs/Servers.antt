@@ -53,13 +53,9 @@ manager_wants g machines images machine image (l ∷ ls) =
     (record { sends = (refl, refl, refl, refl); children = omega arith }) (manager_bad g (l ∷ ls))
 
 manager_requests : (g : Manager) (machines images : ℕ) (body : List ℕ) (links : List PlainLink) → ManagerSends g (manage.requests g machines images body links)
-manager_requests g machines images [] links = manager_bad g links
-manager_requests g machines images (a ∷ []) links = manager_bad g links
-manager_requests g machines images (a ∷ b ∷ []) links = manager_bad g links
-manager_requests g machines images (a ∷ b ∷ c ∷ []) links = manager_bad g links
 manager_requests g machines images (a ∷ b ∷ c ∷ d ∷ []) links =
     manager_if g (a == 1) (manage.wants_child g machines images b (256 * c + d) links) (manage.bad_request g links) (manager_wants g machines images b (256 * c + d) links) (manager_bad g links)
-manager_requests g machines images (a ∷ b ∷ c ∷ d ∷ f ∷ fs) links = manager_bad g links
+manager_requests g machines images _ links = manager_bad g links
 
 -- what is done to a child is no data move
 control_is : (b c d : Bool) (w : PlainWhat) → (if b then Some PlainWhat.Stop else if c then Some PlainWhat.Resume else if d then Some PlainWhat.Kill else None) ≡ Some w → (is_of_memory w ≡ false) × (is_piece w ≡ false)
@@ -74,11 +70,8 @@ manager_controls_child g child (Some w) links h = let k = h w refl in record { s
 
 manager_controls : (g : Manager) (child : Option Pid) (body : List ℕ) (links : List PlainLink) → ManagerSends g (manage.controls g child body links)
 manager_controls g (Some child) (a ∷ []) links = manager_controls_child g child (manage.control_of a) links (control_is (a == 2) (a == 3) (a == 4))
-manager_controls g (Some child) [] links = manager_bad g links
-manager_controls g (Some child) (a ∷ b ∷ bs) links = manager_bad g links
-manager_controls g None [] links = manager_bad g links
 manager_controls g None (a ∷ []) links = manager_bad g links
-manager_controls g None (a ∷ b ∷ bs) links = manager_bad g links
+manager_controls g _ _ links = manager_bad g links
 
 append-longer : {A : Type 0} (xs : List A) (y : A) → length (xs ++ y ∷ []) ≡ length xs + 1
 append-longer [] y = refl
@@ -202,9 +195,8 @@ after_took r e s t id is h =
 
 -- a message whose receiver has ended
 pub ended-is : (l : Option Life) (y : Why) → step.ended l ≡ Some y → l ≡ Some (Ended y)
-ended-is None y e = cc
-ended-is (Some (Alive x)) y e = cc
 ended-is (Some (Ended z)) y e = ap (λ (v : Why). Some (Ended v)) (let f : z ≡ y = cc in f)
+ended-is _ y e = cc
 
 apart_of : (s : OneKernel) (p q : Pid) (y : Why) (z : PlainProcess) (b : Bool) → pid_eq p q ≡ b → s.processes p ≡ Some (Ended y) → s.processes q ≡ Some (Alive z) → b ≡ false
 apart_of s p q y z false e f g = refl

@@ -63,30 +63,7 @@ lands_what-is p x Direction.IntoArea owner base own left PlainWhat.Written c e =
     if_lands p x _ (pieces.goes_on p x Direction.IntoArea owner base own left (pieces.piece_of left)) c (goes_on-lands p x x Direction.IntoArea owner (base + pieces.piece_of left) (own + pieces.piece_of left) (left - pieces.piece_of left) (left - pieces.piece_of left == 0) refl refl) e
 lands_what-is p x Direction.FromArea owner base own left PlainWhat.Gone c e = let k : pieces.done Reply.Gone x ≡ c = cc in subst (LandsSo p x) k (refl, refl)
 lands_what-is p x Direction.IntoArea owner base own left PlainWhat.Gone c e = let k : pieces.done Reply.Gone x ≡ c = cc in subst (LandsSo p x) k (refl, refl)
-lands_what-is p x Direction.FromArea owner base own left PlainWhat.Written c e = cc
-lands_what-is p x Direction.IntoArea owner base own left (PlainWhat.Block bytes) c e = cc
-lands_what-is p x Direction.FromArea owner base own left (PlainWhat.User a b d f) c e = cc
-lands_what-is p x Direction.FromArea owner base own left PlainWhat.Stop c e = cc
-lands_what-is p x Direction.FromArea owner base own left PlainWhat.Resume c e = cc
-lands_what-is p x Direction.FromArea owner base own left PlainWhat.Kill c e = cc
-lands_what-is p x Direction.FromArea owner base own left (PlainWhat.Read a b) c e = cc
-lands_what-is p x Direction.FromArea owner base own left (PlainWhat.Write a b) c e = cc
-lands_what-is p x Direction.FromArea owner base own left (PlainWhat.Create a b) c e = cc
-lands_what-is p x Direction.FromArea owner base own left (PlainWhat.Created a) c e = cc
-lands_what-is p x Direction.FromArea owner base own left PlainWhat.NoRoom c e = cc
-lands_what-is p x Direction.FromArea owner base own left (PlainWhat.Move a) c e = cc
-lands_what-is p x Direction.FromArea owner base own left (PlainWhat.Moved a) c e = cc
-lands_what-is p x Direction.IntoArea owner base own left (PlainWhat.User a b d f) c e = cc
-lands_what-is p x Direction.IntoArea owner base own left PlainWhat.Stop c e = cc
-lands_what-is p x Direction.IntoArea owner base own left PlainWhat.Resume c e = cc
-lands_what-is p x Direction.IntoArea owner base own left PlainWhat.Kill c e = cc
-lands_what-is p x Direction.IntoArea owner base own left (PlainWhat.Read a b) c e = cc
-lands_what-is p x Direction.IntoArea owner base own left (PlainWhat.Write a b) c e = cc
-lands_what-is p x Direction.IntoArea owner base own left (PlainWhat.Create a b) c e = cc
-lands_what-is p x Direction.IntoArea owner base own left (PlainWhat.Created a) c e = cc
-lands_what-is p x Direction.IntoArea owner base own left PlainWhat.NoRoom c e = cc
-lands_what-is p x Direction.IntoArea owner base own left (PlainWhat.Move a) c e = cc
-lands_what-is p x Direction.IntoArea owner base own left (PlainWhat.Moved a) c e = cc
+lands_what-is p x _ owner base own left _ c e = cc
 
 if_lands_what : (p : Pid) (x : PlainProcess) (b : Bool) (dir : Direction) (owner : Pid) (base own left : ℕ) (w : PlainWhat) (c : pieces.Landed) → (if b then pieces.lands_what p x dir owner base own left w else None) ≡ Some c → LandsSo p x c
 if_lands_what p x true dir owner base own left w c e = lands_what-is p x dir owner base own left w c e
@@ -94,8 +71,7 @@ if_lands_what p x false dir owner base own left w c e = cc
 
 pub lands-is : (p : Pid) (x : PlainProcess) (m : PlainMessage) (st : PlainStatus) (c : pieces.Landed) → pieces.lands p x m st ≡ Some c → LandsSo p x c
 lands-is p x m (Moving dir owner base own left pending) c e = if_lands_what p x (m.id.n == pending) dir owner base own left m.what c e
-lands-is p x m Ready c e = cc
-lands-is p x m (Waiting mask base size) c e = cc
+lands-is p x m _ c e = cc
 
 twice_at : (b : Bool) (x y z : Option Life) → (if b then x else if b then y else z) ≡ (if b then x else z)
 twice_at true x y z = refl

@@ -118,9 +118,8 @@ pub record Runs (s : OneKernel) (p : Pid) (x : PlainProcess) : Type 0 where
   pub still : pending_of x.status ≡ None
 
 pub alive-is : (l : Option Life) (x : PlainProcess) → step.alive l ≡ Some x → l ≡ Some (Alive x)
-alive-is None x e = cc
 alive-is (Some (Alive y)) x e = cc
-alive-is (Some (Ended y)) x e = cc
+alive-is _ x e = cc
 
 if_stopped-is : (y : PlainProcess) (b : Bool) (x : PlainProcess) → (if b then None else Some y) ≡ Some x → (y ≡ x) × (pending_of Ready ≡ None)
 if_stopped-is y true x e = cc
@@ -128,8 +127,7 @@ if_stopped-is y false x e = (cc, refl)
 
 if_ready-is : (y : PlainProcess) (st : PlainStatus) (x : PlainProcess) → step.if_ready y st ≡ Some x → (y ≡ x) × (pending_of st ≡ None)
 if_ready-is y Ready x e = if_stopped-is y y.stopped x e
-if_ready-is y (Waiting mask base size) x e = cc
-if_ready-is y (Moving dir owner base own left pending) x e = cc
+if_ready-is y _ x e = cc
 
 runs : (s : OneKernel) (p : Pid) (x : PlainProcess) → step.running s p ≡ Some x → Runs s p x
 runs s p x e =
@@ -182,11 +180,7 @@ after_replies r e s t p n c (step.Calls number (calls.Replies reply y)) w is h =
     let k = when-is _ (step.goes_on s p y) t is in
     subst (After r e s (Label.Call p n c)) k.1
     (process_goes r e s p w.x y (Label.Call p n c) w.is.alive (counted.0 ∙ sent) (inl (counted.1 ∙ pending)) (λ i. refl) h)
-after_replies r e s t p n c (step.Calls number (calls.Sends m y)) w is h = cc
-after_replies r e s t p n c (step.Calls number (calls.Waits y)) w is h = cc
-after_replies r e s t p n c (step.Calls number (calls.Outputs word y)) w is h = cc
-after_replies r e s t p n c (step.Calls number (calls.Ends because)) w is h = cc
-after_replies r e s t p n c (step.Faults fault) w is h = cc
+after_replies r e s t p n c _ w is h = cc
 
 -- a process sends as one of the same count
 pub Sent-from : (p : Pid) (x z : PlainProcess) (m : PlainMessage) (y : PlainProcess) → z.sent ≡ x.sent → pending_of z.status ≡ pending_of x.status → Sent p z m y → Sent p x m y
@@ -216,49 +210,34 @@ after_sends r e s t p id (step.Calls number (calls.Sends m y)) w is h =
     let k = when-is _ (with_sent (step.goes_on s p y) (Some m)) t is in
     subst (After r e s (Label.Send p id)) k.1
     (process_sends r e s p w.x y m (Label.Send p id) w.is.alive (Sent-from p w.x z m y sent pending counted) (λ i. refl) h)
-after_sends r e s t p id (step.Calls number (calls.Replies reply y)) w is h = cc
-after_sends r e s t p id (step.Calls number (calls.Waits y)) w is h = cc
-after_sends r e s t p id (step.Calls number (calls.Outputs word y)) w is h = cc
-after_sends r e s t p id (step.Calls number (calls.Ends because)) w is h = cc
-after_sends r e s t p id (step.Faults fault) w is h = cc
+after_sends r e s t p id _ w is h = cc
 
 pub after_waits : (r e : MsgId → ℕ) (s t : OneKernel) (p : Pid) (next : step.Next) → Nexts s p next → step.waits s p next ≡ Some t → Sound r e s → After r e s (Label.Wait p) t
 after_waits r e s t p (step.Calls number (calls.Waits y)) w is h =
     let (z, sent, pending, counted) = w.counts in
     let k : step.goes_on s p y ≡ t = cc in
     subst (After r e s (Label.Wait p)) k (process_goes r e s p w.x y (Label.Wait p) w.is.alive (counted.0 ∙ sent) (inr counted.1) (λ i. refl) h)
-after_waits r e s t p (step.Calls number (calls.Replies reply y)) w is h = cc
-after_waits r e s t p (step.Calls number (calls.Sends m y)) w is h = cc
-after_waits r e s t p (step.Calls number (calls.Outputs word y)) w is h = cc
-after_waits r e s t p (step.Calls number (calls.Ends because)) w is h = cc
-after_waits r e s t p (step.Faults fault) w is h = cc
+after_waits r e s t p _ w is h = cc
 
 pub after_outputs : (r e : MsgId → ℕ) (s t : OneKernel) (p : Pid) (word : ℕ) (next : step.Next) → Nexts s p next → step.outputs s p word next ≡ Some t → Sound r e s → After r e s (Label.Out p word) t
 after_outputs r e s t p word (step.Calls number (calls.Outputs put y)) w is h =
     let (z, sent, pending, counted) = w.counts in
     let k = when-is _ (step.goes_on s p y) t is in
     subst (After r e s (Label.Out p word)) k.1 (process_goes r e s p w.x y (Label.Out p word) w.is.alive (counted.0 ∙ sent) (inl (counted.1 ∙ pending)) (λ i. refl) h)
-after_outputs r e s t p word (step.Calls number (calls.Replies reply y)) w is h = cc
-after_outputs r e s t p word (step.Calls number (calls.Sends m y)) w is h = cc
-after_outputs r e s t p word (step.Calls number (calls.Waits y)) w is h = cc
-after_outputs r e s t p word (step.Calls number (calls.Ends because)) w is h = cc
-after_outputs r e s t p word (step.Faults fault) w is h = cc
+after_outputs r e s t p word _ w is h = cc
 
 process_ends : (r e : MsgId → ℕ) (s : OneKernel) (p : Pid) (x : PlainProcess) (y : Why) (l : Label) → s.processes p ≡ Some (Alive x) → ((i : MsgId) → reception i l ≡ 0) → Sound r e s → After r e s l (with_process s p (Ended y))
 process_ends r e s p x y l is none h =
     quiet r e s (with_process s p (Ended y)) l none (λ i z f. f) (Grown-ended s (with_process s p (Ended y)) p x y is (λ q. refl) (λ n. refl) refl refl) (ending r e s p x y is h)
 
 pub after_ends : (r e : MsgId → ℕ) (s t : OneKernel) (p : Pid) (y : Why) (next : step.Next) → Nexts s p next → step.ends s p y next ≡ Some t → Sound r e s → After r e s (Label.End p y) t
-after_ends r e s t p y (step.Calls number (calls.Ends because)) w is h =
-    let k = when-is _ (with_process s p (Ended y)) t is in
-    subst (After r e s (Label.End p y)) k.1 (process_ends r e s p w.x y (Label.End p y) w.is.alive (λ i. refl) h)
-after_ends r e s t p y (step.Faults fault) w is h =
-    let k = when-is _ (with_process s p (Ended y)) t is in
-    subst (After r e s (Label.End p y)) k.1 (process_ends r e s p w.x y (Label.End p y) w.is.alive (λ i. refl) h)
 after_ends r e s t p y (step.Calls number (calls.Replies reply z)) w is h = cc
 after_ends r e s t p y (step.Calls number (calls.Sends m z)) w is h = cc
 after_ends r e s t p y (step.Calls number (calls.Waits z)) w is h = cc
 after_ends r e s t p y (step.Calls number (calls.Outputs word z)) w is h = cc
+after_ends r e s t p y _ w is h =
+    let k = when-is _ (with_process s p (Ended y)) t is in
+    subst (After r e s (Label.End p y)) k.1 (process_ends r e s p w.x y (Label.End p y) w.is.alive (λ i. refl) h)
 
 -- a receive that ends: the process waited, and the message is a user's
 pub record Completing (s : OneKernel) (p : Pid) (id : MsgId) (c : receiving.Completed) : Type 0 where
@@ -284,9 +263,8 @@ completes_what-is p x m mask base size (PlainWhat.User code channel body links) 
 completes_what-is p x m mask base size _ c e = cc
 
 completes_status-is : (p : Pid) (x : PlainProcess) (m : PlainMessage) (st : PlainStatus) (c : receiving.Completed) → receiving.completes_status p x m st ≡ Some c → UserCompletes x m c
-completes_status-is p x m Ready c e = cc
 completes_status-is p x m (Waiting mask base size) c e = completes_what-is p x m mask base size m.what c e
-completes_status-is p x m (Moving dir owner base own left pending) c e = cc
+completes_status-is p x m _ c e = cc
 
 completes_with-is : (p : Pid) (x : PlainProcess) (m : PlainMessage) (b : Bool) (c : receiving.Completed) → (if b then None else receiving.completes_status p x m x.status) ≡ Some c → UserCompletes x m c
 completes_with-is p x m true c e = cc

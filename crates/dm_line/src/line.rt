@@ -5,7 +5,7 @@ use dm_onekernel::Label;
 use dm_schedule::Step;
 
 /// A line of a group.
-#[derive(Drop)]
+#[derive(Clone, Copy)]
 pub enum Line {
     /// The head of a group: the directive that the machine acts on.
     Head(Step),

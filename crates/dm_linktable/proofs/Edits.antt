@@ -1,7 +1,7 @@
 -- What an edit of one entry leaves of an index.
 use Rattle.dm_linktable.proofs.Names.{◌≡◌, ℕ, ◌+◌, ◌-◌, ◌<◌, ◌≤◌, ◌^◌, ◌==◌, ◌&&◌, cond, List, length, get_or, set, arith, sym, ap, ◌∙◌, subst, ⊎_elim, eq-or-lt_of_le, cases_lt, common_steps, get_or_default, length-insert, length-remove}
-use Rattle.dm_linktable.proofs.Names.{get_or-insert_below, get_or-insert_at, get_or-insert_above, sum_by-insert, sum_by-remove, sum_by-set, bit_at-zero, bit_at, refill, insert, remove, Less, Pid, pid_cmp, pid_eq, Entry, IsIndex, mask_in}
-use Rattle.dm_linktable.proofs.Names.{mask_of}
+use Rattle.dm_linktable.proofs.Names.{get_or-insert_below, get_or-insert_at, get_or-insert_above, sum_by-insert, sum_by-remove, sum_by-set, bit_at-zero, bit_at, insert, remove, Less, Pid, pid_cmp, pid_eq, Entry, IsIndex, mask_in}
+use Rattle.dm_linktable.proofs.Names.{mask_of, Result, Ok, Err, IsOk, is_ok}
 use Rattle.dm_linktable.proofs.ReceiverOrder.{pid_eq_same}
 use Rattle.dm_linktable.proofs.Entries.{get_or-insert, get_or-remove, get_or-set, mask_at}
 
@@ -87,6 +87,7 @@ bits-remove es index i s slots p q d t lt same none bits =
 pub bits_same : (es : List Entry) (s : ℕ) (p q : Pid) (t : ℕ) → mask_of es p ≡ 0 → bit_at (mask_of es q) t ≡ cond (pid_eq p q && (t == s)) 0 (bit_at (mask_of es q) t)
 bits_same es s p q t none = grind (arith, pid_eq_same p q, bit_at-zero t)
 
--- what a write of one element through a slice leaves
-pub written : {X : Type 0} (es now : List X) (i : ℕ) (e : X) → now ≡ es → refill (length es) es (set now i e) ≡ set es i e
-written es now i e same = grind (arith, common_steps)
+-- what an insertion leaves that had room
+pub within_room : {A E X : Type 0} (r : Result A E) (now was new : X) → IsOk r → now ≡ cond (is_ok r) new was → now ≡ new
+within_room (Ok a) now was new ok e = e
+within_room (Err b) now was new ok e = absurd (grind (arith, ok))

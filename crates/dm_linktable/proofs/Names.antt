@@ -18,9 +18,11 @@ pub use Rattle.std.proofs.lemmas.Nat.Bits.{bit_at-trailing_zeros, bit_at-zero, b
 pub use Rattle.std.specs.Cmp.{IsTotalOrder}
 pub use Rattle.std.specs.Int.{bit_at, trailing_zeros, w128}
 pub use Rattle.std.specs.Int.Bits.{and_lt}
-pub use Rattle.std.specs.List.{insert, list_any, refill, remove}
+pub use Rattle.std.specs.List.{insert, list_any, remove}
 pub use Rattle.std.specs.List.Sorted.{IsBinarySearchResult, IsNonDecreasingBy, IsSearchInRange}
 pub use Rattle.std.specs.Option.{is_none}
+pub use Rattle.std.specs.Result.{IsOk, is_ok}
+pub use Rattle.std.specs.Vec.{vec_capacity, vec_len}
 pub use Rattle.std.specs.Ordering.{is_lt, ordering_index}
 pub use Rattle.std.specs.declared.cmp.Ordering.TheVariants.{Equal, Greater, Less}
 pub use Rattle.dm_link.specs.Names.{pid_cmp, pid_eq}

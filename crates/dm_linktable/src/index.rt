@@ -1,11 +1,10 @@
 //! Which slots of a table lead to which process.
-ghost use Rattle.std.specs.Prelude.{◌≡◌, ℕ, ◌<◌, ◌==◌, ◌&&◌, if◌then◌else◌, length};
+ghost use Rattle.std.specs.Prelude.{◌≡◌, ℕ, ◌<◌, ◌≤◌, ◌==◌, ◌&&◌, if◌then◌else◌, length, vec_capacity};
 ghost use Rattle.std.specs.Int.{bit_at};
 ghost use Rattle.dm_link.specs.Names.{pid_eq};
 ghost use Rattle.dm_linktable.specs.Index.{IsIndex, IsPlace, mask_of};
 
 use crate::MOST_SLOTS;
-use arrayvec::ArrayVec;
 use dm_link::Pid;
 
 /// The slots whose links lead to a process: bit s for slot s.
@@ -16,7 +15,7 @@ pub struct Entry {
 }
 
 /// The entries of all processes that links lead to, in the order of their names.
-pub type Index = ArrayVec<Entry, 128>;
+pub type Index = Vec<Entry>;
 
 /// Where the process's entry stands, or where it would.
 fn place_of(entries: &[Entry], receiver: Pid) -> Result<usize, usize>
@@ -64,14 +63,15 @@ pub fn lowest_slot(slots: u128) -> u8
     slots.trailing_zeros() as u8
 }
 
-/// A slot leads to a process now.
+/// A slot leads to a process now. Where there is room for one more entry it takes no memory.
 pub fn add(entries: &mut Index, receiver: Pid, slot: u8)
     requires index { IsIndex entries.old.items }
-    requires room { length entries.old.items < MOST_SLOTS }
+    requires room { length entries.old.items < vec_capacity entries.old }
     requires slot { slot < MOST_SLOTS }
     ensures index { IsIndex entries.new.items }
     ensures bits { (q : _) (s : ℕ) → bit_at (mask_of entries.new.items q) s ≡
         (if pid_eq receiver q && (s == slot) then 1 else bit_at (mask_of entries.old.items q) s) }
+    ensures capacity { vec_capacity entries.old ≤ vec_capacity entries.new }
 {
     match place_of(entries, receiver) {
         Ok(place) => {
@@ -80,7 +80,7 @@ pub fn add(entries: &mut Index, receiver: Pid, slot: u8)
         },
         Err(place) => {
             let slots = with_slot(0, slot);
-            entries.insert(place, Entry { receiver, slots });
+            let _ = entries.insert(place, Entry { receiver, slots });
         },
     }
 }
@@ -92,6 +92,7 @@ pub fn remove(entries: &mut Index, receiver: Pid, slot: u8)
     ensures index { IsIndex entries.new.items }
     ensures bits { (q : _) (s : ℕ) → bit_at (mask_of entries.new.items q) s ≡
         (if pid_eq receiver q && (s == slot) then 0 else bit_at (mask_of entries.old.items q) s) }
+    ensures capacity { vec_capacity entries.old ≤ vec_capacity entries.new }
 {
     match place_of(entries, receiver) {
         Ok(place) => {

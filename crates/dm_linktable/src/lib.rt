@@ -9,10 +9,11 @@ ghost use Rattle.dm_linktable.specs.Slots.{copy_of, first_empty, link_at, plain_
 mod index;
 mod slots;
 
-use arrayvec::ArrayVec;
 use dm_link::{Kind, Link, Pid};
+use dm_memory::{NoMemory, repeated, with_room};
 use index::Index;
-use slots::{count_free, empty_slots, first_free, retarget_slots};
+use slots::{count_free, first_free, retarget_slots};
+use std::alloc::Global;
 use std::marker::Model;
 
 /// How many slots a process has where the boot file's format is 1.
@@ -26,13 +27,14 @@ pub const MOST_SLOTS: u8 = 128;
 /// Its model is the list of its slots.
 #[derive(Drop)]
 pub struct Table {
-    slots: ArrayVec<Option<Link>, 128>,
-    /// Which slots lead to which process, so that `retarget` visits those alone.
+    slots: Vec<Option<Link>>,
+    /// Which slots lead to which process, so that `retarget` visits those alone. It has room for as many as there are
+    /// slots.
     index: Index,
 }
 
 impl Model for Table {
-    ghost use Rattle.std.specs.Prelude.{List};
+    ghost use Rattle.std.specs.Prelude.{◌≤◌, List, length, vec_capacity};
     ghost use Rattle.std.specs.declared.option.Option.{Option};
     ghost use Rattle.dm_link.specs.declared.Link.{Link};
 
@@ -42,7 +44,7 @@ impl Model for Table {
 
     ghost view = { λ t. t.slots.items };
 
-    ghost invariant = { λ t. IsTable t.slots.items t.index.items };
+    ghost invariant = { λ t. IsTable t.slots.items t.index.items × (length t.slots.items ≤ vec_capacity t.index) };
 }
 
 /// Why a link isn't copied.
@@ -57,15 +59,14 @@ pub enum CopyError {
 }
 
 impl Table {
-    /// An empty table of 32 or 128 slots.
-    pub fn new(cap: u8) -> Self
+    /// An empty table of 32 or 128 slots. It takes all the memory that it will need; no other call takes any.
+    pub fn new(alloc: Global, cap: u8) -> Result<Table, NoMemory>
         requires { (cap ≡ FEW_SLOTS) ⊎ (cap ≡ MOST_SLOTS) }
-        ensures { result ≡ replicate cap None }
+        ensures { IfOk result (λ t. t ≡ replicate cap None) }
     {
-        Table {
-            slots: empty_slots(cap),
-            index: ArrayVec::new(),
-        }
+        let slots = repeated(alloc, None, usize::from(cap))?;
+        let index = with_room(alloc, usize::from(cap))?;
+        Ok(Table { slots, index })
     }
 
     /// How many slots.

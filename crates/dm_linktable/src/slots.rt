@@ -1,6 +1,5 @@
 //! What a table does to its slots.
 ghost use Rattle.std.specs.Prelude.{◌≡◌, ℕ, ◌≤◌, ◌<◌, length, map, count_by};
-ghost use Rattle.std.proofs.Math.ListN.{replicate};
 ghost use Rattle.std.specs.Option.{is_none};
 ghost use Rattle.std.specs.Int.{bit_at};
 ghost use Rattle.dm_linktable.specs.Index.{leads};
@@ -8,20 +7,7 @@ ghost use Rattle.dm_linktable.specs.Slots.{first_empty, link_at, plain_slot, ret
 
 use crate::MOST_SLOTS;
 use crate::index::{lowest_slot, without_slot};
-use arrayvec::ArrayVec;
 use dm_link::{Link, Pid};
-
-/// So many empty slots.
-pub fn empty_slots(cap: u8) -> ArrayVec<Option<Link>, 128>
-    requires { cap ≤ MOST_SLOTS }
-    ensures { result.items ≡ replicate cap None }
-{
-    let mut slots = ArrayVec::new();
-    for _ in 0..cap {
-        slots.push(None);
-    }
-    slots
-}
 
 /// The lowest empty slot.
 pub fn first_free(slots: &[Option<Link>]) -> Option<usize>

@@ -73,6 +73,18 @@ pub fn append_zeros(list: &mut Vec<u8>, n: u32) -> Result<(), NoMemory>
     }
 }
 
+/// An empty list with room for so many values.
+pub fn with_room<T>(alloc: Global, n: usize) -> Result<Vec<T>, NoMemory>
+    ensures items { IfOk result (λ list. list.items ≡ []) }
+    ensures len { IfOk result (λ list. vec_len list ≡ 0) }
+    ensures room { IfOk result (λ list. vec_capacity list ≡ n) }
+{
+    match Vec::with_capacity(alloc, n) {
+        Ok(list) => Ok(list),
+        Err(_) => Err(NoMemory(())),
+    }
+}
+
 /// The bytes of a slice.
 pub fn from_slice(alloc: Global, bytes: &[u8]) -> Result<Vec<u8>, NoMemory>
     ensures items { IfOk result (λ list. list.items ≡ bytes.now) }

@@ -9,37 +9,19 @@ use Rattle.dm_message.specs.declared.Message.{Message}
 use Rattle.dm_message.specs.declared.What.{What}
 use Rattle.dm_message.specs.declared.What.TheVariants as what
 use Rattle.dm_message.specs.declared.kind.MessageKind.{MessageKind}
-use Rattle.dm_message.specs.declared.kind.MessageKind.TheVariants as kind
 use Rattle.dm_message.specs.Kinds.{kind_of}
+use Rattle.dm_message.specs.Sorts.{Sort, sort_of}
+use Rattle.dm_message.specs.Sorts as sort
 
 -- the kinds that answer a request, under its name
+abbrev pub answers : Sort → Bool
+answers sort.PieceAnswered = true
+answers sort.MakingAnswered = true
+answers sort.MoveAnswered = true
+answers s = false
+
 abbrev pub is_answer : MessageKind → Bool
-is_answer kind.Block = true
-is_answer kind.Written = true
-is_answer kind.Gone = true
-is_answer kind.Created = true
-is_answer kind.NoRoom = true
-is_answer kind.Moved = true
-is_answer kind.User = false
-is_answer kind.Stop = false
-is_answer kind.Resume = false
-is_answer kind.Kill = false
-is_answer kind.Read = false
-is_answer kind.Write = false
-is_answer kind.Create = false
-is_answer kind.Migrate = false
-is_answer kind.Update = false
-is_answer kind.Ask = false
-is_answer kind.Refuse = false
-is_answer kind.PullState = false
-is_answer kind.State = false
-is_answer kind.PullBlock = false
-is_answer kind.Memory = false
-is_answer kind.AllTaken = false
-is_answer kind.Restart = false
-is_answer kind.Move = false
-is_answer kind.CallOff = false
-is_answer kind.Bury = false
+is_answer k = answers (sort_of k)
 
 -- the switchboard and the manager have no memory of their own
 abbrev pub IsServer : Pid → Type 0

@@ -1,5 +1,6 @@
 pub mod Ids
 pub mod Plain
 pub mod Kinds
+pub mod Sorts
 pub mod Lawful
 pub mod Told

@@ -1,12 +1,12 @@
 //! A process that comes to a machine, piece by piece.
-ghost use Rattle.std.specs.Prelude.{◌≡◌, ◌⊎◌, ◌+◌, ◌*◌, ◌<◌, ◌≤◌, ◌++◌, ◌∷◌, [], IfErr, IfOk, Ok, OnErr, OnOk, Some, length, map, take, drop};
+ghost use Rattle.std.specs.Prelude.{◌≡◌, ◌⊎◌, ◌+◌, ◌*◌, ◌<◌, ◌≤◌, ◌++◌, ◌∷◌, [], IfErr, IfOk, None, Ok, OnErr, OnOk, Some, length, map, replicate, take, drop};
 ghost use Rattle.dm_statebytes.specs.Shell.{shell_of_bytes};
 ghost use Rattle.dm_process.specs.Lawful.{IsLawfulProcess};
 ghost use Rattle.dm_migrate.specs.Arrival.{IsNextChunk, after_block, after_chunk, expected, pull, restarted, revived, with_block, with_chunk, with_held};
 
 use crate::answer::Ask;
 use dm_link::Pid;
-use dm_linktable::{FEW_SLOTS, MOST_SLOTS};
+use dm_linktable::{FEW_SLOTS, MOST_SLOTS, Table};
 use dm_memory::{NoMemory, push_or_return, zeros};
 use dm_message::{Asker, CHUNK, Message, What};
 use dm_process::{Mailbox, Process};
@@ -39,10 +39,13 @@ pub struct Arriving {
     memory: Memory,
     wanted: Wanted,
     held: Vec<Message>,
+    /// An empty one, for its links.
+    table: Table,
     alloc: Global,
 }
 
 impl Model for Arriving {
+    ghost use Rattle.std.specs.Prelude.{◌≡◌, None, replicate};
     ghost use Rattle.dm_migrate.specs.Arrival.{Arrival};
     ghost use Rattle.dm_migrate.specs.Coming.{IsComing, come_of, Parts};
 
@@ -69,7 +72,7 @@ impl Model for Arriving {
       memory = a.memory;
       wanted = a.wanted;
       held = a.held.items;
-    }) };
+    }) × (a.table ≡ replicate a.cap None) };
 }
 
 /// Makes room for a process that is to come, with nothing of it yet.
@@ -90,6 +93,7 @@ pub(crate) fn expect(alloc: Global, ask: Ask, cap: u8) -> Result<Arriving, NoMem
         memory: Memory::from_image(alloc, &[], ask.blocks)?,
         wanted: Wanted::Chunk(0),
         held: Vec::new(alloc),
+        table: Table::new(alloc, cap)?,
         alloc,
     })
 }
@@ -137,13 +141,23 @@ impl Arriving {
         self.held.as_slice()
     }
 
-    /// All of it but for its memory and its queue, where all has come. It takes no memory.
-    pub fn shell(&self) -> Shell
-        requires { self.now.wanted ≡ Wanted.Nothing }
+    /// How many slots its table has, 32 or 128.
+    pub fn cap(&self) -> u8
+        ensures cap { result ≡ self.now.cap }
+        ensures known { (result ≡ FEW_SLOTS) ⊎ (result ≡ MOST_SLOTS) }
+    {
+        self.cap
+    }
+
+    /// All of it but for its memory and its queue, where all has come, with a table that is handed in, empty. It takes no
+    /// memory.
+    pub fn shell(&self, empty: Table) -> Shell
+        requires whole { self.now.wanted ≡ Wanted.Nothing }
+        requires empty { empty ≡ replicate self.now.cap None }
         ensures exact { shell_of_bytes self.now.state self.now.cap ≡ Ok result }
         ensures process { restarted self.now ≡ Some (revived result self.now.memory) }
     {
-        unpack(&self.state, self.cap).unwrap()
+        unpack(&self.state, self.cap, empty).unwrap()
     }
 
     /// Its memory, where all has come.
@@ -195,10 +209,11 @@ impl Arriving {
             state,
             memory,
             held,
+            table,
             alloc,
             ..
         } = self;
-        let shell = unpack(&state, cap).unwrap();
+        let shell = unpack(&state, cap, table).unwrap();
         (revive(alloc, shell, memory), held)
     }
 

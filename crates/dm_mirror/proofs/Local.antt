@@ -44,9 +44,8 @@ record Turns (e : Step) (m : ℕ) (w : WorldState) (o : Option Acts) (s : Said) 
   said : s ≡ acted w e m acted_
 
 turned_is : (e : Step) (m : ℕ) (w : WorldState) (o : Option Acts) (s : Said) → ActsSome m o → turned w e m o ≡ Some (Says s) → Turns e m w o s
-turned_is e m w None s h is = cc
 turned_is e m w (Some (Goes d)) s h is = record { acted_ = d; is = refl; from = h; said = says_same s (acted w e m d) (sym is) }
-turned_is e m w (Some (Worn x y)) s h is = cc
+turned_is e m w _ s h is = cc
 
 turns_from : (n : NodeState) (m : ℕ) (o : Option Turned) → here n ≡ m → ((t : Turned) → o ≡ Some t → t.state.here ≡ n.kernel.here) → ActsSome m (machine.turns n o)
 turns_from n m None is stays = tt

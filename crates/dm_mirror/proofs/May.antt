@@ -127,9 +127,8 @@ turn_stays b w m (Some t) s stays valid e is may lawful acts =
 
 -- and where it asks a process to move
 told_here : (s : KernelState) (p : Pid) (r : Result Message MoveError) (t : Turned) → told_to_move s p r ≡ Some t → t.state.here ≡ s.here
-told_here s p (Ok m) t e = sym (ap (λ (o : Option Turned). here_in s.here o) e)
 told_here s p (Err MoveError.Unknown) t e = sym (ap (λ (o : Option Turned). here_in s.here o) e)
-told_here s p (Err MoveError.Pinned) t e = sym (ap (λ (o : Option Turned). here_in s.here o) e)
+told_here s p _ t e = sym (ap (λ (o : Option Turned). here_in s.here o) e)
 
 manager_here : (s : KernelState) (p : Pid) (m : ℕ) (o : Option Servers) (t : Turned) → asks_manager s p m o ≡ Some t → t.state.here ≡ s.here
 manager_here s p m None t e = cc

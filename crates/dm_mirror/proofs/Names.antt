@@ -64,15 +64,16 @@ pub use Rattle.dm_rule.proofs.Homes.Lines.{acting_label}
 pub use Rattle.dm_rule.proofs.Letters.{letter_of}
 pub use Rattle.dm_rule.proofs.Moves.Sent.{fits_packet, fits_put}
 pub use Rattle.dm_rule.proofs.Names.{About, Addresses, Again, Child, Directive, Ended, Fault, Forward, Frozen, Gets, Held, Here, HomeStands, Inbox, Incoming, IsIn, IsStep, IsToken, Known, LandsSo, Leads, Line, Load, Made, Moves, Name}
-pub use Rattle.dm_rule.proofs.Names.{NamedLink, Next, Nexts, NothingElse, Nowhere, Of, Over, Owns, Pair, Part, Phase, Place, Point, Queue, Receiver, Rests, Room, Routes, Says, Sender, ServerSends, Slot, Sound, Spelled, Spot, Stage}
+pub use Rattle.dm_rule.proofs.Names.{NamedLink, Next, Nexts, NothingElse, Nowhere, Of, Over, Owns, Pair, Part, Phase, Place, Point, Queue, Receiver, Rests, Room, Routes, Says, Sender, ServerSends, Slot, Sort, Sound, Spelled, Spot, Stage}
 pub use Rattle.dm_rule.proofs.Names.{StandsAsBag, StandsNowhere, StandsOnce, StandsOutside, StandsRight, Step, Todo, Told, Transmits, Unknown, Untaken, View, actor, addresses_after, after, after_label, after_line, after_packet, after_proto}
-pub use Rattle.dm_rule.proofs.Names.{after_put, after_step, alive-is, all_of, ascends, at_id, at_least, at_machine, at_pair, at_pid, at_record, begins, bind-is, child_number, chunks_of, comes, comes_to, counts, counts_process, dropped_for}
-pub use Rattle.dm_rule.proofs.Names.{ended_told, filter, first_gives, first_point, first_view, fits, forward_about, forwarded_for, forwards_on, free_room, front_of, front_told, gets, given, goes_out, gone_after, gone_to, group_of, handled}
-pub use Rattle.dm_rule.proofs.Names.{has, has_mail, headed, hears, here_told, id_eq-is, id_eq-same, id_eq-swap, ids_at, is_apart, is_away, is_between, is_counted, is_due, is_early, is_here, is_kernels, is_quiet, is_restart, is_told_back}
-pub use Rattle.dm_rule.proofs.Names.{kept_from, kernel_after, kernel_hears, kernel_told, known_at, knows, label_of, lands-is, left_true, less, lines_of, marked, migrates, migrates_child, more, moved, moved_back, next_step, nexts}
-pub use Rattle.dm_rule.proofs.Names.{not_server, numbers_from, oldest, outcome, own_gives, own_id, packet_line, pair_is_quiet, pid_eq-is, pid_eq-same, pieces_of, place_of, place_of_child, place_told, plain_kind, process_told, puts}
-pub use Rattle.dm_rule.proofs.Names.{queued_for, receiver_in, receiver_of, repeats, resends, right_true, ring_at, routed_on, sender_in, sends_on, server_told, slice_get_cases, slots_of, slots_with, spelled, standing, takes, takes_block}
-pub use Rattle.dm_rule.proofs.Names.{takes_chunk, target_of, times, to_kernel, to_of, token_in, told_between, unentered, unmoved, untaken, updates, view_after, when-is, with_pair, without, without_first, without_front, without_id}
+pub use Rattle.dm_rule.proofs.Names.{after_put, after_step, alive-is, all_of, ascends, at_id, at_least, at_machine, at_pair, at_pid, at_record, begins, behind_count, bind-is, child_number, chunks_of, comes, comes_to, counts, counts_process}
+pub use Rattle.dm_rule.proofs.Names.{dropped_for, ended_told, filter, first_gives, first_point, first_view, fits, forward_about, forwarded_for, forwards_on, free_room, front_of, front_told, gets, given, goes_out, gone_after, gone_to}
+pub use Rattle.dm_rule.proofs.Names.{group_of, handled, has, has_mail, headed, hears, here_told, id_eq-is, id_eq-same, id_eq-swap, ids_at, is_apart, is_away, is_between, is_counted, is_due, is_early, is_here, is_kernels, is_quiet}
+pub use Rattle.dm_rule.proofs.Names.{is_restart, is_told_back, kept_from, kernel_after, kernel_hears, kernel_told, known_at, knows, label_of, lands-is, left_true, less, lines_of, marked, migrates, migrates_child, more, moved, moved_back}
+pub use Rattle.dm_rule.proofs.Names.{next_step, nexts, not_server, numbers_from, oldest, outcome, own_given, own_gives, own_id, packet_line, pair_is_quiet, pid_eq-is, pid_eq-same, pieces_of, place_of, place_of_child, place_told, plain_kind}
+pub use Rattle.dm_rule.proofs.Names.{process_told, puts, queued_for, receiver_in, receiver_of, repeats, resends, right_true, ring_at, routed_on, sender_in, sends_on, server_told, slice_get_cases, slots_of, slots_with, sort_of, spelled}
+pub use Rattle.dm_rule.proofs.Names.{standing, takes, takes_block, takes_chunk, target_of, times, to_kernel, to_of, token_in, told_between, unentered, unmoved, untaken, updates, view_after, when-is, with_pair, without, without_first}
+pub use Rattle.dm_rule.proofs.Names.{without_front, without_id}
 pub use Rattle.dm_rule.proofs.Pairs.{Pairs, pair_home, pair_stands, pairs_stand_always}
 pub use Rattle.dm_rule.proofs.Pairs.Comes.{less-right, more-is}
 pub use Rattle.dm_rule.proofs.Pairs.Lines.{AllFit, forwarded_pair, held_pair, label_pair, onward, pair_same, proto_pair, queued_pair, stage_pair, taken_pair, touches}
@@ -108,7 +109,7 @@ pub use Rattle.dm_places.proofs.Keeps.{of_map, parts, there_of}
 pub use Rattle.dm_places.proofs.Labels.Serves.{plainly, plainly_is}
 pub use Rattle.dm_places.proofs.Lines.{lines_keep, mirrors_view, moves_label, routed_keeps, told_keeps}
 pub use Rattle.dm_places.proofs.Matches.{Ends, acted_with, answers_match, call_matches, completed_matches, fault_matches, lands_match, ran_matches}
-pub use Rattle.dm_places.proofs.Names.{Format, GroupNeeds, KeepsPlaces, Landed, Machine, Mirrors, MirrorsKernel, MirrorsPoint, Pending, Placed, StepNeeds, address, after_landing, and-both, behind_count, board_took, call_plainly, enclosed}
+pub use Rattle.dm_places.proofs.Names.{Format, GroupNeeds, KeepsPlaces, Landed, Machine, Mirrors, MirrorsKernel, MirrorsPoint, Pending, Placed, StepNeeds, address, after_landing, and-both, board_took, by_migrates, call_plainly, enclosed}
 pub use Rattle.dm_places.proofs.Names.{ends_plainly, first_told, goes_on_plainly, gone_answer, is_among, is_own, manager_took, memory_of, not_kernels, or-right, or_second, placed_start, placed_step, plain_pending_numbered, sent_all}
 pub use Rattle.dm_places.proofs.Names.{started, started_at, status_plainly}
 pub use Rattle.dm_places.proofs.OwnPuts.{child_place, no_child, own_put_mirrors}
@@ -153,9 +154,9 @@ pub use Rattle.dm_rulelaws.proofs.Goes.Servers.{can_handle, pending_is, server_f
 pub use Rattle.dm_rulelaws.proofs.Goes.Serves.{reply_same}
 pub use Rattle.dm_rulelaws.proofs.Goes.Turns.{Droppable, IsFor, droppable_on, dropped_is, queue_drops, user_dropped}
 pub use Rattle.dm_rulelaws.proofs.Names.{AllSayable, InPhases, IsNet, IsNetLine, IsPending, IsRun, LeadsBy, Phased, Sane, Sayable, StandsAsBag-elsewhere, StandsAsBag-one, Target, WhatFits, about_same, agrees, arrives_net, at_record_at}
-pub use Rattle.dm_rulelaws.proofs.Names.{awaits, bag_created, bag_gone, bag_no_space, bag_served, completing, eq_is, eq_self, goes_between, group_is, has_bytes, has_no_queue, has_nothing_held, hushed, if_some-is, inbox_is, is_dropped}
-pub use Rattle.dm_rulelaws.proofs.Names.{is_fixed, is_of_source, is_put, is_server, kernels_fresh, labels, least_of, letters, machine_of, not_false, not_first, not_true, out_off, outcome_sayable, pair_keeps, part_sane, piece_fits}
-pub use Rattle.dm_rulelaws.proofs.Names.{proto_acting, put_at, put_told_off, resends_net, rests_here, rings, sane_line, served_id, stands_right, status_awaits, times-append, token_at, token_is, told_some, why_code, zero_if}
+pub use Rattle.dm_rulelaws.proofs.Names.{awaits, bag_created, bag_gone, bag_no_space, bag_served, by_hears, completing, eq_is, eq_self, goes_between, group_is, has_bytes, has_no_queue, has_nothing_held, hushed, if_some-is, inbox_is}
+pub use Rattle.dm_rulelaws.proofs.Names.{is_dropped, is_fixed, is_of_source, is_put, is_server, kernels_fresh, labels, least_of, letters, machine_of, not_false, not_first, not_true, out_off, outcome_sayable, pair_keeps, part_sane}
+pub use Rattle.dm_rulelaws.proofs.Names.{piece_fits, proto_acting, put_at, put_told_off, resends_net, rests_here, rings, sane_line, served_id, stands_right, status_awaits, times-append, token_at, token_is, told_some, why_code, zero_if}
 pub use Rattle.dm_rulelaws.proofs.Own.Told.{OwnTold, is_place, is_process, is_target, own_server, own_sort}
 pub use Rattle.dm_rulelaws.proofs.Queued.{IsQueued}
 pub use Rattle.dm_rulelaws.proofs.RunLabels.{after_replay, group_replay, labels-append, replay-append}

@@ -95,14 +95,13 @@ begin_same machines f g mail mail' p ds first same =
 
 directive_same : (machines : ℕ) (f g : ℕ → ℕ → Option ℕ) (mail mail' : ℕ → Bool) (quiet : Bool) (ds : List Directive) → Agrees machines f g → SameMail machines mail mail'
     → next_directive machines f mail quiet ds ≡ next_directive machines g mail' quiet ds
-directive_same machines f g mail mail' quiet [] first same = refl
-directive_same machines f g mail mail' quiet (Directive.One s ∷ ds) first same = refl
 directive_same machines f g mail mail' quiet (Directive.Round ∷ ds) first same = begin_same machines f g mail mail' (Pass.Round 0) ds first same
 directive_same machines f g mail mail' quiet (Directive.Spin zero ∷ ds) first same = directive_same machines f g mail mail' quiet ds first same
 directive_same machines f g mail mail' quiet (Directive.Spin (suc n) ∷ ds) first same = begin_same machines f g mail mail' (Pass.Round n) ds first same
 directive_same machines f g mail mail' quiet (Directive.Settle ∷ ds) first same =
     ap (λ (o : Option Next). settles quiet o (next_directive machines f mail quiet ds)) (begin_same machines f g mail mail' Pass.Settle ds first same)
     ∙ ap (settles quiet (begin_pass machines g mail' Pass.Settle ds)) (directive_same machines f g mail mail' quiet ds first same)
+directive_same machines f g mail mail' quiet _ first same = refl
 
 later_same : (machines : ℕ) (f g : ℕ → ℕ → Option ℕ) (mail mail' : ℕ → Bool) (quiet : Bool) (p : Pass) (ds : List Directive) → Agrees machines f g → SameMail machines mail mail'
     → next_pass machines f mail quiet p ds ≡ next_pass machines g mail' quiet p ds

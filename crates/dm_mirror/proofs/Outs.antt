@@ -115,8 +115,7 @@ kept_from m (suc k) n a is = next_from m n a (next (n.receivers a)) (λ x. takes
 
 comes_from : (m : ℕ) (n : NodeState) (a k : ℕ) (what : Arrived Message) → here n ≡ m → IsFrom m (comes_in n a k what)
 comes_from m n a k (Taken x) is = before_from m (Says (Line.Taken a (here n) k) ∷ []) (takes_kept window (with_message n x) a) tt (kept_from m window (with_message n x) a is)
-comes_from m n a k Old is = record { here = is; outs = tt }
-comes_from m n a k Early is = record { here = is; outs = tt }
+comes_from m n a k _ is = record { here = is; outs = tt }
 
 acknowledged_from : (m : ℕ) (d : Acted) (a : ℕ) → IsFrom m d → IsFrom m (then_acknowledges d a)
 acknowledged_from m d a h = record { here = h.here; outs = AreFrom-append m d.outs (acknowledges d.state a) h.outs (h.here, tt) }

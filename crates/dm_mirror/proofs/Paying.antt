@@ -246,7 +246,5 @@ net_free _ is = absurd is
 pub net_paid : (ps : List Part) (s : OneKernel) → IsNet ps → Paid s ps
 net_paid [] s is = tt
 net_paid (Says l ∷ ps) s is = (net_free l is.0, λ t e. inl (line_within s t (label_of l) (net_label l is.0) e, net_paid ps t is.1))
-net_paid (Routes i ∷ ps) s is = absurd is.0
-net_paid (Again i b ∷ ps) s is = absurd is.0
-net_paid (Owns k q b ∷ ps) s is = absurd is.0
 net_paid (Transmits a c l ∷ ps) s is = net_paid ps s is.1
+net_paid _ s is = absurd is.0

@@ -7,9 +7,8 @@ use Rattle.dm_onekernel.specs.Step as step
 
 -- how many messages a process has sent
 abbrev pub sent_of : Option Life → ℕ
-sent_of None = 0
 sent_of (Some (Alive x)) = x.sent
-sent_of (Some (Ended y)) = 0
+sent_of _ = 0
 
 -- no count is raised by more than k
 pub record Within (k : ℕ) (s t : OneKernel) : Type 0 where
@@ -89,8 +88,7 @@ stopped_is y false x e = cc
 
 ready_is : (y : PlainProcess) (st : PlainStatus) (x : PlainProcess) → step.if_ready y st ≡ Some x → y ≡ x
 ready_is y Ready x e = stopped_is y y.stopped x e
-ready_is y (Waiting mask base size) x e = cc
-ready_is y (Moving dir owner base own left pending) x e = cc
+ready_is y _ x e = cc
 
 runs_alive : (s : OneKernel) (p : Pid) (x : PlainProcess) → step.running s p ≡ Some x → s.processes p ≡ Some (Alive x)
 runs_alive s p x e =
@@ -108,11 +106,7 @@ replies_raise s t p n c (step.Calls number (Called.Replies reply y)) w is =
     let (z, sent, pending, counted) = w.counts in
     let k = when-is _ (step.goes_on s p y) t is in
     goes_raises s t p w.x y k.1 w.is.alive (counted.0 ∙ sent)
-replies_raise s t p n c (step.Calls number (Called.Sends m y)) w is = cc
-replies_raise s t p n c (step.Calls number (Called.Waits y)) w is = cc
-replies_raise s t p n c (step.Calls number (Called.Outputs word y)) w is = cc
-replies_raise s t p n c (step.Calls number (Called.Ends because)) w is = cc
-replies_raise s t p n c (step.Faults fault) w is = cc
+replies_raise s t p n c _ w is = cc
 
 sends_raise : (s t : OneKernel) (p : Pid) (id : MsgId) (next : step.Next) → Nexts s p next → step.sends s p id next ≡ Some t → Raises 1 s t
 sends_raise s t p id (step.Calls number (Called.Sends m y)) w is =
@@ -120,32 +114,20 @@ sends_raise s t p id (step.Calls number (Called.Sends m y)) w is =
     let k = when-is _ (with_sent (step.goes_on s p y) (Some m)) t is in
     let count = counted.count in
     subst (Raises 1 s) k.1 (set_raises s (with_sent (step.goes_on s p y) (Some m)) p w.x (Alive y) 1 w.is.alive (omega (arith, count, sent)) (λ q. refl) (λ h. refl) refl refl refl)
-sends_raise s t p id (step.Calls number (Called.Replies reply y)) w is = cc
-sends_raise s t p id (step.Calls number (Called.Waits y)) w is = cc
-sends_raise s t p id (step.Calls number (Called.Outputs word y)) w is = cc
-sends_raise s t p id (step.Calls number (Called.Ends because)) w is = cc
-sends_raise s t p id (step.Faults fault) w is = cc
+sends_raise s t p id _ w is = cc
 
 waits_raise : (s t : OneKernel) (p : Pid) (next : step.Next) → Nexts s p next → step.waits s p next ≡ Some t → Raises 0 s t
 waits_raise s t p (step.Calls number (Called.Waits y)) w is =
     let (z, sent, pending, counted) = w.counts in
     goes_raises s t p w.x y (let e : step.goes_on s p y ≡ t = cc in e) w.is.alive (counted.0 ∙ sent)
-waits_raise s t p (step.Calls number (Called.Replies reply y)) w is = cc
-waits_raise s t p (step.Calls number (Called.Sends m y)) w is = cc
-waits_raise s t p (step.Calls number (Called.Outputs word y)) w is = cc
-waits_raise s t p (step.Calls number (Called.Ends because)) w is = cc
-waits_raise s t p (step.Faults fault) w is = cc
+waits_raise s t p _ w is = cc
 
 outputs_raise : (s t : OneKernel) (p : Pid) (word : ℕ) (next : step.Next) → Nexts s p next → step.outputs s p word next ≡ Some t → Raises 0 s t
 outputs_raise s t p word (step.Calls number (Called.Outputs put y)) w is =
     let (z, sent, pending, counted) = w.counts in
     let k = when-is _ (step.goes_on s p y) t is in
     goes_raises s t p w.x y k.1 w.is.alive (counted.0 ∙ sent)
-outputs_raise s t p word (step.Calls number (Called.Replies reply y)) w is = cc
-outputs_raise s t p word (step.Calls number (Called.Sends m y)) w is = cc
-outputs_raise s t p word (step.Calls number (Called.Waits y)) w is = cc
-outputs_raise s t p word (step.Calls number (Called.Ends because)) w is = cc
-outputs_raise s t p word (step.Faults fault) w is = cc
+outputs_raise s t p word _ w is = cc
 
 pub end_raises_of : (s t : OneKernel) (p : Pid) (x : PlainProcess) (y : Why) → with_process s p (Ended y) ≡ t → s.processes p ≡ Some (Alive x) → Raises 0 s t
 end_raises_of s t p x y e is = subst (Raises 0 s) e (set_raises s (with_process s p (Ended y)) p x (Ended y) 0 is (omega arith) (λ q. refl) (λ h. refl) refl refl refl)
@@ -153,10 +135,7 @@ end_raises_of s t p x y e is = subst (Raises 0 s) e (set_raises s (with_process 
 ends_raise : (s t : OneKernel) (p : Pid) (y : Why) (next : step.Next) → Nexts s p next → step.ends s p y next ≡ Some t → Raises 0 s t
 ends_raise s t p y (step.Calls number (Called.Ends because)) w is = let k = when-is _ (with_process s p (Ended y)) t is in end_raises_of s t p w.x y k.1 w.is.alive
 ends_raise s t p y (step.Faults fault) w is = let k = when-is _ (with_process s p (Ended y)) t is in end_raises_of s t p w.x y k.1 w.is.alive
-ends_raise s t p y (step.Calls number (Called.Replies reply z)) w is = cc
-ends_raise s t p y (step.Calls number (Called.Sends m z)) w is = cc
-ends_raise s t p y (step.Calls number (Called.Waits z)) w is = cc
-ends_raise s t p y (step.Calls number (Called.Outputs word z)) w is = cc
+ends_raise s t p y _ w is = cc
 
 pub call_raises : (s t : OneKernel) (p : Pid) (n : ℕ) (c : Reply) → step.step s (Label.Call p n c) ≡ Some t → Raises 0 s t
 call_raises s t p n c is = let (x, next, rest) = bind-is (step.next s p) (step.replies s p n c) t is in replies_raise s t p n c x (nexts s p x next) rest

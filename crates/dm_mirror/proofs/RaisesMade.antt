@@ -32,13 +32,9 @@ paid_wants g machines images machine image (l ∷ ls) =
     paid_if g (nat_lt machine machines && nat_lt image images) (manage.asks_for g machine image l ls) (manage.bad_request g (l ∷ ls)) (omega arith) (paid_bad g (l ∷ ls))
 
 paid_requests : (g : Manager) (machines images : ℕ) (body : List ℕ) (links : List PlainLink) → Paid g (manage.requests g machines images body links)
-paid_requests g machines images [] links = paid_bad g links
-paid_requests g machines images (a ∷ []) links = paid_bad g links
-paid_requests g machines images (a ∷ b ∷ []) links = paid_bad g links
-paid_requests g machines images (a ∷ b ∷ c ∷ []) links = paid_bad g links
 paid_requests g machines images (a ∷ b ∷ c ∷ d ∷ []) links =
     paid_if g (a == 1) (manage.wants_child g machines images b (256 * c + d) links) (manage.bad_request g links) (paid_wants g machines images b (256 * c + d) links) (paid_bad g links)
-paid_requests g machines images (a ∷ b ∷ c ∷ d ∷ f ∷ fs) links = paid_bad g links
+paid_requests g machines images _ links = paid_bad g links
 
 paid_control : (g : Manager) (child : Pid) (o : Option PlainWhat) (links : List PlainLink) → Paid g (manage.controls_child g child o links)
 paid_control g child None links = paid_bad g links
@@ -46,11 +42,8 @@ paid_control g child (Some w) links = omega arith
 
 paid_controls : (g : Manager) (child : Option Pid) (body : List ℕ) (links : List PlainLink) → Paid g (manage.controls g child body links)
 paid_controls g (Some child) (a ∷ []) links = paid_control g child (manage.control_of a) links
-paid_controls g (Some child) [] links = paid_bad g links
-paid_controls g (Some child) (a ∷ b ∷ bs) links = paid_bad g links
-paid_controls g None [] links = paid_bad g links
 paid_controls g None (a ∷ []) links = paid_bad g links
-paid_controls g None (a ∷ b ∷ bs) links = paid_bad g links
+paid_controls g _ _ links = paid_bad g links
 
 append-longer : {A : Type 0} (xs : List A) (y : A) → length (xs ++ y ∷ []) ≡ length xs + 1
 append-longer [] y = refl

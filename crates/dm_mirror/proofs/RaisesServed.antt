@@ -37,9 +37,8 @@ no_space_raises s t id a b is =
 
 -- served: only a mover's next request raises its count
 abbrev pub landed_raise : Option pieces.Landed → ℕ
-landed_raise None = 0
 landed_raise (Some (pieces.Next request x)) = 1
-landed_raise (Some (pieces.Done reply x)) = 0
+landed_raise _ = 0
 
 abbrev pub served_raise : PlainMessage → PlainProcess → PlainWhat → ℕ
 served_raise m x (PlainWhat.Block bytes) = landed_raise (pieces.lands m.to x m x.status)
@@ -125,11 +124,10 @@ names_if names true x y h k = h
 names_if names false x y h k = k
 
 names_registered : (names : List NamedLink) (name : List ℕ) (others : List PlainLink) → length (board.asks_to_register names name others).names ≤ length names + 1
-names_registered names name [] = omega arith
 names_registered names name (l ∷ []) =
     names_if names (board.is_name name) (board.registers names name l) (board.bad_request names)
     (names_if names (is_general l.kind) (board.registers_new names name l (board.link_named name names)) (record { names = names; answer = board.BadLink }) (names_new names name l (board.link_named name names)) (omega arith)) (omega arith)
-names_registered names name (l ∷ k ∷ ks) = omega arith
+names_registered names name _ = omega arith
 
 names_looked : (names : List NamedLink) (name : List ℕ) (others : List PlainLink) → length (board.asks_to_look_up names name others).names ≤ length names + 1
 names_looked names name [] = names_if names (board.is_name name) (board.looks_up names name) (board.bad_request names) (omega arith) (omega arith)

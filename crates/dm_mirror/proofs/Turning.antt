@@ -118,9 +118,8 @@ late_point pt (Leaves p x) = moved pt (Line.Migration Stage.Left p) pt.kernel
 
 -- how many of these are the kernel's own
 abbrev pub is_own : Route → ℕ
-is_own (First x) = 0
-is_own (On x) = 0
 is_own (Own x) = 1
+is_own _ = 0
 
 abbrev pub owns : List Route → ℕ
 owns [] = 0

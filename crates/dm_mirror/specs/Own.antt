@@ -24,22 +24,7 @@ about_of (what.PullBlock pid block) = Of pid
 about_of (what.Memory pid block bytes) = Of pid
 about_of (what.AllTaken pid) = Of pid
 about_of (what.Restart pid) = Of pid
-about_of (what.CallOff pid) = NothingElse
-about_of (what.Bury pid) = NothingElse
-about_of (what.User code channel body links) = NothingElse
-about_of what.Stop = NothingElse
-about_of what.Resume = NothingElse
-about_of what.Kill = NothingElse
-about_of (what.Read base len) = NothingElse
-about_of (what.Write base bytes) = NothingElse
-about_of (what.Block bytes) = NothingElse
-about_of what.Written = NothingElse
-about_of what.Gone = NothingElse
-about_of (what.Create image links) = NothingElse
-about_of (what.Created pid) = NothingElse
-about_of what.NoRoom = NothingElse
-about_of (what.Move machine) = NothingElse
-about_of (what.Moved outcome) = NothingElse
+about_of w = NothingElse
 
 -- what was told of a message when it was first put
 abbrev pub told_of : Message → Told

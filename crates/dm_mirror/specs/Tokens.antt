@@ -46,24 +46,7 @@ Carries p x n a (what.PullBlock pid block) = (pid ≡ p) × IsAsked x n (Block b
 Carries p x n a (what.Memory pid block bytes) = (what.Memory pid block bytes ≡ block_of x.pid x.memory block) × IsAsked x n (Block block) × Wants a (Block block)
 Carries p x n a (what.AllTaken pid) = (pid ≡ p) × Wants a Nothing
 Carries p x n a (what.Restart pid) = (pid ≡ p) × Wants a Nothing
-Carries p x n a (what.Migrate machine) = ⊥
-Carries p x n a (what.Update about) = ⊥
-Carries p x n a (what.CallOff pid) = ⊥
-Carries p x n a (what.Bury pid) = ⊥
-Carries p x n a (what.User code channel body links) = ⊥
-Carries p x n a what.Stop = ⊥
-Carries p x n a what.Resume = ⊥
-Carries p x n a what.Kill = ⊥
-Carries p x n a (what.Read base len) = ⊥
-Carries p x n a (what.Write base bytes) = ⊥
-Carries p x n a (what.Block bytes) = ⊥
-Carries p x n a what.Written = ⊥
-Carries p x n a what.Gone = ⊥
-Carries p x n a (what.Create image links) = ⊥
-Carries p x n a (what.Created pid) = ⊥
-Carries p x n a what.NoRoom = ⊥
-Carries p x n a (what.Move machine) = ⊥
-Carries p x n a (what.Moved outcome) = ⊥
+Carries p x n a w = ⊥
 
 -- the machine that the process comes to: the source's messages go there, and the others come from there
 abbrev pub destination_of : MsgId → Told → ℕ

@@ -2,7 +2,7 @@
 use Rattle.dm_movelaws.proofs.Names.{◌≡◌, ℕ, ◌<◌, ◌≤◌, ◌&&◌, ◌||◌, Bool, true, false, List, [], ◌∷◌, ◌++◌, refl, ap, ◌∙◌, sym, subst, nat_lt, arith, if◌then◌else◌, false≢true, nat_tests, Option, None, Some, Pid, Place, MsgId, MessageKind}
 use Rattle.dm_movelaws.proofs.Names.{OneKernel, bind-is, Line, Addresses, Holder, Receiver, Sender, Enclosed, Gets, gets, holder_eq, unmoved, given, gives, belongs_to, leads_to, is_pid, is_behind, tells_back, is_told_back, forwards}
 use Rattle.dm_movelaws.proofs.Names.{all_follow, child_number, place_of_child, own_gives, first_gives, place_told, updated, updated_to, addresses_after, Point, label_of, kernel_after, moved, after_line, after, View, Told, About, is_owned}
-use Rattle.dm_movelaws.proofs.Names.{gives_to, is_filled, in_next, refilled, CountsStay, CountsKept, Updated}
+use Rattle.dm_movelaws.proofs.Names.{gives_to, is_filled, in_next, refilled, CountsStay, CountsKept, Updated, Sort, sort_of, own_given}
 use Rattle.dm_rule.specs.View as view
 use Rattle.dm_movelaws.proofs.After.{group_after}
 use Rattle.dm_movelaws.proofs.Updates.Always.{updates_always}
@@ -48,19 +48,14 @@ follows_none : (v : View) (a : Addresses) (p : Pid) (h : Holder) (is : List MsgI
 follows_none v a p h [] e = refl
 follows_none v a p h (i ∷ is) e = ap (λ (c : Bool). c || gives_to h (all_follow v a p is)) (no_receiver i h e) ∙ follows_none v a p h is e
 
+own_none_by : (s : OneKernel) (v : View) (a : Addresses) (id : MsgId) (r : Pid) (h : Holder) (w : Sort) → is_owned h ≡ true → gives_to h (own_given s v a id r w) ≡ false
+own_none_by s v a id r h Sort.Request e = both_none id (place_of_child a (child_number s r)) (unmoved v.acting) h e
+own_none_by s v a id r h (Sort.Between passage) e = both_none id (unmoved r.home) (unmoved v.acting) h e
+own_none_by s v a id r h Sort.Unsent e = both_none id (unmoved r.home) (unmoved v.acting) h e
+own_none_by s v a id r h _ e = refl
+
 own_none : (s : OneKernel) (v : View) (a : Addresses) (id : MsgId) (r : Pid) (h : Holder) (x : MessageKind) → is_owned h ≡ true → gives_to h (own_gives s v a id r x) ≡ false
-own_none s v a id r h MessageKind.Ask e = both_none id (unmoved r.home) (unmoved v.acting) h e
-own_none s v a id r h MessageKind.Refuse e = both_none id (unmoved r.home) (unmoved v.acting) h e
-own_none s v a id r h MessageKind.PullState e = both_none id (unmoved r.home) (unmoved v.acting) h e
-own_none s v a id r h MessageKind.State e = both_none id (unmoved r.home) (unmoved v.acting) h e
-own_none s v a id r h MessageKind.PullBlock e = both_none id (unmoved r.home) (unmoved v.acting) h e
-own_none s v a id r h MessageKind.Memory e = both_none id (unmoved r.home) (unmoved v.acting) h e
-own_none s v a id r h MessageKind.AllTaken e = both_none id (unmoved r.home) (unmoved v.acting) h e
-own_none s v a id r h MessageKind.Restart e = both_none id (unmoved r.home) (unmoved v.acting) h e
-own_none s v a id r h MessageKind.Migrate e = both_none id (place_of_child a (child_number s r)) (unmoved v.acting) h e
-own_none s v a id r h MessageKind.CallOff e = both_none id (unmoved r.home) (unmoved v.acting) h e
-own_none s v a id r h MessageKind.Bury e = both_none id (unmoved r.home) (unmoved v.acting) h e
-own_none s v a id r h _ e = refl
+own_none s v a id r h x e = own_none_by s v a id r h (sort_of x) e
 
 first_none : (h : Holder) (o : Option Told) (gs : List Gets) → gives_to h gs ≡ false → gives_to h (first_gives o gs) ≡ false
 first_none h None gs e = e

@@ -4,7 +4,8 @@ use Rattle.std.specs.declared.option.Option.TheVariants.{Some}
 use Rattle.dm_link.specs.declared.Pid.{Pid}
 use Rattle.dm_message.specs.declared.MsgId.{MsgId}
 use Rattle.dm_message.specs.declared.kind.MessageKind.{MessageKind}
-use Rattle.dm_message.specs.declared.kind.MessageKind.TheVariants as kind
+use Rattle.dm_message.specs.Sorts.{Sort, sort_of}
+use Rattle.dm_message.specs.Sorts as sort
 use Rattle.dm_message.specs.Ids.{id_of}
 use Rattle.dm_message.specs.Kinds.{plain_kind}
 use Rattle.dm_message.specs.Plain as what
@@ -23,62 +24,20 @@ use Rattle.dm_rule.specs.Point.{Point, first_point}
 use Rattle.dm_laws.specs.Laws.{in_bag}
 
 -- a request for a piece of a data move
+abbrev pub is_asked : Sort → Bool
+is_asked sort.PieceAsked = true
+is_asked s = false
+
 abbrev pub asks_piece : MessageKind → Bool
-asks_piece kind.Read = true
-asks_piece kind.Write = true
-asks_piece kind.User = false
-asks_piece kind.Stop = false
-asks_piece kind.Resume = false
-asks_piece kind.Kill = false
-asks_piece kind.Block = false
-asks_piece kind.Written = false
-asks_piece kind.Gone = false
-asks_piece kind.Create = false
-asks_piece kind.Created = false
-asks_piece kind.NoRoom = false
-asks_piece kind.Migrate = false
-asks_piece kind.Update = false
-asks_piece kind.Ask = false
-asks_piece kind.Refuse = false
-asks_piece kind.PullState = false
-asks_piece kind.State = false
-asks_piece kind.PullBlock = false
-asks_piece kind.Memory = false
-asks_piece kind.AllTaken = false
-asks_piece kind.Restart = false
-asks_piece kind.Move = false
-asks_piece kind.Moved = false
-asks_piece kind.CallOff = false
-asks_piece kind.Bury = false
+asks_piece k = is_asked (sort_of k)
 
 -- an answer to such a request
+abbrev pub is_answered : Sort → Bool
+is_answered sort.PieceAnswered = true
+is_answered s = false
+
 abbrev pub answers_piece : MessageKind → Bool
-answers_piece kind.Block = true
-answers_piece kind.Written = true
-answers_piece kind.Gone = true
-answers_piece kind.User = false
-answers_piece kind.Stop = false
-answers_piece kind.Resume = false
-answers_piece kind.Kill = false
-answers_piece kind.Read = false
-answers_piece kind.Write = false
-answers_piece kind.Create = false
-answers_piece kind.Created = false
-answers_piece kind.NoRoom = false
-answers_piece kind.Migrate = false
-answers_piece kind.Update = false
-answers_piece kind.Ask = false
-answers_piece kind.Refuse = false
-answers_piece kind.PullState = false
-answers_piece kind.State = false
-answers_piece kind.PullBlock = false
-answers_piece kind.Memory = false
-answers_piece kind.AllTaken = false
-answers_piece kind.Restart = false
-answers_piece kind.Move = false
-answers_piece kind.Moved = false
-answers_piece kind.CallOff = false
-answers_piece kind.Bury = false
+answers_piece k = is_answered (sort_of k)
 
 -- bytes to be written at this place, as many as the next piece has
 pub record Writes (base left : ℕ) (w : PlainWhat) : Type 0 where

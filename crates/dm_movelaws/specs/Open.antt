@@ -5,7 +5,8 @@ use Rattle.std.specs.declared.option.Option.TheVariants.{None, Some}
 use Rattle.dm_link.specs.declared.Pid.{Pid}
 use Rattle.dm_message.specs.declared.MsgId.{MsgId}
 use Rattle.dm_message.specs.declared.kind.MessageKind.{MessageKind}
-use Rattle.dm_message.specs.declared.kind.MessageKind.TheVariants as kind
+use Rattle.dm_message.specs.Sorts.{Sort, sort_of}
+use Rattle.dm_message.specs.Sorts as sort
 use Rattle.dm_message.specs.Plain.{PlainMessage}
 use Rattle.dm_onekernel.specs.declared.boot.Boot.{Boot}
 use Rattle.dm_onekernel.specs.declared.label.Label.{Label}
@@ -35,33 +36,19 @@ abbrev pub is_open : Pid → List Line → Bool
 is_open p ls = is_some (open_mark None (marks p ls))
 
 -- the last mark while the one message about a migration that is under way is of this kind; other kinds are of none
+abbrev pub mark_told : Sort → Option Mark
+mark_told (sort.Between sort.Ask) = Some (Reached 2)
+mark_told (sort.Between sort.Refuse) = Some Lacking
+mark_told (sort.Between sort.PullState) = Some (Reached 3)
+mark_told (sort.Between sort.State) = Some (Reached 3)
+mark_told (sort.Between sort.PullBlock) = Some (Reached 4)
+mark_told (sort.Between sort.Memory) = Some (Reached 4)
+mark_told (sort.Between sort.AllTaken) = Some (Reached 5)
+mark_told (sort.Between sort.Restart) = Some (Reached 7)
+mark_told s = None
+
 abbrev pub mark_by : MessageKind → Option Mark
-mark_by kind.Ask = Some (Reached 2)
-mark_by kind.Refuse = Some Lacking
-mark_by kind.PullState = Some (Reached 3)
-mark_by kind.State = Some (Reached 3)
-mark_by kind.PullBlock = Some (Reached 4)
-mark_by kind.Memory = Some (Reached 4)
-mark_by kind.AllTaken = Some (Reached 5)
-mark_by kind.Restart = Some (Reached 7)
-mark_by kind.User = None
-mark_by kind.Stop = None
-mark_by kind.Resume = None
-mark_by kind.Kill = None
-mark_by kind.Read = None
-mark_by kind.Write = None
-mark_by kind.Block = None
-mark_by kind.Written = None
-mark_by kind.Gone = None
-mark_by kind.Create = None
-mark_by kind.Created = None
-mark_by kind.NoRoom = None
-mark_by kind.Migrate = None
-mark_by kind.Update = None
-mark_by kind.Move = None
-mark_by kind.Moved = None
-mark_by kind.CallOff = None
-mark_by kind.Bury = None
+mark_by k = mark_told (sort_of k)
 
 -- a process that doesn't move has no open mark
 abbrev pub mark_while : Phase → Option Mark

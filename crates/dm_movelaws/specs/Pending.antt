@@ -4,6 +4,8 @@ use Rattle.std.specs.declared.option.Option.TheVariants.{Some}
 use Rattle.dm_message.specs.declared.MsgId.{MsgId}
 use Rattle.dm_message.specs.declared.kind.MessageKind.{MessageKind}
 use Rattle.dm_message.specs.declared.kind.MessageKind.TheVariants as kind
+use Rattle.dm_message.specs.Sorts.{Sort, sort_of}
+use Rattle.dm_message.specs.Sorts as sort
 use Rattle.dm_message.specs.Ids.{id_of}
 use Rattle.dm_message.specs.Kinds.{plain_kind}
 use Rattle.dm_message.specs.Plain.{PlainMessage}
@@ -19,33 +21,13 @@ use Rattle.dm_rule.specs.Point.{Point, first_point}
 use Rattle.dm_laws.specs.Laws.{in_bag}
 
 -- a request to make a process, or an answer to one: the process was made, or there was no room for it
+abbrev pub is_making : Sort → Bool
+is_making sort.MakingAsked = true
+is_making sort.MakingAnswered = true
+is_making s = false
+
 abbrev pub makes : MessageKind → Bool
-makes kind.Create = true
-makes kind.Created = true
-makes kind.NoRoom = true
-makes kind.User = false
-makes kind.Stop = false
-makes kind.Resume = false
-makes kind.Kill = false
-makes kind.Read = false
-makes kind.Write = false
-makes kind.Block = false
-makes kind.Written = false
-makes kind.Gone = false
-makes kind.Migrate = false
-makes kind.Update = false
-makes kind.Ask = false
-makes kind.Refuse = false
-makes kind.PullState = false
-makes kind.State = false
-makes kind.PullBlock = false
-makes kind.Memory = false
-makes kind.AllTaken = false
-makes kind.Restart = false
-makes kind.Move = false
-makes kind.Moved = false
-makes kind.CallOff = false
-makes kind.Bury = false
+makes k = is_making (sort_of k)
 
 -- the manager has sent a request with this number, and has taken no answer to it
 abbrev pub is_pending : OneKernel → ℕ → Bool

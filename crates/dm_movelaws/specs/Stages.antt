@@ -8,7 +8,8 @@ use Rattle.dm_onekernel.specs.declared.boot.Boot.{Boot}
 use Rattle.dm_onekernel.specs.Boot.{IsValid}
 use Rattle.dm_schedule.specs.declared.Step.{Step}
 use Rattle.dm_line.specs.declared.line.Line.{Line}
-use Rattle.dm_line.specs.declared.line.Line.TheVariants as line
+use Rattle.dm_rule.specs.Acts.{Act, act_of}
+use Rattle.dm_rule.specs.Acts as act
 use Rattle.dm_line.specs.declared.line.Stage.{Stage}
 use Rattle.dm_line.specs.declared.line.Stage.TheVariants as stage
 use Rattle.dm_rule.specs.Point.{Point, first_point}
@@ -32,32 +33,15 @@ step_number stage.Restarted = 8
 abbrev pub mark_for : Pid → Pid → Mark → List Mark → List Mark
 mark_for p q m ms = if pid_eq p q then m ∷ ms else ms
 
--- a row a line
+abbrev pub mark_in : Pid → Act → List Mark → List Mark
+mark_in p (act.Migrates s q) ms = mark_for p q (Reached (step_number s)) ms
+mark_in p (act.AllGoOn q) ms = mark_for p q (Reached 6) ms
+mark_in p (act.Lacks q) ms = mark_for p q Lacking ms
+mark_in p (act.Stays q) ms = mark_for p q Staying ms
+mark_in p x ms = ms
+
 abbrev pub with_mark : Pid → Line → List Mark → List Mark
-with_mark p (line.Migration s q) ms = mark_for p q (Reached (step_number s)) ms
-with_mark p (line.SentOn q n) ms = mark_for p q (Reached 6) ms
-with_mark p (line.Lacks q s b) ms = mark_for p q Lacking ms
-with_mark p (line.Stays q) ms = mark_for p q Staying ms
-with_mark p (line.Head d) ms = ms
-with_mark p (line.Idle m) ms = ms
-with_mark p (line.Label l) ms = ms
-with_mark p (line.Put a b id k q) ms = ms
-with_mark p (line.Packet a b k l) ms = ms
-with_mark p (line.Taken a b n) ms = ms
-with_mark p (line.Old a b n) ms = ms
-with_mark p (line.Early a b n) ms = ms
-with_mark p (line.Acked a b n) ms = ms
-with_mark p line.Nothing ms = ms
-with_mark p (line.Resent m n) ms = ms
-with_mark p (line.Queued id) ms = ms
-with_mark p (line.Held id) ms = ms
-with_mark p (line.Forwarded id m) ms = ms
-with_mark p (line.Updated id n) ms = ms
-with_mark p (line.Here id) ms = ms
-with_mark p (line.NoMove id) ms = ms
-with_mark p (line.Proto id) ms = ms
-with_mark p (line.NoChild q) ms = ms
-with_mark p (line.Pinned q) ms = ms
+with_mark p l ms = mark_in p (act_of l) ms
 
 abbrev pub marks : Pid → List Line → List Mark
 marks p [] = []

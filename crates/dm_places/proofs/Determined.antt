@@ -59,12 +59,9 @@ status_is (Status.Moving dir owner base own left pending) (Status.Moving d o b w
     let pid : owner.pid ≡ o.pid = cc in
     let same : owner ≡ o = addr_is owner o pid (h owner o refl refl) in
     cc
-status_is Status.Ready (Status.Waiting m b c) e h = cc
-status_is Status.Ready (Status.Moving d o b w l p) e h = cc
-status_is (Status.Waiting mask base size) Status.Ready e h = cc
-status_is (Status.Waiting mask base size) (Status.Moving d o b w l p) e h = cc
-status_is (Status.Moving dir owner base own left pending) Status.Ready e h = cc
-status_is (Status.Moving dir owner base own left pending) (Status.Waiting m b c) e h = cc
+status_is _ (Status.Waiting m b c) e h = cc
+status_is _ (Status.Moving d o b w l p) e h = cc
+status_is _ Status.Ready e h = cc
 
 -- two processes that mirror the same one are one, but for the queue
 pub process_is : (v : View) (a : Addresses) (p : Pid) (x y : Process) (q : List Message) → plain_process x ≡ plain_process y → MirrorsProcess v a p x → MirrorsProcess v a p y → with_queue x q ≡ with_queue y q

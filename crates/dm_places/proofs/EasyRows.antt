@@ -1,7 +1,7 @@
 -- Rows of the rule whose parts need nothing beside, so that a kernel with places goes along.
-use Rattle.dm_places.proofs.Names.{ℕ, zero, suc, ◌+◌, ◌-◌, ◌/◌, ◌==◌, Bool, true, false, List, [], ◌∷◌, ◌++◌, length, ⊤, if◌then◌else◌, nat_lt, Option, None, Some, Pid, pid_eq, MsgId, MessageKind, Line, plain_kind, PlainMessage, PlainWhat}
+use Rattle.dm_places.proofs.Names.{◌≡◌, refl, ℕ, zero, suc, ◌+◌, ◌-◌, ◌/◌, ◌==◌, Bool, true, false, List, [], ◌∷◌, ◌++◌, length, ⊤, if◌then◌else◌, nat_lt, Option, None, Some, Pid, pid_eq, MsgId, MessageKind, Line, plain_kind, PlainMessage, PlainWhat}
 use Rattle.dm_places.proofs.Names.{instruction, Boot, manager, switchboard, OneKernel, bind, PlainProcess, PlainStatus, Ready, Waiting, Moving, Load, About, Forward, Frozen, Here, Known, Of, Pair, Sent, Told, Unknown, View, target_of}
-use Rattle.dm_places.proofs.Names.{Addresses, child_number, is_told_back, Part, Says, Transmits, window, Point, outcome}
+use Rattle.dm_places.proofs.Names.{Addresses, child_number, is_told_back, Part, Says, Transmits, window, Point, outcome, by_migrates, IsHeardLine, hears_kept}
 use Rattle.dm_onekernel.specs.Calls as calls
 use Rattle.dm_onekernel.specs.Pieces as pieces
 use Rattle.dm_onekernel.specs.Receiving as receiving
@@ -9,7 +9,7 @@ use Rattle.dm_onekernel.specs.Step as kernel
 use Rattle.dm_rule.specs.View.{Ended}
 use Rattle.dm_rule.specs.Migrating as migrating
 use Rattle.dm_rule.specs.Rule as rule
-use Rattle.dm_places.proofs.Any.AnyPart.{EasyParts}
+use Rattle.dm_places.proofs.Any.AnyPart.{EasyLine, EasyParts}
 
 -- parts that need nothing beside
 abbrev pub Easy : Option (List Part) → Type 0
@@ -23,10 +23,6 @@ easy_append (p ∷ ps) qs h k = (h.0, easy_append ps qs h.1 k)
 if_parts : (c : Bool) (ps qs : List Part) → EasyParts ps → EasyParts qs → EasyParts (if c then ps else qs)
 if_parts true ps qs h k = h
 if_parts false ps qs h k = k
-
-if_easy : (c : Bool) (o p : Option (List Part)) → Easy o → Easy p → Easy (if c then o else p)
-if_easy true o p h k = h
-if_easy false o p h k = k
 
 drops_easy : (ids : List MsgId) → EasyParts (rule.drops ids)
 drops_easy [] = tt
@@ -119,64 +115,18 @@ process_easy pt m id k Ended = ended_easy id k.what
 process_easy pt m id k _ = (tt, tt)
 
 -- a kernel's own message
-again_easy : (to : ℕ) (ids : List MsgId) → EasyParts (migrating.sends_on to ids)
-again_easy to [] = tt
-again_easy to (i ∷ is) = (tt, again_easy to is)
+told_easy : (l : Line) → IsHeardLine l → EasyLine l
+told_easy (Line.Label l) h = absurd h
+told_easy (Line.Put a b i k q) h = absurd h
+told_easy _ h = tt
 
-leaves_easy : (id : MsgId) (p : Pid) (ids : List MsgId) (k : Known) → Easy (migrating.leaves id p ids k)
-leaves_easy id p ids (Frozen to) = (tt, easy_append (migrating.sends_on to ids) _ (again_easy to ids) (tt, (tt, tt)))
-leaves_easy id p ids _ = tt
-
-kernel_told_easy : (pt : Point) (m : ℕ) (id : MsgId) (p : Pid) (fits : Bool × ℕ × ℕ) (x : PlainProcess) (k : MessageKind) → Easy (migrating.kernel_told pt m id p fits x k)
-kernel_told_easy pt m id p fits x MessageKind.Ask = if_parts fits.0 _ _ (tt, (tt, tt)) (tt, (tt, tt))
-kernel_told_easy pt m id p fits x MessageKind.Refuse = (tt, tt)
-kernel_told_easy pt m id p fits x MessageKind.PullState = (tt, (tt, tt))
-kernel_told_easy pt m id p fits x MessageKind.State = if_parts (pt.view.asked p == migrating.chunks_of x) _ _ (tt, (tt, tt)) (tt, (tt, tt))
-kernel_told_easy pt m id p fits x MessageKind.PullBlock = (tt, (tt, tt))
-kernel_told_easy pt m id p fits x MessageKind.Memory = if_parts (pt.view.asked p == migrating.pieces_of x) _ _ (tt, (tt, tt)) (tt, (tt, tt))
-kernel_told_easy pt m id p fits x MessageKind.AllTaken = leaves_easy id p (pt.view.queue m p ++ pt.view.held m p) (pt.view.known m p)
-kernel_told_easy pt m id p fits x MessageKind.Restart = (tt, tt)
-kernel_told_easy pt m id p fits x _ = tt
-
-kernel_alive_easy : (b : Boot) (pt : Point) (m : ℕ) (id : MsgId) (k : MessageKind) (p : Pid) (o : Option PlainProcess)
-    → Easy (bind o (λ (x : PlainProcess). migrating.kernel_told pt m id p (rule.fits (rule.free_room b pt m) (length x.memory / 256)) x k))
-kernel_alive_easy b pt m id k p None = tt
-kernel_alive_easy b pt m id k p (Some x) = kernel_told_easy pt m id p (rule.fits (rule.free_room b pt m) (length x.memory / 256)) x k
-
-kernel_hears_easy : (b : Boot) (pt : Point) (m : ℕ) (id : MsgId) (k : MessageKind) (a : About) → Easy (rule.kernel_hears b pt m id k a)
-kernel_hears_easy b pt m id k (Of p) = kernel_alive_easy b pt m id k p (kernel.alive (pt.kernel.processes p))
-kernel_hears_easy b pt m id k _ = tt
-
-here_told_easy : (pt : Point) (m : ℕ) (id : MsgId) (t : Told) (k : MessageKind) → Easy (migrating.here_told pt m id t k)
-here_told_easy pt m id t MessageKind.Migrate = if_parts (m == target_of (Some t)) _ _ (tt, tt) (tt, (tt, (tt, tt)))
-here_told_easy pt m id t MessageKind.Update = (tt, tt)
-here_told_easy pt m id t _ = tt
-
-ended_told_easy : (id : MsgId) (k : MessageKind) → Easy (migrating.ended_told id k)
-ended_told_easy id MessageKind.Migrate = (tt, tt)
-ended_told_easy id MessageKind.Update = (tt, tt)
-ended_told_easy id _ = tt
-
-server_told_easy : (pt : Point) (id : MsgId) (t : Told) (k : MessageKind) → Easy (migrating.server_told pt id t k)
-server_told_easy pt id t MessageKind.Update = (tt, tt)
-server_told_easy pt id t _ = tt
-
-process_told_easy : (pt : Point) (m : ℕ) (id : MsgId) (t : Told) (w : Known) → Easy (migrating.process_told pt m id t w)
-process_told_easy pt m id t Unknown = tt
-process_told_easy pt m id t Here = here_told_easy pt m id t t.kind
-process_told_easy pt m id t (Forward at moves) = forwards_easy pt.addresses id t.kind manager at
-process_told_easy pt m id t Ended = ended_told_easy id t.kind
-process_told_easy pt m id t _ = (tt, tt)
+easy_of : (o : Option (List Part)) → ((ps : List Part) → o ≡ Some ps → EasyParts ps) → Easy o
+easy_of None h = tt
+easy_of (Some ps) h = h ps refl
 
 pub hears_easy : (b : Boot) (pt : Point) (m : ℕ) (id : MsgId) (o : Option Told) → Easy (rule.hears b pt m id o)
-hears_easy b pt m id None = tt
-hears_easy b pt m id (Some t) =
-    let three = migrating.server_told pt id t t.kind in
-    let four = migrating.process_told pt m id t (pt.view.known m t.receiver) in
-    let last = if pid_eq t.receiver manager then three else four in
-    if_easy (t.receiver.num == 0) (rule.kernel_hears b pt m id t.kind t.about) (if pid_eq t.receiver switchboard then three else last) (kernel_hears_easy b pt m id t.kind t.about)
-    (if_easy (pid_eq t.receiver switchboard) three last (server_told_easy pt id t t.kind)
-    (if_easy (pid_eq t.receiver manager) three four (server_told_easy pt id t t.kind) (process_told_easy pt m id t (pt.view.known m t.receiver))))
+hears_easy b pt m id o =
+    easy_of (rule.hears b pt m id o) (λ ps. hears_kept EasyParts (record { none = tt; says = λ l ps h k. (told_easy l h, k); again = λ i to ps k. (tt, k); owns = λ k q to ps h. (tt, h) }) b pt m id o ps)
 
 -- the other directives
 repeats_easy : (a b : ℕ) (ns : List ℕ) → EasyParts (rule.repeats a b ns)
@@ -206,12 +156,5 @@ pub arrives_easy : (a b : ℕ) (p q : Pair) (o : Option Sent) → EasyParts (rul
 arrives_easy a b p q None = (tt, tt)
 arrives_easy a b p q (Some s) = load_easy a b p q s.load
 
-child_easy : (a : Addresses) (p : Pid) (o : Option ℕ) → EasyParts (migrating.migrates_child a p o)
-child_easy a p None = (tt, tt)
-child_easy a p (Some n) = (tt, tt)
-
 pub migrates_easy : (pt : Point) (p : Pid) → EasyParts (migrating.migrates pt p)
-migrates_easy pt p =
-    let c = migrating.migrates_child pt.addresses p (child_number pt.kernel p) in
-    if_parts (pid_eq p switchboard) (Says (Line.Pinned p) ∷ []) (if pid_eq p manager then Says (Line.Pinned p) ∷ [] else c) (tt, tt)
-    (if_parts (pid_eq p manager) (Says (Line.Pinned p) ∷ []) c (tt, tt) (child_easy pt.addresses p (child_number pt.kernel p)))
+migrates_easy pt p = by_migrates EasyParts pt p (tt, tt) (tt, tt) (λ n off is. (tt, tt))

@@ -14,8 +14,7 @@ ready_if false x y q e = let f : x ≡ y = cc in ap (λ (z : Process). Some (wit
 
 ready_with : (x y : Process) (st : Status) (q : List Message) → if_ready x st ≡ Some y → if_ready (with_queue x q) st ≡ Some (with_queue y q)
 ready_with x y Status.Ready q e = ready_if x.stopped x y q e
-ready_with x y (Status.Waiting mask base size) q e = cc
-ready_with x y (Status.Moving dir owner base own left pending) q e = cc
+ready_with x y _ q e = cc
 
 runs_with : (l : Placed) (p : Pid) (y : Process) (q : List Message) → l.processes p ≡ Some (with_queue y q) → if_ready y y.status ≡ Some y → running l p ≡ Some (with_queue y q)
 runs_with l p y q there ready = ap (λ (o : Option Process). bind o (λ (z : Process). if_ready z z.status)) there ∙ ready_with y y y.status q ready

@@ -37,6 +37,7 @@ pub use Rattle.dm_syscall.proofs.Names.{plain_completed, receive_refusals, send_
 pub use Rattle.dm_syscall.proofs.PlainCalls.{call_plainly, first_of, slot_at}
 pub use Rattle.dm_syscall.specs.declared.Called.{Called}
 pub use Rattle.dm_syscall.specs.declared.Completed.{Completed}
+pub use Rattle.dm_rule.proofs.Hearing.{IsHeardLine, hears_kept}
 pub use Rattle.dm_rule.proofs.Homes.Calls.{gives_by, no_gives, or-left, or-right}
 pub use Rattle.dm_rule.proofs.Homes.Lines.{first_none, own_none}
 pub use Rattle.dm_rule.proofs.Homes.Manager.{enclosed_at}
@@ -48,17 +49,18 @@ pub use Rattle.dm_rule.proofs.Homes.Slots.{emptied_link, past_call, set_link}
 pub use Rattle.dm_rule.proofs.Homes.Steps.{OnlySlots, gives_same, made_is, only_gives_by}
 pub use Rattle.dm_rule.proofs.Letters.{not_kernels}
 pub use Rattle.dm_rule.proofs.Names.{About, Addresses, Again, Answer, Child, Enclosed, Fault, Forward, Frozen, Gets, Here, Holder, Inbox, IsStep, Known, Leads, Line, Load, MessageKind, Name, NamedLink, Of, One, Owner, Owns, Pair, Part}
-pub use Rattle.dm_rule.proofs.Names.{Place, Point, Receiver, Routes, Says, Sender, Sent, Slot, Sound, Spelled, Spot, Stage, Step, TellsRight, Told, Transmits, Unknown, View, addresses_after, after, after_head, after_label, after_line}
-pub use Rattle.dm_rule.proofs.Names.{after_step, all_follow, answer_link, answers, ascends, at_machine, at_pid, behind, belongs_to, bind-is, board_finds, board_keeps, board_takes, child_from, child_links, child_number, enclosed_from}
-pub use Rattle.dm_rule.proofs.Names.{encloses, fills, fills_by, filter_map, first_addresses, first_gives, first_point, first_view, forwarded_for, forwards, gets, given, gives, goes_out, group_of, handled, headed, here, home_of, id_eq-is}
-pub use Rattle.dm_rule.proofs.Names.{id_eq-same, id_eq-swap, is_kernels, is_pid, is_told_back, kernel_after, label_of, leads_to, lines_of, link_to, links_at, made, manager_answers, manager_sends, manager_takes, moved, name_link, nth_child}
-pub use Rattle.dm_rule.proofs.Names.{outcome, own_gives, own_id, owner_in, owner_of, packet_line, pid_eq-is, pid_eq-same, place_in, place_known, place_named, place_of, place_of_child, place_told, plain_kind, puts, receiver_of}
-pub use Rattle.dm_rule.proofs.Names.{receives_links, receives_what, reply_eq, sends_what, serves_what, slot_after, slot_of, slots_of, slots_with, spelled, standing, start-sound, target_of, tells_back, times, unmoved, updated, updated_to}
-pub use Rattle.dm_rule.proofs.Names.{view_after, when-is, why_eq, window}
+pub use Rattle.dm_rule.proofs.Names.{Place, Point, Receiver, Routes, Says, Sender, Sent, Slot, Sort, Sound, Spelled, Spot, Stage, Step, TellsRight, Told, Transmits, Unknown, View, addresses_after, after, after_head, after_label, after_line}
+pub use Rattle.dm_rule.proofs.Names.{after_step, all_follow, answer_link, answers, ascends, at_machine, at_pid, behind, behind_count, belongs_to, bind-is, board_finds, board_keeps, board_takes, child_from, child_links, child_number}
+pub use Rattle.dm_rule.proofs.Names.{enclosed_from, encloses, fills, fills_by, filter_map, first_addresses, first_gives, first_point, first_view, forwarded_for, forwards, gets, given, gives, goes_out, group_of, handled, headed, here}
+pub use Rattle.dm_rule.proofs.Names.{home_of, id_eq-is, id_eq-same, id_eq-swap, is_kernels, is_pid, is_told_back, kernel_after, label_of, leads_to, lines_of, link_to, links_at, made, manager_answers, manager_sends, manager_takes, moved}
+pub use Rattle.dm_rule.proofs.Names.{name_link, nth_child, outcome, own_given, own_gives, own_id, owner_in, owner_of, packet_line, pid_eq-is, pid_eq-same, place_in, place_known, place_named, place_of, place_of_child, place_told, plain_kind}
+pub use Rattle.dm_rule.proofs.Names.{puts, receiver_of, receives_links, receives_what, reply_eq, sends_what, serves_what, slot_after, slot_of, slots_of, slots_with, sort_of, spelled, standing, start-sound, target_of, tells_back, times}
+pub use Rattle.dm_rule.proofs.Names.{unmoved, updated, updated_to, view_after, when-is, why_eq, window}
 pub use Rattle.dm_rule.proofs.Pairs.Moves.{or_first, or_first as or_second}
+pub use Rattle.dm_rule.proofs.Requests.{by_migrates}
 pub use Rattle.dm_rule.proofs.Worked.{hi}
 pub use Rattle.dm_rule.specs.Addresses.{board_asks}
-pub use Rattle.dm_rule.specs.Migrating.{answers_in, behind_among, behind_count, holders_of, numbered, slots_from, slots_in}
+pub use Rattle.dm_rule.specs.Migrating.{answers_in, behind_among, holders_of, numbered, slots_from, slots_in}
 pub use Rattle.dm_rule.specs.View.{first_told, is_own}
 pub use Rattle.dm_places.specs.Changes.{Changes, StepsChangeLittle, changed, is_named, receiver_in, taken, taken_out}
 pub use Rattle.dm_places.specs.Following.{GroupNeeds, LineNeeds, MirrorsPoint, ServersApart, is_among, sent_all}

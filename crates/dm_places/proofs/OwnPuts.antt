@@ -2,28 +2,23 @@
 use Rattle.dm_places.proofs.Names.{◌≡◌, ℕ, zero, suc, ◌+◌, Bool, false, List, [], ◌∷◌, map, refl, ap, ◌∙◌, sym, subst, ◌⊎◌, inl, inr, arith, if◌then◌else◌, cond, slice_get, Option, None, Some, cases_Bool, Pid, Addr, Link, Place, pid_eq}
 use Rattle.dm_places.proofs.Names.{pid_of, place_of, MsgId, Message, What, Line, MessageKind, id_eq, id_of, plain_message, address, plain_child, child_named, manager, Manager, OneKernel, pid_eq-swap, at_machine, Told, View, is_own, own_id}
 use Rattle.dm_places.proofs.Names.{view_after, Addresses, Child, Gets, Receiver, Sender, child_from, child_number, first_gives, given, own_gives, place_of_child, unmoved, Point, moved, SameMessage, SameProcess, SameServers, two, two_off}
-use Rattle.dm_places.proofs.Names.{two_process, two_servers, Placed, Mirrors, MirrorsMessage, enclosed, MirrorsPoint, with_message, KeepsPlaces}
+use Rattle.dm_places.proofs.Names.{two_process, two_servers, Placed, Mirrors, MirrorsMessage, enclosed, MirrorsPoint, with_message, KeepsPlaces, Sort, sort_of, own_given}
 use Rattle.dm_places.proofs.Keeps.{stays_message, stays_process, stays_servers}
 use Rattle.dm_places.proofs.Following.Changed.{free_mirrors, kernel_again, places_message, this_message}
 use Rattle.dm_places.proofs.Lines.{mirrors_view}
 
 -- it gets nothing then, or a receiver's and a sender's place
-abbrev OwnGives : OneKernel → View → Addresses → MsgId → Pid → MessageKind → Type 0
-OwnGives s v a id q k = (own_gives s v a id q k ≡ []) ⊎ ((to : Place) × (from : Place) × (own_gives s v a id q k ≡ two id to from))
+abbrev OwnGives : OneKernel → View → Addresses → MsgId → Pid → Sort → Type 0
+OwnGives s v a id q w = (own_given s v a id q w ≡ []) ⊎ ((to : Place) × (from : Place) × (own_given s v a id q w ≡ two id to from))
 
-own_are : (s : OneKernel) (v : View) (a : Addresses) (id : MsgId) (q : Pid) (k : MessageKind) → OwnGives s v a id q k
-own_are s v a id q MessageKind.Migrate = inr (place_of_child a (child_number s q), unmoved v.acting, refl)
-own_are s v a id q MessageKind.Ask = inr (unmoved q.home, unmoved v.acting, refl)
-own_are s v a id q MessageKind.Refuse = inr (unmoved q.home, unmoved v.acting, refl)
-own_are s v a id q MessageKind.PullState = inr (unmoved q.home, unmoved v.acting, refl)
-own_are s v a id q MessageKind.State = inr (unmoved q.home, unmoved v.acting, refl)
-own_are s v a id q MessageKind.PullBlock = inr (unmoved q.home, unmoved v.acting, refl)
-own_are s v a id q MessageKind.Memory = inr (unmoved q.home, unmoved v.acting, refl)
-own_are s v a id q MessageKind.AllTaken = inr (unmoved q.home, unmoved v.acting, refl)
-own_are s v a id q MessageKind.Restart = inr (unmoved q.home, unmoved v.acting, refl)
-own_are s v a id q MessageKind.CallOff = inr (unmoved q.home, unmoved v.acting, refl)
-own_are s v a id q MessageKind.Bury = inr (unmoved q.home, unmoved v.acting, refl)
-own_are s v a id q _ = inl refl
+own_are_by : (s : OneKernel) (v : View) (a : Addresses) (id : MsgId) (q : Pid) (w : Sort) → OwnGives s v a id q w
+own_are_by s v a id q Sort.Request = inr (place_of_child a (child_number s q), unmoved v.acting, refl)
+own_are_by s v a id q (Sort.Between passage) = inr (unmoved q.home, unmoved v.acting, refl)
+own_are_by s v a id q Sort.Unsent = inr (unmoved q.home, unmoved v.acting, refl)
+own_are_by s v a id q _ = inl refl
+
+own_are : (s : OneKernel) (v : View) (a : Addresses) (id : MsgId) (q : Pid) (k : MessageKind) → OwnGives s v a id q (sort_of k)
+own_are s v a id q k = own_are_by s v a id q (sort_of k)
 
 cases_first : (o : Option Told) (gs : List Gets) → (first_gives o gs ≡ []) ⊎ (first_gives o gs ≡ gs)
 cases_first None gs = inr refl

@@ -95,8 +95,7 @@ what_with x q place id base size w = refl
 pub completion_is : (x : Process) (q : List Message) (place : ℕ) (st : Status) (o : Option Message) → completing.completion (with_queue x q) place st o ≡ option_map (completion_with q place) (completing.completion x 0 st o)
 completion_is x q place (Status.Waiting mask base size) (Some m) = what_with x q place m.id base size m.what
 completion_is x q place (Status.Waiting mask base size) None = refl
-completion_is x q place Status.Ready o = refl
-completion_is x q place (Status.Moving dir owner base own left pending) o = refl
+completion_is x q place _ o = refl
 
 -- the service of a piece
 answer_is : (here : ℕ) (x : Process) (m : Message) (w : What) (q : List Message) → answer_with here (with_queue x q) m (answer_of (with_queue x q) w) ≡ answer_with here x m (answer_of x w)
@@ -136,7 +135,6 @@ lands_with here x r Direction.IntoArea What.Gone q = refl
 lands_with here x r dir w q = refl
 
 pub landing_is : (here : ℕ) (x : Process) (w : What) (st : Status) (q : List Message) → landing.landing here (with_queue x q) w st ≡ option_map (landing_with q) (landing.landing here x w st)
-landing_is here x w Status.Ready q = refl
-landing_is here x w (Status.Waiting mask base size) q = refl
 landing_is here x w (Status.Moving dir owner base own left pending) q =
     lands_with here x (record { dir = dir; owner = owner; base = base; own = own; left = left }) dir w q
+landing_is here x w _ q = refl

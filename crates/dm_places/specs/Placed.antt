@@ -41,34 +41,11 @@ owner_at status.Ready = None
 owner_at (status.Waiting mask base size) = None
 owner_at (status.Moving dir owner base own left pending) = Some owner
 
--- the links that a message encloses
+-- the links that a message encloses; messages of other kinds have none
 abbrev pub enclosed : What → List Link
 enclosed (what.User code channel body links) = links.items
-enclosed what.Stop = []
-enclosed what.Resume = []
-enclosed what.Kill = []
-enclosed (what.Read base len) = []
-enclosed (what.Write base bytes) = []
-enclosed (what.Block bytes) = []
-enclosed what.Written = []
-enclosed what.Gone = []
 enclosed (what.Create image links) = links.items
-enclosed (what.Created pid) = []
-enclosed what.NoRoom = []
-enclosed (what.Migrate machine) = []
-enclosed (what.Update about) = []
-enclosed (what.Ask pid blocks moves size asker) = []
-enclosed (what.Refuse pid slots blocks) = []
-enclosed (what.PullState pid chunk) = []
-enclosed (what.State pid chunk last bytes) = []
-enclosed (what.PullBlock pid block) = []
-enclosed (what.Memory pid block bytes) = []
-enclosed (what.AllTaken pid) = []
-enclosed (what.Restart pid) = []
-enclosed (what.Move machine) = []
-enclosed (what.Moved outcome) = []
-enclosed (what.CallOff pid) = []
-enclosed (what.Bury pid) = []
+enclosed w = []
 
 -- a process under its name: as often moved as the lines say, and each of its addresses leads where they say
 pub record MirrorsProcess (v : View) (a : Addresses) (p : Pid) (x : Process) : Type 0 where

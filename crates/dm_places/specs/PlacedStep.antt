@@ -123,24 +123,7 @@ serves here l m x (what.Write base bytes) = answers here l m x
 serves here l m x (what.Block bytes) = lands here l m x
 serves here l m x what.Written = lands here l m x
 serves here l m x what.Gone = lands here l m x
-serves here l m x (what.User code channel body links) = None
-serves here l m x (what.Create image links) = None
-serves here l m x (what.Created pid) = None
-serves here l m x what.NoRoom = None
-serves here l m x (what.Migrate machine) = None
-serves here l m x (what.Update about) = None
-serves here l m x (what.Ask pid blocks moves size asker) = None
-serves here l m x (what.Refuse pid slots blocks) = None
-serves here l m x (what.PullState pid chunk) = None
-serves here l m x (what.State pid chunk last bytes) = None
-serves here l m x (what.PullBlock pid block) = None
-serves here l m x (what.Memory pid block bytes) = None
-serves here l m x (what.AllTaken pid) = None
-serves here l m x (what.Restart pid) = None
-serves here l m x (what.Move machine) = None
-serves here l m x (what.Moved outcome) = None
-serves here l m x (what.CallOff pid) = None
-serves here l m x (what.Bury pid) = None
+serves here l m x w = None
 
 -- took: a message for a server
 abbrev pub board_took : Placed → board.Taken → Placed
@@ -162,31 +145,7 @@ with_child l f child image links = with_process l child (Some (begun child (memo
 abbrev pub creates : ℕ → Format → List BootImage → Placed → Message → Pid → What → Option Placed
 creates here f images l m child (what.Create image links) =
     bind (slice_get images image) (λ i. Some (with_sent (with_child l f child i links.items) (Some (answer here 0 m (what.Created child)))))
-creates here f images l m child (what.User code channel body links) = None
-creates here f images l m child what.Stop = None
-creates here f images l m child what.Resume = None
-creates here f images l m child what.Kill = None
-creates here f images l m child (what.Read base len) = None
-creates here f images l m child (what.Write base bytes) = None
-creates here f images l m child (what.Block bytes) = None
-creates here f images l m child what.Written = None
-creates here f images l m child what.Gone = None
-creates here f images l m child (what.Created pid) = None
-creates here f images l m child what.NoRoom = None
-creates here f images l m child (what.Migrate machine) = None
-creates here f images l m child (what.Update about) = None
-creates here f images l m child (what.Ask pid blocks moves size asker) = None
-creates here f images l m child (what.Refuse pid slots blocks) = None
-creates here f images l m child (what.PullState pid chunk) = None
-creates here f images l m child (what.State pid chunk last bytes) = None
-creates here f images l m child (what.PullBlock pid block) = None
-creates here f images l m child (what.Memory pid block bytes) = None
-creates here f images l m child (what.AllTaken pid) = None
-creates here f images l m child (what.Restart pid) = None
-creates here f images l m child (what.Move machine) = None
-creates here f images l m child (what.Moved outcome) = None
-creates here f images l m child (what.CallOff pid) = None
-creates here f images l m child (what.Bury pid) = None
+creates here f images l m child w = None
 
 -- the kernel of machine `here` acts; what processes are made of is the boot file's
 abbrev pub placed_step : ℕ → Format → List BootImage → Placed → Label → Option Placed

@@ -111,11 +111,7 @@ bag_sends_next r e s t p id (step.Calls number (Called.Sends m y)) w is h =
     let name : id ≡ m.id = id_eq-is id m.id k.0 in
     let zero_ : e m.id ≡ 0 = ap e counted.id ∙ own_fresh r e s p w.x z.sent w.is.alive sent h in
     subst (λ v. BagStep e s v None (Some id)) k.1 (subst (λ v. BagStep e s (with_sent (step.goes_on s p y) (Some m)) None (Some v)) (sym name) (steps_in r e s (step.goes_on s p y) None m (λ i. refl) zero_ h.entered))
-bag_sends_next r e s t p id (step.Calls number (Called.Replies reply y)) w is h = cc
-bag_sends_next r e s t p id (step.Calls number (Called.Waits y)) w is h = cc
-bag_sends_next r e s t p id (step.Calls number (Called.Outputs word y)) w is h = cc
-bag_sends_next r e s t p id (step.Calls number (Called.Ends because)) w is h = cc
-bag_sends_next r e s t p id (step.Faults fault) w is h = cc
+bag_sends_next r e s t p id _ w is h = cc
 
 -- a process that sends
 pub bag_sends : (r e : MsgId → ℕ) (s t : OneKernel) (p : Pid) (id : MsgId) → step.step s (Label.Send p id) ≡ Some t → Sound r e s → BagStep e s t None (Some id)
@@ -133,35 +129,20 @@ bag_ran e s t p k is =
 
 replies_quiet : (e : MsgId → ℕ) (s t : OneKernel) (p : Pid) (n : ℕ) (c : _) (next : step.Next) → step.replies s p n c next ≡ Some t → BagStep e s t None None
 replies_quiet e s t p n c (step.Calls number (Called.Replies reply y)) is = quiet_is e s t (step.goes_on s p y) (when-is _ (step.goes_on s p y) t is).1 (λ i. refl)
-replies_quiet e s t p n c (step.Calls number (Called.Sends m y)) is = cc
-replies_quiet e s t p n c (step.Calls number (Called.Waits y)) is = cc
-replies_quiet e s t p n c (step.Calls number (Called.Outputs word y)) is = cc
-replies_quiet e s t p n c (step.Calls number (Called.Ends because)) is = cc
-replies_quiet e s t p n c (step.Faults fault) is = cc
+replies_quiet e s t p n c _ is = cc
 
 waits_quiet : (e : MsgId → ℕ) (s t : OneKernel) (p : Pid) (next : step.Next) → step.waits s p next ≡ Some t → BagStep e s t None None
 waits_quiet e s t p (step.Calls number (Called.Waits y)) is = quiet_is e s t (step.goes_on s p y) (let f : step.goes_on s p y ≡ t = cc in f) (λ i. refl)
-waits_quiet e s t p (step.Calls number (Called.Replies reply y)) is = cc
-waits_quiet e s t p (step.Calls number (Called.Sends m y)) is = cc
-waits_quiet e s t p (step.Calls number (Called.Outputs word y)) is = cc
-waits_quiet e s t p (step.Calls number (Called.Ends because)) is = cc
-waits_quiet e s t p (step.Faults fault) is = cc
+waits_quiet e s t p _ is = cc
 
 outputs_quiet : (e : MsgId → ℕ) (s t : OneKernel) (p : Pid) (w : ℕ) (next : step.Next) → step.outputs s p w next ≡ Some t → BagStep e s t None None
 outputs_quiet e s t p w (step.Calls number (Called.Outputs word y)) is = quiet_is e s t (step.goes_on s p y) (when-is _ (step.goes_on s p y) t is).1 (λ i. refl)
-outputs_quiet e s t p w (step.Calls number (Called.Replies reply y)) is = cc
-outputs_quiet e s t p w (step.Calls number (Called.Sends m y)) is = cc
-outputs_quiet e s t p w (step.Calls number (Called.Waits y)) is = cc
-outputs_quiet e s t p w (step.Calls number (Called.Ends because)) is = cc
-outputs_quiet e s t p w (step.Faults fault) is = cc
+outputs_quiet e s t p w _ is = cc
 
 ends_quiet : (e : MsgId → ℕ) (s t : OneKernel) (p : Pid) (y : Why) (next : step.Next) → step.ends s p y next ≡ Some t → BagStep e s t None None
 ends_quiet e s t p y (step.Calls number (Called.Ends because)) is = quiet_is e s t (with_process s p (Ended y)) (when-is _ (with_process s p (Ended y)) t is).1 (λ i. refl)
 ends_quiet e s t p y (step.Faults fault) is = quiet_is e s t (with_process s p (Ended y)) (when-is _ (with_process s p (Ended y)) t is).1 (λ i. refl)
-ends_quiet e s t p y (step.Calls number (Called.Replies reply x)) is = cc
-ends_quiet e s t p y (step.Calls number (Called.Sends m x)) is = cc
-ends_quiet e s t p y (step.Calls number (Called.Waits x)) is = cc
-ends_quiet e s t p y (step.Calls number (Called.Outputs word x)) is = cc
+ends_quiet e s t p y _ is = cc
 
 pub bag_call : (e : MsgId → ℕ) (s t : OneKernel) (p : Pid) (n : ℕ) (c : _) → step.step s (Label.Call p n c) ≡ Some t → BagStep e s t None None
 bag_call e s t p n c is = let (x, next, rest) = bind-is (step.next s p) (step.replies s p n c) t is in replies_quiet e s t p n c x rest

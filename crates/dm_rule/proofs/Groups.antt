@@ -79,13 +79,11 @@ net_row [] pt w is h e = State-at None pt w.point (said pt w e) h
 net_row (Says l ∷ ps) pt w is h e =
     let k = says_next pt l ps w e in
     State-at None k.rest.point w.point k.point (net_row ps (moved pt l k.s) k.rest is.1 (net_line pt l is.0 h k.s k.is) k.more)
-net_row (Routes i ∷ ps) pt w is h e = absurd is.0
-net_row (Again i b ∷ ps) pt w is h e = absurd is.0
-net_row (Owns k q b ∷ ps) pt w is h e = absurd is.0
 net_row (Transmits a b l ∷ ps) pt w is h e =
     let k = transmits_next pt a b l ps w e in
     State-at None k.rest.point w.point k.point
     (net_row ps (moved pt (packet_line pt.view a b l) pt.kernel) k.rest is.1 (by_packet None pt a b (length (pt.view.pair a b).wire) l h) k.more)
+net_row _ pt w is h e = absurd is.0
 
 net-append : (ps qs : List Part) → IsNet ps → IsNet qs → IsNet (ps ++ qs)
 net-append [] qs h k = k

@@ -82,9 +82,7 @@ awaited_stands s mask (i ∷ is) id e = awaited_if s mask i is id (rule.is_await
 
 received_off : (v : View) (p : Pid) (rest : List MsgId) (z : Spot) → ids_at (record (view.serving v p) { queue = at_record v.queue v.acting p rest }) z ≡ ids_at (record v { queue = at_record v.queue v.acting p rest }) z
 received_off v p rest (Queue m q) = refl
-received_off v p rest (Held m q) = refl
-received_off v p rest (Inbox m) = refl
-received_off v p rest (Untaken a b) = refl
+received_off v p rest _ = refl
 
 completes_row : (pt : Point) (p : Pid) (id : MsgId) (c : receiving.Completed) (w : Spelled) → State None pt → 1 ≤ times id (pt.view.queue pt.view.acting p) → spelled pt (rule.completes p id c) ≡ Some w → State None w.point
 completes_row pt p id (receiving.Receives x) w h there e =

@@ -11,6 +11,8 @@ pub mod Letters
 pub mod Hushed
 pub mod States
 pub mod Turns
+pub mod Requests
+pub mod Hearing
 pub mod Said
 pub mod Moves
 pub mod Handled

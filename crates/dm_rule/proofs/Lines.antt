@@ -196,9 +196,7 @@ front_counts j i xs ys e =
 
 queue_off : (v : View) (p : Pid) (rest : List MsgId) (z : Spot) → z ≢ Queue v.acting p → ids_at (record v { queue = at_record v.queue v.acting p rest }) z ≡ ids_at v z
 queue_off v p rest (Queue m q) a = at_record_off v.queue v.acting m p q rest (queue_apart v.acting m p q a)
-queue_off v p rest (Held m q) a = refl
-queue_off v p rest (Inbox m) a = refl
-queue_off v p rest (Untaken c d) a = refl
+queue_off v p rest _ a = refl
 
 queue_fewer : (v : View) (p : Pid) (rest : List MsgId) (i : MsgId) → ((j : MsgId) → times j (v.queue v.acting p) ≡ times j rest + one_of j i) → (m : ℕ) (q : Pid) (j : MsgId)
     → 1 ≤ times j (at_record v.queue v.acting p rest m q) → 1 ≤ times j (v.queue m q)
@@ -367,10 +365,9 @@ taken_spots : (a b : ℕ) → Untaken a b ≢ Inbox b
 taken_spots a b e = false≢true (ap is_inbox e)
 
 taken_off : (v : View) (a b n : ℕ) (i : MsgId) (z : Spot) → z ≢ Untaken a b → z ≢ Inbox b → ids_at (record (view.with_pair v a b (taken_pair (v.pair a b) n)) { inbox = at_machine v.inbox b (v.inbox b ++ i ∷ []) }) z ≡ ids_at v z
-taken_off v a b n i (Queue m p) x y = refl
-taken_off v a b n i (Held m p) x y = refl
 taken_off v a b n i (Inbox m) x y = at_machine_off v.inbox b m (v.inbox b ++ i ∷ []) (inbox_apart b m y)
 taken_off v a b n i (Untaken c d) x y = ap untaken (pair_off v.pair a b c d (taken_pair (v.pair a b) n) (untaken_apart a b c d x))
+taken_off v a b n i _ x y = refl
 
 taken_none_off : (v : View) (a b n : ℕ) (z : Spot) → untaken (taken_pair (v.pair a b) n) ≡ untaken (v.pair a b) → ids_at (view.with_pair v a b (taken_pair (v.pair a b) n)) z ≡ ids_at v z
 taken_none_off v a b n (Untaken c d) same = pair_keeps v.pair a b (taken_pair (v.pair a b) n) same c d

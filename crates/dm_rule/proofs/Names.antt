@@ -14,6 +14,7 @@ pub use Rattle.dm_processor.specs.declared.opcodes.Opcode.{Opcode}
 pub use Rattle.dm_processor.specs.declared.registers.Fault.{Fault}
 pub use Rattle.dm_processor.specs.declared.registers.Regs.{Regs}
 pub use Rattle.dm_message.specs.Kinds.{plain_kind}
+pub use Rattle.dm_message.specs.Sorts.{Sort, sort_of}
 pub use Rattle.dm_message.specs.declared.kind.MessageKind.{MessageKind}
 pub use Rattle.dm_linktable.proofs.Names.{Link, Pid, first_empty, is_none, link_at, map, pid_eq, subst, ◌&&◌, ◌==◌, ◌≢◌}
 pub use Rattle.dm_schedule.proofs.Names.{append-nil, drop-length, if◌then◌else◌, nat_lt, not, position_or_len}
@@ -50,14 +51,14 @@ pub use Rattle.dm_line.specs.declared.line.Load.{Load}
 pub use Rattle.dm_line.specs.declared.line.Stage.{Stage}
 pub use Rattle.dm_rule.specs.Addresses.{Addresses, Answer, Child, Enclosed, Gets, Holder, Name, Owner, Receiver, Sender, Slot, addresses_after, all_follow, answer_link, answers, belongs_to, board_finds, board_keeps, board_takes, child_from}
 pub use Rattle.dm_rule.specs.Addresses.{child_links, child_number, enclosed_from, encloses, fills, fills_by, first_addresses, first_gives, forwards, gets, given, gives, here, holder_eq, home_of, is_behind, is_pid, is_told_back, lands}
-pub use Rattle.dm_rule.specs.Addresses.{leads_to, link_to, links_at, made, manager_answers, manager_sends, manager_takes, manager_tells, name_link, nth_child, own_gives, owner_in, owner_of, place_in, place_known, place_named}
+pub use Rattle.dm_rule.specs.Addresses.{leads_to, link_to, links_at, made, manager_answers, manager_sends, manager_takes, manager_tells, name_link, nth_child, own_given, own_gives, owner_in, owner_of, place_in, place_known, place_named}
 pub use Rattle.dm_rule.specs.Addresses.{place_of_child, place_told, receives_links, receives_what, sends_what, serves_what, slot_after, slot_of, tells_back, unmoved, updated, updated_to}
 pub use Rattle.dm_rule.specs.Apart.{AllSpare, IsOthers, Spares}
 pub use Rattle.dm_rule.specs.Good.{next_step}
 pub use Rattle.dm_rule.specs.Homes.{Homes, are_for_home, are_home, ascends, enclosed_of, is_for_home, links_in, names, sender_of, to_of}
 pub use Rattle.dm_rule.specs.Laws.{AreStill, IsStep, IsStill, LeadHomeAlways, Leads, MovingStaysAlways, PairsStandAlways, PhasesAlways, QuietIsTested, StandsOnceAlways, TellsRightAlways}
-pub use Rattle.dm_rule.specs.Migrating.{accepts, chunks_of, ended_told, forwards_on, gives_piece, here_told, kernel_told, leaves, migrates, migrates_child, moves_to, pieces_of, process_told, sends_on, server_told, takes_block, takes_chunk}
-pub use Rattle.dm_rule.specs.Migrating.{to_kernel, updates}
+pub use Rattle.dm_rule.specs.Migrating.{accepts, behind_count, chunks_of, ended_told, forwards_on, gives_piece, here_told, kernel_told, leaves, migrates, migrates_child, moves_to, pieces_of, process_told, sends_on, server_told, takes_block}
+pub use Rattle.dm_rule.specs.Migrating.{takes_chunk, to_kernel, updates}
 pub use Rattle.dm_rule.specs.Pairs.{HomeStands, PairStands}
 pub use Rattle.dm_rule.specs.Parts.{Again, Owns, Part, Routes, Says, Spelled, Transmits, behind, goes_out, lines_of, packet_line, puts, spelled, window}
 pub use Rattle.dm_rule.specs.Phases.{Alone, HasToken, IsIn, IsToken, Moves, Nowhere, Over, Phase, Rests, comes, is_apart, is_away, is_between, is_due, is_early, is_here, is_over, is_restart, knows, receiver_in, sender_in, token_in}

@@ -279,10 +279,8 @@ net_quiet _ h = absurd h
 net_sayable : (ps : List Part) → IsNet ps → AllSayable ps
 net_sayable [] h = tt
 net_sayable (Says l ∷ ps) h = (net_quiet l h.0, net_sayable ps h.1)
-net_sayable (Routes i ∷ ps) h = absurd h.0
-net_sayable (Again i b ∷ ps) h = absurd h.0
-net_sayable (Owns k q b ∷ ps) h = absurd h.0
 net_sayable (Transmits a b l ∷ ps) h = (tt, net_sayable ps h.1)
+net_sayable _ h = absurd h.0
 
 pub outcome_sayable : (b : Boot) (pt : Point) (d : Step) (ps : List Part) → outcome b pt d ≡ Some ps → AllSayable ps
 outcome_sayable b pt (Step.Turn m) ps is = fit_sayable pt.view.pair ps (turns_fit pt.view.pair b pt m (pt.view.inbox m) ps is)

@@ -93,9 +93,7 @@ queue_spot m n p e = false≢true (ap is_box e)
 pub dropped_off : (v : View) (i : MsgId) (o : Option Pid) → ((m : ℕ) (p : Pid) → times i (v.queue m p) ≡ 0) → (z : Spot) → ids_at (view.dropped_for (handled v i) i o) z ≡ ids_at (handled v i) z
 dropped_off v i None none z = refl
 dropped_off v i (Some p) none (Queue m q) = at_record_same v.queue v.acting p (without_front i (v.queue v.acting p)) (without_front_none i (v.queue v.acting p) (none v.acting p)) m q
-dropped_off v i (Some p) none (Held m q) = refl
-dropped_off v i (Some p) none (Inbox m) = refl
-dropped_off v i (Some p) none (Untaken a b) = refl
+dropped_off v i (Some p) none _ = refl
 
 pub dropped_told : (v : View) (i : MsgId) (o : Option Pid) (j : MsgId) → (view.dropped_for (handled v i) i o).told j ≡ v.told j
 dropped_told v i None j = refl
@@ -118,9 +116,8 @@ dequeued_off : (v : View) (j : MsgId) (p : Pid) (o : Option Pid) → o ≡ Some 
     → ids_at (view.dropped_for (handled v j) j o) z ≡ ids_at (record v { queue = at_record v.queue v.acting p (without_front j (v.queue v.acting p)) }) z
 dequeued_off v j p None e none z = cc
 dequeued_off v j p (Some q) e none (Queue m t) = let k : q ≡ p = cc in ap (λ x. at_record v.queue v.acting x (without_front j (v.queue v.acting x)) m t) k
-dequeued_off v j p (Some q) e none (Held m t) = refl
 dequeued_off v j p (Some q) e none (Inbox m) = machine_same v.inbox v.acting (without_front j (v.inbox v.acting)) (without_front_none j (v.inbox v.acting) none) m
-dequeued_off v j p (Some q) e none (Untaken a b) = refl
+dequeued_off v j p (Some q) e none _ = refl
 
 -- one message of the queue of a process that has ended is dropped
 queue_front : (pt : Point) (s : OneKernel) (j : MsgId) (js : List MsgId) (p : Pid) (h : State None pt) → pt.view.queue pt.view.acting p ≡ j ∷ js → kernel.step pt.kernel (Label.Dropped j) ≡ Some s → State None (moved pt (Line.Label (Label.Dropped j)) s)

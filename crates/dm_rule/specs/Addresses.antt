@@ -9,7 +9,8 @@ use Rattle.dm_link.specs.Plain.{PlainLink}
 use Rattle.dm_linktable.specs.Slots.{link_at}
 use Rattle.dm_message.specs.declared.MsgId.{MsgId}
 use Rattle.dm_message.specs.declared.kind.MessageKind.{MessageKind}
-use Rattle.dm_message.specs.declared.kind.MessageKind.TheVariants as kind
+use Rattle.dm_message.specs.Sorts.{Sort, sort_of}
+use Rattle.dm_message.specs.Sorts as sort
 pub use Rattle.dm_message.specs.Told.{is_told_back}
 use Rattle.dm_onekernel.specs.declared.boot.BootProcess.{BootProcess}
 use Rattle.dm_onekernel.specs.declared.boot.Boot.{Boot}
@@ -19,20 +20,18 @@ use Rattle.dm_onekernel.specs.Kernel.{NamedLink, Pending, OneKernel}
 use Rattle.dm_onekernel.specs.Manager as manage
 use Rattle.dm_onekernel.specs.Step as kernel
 use Rattle.dm_line.specs.declared.line.Line.{Line}
-use Rattle.dm_line.specs.declared.line.Line.TheVariants as line
-use Rattle.dm_rule.specs.View.{View, Told, About, NothingElse, Target, Of, Known, Unknown, Here, Frozen, Incoming, Forward, Ended}
+use Rattle.dm_rule.specs.Acts.{Act, act_of}
+use Rattle.dm_rule.specs.Acts as act
+use Rattle.dm_rule.specs.View.{View, Told, About, Known, Frozen, Forward}
 use Rattle.dm_rule.specs.View as view
 pub use Rattle.dm_rule.specs.Holders.{Holder, Slot, Owner, Receiver, Sender, Enclosed, Child, Name, Answer, Addresses, is_slot, is_owner, is_receiver, is_sender, is_enclosed, is_child, is_name, is_answer, holder_eq, Gets, gets, given, here, unmoved}
 pub use Rattle.dm_rule.specs.Given.{encloses, enclosed_from, requests, sends_what, sends_next, sends, fills, fills_by, made, slot_after, receives_links, receives_what, receives, answers, lands, serves_what, serves_alive, serves, child_links, creates_what, creates, place_named, board_finds, board_keeps, board_asks, board_takes, manager_controls, manager_tells, manager_sends, manager_answers, manager_takes, takes, gives}
 
 -- a message that goes on, or that step 6 of a migration sends on, follows its receiver
 abbrev pub place_known : Known → ℕ → Place → Place
-place_known Unknown moves p = p
-place_known Here moves p = p
 place_known (Frozen to) moves p = record { at = to; moves = moves + 1 }
-place_known (Incoming from) moves p = p
 place_known (Forward at count) moves p = record { at = at; moves = count }
-place_known Ended moves p = p
+place_known k moves p = p
 
 -- one message goes where the acting machine knows its receiver to be
 abbrev pub follows : View → Addresses → MsgId → Option Pid → List Gets
@@ -74,33 +73,14 @@ goes_between v id q = gets (Receiver id) (unmoved q.home) ∷ gets (Sender id) (
 
 -- a kernel's own message, when it is first put: a request to move a process goes to where the manager knows it, in the
 -- manager's name; an update has its places from the forward; the others go from kernel to kernel
+abbrev pub own_given : OneKernel → View → Addresses → MsgId → Pid → Sort → List Gets
+own_given s v a id q sort.Request = gets (Receiver id) (place_of_child a (child_number s q)) ∷ gets (Sender id) (unmoved v.acting) ∷ []
+own_given s v a id q (sort.Between passage) = goes_between v id q
+own_given s v a id q sort.Unsent = goes_between v id q
+own_given s v a id q w = []
+
 abbrev pub own_gives : OneKernel → View → Addresses → MsgId → Pid → MessageKind → List Gets
-own_gives s v a id q kind.Migrate = gets (Receiver id) (place_of_child a (child_number s q)) ∷ gets (Sender id) (unmoved v.acting) ∷ []
-own_gives s v a id q kind.Update = []
-own_gives s v a id q kind.Ask = goes_between v id q
-own_gives s v a id q kind.Refuse = goes_between v id q
-own_gives s v a id q kind.PullState = goes_between v id q
-own_gives s v a id q kind.State = goes_between v id q
-own_gives s v a id q kind.PullBlock = goes_between v id q
-own_gives s v a id q kind.Memory = goes_between v id q
-own_gives s v a id q kind.AllTaken = goes_between v id q
-own_gives s v a id q kind.Restart = goes_between v id q
-own_gives s v a id q kind.CallOff = goes_between v id q
-own_gives s v a id q kind.Bury = goes_between v id q
-own_gives s v a id q kind.User = []
-own_gives s v a id q kind.Stop = []
-own_gives s v a id q kind.Resume = []
-own_gives s v a id q kind.Kill = []
-own_gives s v a id q kind.Read = []
-own_gives s v a id q kind.Write = []
-own_gives s v a id q kind.Block = []
-own_gives s v a id q kind.Written = []
-own_gives s v a id q kind.Gone = []
-own_gives s v a id q kind.Create = []
-own_gives s v a id q kind.Created = []
-own_gives s v a id q kind.NoRoom = []
-own_gives s v a id q kind.Move = []
-own_gives s v a id q kind.Moved = []
+own_gives s v a id q k = own_given s v a id q (sort_of k)
 
 -- only a message's first put gives addresses
 abbrev pub first_gives : Option Told → List Gets → List Gets
@@ -109,10 +89,8 @@ first_gives (Some t) g = []
 
 -- what an update is about: where a process is
 abbrev pub place_told : About → Option (Pid × Place)
-place_told NothingElse = None
-place_told (Target m) = None
-place_told (Of p) = None
 place_told (view.Place p at moves) = Some (p, record { at = at; moves = moves })
+place_told a = None
 
 -- whose address it is that a holder has: a process's or a server's own, or a message's
 abbrev pub belongs_to : Pid → Holder → Bool
@@ -183,32 +161,17 @@ abbrev pub updated : OneKernel → View → Addresses → Option Told → Addres
 updated s v a None h = a h
 updated s v a (Some t) h = updated_to s a (Some t.receiver) (place_told t.about) h
 
--- a row a line
+-- by the sort of a line
+abbrev pub addresses_by : OneKernel → View → Addresses → Act → Addresses
+addresses_by s v a (act.Steps l) = given a (gives s v a l)
+addresses_by s v a (act.Routes from to id k q) = given a (first_gives (v.told id) (own_gives s v a id q k))
+addresses_by s v a (act.GoesOn id) = given a (forwards v a id (v.told id))
+addresses_by s v a (act.AllGoOn p) = given a (all_follow v a p (v.queue v.acting p ++ v.held v.acting p))
+addresses_by s v a (act.Updates id) = updated s v a (v.told id)
+addresses_by s v a x = a
+
 abbrev pub addresses_after : OneKernel → View → Addresses → Line → Addresses
-addresses_after s v a (line.Label l) = given a (gives s v a l)
-addresses_after s v a (line.Forwarded id m) = given a (forwards v a id (v.told id))
-addresses_after s v a (line.SentOn p n) = given a (all_follow v a p (v.queue v.acting p ++ v.held v.acting p))
-addresses_after s v a (line.Updated id n) = updated s v a (v.told id)
-addresses_after s v a (line.Head d) = a
-addresses_after s v a (line.Idle m) = a
-addresses_after s v a (line.Put from to id k q) = given a (first_gives (v.told id) (own_gives s v a id q k))
-addresses_after s v a (line.Packet from to k l) = a
-addresses_after s v a (line.Taken from to n) = a
-addresses_after s v a (line.Old from to n) = a
-addresses_after s v a (line.Early from to n) = a
-addresses_after s v a (line.Acked from to n) = a
-addresses_after s v a line.Nothing = a
-addresses_after s v a (line.Resent m n) = a
-addresses_after s v a (line.Queued id) = a
-addresses_after s v a (line.Held id) = a
-addresses_after s v a (line.Migration step p) = a
-addresses_after s v a (line.Lacks p f b) = a
-addresses_after s v a (line.Stays p) = a
-addresses_after s v a (line.Here id) = a
-addresses_after s v a (line.NoMove id) = a
-addresses_after s v a (line.Proto id) = a
-addresses_after s v a (line.NoChild p) = a
-addresses_after s v a (line.Pinned p) = a
+addresses_after s v a l = addresses_by s v a (act_of l)
 
 -- the place of a boot file's link, where there is one
 abbrev pub place_in : Option Link → Place

@@ -20,7 +20,7 @@ use Rattle.dm_line.specs.declared.end_line.Doing.{Doing}
 use Rattle.dm_line.specs.declared.end_line.Doing.TheVariants as doing
 use Rattle.dm_line.specs.Todo.{or}
 use Rattle.dm_line.specs.Ends.{memory_lines, home_with, each_machine, list_line}
-use Rattle.dm_rule.specs.View.{View, Known, Unknown, Here, Frozen, Incoming, Forward, Ended}
+use Rattle.dm_rule.specs.View.{View, Known, Here, Frozen, Incoming, Ended}
 use Rattle.dm_rule.specs.Addresses.{Addresses, Slot, Child, Name}
 use Rattle.dm_rule.specs.Point.{Point}
 use Rattle.dm_rule.specs.Spots.{untaken}
@@ -37,20 +37,13 @@ pub record Stood : Type 0 where
 
 -- how a machine that knows this of a process has it
 abbrev pub has : Known → Option Standing
-has Unknown = None
 has Here = Some standing.Here
 has (Frozen to) = Some standing.Leaving
-has (Incoming from) = None
-has (Forward at moves) = None
-has Ended = None
+has k = None
 
 abbrev pub awaits : Known → Option Standing
-awaits Unknown = None
-awaits Here = None
-awaits (Frozen to) = None
 awaits (Incoming from) = Some standing.Arriving
-awaits (Forward at moves) = None
-awaits Ended = None
+awaits k = None
 
 abbrev pub stood_at : ℕ → Option Standing → Option Stood
 stood_at m None = None

@@ -26,6 +26,32 @@ use Rattle.dm_onekernel.specs.Step as kernel
 use Rattle.dm_rule.specs.View.{View}
 use Rattle.dm_rule.specs.Holders.{Slot, Owner, Receiver, Sender, Enclosed, Child, Name, Answer, Addresses, Gets, gets, here, unmoved}
 
+-- what a message bears, a row a kind: a user's, with what it carries; a request to make a process, with the links that it is to
+-- begin with, or that it was made; a request for a piece of a data move, and an answer after which another may follow
+pub data Burden : Type 0 where
+  Letter : (code : ℕ) → (channel : ℕ) → (body : List ℕ) → (links : List PlainLink) → Burden
+  Making : (links : List PlainLink) → Burden
+  Made : (child : Pid) → Burden
+  Asking : Burden
+  Landing : Burden
+  Nothing : Burden
+
+abbrev pub burden_of : PlainWhat → Burden
+burden_of (what.User code channel body links) = Letter code channel body links
+burden_of (what.Create image links) = Making links
+burden_of (what.Created pid) = Made pid
+burden_of (what.Read base len) = Asking
+burden_of (what.Write base bytes) = Asking
+burden_of (what.Block bytes) = Landing
+burden_of what.Written = Landing
+burden_of what.Gone = Nothing
+burden_of what.Stop = Nothing
+burden_of what.Resume = Nothing
+burden_of what.Kill = Nothing
+burden_of what.NoRoom = Nothing
+burden_of (what.Move machine) = Nothing
+burden_of (what.Moved outcome) = Nothing
+
 -- the links of a message, in order, from places that are given
 abbrev pub encloses : MsgId → ℕ → List Place → List Gets
 encloses id k [] = []
@@ -43,32 +69,18 @@ requests v a p x id =
 
 -- a process sends: over its link in slot r1, from where it is; the links that it encloses keep their places; what isn't a user
 -- message begins a data move
-abbrev pub sends_what : View → Addresses → Pid → PlainProcess → MsgId → PlainWhat → List Gets
-sends_what v a p x id (what.User code channel body links) =
+abbrev pub sends_burden : View → Addresses → Pid → PlainProcess → MsgId → Burden → List Gets
+sends_burden v a p x id (Letter code channel body links) =
     gets (Receiver id) (a (Slot p (reg x.regs 1))) ∷ gets (Sender id) (here v p) ∷ encloses id 0 (map (λ k. a (Slot p k)) (calls.listed x))
-sends_what v a p x id what.Stop = requests v a p x id
-sends_what v a p x id what.Resume = requests v a p x id
-sends_what v a p x id what.Kill = requests v a p x id
-sends_what v a p x id (what.Read base len) = requests v a p x id
-sends_what v a p x id (what.Write base bytes) = requests v a p x id
-sends_what v a p x id (what.Block bytes) = requests v a p x id
-sends_what v a p x id what.Written = requests v a p x id
-sends_what v a p x id what.Gone = requests v a p x id
-sends_what v a p x id (what.Create image links) = requests v a p x id
-sends_what v a p x id (what.Created pid) = requests v a p x id
-sends_what v a p x id what.NoRoom = requests v a p x id
-sends_what v a p x id (what.Move machine) = requests v a p x id
-sends_what v a p x id (what.Moved outcome) = requests v a p x id
+sends_burden v a p x id w = requests v a p x id
 
--- only a call that sends gives addresses; a row an outcome
+abbrev pub sends_what : View → Addresses → Pid → PlainProcess → MsgId → PlainWhat → List Gets
+sends_what v a p x id w = sends_burden v a p x id (burden_of w)
+
+-- only a call that sends gives addresses
 abbrev pub sends_next : View → Addresses → Pid → PlainProcess → MsgId → Option kernel.Next → List Gets
 sends_next v a p x id (Some (kernel.Calls number (calls.Sends m y))) = sends_what v a p x id m.what
-sends_next v a p x id (Some (kernel.Calls number (calls.Replies reply y))) = []
-sends_next v a p x id (Some (kernel.Calls number (calls.Waits y))) = []
-sends_next v a p x id (Some (kernel.Calls number (calls.Outputs word y))) = []
-sends_next v a p x id (Some (kernel.Calls number (calls.Ends because))) = []
-sends_next v a p x id (Some (kernel.Faults fault)) = []
-sends_next v a p x id None = []
+sends_next v a p x id next = []
 
 -- the send of a process that executes
 abbrev pub sends : OneKernel → View → Addresses → Pid → MsgId → Option PlainProcess → List Gets
@@ -92,18 +104,10 @@ fills_by v a p x calls.Receive = []
 fills_by v a p x calls.Move = []
 fills_by v a p x calls.Unknown = []
 
--- a call fills a slot only if it is not refused; a row a reply
+-- a call fills a slot only if it is not refused
 abbrev pub made : View → Addresses → Pid → ℕ → Reply → Option PlainProcess → List Gets
 made v a p n reply.Done (Some x) = fills_by v a p x (calls.call_number n)
-made v a p n reply.Done None = []
-made v a p n reply.NoLink x = []
-made v a p n reply.TableFull x = []
-made v a p n reply.BadKind x = []
-made v a p n reply.BadRange x = []
-made v a p n reply.NoRight x = []
-made v a p n reply.TooLong x = []
-made v a p n reply.Gone x = []
-made v a p n reply.NotCopyable x = []
+made v a p n c x = []
 
 -- the slots that so many links go into: the lowest empty ones, in order
 abbrev pub slot_after : List (Option PlainLink) → PlainLink → Option ℕ → List (Option PlainLink)
@@ -116,22 +120,13 @@ receives_links a p id k slots [] = []
 receives_links a p id k slots (l ∷ ls) =
     fills p (first_empty slots) (a (Enclosed id k)) ++ receives_links a p id (k + 1) (slot_after slots l (first_empty slots)) ls
 
--- only a user message brings links to a process; a row a kind
+-- only a user message brings links to a process
+abbrev pub receives_burden : Addresses → Pid → MsgId → PlainProcess → Burden → List Gets
+receives_burden a p id x (Letter code channel body links) = receives_links a p id 0 x.links links
+receives_burden a p id x w = []
+
 abbrev pub receives_what : Addresses → Pid → MsgId → PlainProcess → PlainWhat → List Gets
-receives_what a p id x (what.User code channel body links) = receives_links a p id 0 x.links links
-receives_what a p id x what.Stop = []
-receives_what a p id x what.Resume = []
-receives_what a p id x what.Kill = []
-receives_what a p id x (what.Read base len) = []
-receives_what a p id x (what.Write base bytes) = []
-receives_what a p id x (what.Block bytes) = []
-receives_what a p id x what.Written = []
-receives_what a p id x what.Gone = []
-receives_what a p id x (what.Create image links) = []
-receives_what a p id x (what.Created pid) = []
-receives_what a p id x what.NoRoom = []
-receives_what a p id x (what.Move machine) = []
-receives_what a p id x (what.Moved outcome) = []
+receives_what a p id x w = receives_burden a p id x (burden_of w)
 
 -- a living process takes a message of the bag
 abbrev pub receives : Addresses → Pid → MsgId → Option PlainProcess → Option PlainMessage → List Gets
@@ -149,22 +144,14 @@ lands v a p None = []
 lands v a p (Some (pieces.Done reply x)) = []
 lands v a p (Some (pieces.Next request x)) = gets (Receiver request.id) (a (Owner p)) ∷ gets (Sender request.id) (here v p) ∷ []
 
--- what the kernel of a process does with a message for it, a row a kind: an answer, or the next request of its data move
+-- what the kernel of a process does with a message for it: an answer, or the next request of its data move
+abbrev pub serves_burden : View → Addresses → MsgId → PlainMessage → PlainProcess → Burden → List Gets
+serves_burden v a id m x Asking = answers a id (here v m.to)
+serves_burden v a id m x Landing = lands v a m.to (pieces.lands m.to x m x.status)
+serves_burden v a id m x w = []
+
 abbrev pub serves_what : View → Addresses → MsgId → PlainMessage → PlainProcess → PlainWhat → List Gets
-serves_what v a id m x (what.Read base len) = answers a id (here v m.to)
-serves_what v a id m x (what.Write base bytes) = answers a id (here v m.to)
-serves_what v a id m x (what.Block bytes) = lands v a m.to (pieces.lands m.to x m x.status)
-serves_what v a id m x what.Written = lands v a m.to (pieces.lands m.to x m x.status)
-serves_what v a id m x what.Gone = []
-serves_what v a id m x what.Stop = []
-serves_what v a id m x what.Resume = []
-serves_what v a id m x what.Kill = []
-serves_what v a id m x (what.User code channel body links) = []
-serves_what v a id m x (what.Create image links) = []
-serves_what v a id m x (what.Created pid) = []
-serves_what v a id m x what.NoRoom = []
-serves_what v a id m x (what.Move machine) = []
-serves_what v a id m x (what.Moved outcome) = []
+serves_what v a id m x w = serves_burden v a id m x (burden_of w)
 
 -- only at a living process
 abbrev pub serves_alive : View → Addresses → MsgId → PlainMessage → Option PlainProcess → List Gets
@@ -181,22 +168,13 @@ abbrev pub child_links : Addresses → Pid → MsgId → ℕ → List PlainLink 
 child_links a child id k [] = []
 child_links a child id k (l ∷ ls) = gets (Slot child k) (a (Enclosed id k)) ∷ child_links a child id (k + 1) ls
 
--- only a request to make a process brings links to it; a row a kind
+-- only a request to make a process brings links to it
+abbrev pub creates_burden : Addresses → MsgId → Pid → Burden → List Gets
+creates_burden a id child (Making links) = child_links a child id 0 links
+creates_burden a id child w = []
+
 abbrev pub creates_what : Addresses → MsgId → Pid → PlainWhat → List Gets
-creates_what a id child (what.Create image links) = child_links a child id 0 links
-creates_what a id child (what.User code channel body links) = []
-creates_what a id child what.Stop = []
-creates_what a id child what.Resume = []
-creates_what a id child what.Kill = []
-creates_what a id child (what.Read base len) = []
-creates_what a id child (what.Write base bytes) = []
-creates_what a id child (what.Block bytes) = []
-creates_what a id child what.Written = []
-creates_what a id child what.Gone = []
-creates_what a id child (what.Created pid) = []
-creates_what a id child what.NoRoom = []
-creates_what a id child (what.Move machine) = []
-creates_what a id child (what.Moved outcome) = []
+creates_what a id child w = creates_burden a id child (burden_of w)
 
 -- a kernel makes a process, and answers
 abbrev pub creates : View → Addresses → MsgId → Pid → Option PlainMessage → List Gets
@@ -208,24 +186,15 @@ abbrev pub place_named : List ℕ → List NamedLink → ℕ → ℕ
 place_named name [] n = n
 place_named name (k ∷ ks) n = if board.bytes_eq k.name name then n else place_named name ks (n + 1)
 
--- the link that an answer hands out, a row an answer
+-- the link that an answer hands out
 abbrev pub board_finds : Addresses → MsgId → List NamedLink → List ℕ → board.Answer → List Gets
-board_finds a sent names [] answer = []
-board_finds a sent names (operation ∷ name) board.Registered = []
 board_finds a sent names (operation ∷ name) (board.Found link) = gets (Enclosed sent 0) (a (Name (place_named name names 0))) ∷ []
-board_finds a sent names (operation ∷ name) board.Unknown = []
-board_finds a sent names (operation ∷ name) board.Taken = []
-board_finds a sent names (operation ∷ name) board.BadLink = []
-board_finds a sent names (operation ∷ name) board.BadRequest = []
+board_finds a sent names body answer = []
 
--- the link that a request leaves with the switchboard, a row an answer
+-- the link that a request leaves with the switchboard
 abbrev pub board_keeps : Addresses → MsgId → List NamedLink → board.Answer → List Gets
 board_keeps a id names board.Registered = gets (Name (length names)) (a (Enclosed id 1)) ∷ []
-board_keeps a id names (board.Found link) = []
-board_keeps a id names board.Unknown = []
-board_keeps a id names board.Taken = []
-board_keeps a id names board.BadLink = []
-board_keeps a id names board.BadRequest = []
+board_keeps a id names answer = []
 
 -- an answer, with what it hands out and what the switchboard keeps
 abbrev pub board_asks : View → Addresses → MsgId → MsgId → List NamedLink → List ℕ → board.Asked → List Gets
@@ -233,23 +202,13 @@ board_asks v a id sent names body asked =
     gets (Receiver sent) (a (Enclosed id 0)) ∷ gets (Sender sent) (unmoved v.acting) ∷ board_finds a sent names body asked.answer ++ board_keeps a id names asked.answer
 
 -- the switchboard answers over the first link; what it hands out keeps its place, and what it keeps too
-abbrev pub board_takes : OneKernel → View → Addresses → MsgId → PlainWhat → List Gets
-board_takes s v a id (what.User code channel body []) = []
-board_takes s v a id (what.User code channel body (l ∷ ls)) =
+abbrev pub board_takes_burden : OneKernel → View → Addresses → MsgId → Burden → List Gets
+board_takes_burden s v a id (Letter code channel body (l ∷ ls)) =
     board_asks v a id (id_of switchboard s.switchboard.sent) s.switchboard.names body (board.asks s.switchboard.names body ls)
-board_takes s v a id what.Stop = []
-board_takes s v a id what.Resume = []
-board_takes s v a id what.Kill = []
-board_takes s v a id (what.Read base len) = []
-board_takes s v a id (what.Write base bytes) = []
-board_takes s v a id (what.Block bytes) = []
-board_takes s v a id what.Written = []
-board_takes s v a id what.Gone = []
-board_takes s v a id (what.Create image links) = []
-board_takes s v a id (what.Created pid) = []
-board_takes s v a id what.NoRoom = []
-board_takes s v a id (what.Move machine) = []
-board_takes s v a id (what.Moved outcome) = []
+board_takes_burden s v a id w = []
+
+abbrev pub board_takes : OneKernel → View → Addresses → MsgId → PlainWhat → List Gets
+board_takes s v a id w = board_takes_burden s v a id (burden_of w)
 
 -- the manager's message to a child goes over its link to it
 abbrev pub manager_controls : View → Addresses → ℕ → PlainMessage → List Gets
@@ -257,22 +216,14 @@ manager_controls v a code sent = gets (Receiver sent.id) (a (Child code)) ∷ ge
 
 -- the manager: a request to make a process goes to a kernel, a control message over the link to the child, and an answer
 -- over the link that came with the request
-abbrev pub manager_tells : View → Addresses → MsgId → ℕ → PlainMessage → PlainWhat → List Gets
-manager_tells v a id code sent (what.Create image links) =
+abbrev pub manager_tells_burden : View → Addresses → MsgId → ℕ → PlainMessage → Burden → List Gets
+manager_tells_burden v a id code sent (Making links) =
     gets (Receiver sent.id) (unmoved sent.to.home) ∷ gets (Sender sent.id) (unmoved v.acting) ∷ gets (Answer sent.id.n) (a (Enclosed id 0)) ∷ encloses sent.id 0 (enclosed_from a id 1 links)
-manager_tells v a id code sent (what.User c channel body links) = gets (Receiver sent.id) (a (Enclosed id 0)) ∷ gets (Sender sent.id) (unmoved v.acting) ∷ []
-manager_tells v a id code sent what.Stop = manager_controls v a code sent
-manager_tells v a id code sent what.Resume = manager_controls v a code sent
-manager_tells v a id code sent what.Kill = manager_controls v a code sent
-manager_tells v a id code sent (what.Read base len) = manager_controls v a code sent
-manager_tells v a id code sent (what.Write base bytes) = manager_controls v a code sent
-manager_tells v a id code sent (what.Block bytes) = manager_controls v a code sent
-manager_tells v a id code sent what.Written = manager_controls v a code sent
-manager_tells v a id code sent what.Gone = manager_controls v a code sent
-manager_tells v a id code sent (what.Created pid) = manager_controls v a code sent
-manager_tells v a id code sent what.NoRoom = manager_controls v a code sent
-manager_tells v a id code sent (what.Move machine) = manager_controls v a code sent
-manager_tells v a id code sent (what.Moved outcome) = manager_controls v a code sent
+manager_tells_burden v a id code sent (Letter c channel body links) = gets (Receiver sent.id) (a (Enclosed id 0)) ∷ gets (Sender sent.id) (unmoved v.acting) ∷ []
+manager_tells_burden v a id code sent w = manager_controls v a code sent
+
+abbrev pub manager_tells : View → Addresses → MsgId → ℕ → PlainMessage → PlainWhat → List Gets
+manager_tells v a id code sent w = manager_tells_burden v a id code sent (burden_of w)
 
 -- what the manager sends for a user message, if anything
 abbrev pub manager_sends : View → Addresses → MsgId → ℕ → Option PlainMessage → List Gets
@@ -284,23 +235,15 @@ abbrev pub manager_answers : View → Addresses → ℕ → Option PlainMessage 
 manager_answers v a n None = []
 manager_answers v a n (Some sent) = gets (Receiver sent.id) (a (Answer n)) ∷ gets (Sender sent.id) (unmoved v.acting) ∷ gets (Enclosed sent.id 0) (unmoved v.acting) ∷ []
 
--- the manager takes a message, a row a kind: a user's, or a kernel's answer to a request of its own
+-- the manager takes a message: a user's, or a kernel's answer to a request of its own
+abbrev pub manager_takes_burden : OneKernel → View → Addresses → PlainMessage → Burden → Option manage.Took → List Gets
+manager_takes_burden s v a m w None = []
+manager_takes_burden s v a m (Letter code channel body links) (Some t) = manager_sends v a m.id code t.message
+manager_takes_burden s v a m (Made child) (Some t) = gets (Child (length s.manager.children + 1)) (unmoved child.home) ∷ manager_answers v a m.id.n t.message
+manager_takes_burden s v a m w (Some t) = manager_answers v a m.id.n t.message
+
 abbrev pub manager_takes : OneKernel → View → Addresses → PlainMessage → PlainWhat → Option manage.Took → List Gets
-manager_takes s v a m w None = []
-manager_takes s v a m (what.User code channel body links) (Some t) = manager_sends v a m.id code t.message
-manager_takes s v a m (what.Created child) (Some t) = gets (Child (length s.manager.children + 1)) (unmoved child.home) ∷ manager_answers v a m.id.n t.message
-manager_takes s v a m what.Stop (Some t) = manager_answers v a m.id.n t.message
-manager_takes s v a m what.Resume (Some t) = manager_answers v a m.id.n t.message
-manager_takes s v a m what.Kill (Some t) = manager_answers v a m.id.n t.message
-manager_takes s v a m (what.Read base len) (Some t) = manager_answers v a m.id.n t.message
-manager_takes s v a m (what.Write base bytes) (Some t) = manager_answers v a m.id.n t.message
-manager_takes s v a m (what.Block bytes) (Some t) = manager_answers v a m.id.n t.message
-manager_takes s v a m what.Written (Some t) = manager_answers v a m.id.n t.message
-manager_takes s v a m what.Gone (Some t) = manager_answers v a m.id.n t.message
-manager_takes s v a m (what.Create image links) (Some t) = manager_answers v a m.id.n t.message
-manager_takes s v a m what.NoRoom (Some t) = manager_answers v a m.id.n t.message
-manager_takes s v a m (what.Move machine) (Some t) = manager_answers v a m.id.n t.message
-manager_takes s v a m (what.Moved outcome) (Some t) = manager_answers v a m.id.n t.message
+manager_takes s v a m w t = manager_takes_burden s v a m (burden_of w) t
 
 -- a server takes a message of the bag
 abbrev pub takes : OneKernel → View → Addresses → MsgId → Option PlainMessage → List Gets

@@ -23,86 +23,38 @@ pub data Holder : Type 0 where
 abbrev pub Addresses : Type 0
 Addresses = Holder → Place
 
--- whether a holder is this one: a definition for each sort of holder, a row a holder
+-- whether a holder is this one: a definition for each sort of holder, and no other sort is it
 abbrev pub is_slot : Pid → ℕ → Holder → Bool
 is_slot p k (Slot q l) = pid_eq p q && (k == l)
-is_slot p k (Owner q) = false
-is_slot p k (Receiver j) = false
-is_slot p k (Sender j) = false
-is_slot p k (Enclosed j l) = false
-is_slot p k (Child n) = false
-is_slot p k (Name n) = false
-is_slot p k (Answer n) = false
+is_slot p k h = false
 
 abbrev pub is_owner : Pid → Holder → Bool
-is_owner p (Slot q l) = false
 is_owner p (Owner q) = pid_eq p q
-is_owner p (Receiver j) = false
-is_owner p (Sender j) = false
-is_owner p (Enclosed j l) = false
-is_owner p (Child n) = false
-is_owner p (Name n) = false
-is_owner p (Answer n) = false
+is_owner p h = false
 
 abbrev pub is_receiver : MsgId → Holder → Bool
-is_receiver i (Slot q l) = false
-is_receiver i (Owner q) = false
 is_receiver i (Receiver j) = id_eq i j
-is_receiver i (Sender j) = false
-is_receiver i (Enclosed j l) = false
-is_receiver i (Child n) = false
-is_receiver i (Name n) = false
-is_receiver i (Answer n) = false
+is_receiver i h = false
 
 abbrev pub is_sender : MsgId → Holder → Bool
-is_sender i (Slot q l) = false
-is_sender i (Owner q) = false
-is_sender i (Receiver j) = false
 is_sender i (Sender j) = id_eq i j
-is_sender i (Enclosed j l) = false
-is_sender i (Child n) = false
-is_sender i (Name n) = false
-is_sender i (Answer n) = false
+is_sender i h = false
 
 abbrev pub is_enclosed : MsgId → ℕ → Holder → Bool
-is_enclosed i k (Slot q l) = false
-is_enclosed i k (Owner q) = false
-is_enclosed i k (Receiver j) = false
-is_enclosed i k (Sender j) = false
 is_enclosed i k (Enclosed j l) = id_eq i j && (k == l)
-is_enclosed i k (Child n) = false
-is_enclosed i k (Name n) = false
-is_enclosed i k (Answer n) = false
+is_enclosed i k h = false
 
 abbrev pub is_child : ℕ → Holder → Bool
-is_child m (Slot q l) = false
-is_child m (Owner q) = false
-is_child m (Receiver j) = false
-is_child m (Sender j) = false
-is_child m (Enclosed j l) = false
 is_child m (Child n) = m == n
-is_child m (Name n) = false
-is_child m (Answer n) = false
+is_child m h = false
 
 abbrev pub is_name : ℕ → Holder → Bool
-is_name m (Slot q l) = false
-is_name m (Owner q) = false
-is_name m (Receiver j) = false
-is_name m (Sender j) = false
-is_name m (Enclosed j l) = false
-is_name m (Child n) = false
 is_name m (Name n) = m == n
-is_name m (Answer n) = false
+is_name m h = false
 
 abbrev pub is_answer : ℕ → Holder → Bool
-is_answer m (Slot q l) = false
-is_answer m (Owner q) = false
-is_answer m (Receiver j) = false
-is_answer m (Sender j) = false
-is_answer m (Enclosed j l) = false
-is_answer m (Child n) = false
-is_answer m (Name n) = false
 is_answer m (Answer n) = m == n
+is_answer m h = false
 
 -- two holders are the same
 abbrev pub holder_eq : Holder → Holder → Bool

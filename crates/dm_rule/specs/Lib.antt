@@ -1,3 +1,4 @@
+pub mod Acts
 pub mod View
 pub mod Holders
 pub mod Given

@@ -8,6 +8,8 @@ use Rattle.dm_link.specs.Plain.{PlainLink}
 use Rattle.dm_message.specs.declared.MsgId.{MsgId}
 use Rattle.dm_message.specs.declared.kind.MessageKind.{MessageKind}
 use Rattle.dm_message.specs.declared.kind.MessageKind.TheVariants as kind
+use Rattle.dm_message.specs.Sorts.{Sort, sort_of}
+use Rattle.dm_message.specs.Sorts as sort
 use Rattle.dm_onekernel.specs.Boot.{switchboard, manager}
 use Rattle.dm_onekernel.specs.PlainProcess.{PlainProcess, PlainStatus, Ready, Waiting, Moving}
 use Rattle.dm_onekernel.specs.Kernel.{OneKernel, Pending}
@@ -84,42 +86,24 @@ abbrev pub sends_on : ℕ → List MsgId → List Part
 sends_on to ids = map (λ i. Again i to) ids
 
 abbrev pub leaves : MsgId → Pid → List MsgId → Known → Option (List Part)
-leaves id p ids Unknown = None
-leaves id p ids Here = None
 leaves id p ids (Frozen to) =
     Some (Says (line.SentOn p (length ids)) ∷ sends_on to ids ++ Says (line.Migration stage.Left p) ∷ to_kernel kind.Restart id.from.home ∷ [])
-leaves id p ids (Incoming from) = None
-leaves id p ids (Forward at moves) = None
-leaves id p ids Ended = None
+leaves id p ids k = None
 
 -- what a kernel is told of a process by another kernel; `fits` says whether there is room for it, and what is free
+abbrev pub told_step : Point → ℕ → MsgId → Pid → (Bool × ℕ × ℕ) → PlainProcess → Sort → Option (List Part)
+told_step pt m id p fits x (sort.Between sort.Ask) = Some (accepts id.from.home p fits.0 fits.1 fits.2)
+told_step pt m id p fits x (sort.Between sort.Refuse) = Some (Says (line.Stays p) ∷ [])
+told_step pt m id p fits x (sort.Between sort.PullState) = Some (gives_piece id kind.State)
+told_step pt m id p fits x (sort.Between sort.State) = Some (takes_chunk id p (pt.view.asked p == chunks_of x))
+told_step pt m id p fits x (sort.Between sort.PullBlock) = Some (gives_piece id kind.Memory)
+told_step pt m id p fits x (sort.Between sort.Memory) = Some (takes_block id p (pt.view.asked p == pieces_of x))
+told_step pt m id p fits x (sort.Between sort.AllTaken) = leaves id p (pt.view.queue m p ++ pt.view.held m p) (pt.view.known m p)
+told_step pt m id p fits x (sort.Between sort.Restart) = Some (Says (line.Migration stage.Restarted p) ∷ [])
+told_step pt m id p fits x s = None
+
 abbrev pub kernel_told : Point → ℕ → MsgId → Pid → (Bool × ℕ × ℕ) → PlainProcess → MessageKind → Option (List Part)
-kernel_told pt m id p fits x kind.Ask = Some (accepts id.from.home p fits.0 fits.1 fits.2)
-kernel_told pt m id p fits x kind.Refuse = Some (Says (line.Stays p) ∷ [])
-kernel_told pt m id p fits x kind.PullState = Some (gives_piece id kind.State)
-kernel_told pt m id p fits x kind.State = Some (takes_chunk id p (pt.view.asked p == chunks_of x))
-kernel_told pt m id p fits x kind.PullBlock = Some (gives_piece id kind.Memory)
-kernel_told pt m id p fits x kind.Memory = Some (takes_block id p (pt.view.asked p == pieces_of x))
-kernel_told pt m id p fits x kind.AllTaken = leaves id p (pt.view.queue m p ++ pt.view.held m p) (pt.view.known m p)
-kernel_told pt m id p fits x kind.Restart = Some (Says (line.Migration stage.Restarted p) ∷ [])
-kernel_told pt m id p fits x kind.User = None
-kernel_told pt m id p fits x kind.Stop = None
-kernel_told pt m id p fits x kind.Resume = None
-kernel_told pt m id p fits x kind.Kill = None
-kernel_told pt m id p fits x kind.Read = None
-kernel_told pt m id p fits x kind.Write = None
-kernel_told pt m id p fits x kind.Block = None
-kernel_told pt m id p fits x kind.Written = None
-kernel_told pt m id p fits x kind.Gone = None
-kernel_told pt m id p fits x kind.Create = None
-kernel_told pt m id p fits x kind.Created = None
-kernel_told pt m id p fits x kind.NoRoom = None
-kernel_told pt m id p fits x kind.Migrate = None
-kernel_told pt m id p fits x kind.Update = None
-kernel_told pt m id p fits x kind.Move = None
-kernel_told pt m id p fits x kind.Moved = None
-kernel_told pt m id p fits x kind.CallOff = None
-kernel_told pt m id p fits x kind.Bury = None
+kernel_told pt m id p fits x k = told_step pt m id p fits x (sort_of k)
 
 -- the holders that an update of a process or a server counts
 abbrev pub slots_from : Pid → ℕ → List (Option PlainLink) → List Holder
@@ -155,63 +139,23 @@ behind_count s a q (Some t) = behind_among (is_behind s a q t.0 t.1.moves) (hold
 abbrev pub updates : Point → MsgId → Told → List Part
 updates pt id t = Says (line.Updated id (behind_count pt.kernel pt.addresses t.receiver (place_told t.about))) ∷ []
 
--- a kernel's own message, at a process that is here
+-- a kernel's own message, at a process that is here: a request to move or a notice
+abbrev pub told_here : Point → ℕ → MsgId → Told → Sort → Option (List Part)
+told_here pt m id t sort.Request = Some (moves_to m id t.receiver (target_of (Some t)))
+told_here pt m id t sort.Notice = Some (updates pt id t)
+told_here pt m id t s = None
+
 abbrev pub here_told : Point → ℕ → MsgId → Told → MessageKind → Option (List Part)
-here_told pt m id t kind.Migrate = Some (moves_to m id t.receiver (target_of (Some t)))
-here_told pt m id t kind.Update = Some (updates pt id t)
-here_told pt m id t kind.Ask = None
-here_told pt m id t kind.Refuse = None
-here_told pt m id t kind.PullState = None
-here_told pt m id t kind.State = None
-here_told pt m id t kind.PullBlock = None
-here_told pt m id t kind.Memory = None
-here_told pt m id t kind.AllTaken = None
-here_told pt m id t kind.Restart = None
-here_told pt m id t kind.User = None
-here_told pt m id t kind.Stop = None
-here_told pt m id t kind.Resume = None
-here_told pt m id t kind.Kill = None
-here_told pt m id t kind.Read = None
-here_told pt m id t kind.Write = None
-here_told pt m id t kind.Block = None
-here_told pt m id t kind.Written = None
-here_told pt m id t kind.Gone = None
-here_told pt m id t kind.Create = None
-here_told pt m id t kind.Created = None
-here_told pt m id t kind.NoRoom = None
-here_told pt m id t kind.Move = None
-here_told pt m id t kind.Moved = None
-here_told pt m id t kind.CallOff = None
-here_told pt m id t kind.Bury = None
+here_told pt m id t k = told_here pt m id t (sort_of k)
 
 -- at a process that has ended
+abbrev pub told_ended : MsgId → Sort → Option (List Part)
+told_ended id sort.Request = Some (Says (line.NoMove id) ∷ [])
+told_ended id sort.Notice = Some (Says (line.Updated id 0) ∷ [])
+told_ended id s = None
+
 abbrev pub ended_told : MsgId → MessageKind → Option (List Part)
-ended_told id kind.Migrate = Some (Says (line.NoMove id) ∷ [])
-ended_told id kind.Update = Some (Says (line.Updated id 0) ∷ [])
-ended_told id kind.Ask = None
-ended_told id kind.Refuse = None
-ended_told id kind.PullState = None
-ended_told id kind.State = None
-ended_told id kind.PullBlock = None
-ended_told id kind.Memory = None
-ended_told id kind.AllTaken = None
-ended_told id kind.Restart = None
-ended_told id kind.User = None
-ended_told id kind.Stop = None
-ended_told id kind.Resume = None
-ended_told id kind.Kill = None
-ended_told id kind.Read = None
-ended_told id kind.Write = None
-ended_told id kind.Block = None
-ended_told id kind.Written = None
-ended_told id kind.Gone = None
-ended_told id kind.Create = None
-ended_told id kind.Created = None
-ended_told id kind.NoRoom = None
-ended_told id kind.Move = None
-ended_told id kind.Moved = None
-ended_told id kind.CallOff = None
-ended_told id kind.Bury = None
+ended_told id k = told_ended id (sort_of k)
 
 -- by what the machine knows of the receiver; of these messages only a request to move is answered by an update, in the
 -- manager's name
@@ -224,33 +168,12 @@ process_told pt m id t (Forward at moves) = Some (forwards_on pt.addresses id t.
 process_told pt m id t Ended = ended_told id t.kind
 
 -- at a server, which never moves
+abbrev pub told_server : Point → MsgId → Told → Sort → Option (List Part)
+told_server pt id t sort.Notice = Some (updates pt id t)
+told_server pt id t s = None
+
 abbrev pub server_told : Point → MsgId → Told → MessageKind → Option (List Part)
-server_told pt id t kind.Update = Some (updates pt id t)
-server_told pt id t kind.Migrate = None
-server_told pt id t kind.Ask = None
-server_told pt id t kind.Refuse = None
-server_told pt id t kind.PullState = None
-server_told pt id t kind.State = None
-server_told pt id t kind.PullBlock = None
-server_told pt id t kind.Memory = None
-server_told pt id t kind.AllTaken = None
-server_told pt id t kind.Restart = None
-server_told pt id t kind.User = None
-server_told pt id t kind.Stop = None
-server_told pt id t kind.Resume = None
-server_told pt id t kind.Kill = None
-server_told pt id t kind.Read = None
-server_told pt id t kind.Write = None
-server_told pt id t kind.Block = None
-server_told pt id t kind.Written = None
-server_told pt id t kind.Gone = None
-server_told pt id t kind.Create = None
-server_told pt id t kind.Created = None
-server_told pt id t kind.NoRoom = None
-server_told pt id t kind.Move = None
-server_told pt id t kind.Moved = None
-server_told pt id t kind.CallOff = None
-server_told pt id t kind.Bury = None
+server_told pt id t k = told_server pt id t (sort_of k)
 
 -- the manager is told to move a process: not a server, one of its children, along its link to it
 abbrev pub migrates_child : Addresses → Pid → Option ℕ → List Part

@@ -6,67 +6,29 @@ use Rattle.dm_link.specs.declared.Pid.{Pid}
 use Rattle.dm_link.specs.Names.{pid_of}
 use Rattle.dm_message.specs.declared.MsgId.{MsgId}
 use Rattle.dm_message.specs.declared.kind.MessageKind.{MessageKind}
-use Rattle.dm_message.specs.declared.kind.MessageKind.TheVariants as kind
+use Rattle.dm_message.specs.Sorts.{Sort, sort_of}
+use Rattle.dm_message.specs.Sorts as sort
 use Rattle.dm_rule.specs.View.{View, Told, Of, Known, Unknown, Here, Frozen, Incoming, Forward, Ended}
 use Rattle.dm_rule.specs.Spots.{Spot, Inbox, Untaken, standing}
 
 -- what the kernels of two machines tell each other while a process moves from the source to the destination
+abbrev pub tells_between : Sort → Bool
+tells_between (sort.Between s) = true
+tells_between s = false
+
 abbrev pub is_between : MessageKind → Bool
-is_between kind.Ask = true
-is_between kind.Refuse = true
-is_between kind.PullState = true
-is_between kind.State = true
-is_between kind.PullBlock = true
-is_between kind.Memory = true
-is_between kind.AllTaken = true
-is_between kind.Restart = true
-is_between kind.User = false
-is_between kind.Stop = false
-is_between kind.Resume = false
-is_between kind.Kill = false
-is_between kind.Read = false
-is_between kind.Write = false
-is_between kind.Block = false
-is_between kind.Written = false
-is_between kind.Gone = false
-is_between kind.Create = false
-is_between kind.Created = false
-is_between kind.NoRoom = false
-is_between kind.Migrate = false
-is_between kind.Update = false
-is_between kind.Move = false
-is_between kind.Moved = false
-is_between kind.CallOff = false
-is_between kind.Bury = false
+is_between k = tells_between (sort_of k)
 
 -- of these, what the source says
+abbrev pub tells_onward : Sort → Bool
+tells_onward (sort.Between sort.Ask) = true
+tells_onward (sort.Between sort.State) = true
+tells_onward (sort.Between sort.Memory) = true
+tells_onward (sort.Between sort.Restart) = true
+tells_onward s = false
+
 abbrev pub is_of_source : MessageKind → Bool
-is_of_source kind.Ask = true
-is_of_source kind.State = true
-is_of_source kind.Memory = true
-is_of_source kind.Restart = true
-is_of_source kind.User = false
-is_of_source kind.Stop = false
-is_of_source kind.Resume = false
-is_of_source kind.Kill = false
-is_of_source kind.Read = false
-is_of_source kind.Write = false
-is_of_source kind.Block = false
-is_of_source kind.Written = false
-is_of_source kind.Gone = false
-is_of_source kind.Create = false
-is_of_source kind.Created = false
-is_of_source kind.NoRoom = false
-is_of_source kind.Migrate = false
-is_of_source kind.Update = false
-is_of_source kind.Refuse = false
-is_of_source kind.PullState = false
-is_of_source kind.PullBlock = false
-is_of_source kind.AllTaken = false
-is_of_source kind.Move = false
-is_of_source kind.Moved = false
-is_of_source kind.CallOff = false
-is_of_source kind.Bury = false
+is_of_source k = tells_onward (sort_of k)
 
 -- a process was never made, rests on a machine, has ended on one, or moves: the kind of the message that is under way, and its
 -- name once it was put
@@ -79,114 +41,53 @@ pub data Phase : Type 0 where
 -- a process isn't on this machine: it knows nothing of it, or only where it went
 abbrev pub is_away : Known → Bool
 is_away Unknown = true
-is_away Here = false
-is_away (Frozen to) = false
-is_away (Incoming from) = false
 is_away (Forward at moves) = true
-is_away Ended = false
+is_away k = false
 
 -- nor did it ever come there
 abbrev pub is_unknown : Known → Bool
 is_unknown Unknown = true
-is_unknown Here = false
-is_unknown (Frozen to) = false
-is_unknown (Incoming from) = false
-is_unknown (Forward at moves) = false
-is_unknown Ended = false
+is_unknown k = false
 
 -- it is here
 abbrev pub is_here : Known → Bool
-is_here Unknown = false
 is_here Here = true
-is_here (Frozen to) = false
-is_here (Incoming from) = false
-is_here (Forward at moves) = false
-is_here Ended = false
+is_here k = false
 
 -- it has ended here
 abbrev pub is_over : Known → Bool
-is_over Unknown = false
-is_over Here = false
-is_over (Frozen to) = false
-is_over (Incoming from) = false
-is_over (Forward at moves) = false
 is_over Ended = true
+is_over k = false
 
 -- the message that lets the destination restart the process
+abbrev pub tells_restart : Sort → Bool
+tells_restart (sort.Between sort.Restart) = true
+tells_restart s = false
+
 abbrev pub is_restart : MessageKind → Bool
-is_restart kind.Restart = true
-is_restart kind.User = false
-is_restart kind.Stop = false
-is_restart kind.Resume = false
-is_restart kind.Kill = false
-is_restart kind.Read = false
-is_restart kind.Write = false
-is_restart kind.Block = false
-is_restart kind.Written = false
-is_restart kind.Gone = false
-is_restart kind.Create = false
-is_restart kind.Created = false
-is_restart kind.NoRoom = false
-is_restart kind.Migrate = false
-is_restart kind.Update = false
-is_restart kind.Ask = false
-is_restart kind.Refuse = false
-is_restart kind.PullState = false
-is_restart kind.State = false
-is_restart kind.PullBlock = false
-is_restart kind.Memory = false
-is_restart kind.AllTaken = false
-is_restart kind.Move = false
-is_restart kind.Moved = false
-is_restart kind.CallOff = false
-is_restart kind.Bury = false
+is_restart k = tells_restart (sort_of k)
 
 -- the destination hasn't accepted
+abbrev pub tells_early : Sort → Bool
+tells_early (sort.Between sort.Ask) = true
+tells_early (sort.Between sort.Refuse) = true
+tells_early s = false
+
 abbrev pub is_early : MessageKind → Bool
-is_early kind.Ask = true
-is_early kind.Refuse = true
-is_early kind.User = false
-is_early kind.Stop = false
-is_early kind.Resume = false
-is_early kind.Kill = false
-is_early kind.Read = false
-is_early kind.Write = false
-is_early kind.Block = false
-is_early kind.Written = false
-is_early kind.Gone = false
-is_early kind.Create = false
-is_early kind.Created = false
-is_early kind.NoRoom = false
-is_early kind.Migrate = false
-is_early kind.Update = false
-is_early kind.PullState = false
-is_early kind.State = false
-is_early kind.PullBlock = false
-is_early kind.Memory = false
-is_early kind.AllTaken = false
-is_early kind.Restart = false
-is_early kind.Move = false
-is_early kind.Moved = false
-is_early kind.CallOff = false
-is_early kind.Bury = false
+is_early k = tells_early (sort_of k)
 
 -- the source holds the process until the destination may restart it, and then forwards
 abbrev pub leaves : MessageKind → ℕ → Known → Bool
 leaves k to (Frozen m) = not (is_restart k) && (to == m)
 leaves k to (Forward m moves) = is_restart k && (to == m)
-leaves k to Unknown = false
-leaves k to Here = false
-leaves k to (Incoming from) = false
-leaves k to Ended = false
+leaves k to known = false
 
 -- the destination expects it once it has accepted
 abbrev pub comes : MessageKind → ℕ → Known → Bool
 comes k from (Incoming m) = not (is_early k) && (from == m)
 comes k from Unknown = is_early k
 comes k from (Forward m moves) = is_early k
-comes k from Here = false
-comes k from (Frozen to) = false
-comes k from Ended = false
+comes k from known = false
 
 -- what a machine may know of a process in this phase
 abbrev pub knows : Phase → ℕ → Known → Bool

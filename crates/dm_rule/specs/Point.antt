@@ -9,7 +9,8 @@ use Rattle.dm_onekernel.specs.Options.{bind}
 use Rattle.dm_onekernel.specs.Start.{start}
 use Rattle.dm_onekernel.specs.Step as kernel
 use Rattle.dm_line.specs.declared.line.Line.{Line}
-use Rattle.dm_line.specs.declared.line.Line.TheVariants as line
+use Rattle.dm_rule.specs.Acts.{Act, act_of}
+use Rattle.dm_rule.specs.Acts as act
 use Rattle.dm_rule.specs.View.{View, view_after, first_view}
 use Rattle.dm_rule.specs.Addresses.{Addresses, addresses_after, first_addresses}
 
@@ -20,31 +21,12 @@ pub record Point : Type 0 where
   pub addresses : Addresses
 
 -- the step of the kernel that a line is, if it is one
+abbrev pub step_in : Act → Option Label
+step_in (act.Steps l) = Some l
+step_in x = None
+
 abbrev pub label_of : Line → Option Label
-label_of (line.Label l) = Some l
-label_of (line.Head s) = None
-label_of (line.Idle m) = None
-label_of (line.Put a b id k q) = None
-label_of (line.Packet a b k l) = None
-label_of (line.Taken a b n) = None
-label_of (line.Old a b n) = None
-label_of (line.Early a b n) = None
-label_of (line.Acked a b n) = None
-label_of line.Nothing = None
-label_of (line.Resent m n) = None
-label_of (line.Queued id) = None
-label_of (line.Held id) = None
-label_of (line.Forwarded id m) = None
-label_of (line.Updated id n) = None
-label_of (line.Migration s p) = None
-label_of (line.SentOn p n) = None
-label_of (line.Lacks p s b) = None
-label_of (line.Stays p) = None
-label_of (line.Here id) = None
-label_of (line.NoMove id) = None
-label_of (line.Proto id) = None
-label_of (line.NoChild p) = None
-label_of (line.Pinned p) = None
+label_of l = step_in (act_of l)
 
 -- a label, where there is one, before others
 abbrev pub with_label : Option Label → List Label → List Label

@@ -35,7 +35,8 @@ use Rattle.dm_line.specs.declared.line.Line.{Line}
 use Rattle.dm_line.specs.declared.line.Line.TheVariants as line
 use Rattle.dm_line.specs.declared.line.Load.{Load}
 use Rattle.dm_line.specs.declared.line.Load.TheVariants as load
-use Rattle.dm_rule.specs.View.{View, Pair, Sent, Told, About, NothingElse, Target, Of, Known, Unknown, Here, Frozen, Incoming, Forward, Ended}
+use Rattle.dm_rule.specs.Given as given
+use Rattle.dm_rule.specs.View.{View, Pair, Sent, Told, About, Of, Known, Unknown, Here, Frozen, Incoming, Forward, Ended}
 use Rattle.dm_rule.specs.View as view
 use Rattle.dm_rule.specs.Point.{Point, after_line}
 use Rattle.dm_rule.specs.Parts.{Part, Says, Routes, Transmits, Spelled, spelled, window}
@@ -45,21 +46,12 @@ abbrev pub says : Label → Part
 says l = Says (line.Label l)
 
 -- a user message on a channel of the mask
+abbrev pub burden_is_awaited : ℕ → given.Burden → Bool
+burden_is_awaited mask (given.Letter code channel body links) = on_mask mask channel
+burden_is_awaited mask w = false
+
 abbrev pub what_is_awaited : ℕ → PlainWhat → Bool
-what_is_awaited mask (what.User code channel body links) = on_mask mask channel
-what_is_awaited mask what.Stop = false
-what_is_awaited mask what.Resume = false
-what_is_awaited mask what.Kill = false
-what_is_awaited mask (what.Read base len) = false
-what_is_awaited mask (what.Write base bytes) = false
-what_is_awaited mask (what.Block bytes) = false
-what_is_awaited mask what.Written = false
-what_is_awaited mask what.Gone = false
-what_is_awaited mask (what.Create image links) = false
-what_is_awaited mask (what.Created pid) = false
-what_is_awaited mask what.NoRoom = false
-what_is_awaited mask (what.Move machine) = false
-what_is_awaited mask (what.Moved outcome) = false
+what_is_awaited mask w = burden_is_awaited mask (given.burden_of w)
 
 abbrev pub is_awaited : ℕ → Option PlainMessage → Bool
 is_awaited mask None = false
@@ -145,12 +137,10 @@ goes_round b pt m (Some p) =
 
 -- a process that is here, leaves or comes takes a slot
 abbrev pub takes_room : Known → ℕ
-takes_room Unknown = 0
 takes_room Here = 1
 takes_room (Frozen to) = 1
 takes_room (Incoming from) = 1
-takes_room (Forward at moves) = 0
-takes_room Ended = 0
+takes_room k = 0
 
 abbrev pub blocks_of : Option PlainProcess → ℕ
 blocks_of None = 0
@@ -279,11 +269,9 @@ fits r blocks = (has_room r blocks, r.slots, r.blocks)
 
 -- what a kernel's own message says of a process to another kernel
 abbrev pub kernel_hears : Boot → Point → ℕ → MsgId → MessageKind → About → Option (List Part)
-kernel_hears b pt m id k NothingElse = None
-kernel_hears b pt m id k (Target to) = None
 kernel_hears b pt m id k (Of p) =
     bind (kernel.alive (pt.kernel.processes p)) (λ x. kernel_told pt m id p (fits (free_room b pt m) (length x.memory / 256)) x k)
-kernel_hears b pt m id k (view.Place p at moves) = None
+kernel_hears b pt m id k about = None
 
 -- a message that isn't in the bag is a kernel's own: what its first put told of it
 abbrev pub hears : Boot → Point → ℕ → MsgId → Option Told → Option (List Part)

@@ -13,7 +13,8 @@ use Rattle.dm_onekernel.specs.Kernel.{OneKernel}
 use Rattle.dm_onekernel.specs.Options.{bind}
 use Rattle.dm_schedule.specs.declared.Step.{Step}
 use Rattle.dm_line.specs.declared.line.Line.{Line}
-use Rattle.dm_line.specs.declared.line.Line.TheVariants as line
+use Rattle.dm_rule.specs.Acts.{Act, act_of}
+use Rattle.dm_rule.specs.Acts as act
 use Rattle.dm_line.specs.Sets.{at_pid}
 use Rattle.dm_rule.specs.View.{View, Told, Known, Unknown, Here, Frozen, Incoming, Forward, Ended, is_kernels}
 use Rattle.dm_rule.specs.View as view
@@ -36,38 +37,15 @@ first_trails p = p.home ∷ []
 
 abbrev pub destination : Known → List ℕ
 destination (Frozen to) = to ∷ []
-destination Unknown = []
-destination Here = []
-destination (Incoming from) = []
-destination (Forward at moves) = []
-destination Ended = []
+destination k = []
 
--- a row a line
+-- only where its messages are sent on
+abbrev pub trails_by : View → Trails → Act → Trails
+trails_by v t (act.AllGoOn p) = at_pid t p (t p ++ destination (v.known v.acting p))
+trails_by v t x = t
+
 abbrev pub trails_after : View → Trails → Line → Trails
-trails_after v t (line.SentOn p n) = at_pid t p (t p ++ destination (v.known v.acting p))
-trails_after v t (line.Head d) = t
-trails_after v t (line.Idle m) = t
-trails_after v t (line.Label l) = t
-trails_after v t (line.Put a b id k q) = t
-trails_after v t (line.Packet a b k l) = t
-trails_after v t (line.Taken a b n) = t
-trails_after v t (line.Old a b n) = t
-trails_after v t (line.Early a b n) = t
-trails_after v t (line.Acked a b n) = t
-trails_after v t line.Nothing = t
-trails_after v t (line.Resent m n) = t
-trails_after v t (line.Queued id) = t
-trails_after v t (line.Held id) = t
-trails_after v t (line.Forwarded id m) = t
-trails_after v t (line.Updated id n) = t
-trails_after v t (line.Migration step p) = t
-trails_after v t (line.Lacks p s b) = t
-trails_after v t (line.Stays p) = t
-trails_after v t (line.Here id) = t
-trails_after v t (line.NoMove id) = t
-trails_after v t (line.Proto id) = t
-trails_after v t (line.NoChild p) = t
-trails_after v t (line.Pinned p) = t
+trails_after v t l = trails_by v t (act_of l)
 
 -- a point, and the trails so far
 pub record Trodden : Type 0 where

@@ -6,7 +6,8 @@ use Rattle.dm_link.specs.declared.Pid.{Pid}
 use Rattle.dm_link.specs.Names.{pid_of, pid_eq}
 use Rattle.dm_message.specs.declared.MsgId.{MsgId}
 use Rattle.dm_message.specs.declared.kind.MessageKind.{MessageKind}
-use Rattle.dm_message.specs.declared.kind.MessageKind.TheVariants as kind
+use Rattle.dm_message.specs.Sorts.{Sort, sort_of}
+use Rattle.dm_message.specs.Sorts as sort
 use Rattle.dm_message.specs.Ids.{id_of}
 use Rattle.dm_onekernel.specs.declared.boot.BootProcess.{BootProcess}
 use Rattle.dm_onekernel.specs.declared.boot.Boot.{Boot}
@@ -130,35 +131,13 @@ serving v p = with_ring v (moved_back p (v.ring v.acting))
 abbrev pub ended : View → Pid → View
 ended v p = with_ring (knowing v p Ended) (without p (v.ring v.acting))
 
--- of the messages that a kernel serves, only a kill ends the receiver; a row a kind
+-- of the messages that a kernel serves, only a kill ends the receiver
+abbrev pub ends_by : Sort → View → Option Pid → View
+ends_by sort.Kills v (Some p) = ended v p
+ends_by s v p = v
+
 abbrev pub kills : MessageKind → View → Option Pid → View
-kills kind.Kill v (Some p) = ended v p
-kills kind.Kill v None = v
-kills kind.User v p = v
-kills kind.Stop v p = v
-kills kind.Resume v p = v
-kills kind.Read v p = v
-kills kind.Write v p = v
-kills kind.Block v p = v
-kills kind.Written v p = v
-kills kind.Gone v p = v
-kills kind.Create v p = v
-kills kind.Created v p = v
-kills kind.NoRoom v p = v
-kills kind.Migrate v p = v
-kills kind.Update v p = v
-kills kind.Ask v p = v
-kills kind.Refuse v p = v
-kills kind.PullState v p = v
-kills kind.State v p = v
-kills kind.PullBlock v p = v
-kills kind.Memory v p = v
-kills kind.AllTaken v p = v
-kills kind.Restart v p = v
-kills kind.Move v p = v
-kills kind.Moved v p = v
-kills kind.CallOff v p = v
-kills kind.Bury v p = v
+kills k v p = ends_by (sort_of k) v p
 
 abbrev pub served_told : View → Option Told → View
 served_told v None = v
@@ -278,10 +257,8 @@ front_told v [] = None
 front_told v (i ∷ is) = v.told i
 
 abbrev pub target_in : About → ℕ
-target_in NothingElse = 0
 target_in (Target m) = m
-target_in (Of p) = 0
-target_in (Place p at moves) = 0
+target_in a = 0
 
 abbrev pub target_of : Option Told → ℕ
 target_of None = 0
@@ -293,12 +270,8 @@ front_of (i ∷ is) = i.from.home
 
 -- where the acting machine sends what comes for a process on to
 abbrev pub forward_about : Pid → Known → About
-forward_about p Unknown = NothingElse
-forward_about p Here = NothingElse
-forward_about p (Frozen to) = NothingElse
-forward_about p (Incoming from) = NothingElse
 forward_about p (Forward at moves) = Place p at moves
-forward_about p Ended = NothingElse
+forward_about p k = NothingElse
 
 abbrev pub forwarded_for : View → Option Pid → View
 forwarded_for v None = v
@@ -315,50 +288,24 @@ rejoins v p = released (with_ring (knowing v p Here) (v.ring v.acting ++ p ∷ [
 
 abbrev pub gone_to : Known → ℕ → Known
 gone_to (Frozen to) moves = Forward to moves
-gone_to Unknown moves = Unknown
-gone_to Here moves = Here
-gone_to (Incoming from) moves = Incoming from
-gone_to (Forward at old) moves = Forward at old
-gone_to Ended moves = Ended
+gone_to k moves = k
 
 -- one more piece of a process is asked for
 abbrev pub asking : View → Pid → ℕ → View
 asking v p n = record v { asked = at_pid v.asked p n }
 
 abbrev pub asks_on : View → About → View
-asks_on v NothingElse = v
-asks_on v (Target m) = v
 asks_on v (Of p) = asking v p (v.asked p + 1)
-asks_on v (Place p at moves) = v
+asks_on v a = v
 
 -- a piece that isn't the last is followed by the next
+abbrev pub follows_by : View → About → Sort → View
+follows_by v a (sort.Between sort.State) = asks_on v a
+follows_by v a (sort.Between sort.Memory) = asks_on v a
+follows_by v a s = v
+
 abbrev pub follows_up : View → About → MessageKind → View
-follows_up v a kind.State = asks_on v a
-follows_up v a kind.Memory = asks_on v a
-follows_up v a kind.PullState = v
-follows_up v a kind.PullBlock = v
-follows_up v a kind.User = v
-follows_up v a kind.Stop = v
-follows_up v a kind.Resume = v
-follows_up v a kind.Kill = v
-follows_up v a kind.Read = v
-follows_up v a kind.Write = v
-follows_up v a kind.Block = v
-follows_up v a kind.Written = v
-follows_up v a kind.Gone = v
-follows_up v a kind.Create = v
-follows_up v a kind.Created = v
-follows_up v a kind.NoRoom = v
-follows_up v a kind.Migrate = v
-follows_up v a kind.Update = v
-follows_up v a kind.Ask = v
-follows_up v a kind.Refuse = v
-follows_up v a kind.AllTaken = v
-follows_up v a kind.Restart = v
-follows_up v a kind.Move = v
-follows_up v a kind.Moved = v
-follows_up v a kind.CallOff = v
-follows_up v a kind.Bury = v
+follows_up v a k = follows_by v a (sort_of k)
 
 abbrev pub after_proto : View → Option Told → View
 after_proto v None = about v NothingElse

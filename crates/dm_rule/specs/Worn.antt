@@ -5,7 +5,8 @@ use Rattle.std.specs.declared.option.Option.TheVariants.{None, Some}
 use Rattle.dm_onekernel.specs.declared.boot.Boot.{Boot}
 use Rattle.dm_schedule.specs.declared.Step.{Step}
 use Rattle.dm_line.specs.declared.line.Line.{Line}
-use Rattle.dm_line.specs.declared.line.Line.TheVariants as line
+use Rattle.dm_rule.specs.Acts.{Act, act_of}
+use Rattle.dm_rule.specs.Acts as act
 use Rattle.dm_rule.specs.View.{View, view_after}
 use Rattle.dm_rule.specs.Point.{Point}
 use Rattle.dm_rule.specs.Parts.{Spelled}
@@ -16,31 +17,12 @@ abbrev pub is_full : ℕ → View → ℕ → ℕ → Bool
 is_full numbers v a b = nat_le numbers (length (v.pair a b).ids)
 
 -- the pair of a put, if it counts as many messages as it may
+abbrev pub full_route : ℕ → View → Act → Option Two
+full_route numbers v (act.Routes a b id k q) = if is_full numbers v a b then Some (record { from = a; to = b }) else None
+full_route numbers v x = None
+
 abbrev pub full_pair : ℕ → View → Line → Option Two
-full_pair numbers v (line.Put a b id k q) = if is_full numbers v a b then Some (record { from = a; to = b }) else None
-full_pair numbers v (line.Head s) = None
-full_pair numbers v (line.Idle m) = None
-full_pair numbers v (line.Label l) = None
-full_pair numbers v (line.Packet a b k l) = None
-full_pair numbers v (line.Taken a b n) = None
-full_pair numbers v (line.Old a b n) = None
-full_pair numbers v (line.Early a b n) = None
-full_pair numbers v (line.Acked a b n) = None
-full_pair numbers v line.Nothing = None
-full_pair numbers v (line.Resent m n) = None
-full_pair numbers v (line.Queued id) = None
-full_pair numbers v (line.Held id) = None
-full_pair numbers v (line.Forwarded id m) = None
-full_pair numbers v (line.Updated id n) = None
-full_pair numbers v (line.Migration s p) = None
-full_pair numbers v (line.SentOn p n) = None
-full_pair numbers v (line.Lacks p s b) = None
-full_pair numbers v (line.Stays p) = None
-full_pair numbers v (line.Here id) = None
-full_pair numbers v (line.NoMove id) = None
-full_pair numbers v (line.Proto id) = None
-full_pair numbers v (line.NoChild p) = None
-full_pair numbers v (line.Pinned p) = None
+full_pair numbers v l = full_route numbers v (act_of l)
 
 -- the first put among these lines whose pair counts as many messages as it may before it
 abbrev pub worn_in : ℕ → View → List Line → Option Two

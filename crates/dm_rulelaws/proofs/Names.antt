@@ -26,6 +26,7 @@ pub use Rattle.dm_laws.proofs.Steps.{Runs, completing}
 pub use Rattle.dm_rule.proofs.Bags.{BagStep, bag_call, bag_created, bag_dropped, bag_end, bag_gone, bag_no_space, bag_out, bag_ran, bag_receive, bag_refuse, bag_sends, bag_served, bag_took, bag_wait, board_id, id_in, if_some-is, landed_id}
 pub use Rattle.dm_rule.proofs.Bags.{manager_id, served_id, took_id, zero_if}
 pub use Rattle.dm_rule.proofs.Groups.{IsNet, IsNetLine, arrives_net, group_is, resends_net, stands_right, turn_off}
+pub use Rattle.dm_rule.proofs.Hearing.{by_hears, left_parts}
 pub use Rattle.dm_rule.proofs.Homes.{AtHome, at_home, homes_are}
 pub use Rattle.dm_rule.proofs.Homes.Labels.{SaidOn, is_still, label_on}
 pub use Rattle.dm_rule.proofs.Homes.Lines.{Home, acting_dropped, home_start, homes_of}
@@ -42,17 +43,17 @@ pub use Rattle.dm_rule.proofs.Moves.Lists.{both_lists, both_times, first_off, fl
 pub use Rattle.dm_rule.proofs.Moves.Sent.{least_of, sent_way}
 pub use Rattle.dm_rule.proofs.Moves.States.{front_kernels, front_one, front_way, not_first}
 pub use Rattle.dm_rule.proofs.Names.{About, Addresses, Again, Answer, AreStill, Child, Enclosed, Forward, Frozen, Gets, Held, Here, Holder, Inbox, Incoming, IsIn, IsStep, IsStill, Known, LandsSo, Leads, LifeGrows, Line, Load, Made}
-pub use Rattle.dm_rule.proofs.Names.{MessageKind, Moves, Name, NamedLink, Next, Nexts, NothingElse, Of, Owner, Owns, Pair, Part, Phase, Place, Point, Queue, Receiver, Regs, Rests, Routes, Says, Sender, ServerSends, Slot, Sound, Spelled}
-pub use Rattle.dm_rule.proofs.Names.{Spot, Stage, StandsAsBag, StandsNowhere, StandsOutside, StandsRight, Step, Todo, Told, Transmits, Unknown, Untaken, View, accepts, after, after_head, after_label, after_line, after_proto, after_put}
-pub use Rattle.dm_rule.proofs.Names.{after_stage, after_step, after_taken, alive-is, all_follow, answer_link, are_for_home, are_home, ascends, asks_on, at_id, at_machine, at_pair, at_record, begins, behind, bind-is, board_finds}
+pub use Rattle.dm_rule.proofs.Names.{MessageKind, Moves, Name, NamedLink, Next, Nexts, NothingElse, Of, Owner, Owns, Pair, Part, Phase, Place, Point, Queue, Receiver, Regs, Rests, Routes, Says, Sender, ServerSends, Slot, Sort, Sound}
+pub use Rattle.dm_rule.proofs.Names.{Spelled, Spot, Stage, StandsAsBag, StandsNowhere, StandsOutside, StandsRight, Step, Todo, Told, Transmits, Unknown, Untaken, View, accepts, after, after_head, after_label, after_line, after_proto}
+pub use Rattle.dm_rule.proofs.Names.{after_put, after_stage, after_step, after_taken, alive-is, all_follow, answer_link, are_for_home, are_home, ascends, asks_on, at_id, at_machine, at_pair, at_record, begins, behind, bind-is, board_finds}
 pub use Rattle.dm_rule.proofs.Names.{board_keeps, board_takes, child_from, child_number, chunks_of, comes, cons_option, counts, dropped_for, enclosed_of, ended, ended_told, filter, filter_map, first_gives, first_point, first_view, fits}
 pub use Rattle.dm_rule.proofs.Names.{follows_up, forward_about, forwarded_for, forwards, forwards_on, free_room, front_of, front_told, gets, given, gives, gives_piece, goes_out, gone_to, group_of, handled, handled_first, headed, hears}
 pub use Rattle.dm_rule.proofs.Names.{held_for, here_told, holder_eq, id_eq-is, id_eq-same, is_apart, is_away, is_behind, is_between, is_counted, is_early, is_for_home, is_general, is_here, is_kernels, is_restart, is_told_back, kernel_after}
 pub use Rattle.dm_rule.proofs.Names.{kernel_hears, kernel_told, kills, known_at, knows, label_of, lands, lands-is, leaves, length-append, lines_of, link_to, links_in, manager_takes, marked, migrates, migrates_child, moved, moved_back}
-pub use Rattle.dm_rule.proofs.Names.{moves_to, name_link, names, next_step, nexts, not_server, oldest, on_mask, outcome, own_gives, own_id, owner_in, owner_of, packet_line, pid_eq-is, pid_eq-same, pieces_of, place_known, place_of_child}
-pub use Rattle.dm_rule.proofs.Names.{place_told, plain_kind, process_told, puts, queued_for, receiver_in, receiver_of, reply_code, reply_eq, request_id, right_true, ring_at, routed_on, sender_in, sender_of, sends_on, sent_at, served_told}
-pub use Rattle.dm_rule.proofs.Names.{server_told, serves_what, slice_set, slot_of, slots_of, slots_with, spelled, standing, start-sound, stayed, taken_id, takes_block, takes_chunk, target_of, tells_back, times, to_kernel, to_of}
-pub use Rattle.dm_rule.proofs.Names.{told_between, unentered, unmoved, untaken, updated, updated_to, updates, view_after, when-is, why_eq, with_machine, without, without_front, without_id, ◌||◌}
+pub use Rattle.dm_rule.proofs.Names.{moves_to, name_link, names, next_step, nexts, not_server, oldest, on_mask, outcome, own_given, own_gives, own_id, owner_in, owner_of, packet_line, pid_eq-is, pid_eq-same, pieces_of, place_known}
+pub use Rattle.dm_rule.proofs.Names.{place_of_child, place_told, plain_kind, process_told, puts, queued_for, receiver_in, receiver_of, reply_code, reply_eq, request_id, right_true, ring_at, routed_on, sender_in, sender_of, sends_on}
+pub use Rattle.dm_rule.proofs.Names.{sent_at, served_told, server_told, serves_what, slice_set, slot_of, slots_of, slots_with, sort_of, spelled, standing, start-sound, stayed, taken_id, takes_block, takes_chunk, target_of, tells_back}
+pub use Rattle.dm_rule.proofs.Names.{times, to_kernel, to_of, told_between, unentered, unmoved, untaken, updated, updated_to, updates, view_after, when-is, why_eq, with_machine, without, without_front, without_id, ◌||◌}
 pub use Rattle.dm_rule.proofs.Once.{one_of}
 pub use Rattle.dm_rule.proofs.Pairs.Moves.{or_first}
 pub use Rattle.dm_rule.proofs.Phases.Always.{Phased, phased_group, phased_start}
@@ -65,6 +66,7 @@ pub use Rattle.dm_rule.proofs.Phases.Pieces.{not_false, proto_acting, proto_know
 pub use Rattle.dm_rule.proofs.Phases.Quiet.{is_kill}
 pub use Rattle.dm_rule.proofs.Phases.Rests.{rests_here}
 pub use Rattle.dm_rule.proofs.Phases.Stand.{InPhases, calm_phases, token_at, token_is}
+pub use Rattle.dm_rule.proofs.Requests.{by_migrates}
 pub use Rattle.dm_rule.proofs.Rooted.Groups.{moves_away, rooted}
 pub use Rattle.dm_rule.proofs.Standing.{StandsAsBag-elsewhere, StandsAsBag-one, times-append}
 pub use Rattle.dm_rule.proofs.States.{State, put_told_off}

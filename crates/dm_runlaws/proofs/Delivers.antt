@@ -112,9 +112,7 @@ parts_wire a c (Transmits x y l ∷ ps) pt w apart h e =
     let o = onward pt (Transmits x y l) ps w e in
     ap (λ (q : Point). wire_on q.view a c) (sym o.end) ∙ parts_wire a c ps o.next o.rest apart h.1 o.on ∙ ap (λ (v : View). wire_on v a c) (transmits_view pt x y l ps w o)
     ∙ ap (λ (z : ℕ). wire_on (after_packet pt.view z y l) a c) h.0.0 ∙ ap (λ (z : ℕ). wire_on (after_packet pt.view c z l) a c) h.0.1 ∙ wire_back pt.view a c l apart
-parts_wire a c (Routes i ∷ ps) pt w apart h e = absurd h.0
-parts_wire a c (Again i b ∷ ps) pt w apart h e = absurd h.0
-parts_wire a c (Owns k q b ∷ ps) pt w apart h e = absurd h.0
+parts_wire a c _ pt w apart h e = absurd h.0
 
 head_wire : (v : View) (a c k : ℕ) → wire_on (after_head v (Step.Deliver a c k)) a c ≡ marked_at (wire_on v a c) k (slice_get (wire_on v a c) k)
 head_wire v a c k =

@@ -189,7 +189,5 @@ parts_lower (Says l ∷ ps) pt w calm none e =
     let o = onward pt (Says l) ps w e in
     let first : Lowers pt.view o.next.view = subst (Lowers pt.view) (sym (says_view pt l ps w o)) (lowers_line pt.view l calm.0.0 calm.0.1) in
     subst (λ (q : Point). Lowers pt.view q.view) o.end (lowers_on pt.view o.next.view o.rest.point.view first (parts_lower ps o.next o.rest calm.1 none o.on))
-parts_lower (Routes i ∷ ps) pt w calm none e = absurd (false≢true (sym none))
-parts_lower (Again i b ∷ ps) pt w calm none e = absurd (false≢true (sym none))
-parts_lower (Owns k q b ∷ ps) pt w calm none e = absurd (false≢true (sym none))
 parts_lower (Transmits a b l ∷ ps) pt w calm none e = absurd calm.0
+parts_lower _ pt w calm none e = absurd (false≢true (sym none))

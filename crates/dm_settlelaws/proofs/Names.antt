@@ -20,12 +20,12 @@ pub use Rattle.dm_rule.proofs.Groups.{GroupIs, stands_once_always}
 pub use Rattle.dm_rule.proofs.Homes.Calls.{or-left}
 pub use Rattle.dm_rule.proofs.Names.{About, Addresses, Again, Child, Directive, Forward, Held, Here, Inbox, IsQuiet, IsStep, Known, Leads, Line, Load, MessageKind, Name, NamedLink, Next, NothingElse, Of, Owns, Pair, PairStands, Part, Point}
 pub use Rattle.dm_rule.proofs.Names.{Receiver, Room, Routes, Says, Sender, Sent, Slot, Spelled, Spot, Stage, StandsOutside, StandsRight, Step, TellsRight, Todo, Told, Transmits, Untaken, View, accepts, after, after_line, all_of, arrives}
-pub use Rattle.dm_rule.proofs.Names.{asks_on, at_id, at_least, at_machine, at_pair, behind, bind-is, board_took, chunks_of, comes_to, creates, dropped_for, drops, ended_handles, ended_told, filter, first_point, first_view, fits, follows_up}
-pub use Rattle.dm_rule.proofs.Names.{forwarded_for, forwards_on, free_room, goes_out, gone_after, group_of, handled, has, has_mail, has_room, hears, held_for, here_handles, here_told, id_eq-is, id_eq-same, is_between, is_kernels, is_quiet}
-pub use Rattle.dm_rule.proofs.Names.{is_told_back, kept_from, kernel_handles, kernel_hears, kernel_told, kills, leads, leads_on, leaves, less, let_go, lines_of, manager_took, marked, marked_at, migrates, more, moved, next_step}
-pub use Rattle.dm_rule.proofs.Names.{numbers_from, oldest, outcome, outstanding, own_id, packet_line, pieces_of, place_told, plain_kind, process_handles, process_told, puts, queued_for, receiver_of, repeats, resends, right_true, routed_on}
-pub use Rattle.dm_rule.proofs.Names.{routes, says, sends_on, served_told, server_told, slice_set, spelled, standing, taken_id, takes, takes_block, takes_chunk, takes_on, target_of, times, to_kernel, to_of, turns, untaken, view_after}
-pub use Rattle.dm_rule.proofs.Names.{window, without_first, without_front, ◌||◌}
+pub use Rattle.dm_rule.proofs.Names.{asks_on, at_id, at_least, at_machine, at_pair, behind, behind_count, bind-is, board_took, chunks_of, comes_to, creates, dropped_for, drops, ended_handles, ended_told, filter, first_point, first_view}
+pub use Rattle.dm_rule.proofs.Names.{fits, follows_up, forwarded_for, forwards_on, free_room, goes_out, gone_after, group_of, handled, has, has_mail, has_room, hears, held_for, here_handles, here_told, id_eq-is, id_eq-same, is_between}
+pub use Rattle.dm_rule.proofs.Names.{is_kernels, is_quiet, is_told_back, kept_from, kernel_handles, kernel_hears, kernel_told, kills, leads, leads_on, leaves, less, let_go, lines_of, manager_took, marked, marked_at, migrates, more, moved}
+pub use Rattle.dm_rule.proofs.Names.{next_step, numbers_from, oldest, outcome, outstanding, own_id, packet_line, pieces_of, place_told, plain_kind, process_handles, process_told, puts, queued_for, receiver_of, repeats, resends, right_true}
+pub use Rattle.dm_rule.proofs.Names.{routed_on, routes, says, sends_on, served_told, server_told, slice_set, spelled, standing, taken_id, takes, takes_block, takes_chunk, takes_on, target_of, times, to_kernel, to_of, turns, untaken}
+pub use Rattle.dm_rule.proofs.Names.{view_after, window, without_first, without_front, ◌||◌}
 pub use Rattle.dm_rule.proofs.Pairs.{Pairs, Pairs-always, Pairs-group, Pairs-start, acked_out_by, pair_home, pairs_stand_always}
 pub use Rattle.dm_rule.proofs.Pairs.Comes.{less-left}
 pub use Rattle.dm_rule.proofs.Pairs.Lines.{AllFit-later, Fits, Onward, fitting_goes, one_view, says_view, transmits_view, two_views}
@@ -47,10 +47,10 @@ pub use Rattle.dm_movelaws.proofs.At.RestOnly.{dropped_known}
 pub use Rattle.dm_movelaws.proofs.At.RestPairs.{routed_always}
 pub use Rattle.dm_movelaws.proofs.Ends.Parts.{count-append}
 pub use Rattle.dm_movelaws.proofs.Ends.Sources.{line_ids}
-pub use Rattle.dm_movelaws.proofs.Names.{AllFit, AtRest, ByHolder, ByOwn, EndLine, IsNamed, Standing, Stood, alive_lines, based_always, behind_count, block_line, child_lines, count, doing_of, drop-nil, each_machine, each_process, end_lines}
-pub use Rattle.dm_movelaws.proofs.Names.{first_with, forwarded_acting, handles, holding_lines, home_with, homes_with, inbox_lines, is_moving, lands, line_view, link_lines, list_line, memory_lines, migrates_fit, more_front, name_lines}
-pub use Rattle.dm_movelaws.proofs.Names.{onward, or, pair_same, pending_lines, process_lines, queue_at, queue_lines, queued_acting, run_always, server_lines, set_is, set_other, slot_line, state_lines, stood, stood_at, stream_lines}
-pub use Rattle.dm_movelaws.proofs.Names.{taken_pair, touches, trimmed, turns_fit}
+pub use Rattle.dm_movelaws.proofs.Names.{AllFit, AtRest, ByHolder, ByOwn, EndLine, IsNamed, Standing, Stood, alive_lines, based_always, block_line, child_lines, count, doing_of, drop-nil, each_machine, each_process, end_lines, first_with}
+pub use Rattle.dm_movelaws.proofs.Names.{forwarded_acting, handles, holding_lines, home_with, homes_with, inbox_lines, is_moving, lands, line_view, link_lines, list_line, memory_lines, migrates_fit, more_front, name_lines, onward, or}
+pub use Rattle.dm_movelaws.proofs.Names.{pair_same, pending_lines, process_lines, queue_at, queue_lines, queued_acting, run_always, server_lines, set_is, set_other, slot_line, state_lines, stood, stood_at, stream_lines, taken_pair, touches}
+pub use Rattle.dm_movelaws.proofs.Names.{trimmed, turns_fit}
 pub use Rattle.dm_movelaws.proofs.Promise.Finds.{leads_append}
 pub use Rattle.dm_movelaws.proofs.ProtocolMoves.{protocol_moves}
 pub use Rattle.dm_movelaws.proofs.Trail.Rows.{or_first}

@@ -226,6 +226,4 @@ net_count (Says l ∷ ps) h = let e = net_line l h.0 in let k = net_count ps h.1
     net_line (Line.Resent m n) h = refl
     net_line l h = absurd h
 net_count (Transmits a b l ∷ ps) h = let k = net_count ps h.1 in omega (arith, k)
-net_count (Routes i ∷ ps) h = absurd h.0
-net_count (Again i b ∷ ps) h = absurd h.0
-net_count (Owns k q b ∷ ps) h = absurd h.0
+net_count _ h = absurd h.0

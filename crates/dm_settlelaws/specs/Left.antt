@@ -4,41 +4,22 @@ use Rattle.std.specs.declared.option.Option.{Option}
 use Rattle.std.specs.declared.option.Option.TheVariants.{None, Some}
 use Rattle.dm_message.specs.declared.MsgId.{MsgId}
 use Rattle.dm_message.specs.declared.kind.MessageKind.{MessageKind}
-use Rattle.dm_message.specs.declared.kind.MessageKind.TheVariants as kind
+use Rattle.dm_message.specs.Sorts.{Sort, sort_of}
+use Rattle.dm_message.specs.Sorts as sort
 use Rattle.dm_line.specs.declared.line.Load.{Load}
 use Rattle.dm_line.specs.declared.line.Load.TheVariants as load
 use Rattle.dm_line.specs.Each.{sum_below}
 use Rattle.dm_rule.specs.Spots.{untaken}
 use Rattle.dm_rule.specs.View.{Pair, Sent, Told, View}
 
--- a message that lets go what was held back, once it is handled: a restart or a refusal; a row a kind
+-- a message that lets go what was held back, once it is handled: a restart or a refusal
+abbrev pub releases : Sort → Bool
+releases (sort.Between sort.Restart) = true
+releases (sort.Between sort.Refuse) = true
+releases s = false
+
 abbrev pub lets_go : MessageKind → Bool
-lets_go kind.Restart = true
-lets_go kind.Refuse = true
-lets_go kind.User = false
-lets_go kind.Stop = false
-lets_go kind.Resume = false
-lets_go kind.Kill = false
-lets_go kind.Read = false
-lets_go kind.Write = false
-lets_go kind.Block = false
-lets_go kind.Written = false
-lets_go kind.Gone = false
-lets_go kind.Create = false
-lets_go kind.Created = false
-lets_go kind.NoRoom = false
-lets_go kind.Migrate = false
-lets_go kind.Update = false
-lets_go kind.Ask = false
-lets_go kind.PullState = false
-lets_go kind.State = false
-lets_go kind.PullBlock = false
-lets_go kind.Memory = false
-lets_go kind.AllTaken = false
-lets_go kind.Move = false
-lets_go kind.Moved = false
-lets_go kind.CallOff = false
-lets_go kind.Bury = false
+lets_go k = releases (sort_of k)
 
 abbrev pub told_lets_go : Option Told → Bool
 told_lets_go None = false

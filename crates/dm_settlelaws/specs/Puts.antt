@@ -5,11 +5,13 @@ use Rattle.std.specs.declared.option.Option.TheVariants.{None, Some}
 use Rattle.dm_link.specs.declared.Pid.{Pid}
 use Rattle.dm_message.specs.declared.MsgId.{MsgId}
 use Rattle.dm_message.specs.declared.kind.MessageKind.{MessageKind}
-use Rattle.dm_message.specs.declared.kind.MessageKind.TheVariants as kind
+use Rattle.dm_message.specs.Sorts.{Sort, sort_of}
+use Rattle.dm_message.specs.Sorts as sort
 use Rattle.dm_onekernel.specs.declared.boot.Boot.{Boot}
 use Rattle.dm_schedule.specs.declared.Step.{Step}
 use Rattle.dm_line.specs.declared.line.Line.{Line}
-use Rattle.dm_line.specs.declared.line.Line.TheVariants as line
+use Rattle.dm_rule.specs.Acts.{Act, act_of}
+use Rattle.dm_rule.specs.Acts as act
 use Rattle.dm_rule.specs.Laws.{IsStep}
 use Rattle.dm_rule.specs.Parts.{Spelled}
 use Rattle.dm_rule.specs.Point.{Point}
@@ -20,34 +22,14 @@ use Rattle.dm_rulelaws.specs.Found.{is_fixed}
 use Rattle.dm_movelaws.specs.AtRest.{is_moving}
 use Rattle.dm_settlelaws.specs.Passes.{IsSettleStep}
 
--- a user message for a process, no kernel and no server, or an update; a row a kind
+-- a user message for a process, no kernel and no server, or an update
+abbrev pub is_light_sort : Sort → Pid → Bool
+is_light_sort sort.Letter q = not (is_fixed q)
+is_light_sort sort.Notice q = true
+is_light_sort s q = false
+
 abbrev pub is_light_kind : MessageKind → Pid → Bool
-is_light_kind kind.User q = not (is_fixed q)
-is_light_kind kind.Update q = true
-is_light_kind kind.Stop q = false
-is_light_kind kind.Resume q = false
-is_light_kind kind.Kill q = false
-is_light_kind kind.Read q = false
-is_light_kind kind.Write q = false
-is_light_kind kind.Block q = false
-is_light_kind kind.Written q = false
-is_light_kind kind.Gone q = false
-is_light_kind kind.Create q = false
-is_light_kind kind.Created q = false
-is_light_kind kind.NoRoom q = false
-is_light_kind kind.Migrate q = false
-is_light_kind kind.Ask q = false
-is_light_kind kind.Refuse q = false
-is_light_kind kind.PullState q = false
-is_light_kind kind.State q = false
-is_light_kind kind.PullBlock q = false
-is_light_kind kind.Memory q = false
-is_light_kind kind.AllTaken q = false
-is_light_kind kind.Restart q = false
-is_light_kind kind.Move q = false
-is_light_kind kind.Moved q = false
-is_light_kind kind.CallOff q = false
-is_light_kind kind.Bury q = false
+is_light_kind k q = is_light_sort (sort_of k) q
 
 -- by what its first put told of it
 abbrev pub is_light : Option Told → Bool
@@ -74,28 +56,9 @@ SettlesBy b pt (e ∷ es) ls end =
     (w : Spelled) × (rest : List Line) × IsStep pt.kernel.machines e × IsSettleStep pt.view e × (group_of b pt e ≡ Some w) × (ls ≡ w.lines ++ rest) × SettlesBy b w.point es rest end
 
 -- a line that routes a message
+abbrev pub is_route : Act → Bool
+is_route (act.Routes a b id k q) = true
+is_route x = false
+
 abbrev pub says_put : Line → Bool
-says_put (line.Put a b id k q) = true
-says_put (line.Head s) = false
-says_put (line.Idle m) = false
-says_put (line.Label l) = false
-says_put (line.Packet a b k l) = false
-says_put (line.Taken a b n) = false
-says_put (line.Old a b n) = false
-says_put (line.Early a b n) = false
-says_put (line.Acked a b n) = false
-says_put line.Nothing = false
-says_put (line.Resent m n) = false
-says_put (line.Queued id) = false
-says_put (line.Held id) = false
-says_put (line.Forwarded id m) = false
-says_put (line.Updated id n) = false
-says_put (line.Migration s p) = false
-says_put (line.SentOn p n) = false
-says_put (line.Lacks p s b) = false
-says_put (line.Stays p) = false
-says_put (line.Here id) = false
-says_put (line.NoMove id) = false
-says_put (line.Proto id) = false
-says_put (line.NoChild p) = false
-says_put (line.Pinned p) = false
+says_put l = is_route (act_of l)

@@ -48,6 +48,14 @@ slot_empty cap place left table rest total lt even so_far =
     let grown : take (place + 1) table ≡ take place table ++ None ∷ [] = (take_at_read table place None (omega (arith, so_far.1))).1 ∙ ap (λ o. take place table ++ o ∷ []) (so_far.2 place (omega arith)) in
     (rw grown next, so_far.1, λ s le. so_far.2 s (omega arith))
 
+-- all slots are read
+pub slots_read : (cap place left : ℕ) (table : List (Option Link)) (rest : List ℕ) (total : Result (List (Option Link) × List ℕ) PacketError) → cap ≤ place → ReadUpTo cap total table place left rest → total ≡ Ok (table, rest)
+slots_read cap place left table rest total over so_far =
+    let none : cap - place ≡ 0 = omega (arith, over) in
+    let all : take place table ≡ table = grind (arith, common_steps, over, so_far.1) in
+    let read : with_front (take place table) (read_slots (cap - place) left rest) ≡ Ok (take place table ++ [], rest) = ap (λ k. with_front (take place table) (read_slots k left rest)) none in
+    sym so_far.0 ∙ read ∙ ap (λ xs. Ok (xs, rest)) (append-nil (take place table) ∙ all)
+
 -- the links up to a slot, and its own
 pub slot_written : (table : List (Option Link)) (i : ℕ) (old now new : List ℕ) (o : Option Link) → i < length table → link_at table i ≡ o → FitsSlot o → now ≡ old ++ flat_map spell_slot (take i table) → All FitsSlot (take i table) → new ≡ now ++ spell_slot o
     → (new ≡ old ++ flat_map spell_slot (take (i + 1) table)) × All FitsSlot (take (i + 1) table)

@@ -1,7 +1,7 @@
 //! A process as bytes, without its memory and its queue: what a machine hands on first when a process moves.
 #![tactic(auto)]
 
-ghost use Rattle.std.specs.Prelude.{◌≡◌, ◌⊎◌, ◌≤◌, IfOk, Ok, OnOk, length};
+ghost use Rattle.std.specs.Prelude.{◌≡◌, ◌⊎◌, ◌≤◌, IfOk, None, Ok, OnOk, length, replicate};
 ghost use Rattle.dm_process.specs.Lawful.{IsLawfulProcess};
 ghost use Rattle.dm_statebytes.specs.Lawful.{IsLawfulShell};
 ghost use Rattle.dm_statebytes.specs.Rules.{number_of_rule, rule_of};
@@ -122,9 +122,10 @@ pub fn pack(alloc: Global, process: &Process) -> Result<Vec<u8>, NoMemory>
 }
 
 /// The process that the bytes spell, all of them, with a table of 32 or 128 slots, or the first rule from the left that
-/// they break. It takes no memory.
-pub fn unpack(bytes: &[u8], cap: u8) -> Result<Shell, StateBytesError>
-    requires { (cap ≡ FEW_SLOTS) ⊎ (cap ≡ MOST_SLOTS) }
+/// they break. It takes no memory: the table is one that is handed in, empty.
+pub fn unpack(bytes: &[u8], cap: u8, empty: Table) -> Result<Shell, StateBytesError>
+    requires cap { (cap ≡ FEW_SLOTS) ⊎ (cap ≡ MOST_SLOTS) }
+    requires empty { empty ≡ replicate cap None }
     // Which process, and which rule.
     ensures exact { result ≡ shell_of_bytes bytes.now cap }
     // What is read is lawful, and spelled so and in no other way.
@@ -133,5 +134,5 @@ pub fn unpack(bytes: &[u8], cap: u8) -> Result<Shell, StateBytesError>
     ensures only { (s : Shell) → IsLawfulShell cap s → FitsShell s → bytes.now ≡ spelling s → result ≡ Ok s }
     ensures size { OnOk result (length bytes.now ≤ MOST_STATE) }
 {
-    state_at(bytes, cap)
+    state_at(bytes, cap, empty)
 }

@@ -1,5 +1,5 @@
 //! Reading from the left, each field tested as soon as it is there.
-ghost use Rattle.std.specs.Prelude.{◌≡◌, ◌⊎◌, ◌==◌};
+ghost use Rattle.std.specs.Prelude.{◌≡◌, ◌⊎◌, ◌==◌, None, replicate};
 ghost use Rattle.dm_packet.specs.Field.{number};
 ghost use Rattle.dm_packet.specs.Reads.{Reads};
 ghost use Rattle.dm_statebytes.specs.Shell.{blocks, read_shell, registers, regs, shell, shell_of_bytes, version};
@@ -151,12 +151,13 @@ fn mask_at(bytes: &[u8], cap: u8) -> Result<(u128, &[u8]), PacketError>
     Ok((mask, rest))
 }
 
-/// A table with the links that stand for the bits of the mask.
-fn slots_at(bytes: &[u8], mask: u128, cap: u8) -> Result<(Table, &[u8]), PacketError>
-    requires { (cap ≡ FEW_SLOTS) ⊎ (cap ≡ MOST_SLOTS) }
+/// The empty table with the links that stand for the bits of the mask.
+fn slots_at(bytes: &[u8], mask: u128, cap: u8, empty: Table) -> Result<(Table, &[u8]), PacketError>
+    requires cap { (cap ≡ FEW_SLOTS) ⊎ (cap ≡ MOST_SLOTS) }
+    requires empty { empty ≡ replicate cap None }
     ensures { Reads result (read_slots cap mask bytes.now) }
 {
-    let mut table = Table::new(cap);
+    let mut table = empty;
     let mut left = mask;
     let mut rest = bytes;
     for slot in 0..cap {
@@ -170,12 +171,13 @@ fn slots_at(bytes: &[u8], mask: u128, cap: u8) -> Result<(Table, &[u8]), PacketE
     Ok((table, rest))
 }
 
-fn table_at(bytes: &[u8], cap: u8) -> Result<(Table, &[u8]), PacketError>
-    requires { (cap ≡ FEW_SLOTS) ⊎ (cap ≡ MOST_SLOTS) }
+fn table_at(bytes: &[u8], cap: u8, empty: Table) -> Result<(Table, &[u8]), PacketError>
+    requires cap { (cap ≡ FEW_SLOTS) ⊎ (cap ≡ MOST_SLOTS) }
+    requires empty { empty ≡ replicate cap None }
     ensures { Reads result ((table cap).read bytes.now) }
 {
     let (mask, rest) = mask_at(bytes, cap)?;
-    slots_at(rest, mask, cap)
+    slots_at(rest, mask, cap, empty)
 }
 
 /// How many blocks of 256 bytes a process has.
@@ -199,9 +201,10 @@ fn version_at(bytes: &[u8]) -> Result<(u8, &[u8]), PacketError>
     Ok((version, rest))
 }
 
-/// A process with a table of so many slots.
-fn shell_at(bytes: &[u8], cap: u8) -> Result<(Shell, &[u8]), PacketError>
-    requires { (cap ≡ FEW_SLOTS) ⊎ (cap ≡ MOST_SLOTS) }
+/// A process with a table of so many slots, which is empty yet.
+fn shell_at(bytes: &[u8], cap: u8, empty: Table) -> Result<(Shell, &[u8]), PacketError>
+    requires cap { (cap ≡ FEW_SLOTS) ⊎ (cap ≡ MOST_SLOTS) }
+    requires empty { empty ≡ replicate cap None }
     ensures { Reads result ((shell cap).read bytes.now) }
 {
     let (_, rest) = version_at(bytes)?;
@@ -212,7 +215,7 @@ fn shell_at(bytes: &[u8], cap: u8) -> Result<(Shell, &[u8]), PacketError>
     let (sent, rest) = u32_at(rest)?;
     let (moves, rest) = u32_at(rest)?;
     let (regs, rest) = regs_at(rest)?;
-    let (table, rest) = table_at(rest, cap)?;
+    let (table, rest) = table_at(rest, cap, empty)?;
     let shell = Shell {
         pid,
         blocks,
@@ -234,11 +237,12 @@ fn is_end(left: usize) -> bool
 }
 
 /// The process that the bytes spell, all of them, or the first rule that they break.
-fn whole_at(bytes: &[u8], cap: u8) -> Result<Shell, PacketError>
-    requires { (cap ≡ FEW_SLOTS) ⊎ (cap ≡ MOST_SLOTS) }
+fn whole_at(bytes: &[u8], cap: u8, empty: Table) -> Result<Shell, PacketError>
+    requires cap { (cap ≡ FEW_SLOTS) ⊎ (cap ≡ MOST_SLOTS) }
+    requires empty { empty ≡ replicate cap None }
     ensures { result ≡ read_shell bytes.now cap }
 {
-    let (shell, rest) = shell_at(bytes, cap)?;
+    let (shell, rest) = shell_at(bytes, cap, empty)?;
     if !is_end(rest.len()) {
         return Err(PacketError::Trailing);
     }
@@ -247,11 +251,12 @@ fn whole_at(bytes: &[u8], cap: u8) -> Result<Shell, PacketError>
 
 /// The same, with the rule as one of state bytes.
 #[tactic(auto, unfolding(crate::specs::Shell::shell_of_bytes))]
-pub fn state_at(bytes: &[u8], cap: u8) -> Result<Shell, StateBytesError>
-    requires { (cap ≡ FEW_SLOTS) ⊎ (cap ≡ MOST_SLOTS) }
+pub fn state_at(bytes: &[u8], cap: u8, empty: Table) -> Result<Shell, StateBytesError>
+    requires cap { (cap ≡ FEW_SLOTS) ⊎ (cap ≡ MOST_SLOTS) }
+    requires empty { empty ≡ replicate cap None }
     ensures { result ≡ shell_of_bytes bytes.now cap }
 {
-    match whole_at(bytes, cap) {
+    match whole_at(bytes, cap, empty) {
         Ok(shell) => Ok(shell),
         Err(bad) => Err(rule_of(bad)),
     }

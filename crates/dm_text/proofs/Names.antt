@@ -2,7 +2,7 @@
 pub use Rattle.std.proofs.Common.{nat_le, ◌||◌}
 pub use Rattle.std.proofs.Math.Bool.{and-false}
 pub use Rattle.std.proofs.lemmas.Bool.{eq-eqb, le-ltb, lt-ltb, ltb-true, ne_eqb}
-pub use Rattle.std.proofs.lemmas.Fmt.{decimal_by_steps_wide}
+pub use Rattle.std.proofs.lemmas.Fmt.{decimal_by_steps_wide, decimal_digit, decimal_step}
 pub use Rattle.std.proofs.lemmas.List.{get_or_push, length_push, take_more}
 pub use Rattle.std.specs.Fmt.{decimal}
 unfoldable pub use Rattle.std.specs.Fmt.{digits}

@@ -1,6 +1,6 @@
 -- Numbers in decimal, read back.
 use Rattle.dm_text.proofs.Names.{◌≡◌, ℕ, zero, suc, ◌+◌, ◌-◌, ◌*◌, ◌/◌, ◌%◌, ◌^◌, ◌<◌, ◌≤◌, ◌==◌, nat_lt, nat_le, Bool, true, false, ◌&&◌, ◌||◌, if◌then◌else◌, List, [], ◌∷◌, ◌++◌, length, get_or, refl, ap, ◌∙◌, arith, Some, None}
-use Rattle.dm_text.proofs.Names.{length-append, Option, decimal, and-false, nat_tests, ne_eqb, lt-ltb, le-ltb, decimal_by_steps_wide, get_or_append_left, number_after, read_number, is_padded}
+use Rattle.dm_text.proofs.Names.{length-append, decimal_digit, decimal_step, Option, decimal, and-false, nat_tests, ne_eqb, lt-ltb, le-ltb, decimal_by_steps_wide, get_or_append_left, number_after, read_number, is_padded}
 use Rattle.dm_text.proofs.Pieces.{above, above-append}
 
 -- what a digit adds
@@ -70,3 +70,7 @@ read-decimal limit n l h =
     let g : Digits n (decimal n) = digits_of_decimal n h in
     let e : nat_lt n limit ≡ true = lt-ltb n limit l in
     rw (unpadded n (decimal n) g, g.value, e) refl
+
+-- a number of two digits
+pub two_digits : (n : ℕ) → 10 ≤ n → n < 100 → decimal n ≡ (48 + n / 10) ∷ (48 + n % 10) ∷ []
+two_digits n ge lt = decimal_step n ge (omega arith) ∙ ap (λ ds. ds ++ (48 + n % 10) ∷ []) (decimal_digit (n / 10) (omega arith))

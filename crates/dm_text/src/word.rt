@@ -1,5 +1,5 @@
 //! Writing the words of a line at the end of a text.
-ghost use Rattle.std.specs.Prelude.{◌≡◌, [], ◌<◌, ◌∷◌, ◌++◌, OnErr, OnOk, codes, map};
+ghost use Rattle.std.specs.Prelude.{◌≡◌, [], ◌<◌, ◌≤◌, ◌∷◌, ◌++◌, OnErr, OnOk, codes, map};
 ghost use Rattle.std.specs.Fmt.{decimal};
 ghost use Rattle.dm_text.specs.Ends.{hex, hex_digit};
 ghost use Rattle.dm_text.specs.Text.{spaced, spelled};
@@ -23,7 +23,17 @@ pub enum Word<'a> {
     Bytes(&'a [u8]),
 }
 
-/// Writes a number in decimal.
+/// Writes a number of two digits.
+fn put_two_digits(into: &mut Vec<u8>, n: u8) -> Result<(), NoMemory>
+    requires { (10 ≤ n) × (n < 100) }
+    ensures ok { OnOk result (into.new.items ≡ into.old.items ++ decimal n) }
+    ensures err { OnErr result (into.new.items ≡ into.old.items) }
+{
+    extend_from_slice(into, &[b'0' + n / 10, b'0' + n % 10])?;
+    Ok(())
+}
+
+/// Writes a number in decimal; most have one digit or two.
 #[tactic(auto, using(std::proofs::lemmas::Fmt::decimal_digit))]
 fn put_number(into: &mut Vec<u8>, n: u64) -> Result<(), NoMemory>
     ensures ok { OnOk result (into.new.items ≡ into.old.items ++ decimal n) }
@@ -32,6 +42,9 @@ fn put_number(into: &mut Vec<u8>, n: u64) -> Result<(), NoMemory>
     if n < 10 {
         push(into, b'0' + n as u8)?;
         return Ok(());
+    }
+    if n < 100 {
+        return put_two_digits(into, n as u8);
     }
     let mut buffer = Buffer::new();
     extend_from_slice(into, buffer.format(n).as_bytes())?;

@@ -2,7 +2,7 @@
 pub use Rattle.std.proofs.Common.{get_or-set_other, get_or-set_same, length-set, mul-suc}
 pub use Rattle.std.proofs.Math.Seq.{get_or-append_seam, take-suc}
 pub use Rattle.std.proofs.lemmas.Iterator.Adapters.{position_from-zero}
-pub use Rattle.std.proofs.lemmas.List.{drop_all}
+pub use Rattle.std.proofs.lemmas.List.{drop_all, drop_more}
 pub use Rattle.std.proofs.lemmas.List.Elements.{All-weaker}
 pub use Rattle.std.proofs.lemmas.Option.{slice_get-get_or, slice_get_cases, slice_get_past}
 pub use Rattle.std.specs.List.{position_from}

@@ -1,5 +1,5 @@
 -- What a machine gives is said, one after the other.
-use Rattle.dm_world.proofs.Names.{◌≡◌, ℕ, List, [], ◌∷◌, ◌++◌, refl, sym, ap, subst, ◌∙◌, append_assoc, append-nil, Packet, Sent, Line, Out, Sends, Spoken, packet_line, spoken, with_packet, Spoke}
+use Rattle.dm_world.proofs.Names.{◌≡◌, ℕ, ◌+◌, ◌<◌, List, [], ◌∷◌, ◌++◌, length, get_or, drop, drop_more, refl, sym, ap, subst, ◌∙◌, append_assoc, append-nil, Packet, Sent, Line, Out, Sends, Spoken, packet_line, spoken, with_packet, Spoke}
 use Rattle.dm_node.specs.declared.out.Out.TheVariants.{Says}
 
 -- behind these lines it comes to the same as that behind those
@@ -27,3 +27,7 @@ leads_packet old now next all wires after p l outs items is said e put h =
           ∙ ap (λ xs. xs ++ (spoken (with_packet wires p) outs).lines) (sym e);
       wires = k.wires;
     })
+
+-- what is said at a place, and what is left behind it
+pub at_place : (outs : List Out) (i : ℕ) (o same : Out) → i < length outs → o ≡ get_or outs i o → o ≡ same → drop i outs ≡ same ∷ drop (i + 1) outs
+at_place outs i o same lt here is = drop_more outs i o lt ∙ ap (λ x. x ∷ drop (i + 1) outs) (sym here ∙ is)

@@ -288,7 +288,7 @@ fn say_expected(node: &Node, m: u8, pid: Pid, lines: &mut Vec<EndLine>) -> Resul
     ensures { IfOk result (λ said. SaysSome said lines.old.items lines.new.items (awaited_lines m pid (at node.now.kernel.records pid))) }
 {
     match node.kernel().records().get(pid) {
-        Some(Record::Incoming(arriving)) => say_arriving(m, pid, arriving, lines),
+        Some(Record::Incoming(arriving)) => { say_arriving(node.alloc(), m, pid, arriving, lines) }
         _ => Ok(false),
     }
 }

@@ -14,6 +14,7 @@ use dm_migrate::{Arriving, Wanted};
 use dm_process::{Process, Status};
 use dm_processor::{BLOCK, Memory, Regs};
 use dm_statebytes::Shell;
+use std::alloc::Global;
 
 /// The lines of a process that machine `m` has: how it stands there, its registers, its memory and its links.
 pub fn say_alive(
@@ -41,6 +42,7 @@ pub fn say_alive(
 
 /// The lines of a process that comes to machine `m`, if all of it has come; whether it has.
 pub fn say_arriving(
+    alloc: Global,
     m: u8,
     pid: Pid,
     arriving: &Arriving,
@@ -50,7 +52,8 @@ pub fn say_arriving(
 {
     match arriving.wanted() {
         Wanted::Nothing => {
-            say_come(m, pid, &arriving.shell(), arriving.memory(), lines)?;
+            let table = Table::new(alloc, arriving.cap())?;
+            say_come(m, pid, &arriving.shell(table), arriving.memory(), lines)?;
             Ok(true)
         }
         Wanted::Chunk(_) => Ok(false),

@@ -20,17 +20,17 @@ use std::alloc::Global;
 pub fn speak(
     alloc: Global,
     wires: &mut Wire,
-    outs: Vec<Out>,
+    outs: &[Out],
     lines: &mut Vec<Line>,
 ) -> Result<(), NoMemory>
-    requires { All IsSendable outs.items }
-    ensures spoke { OnOk result (Spoke lines.old.items lines.new.items (packets_on wires.new) (spoken (packets_on wires.old) outs.items)) }
-    ensures again { OnOk result (AreReadBack outs.items) }
+    requires { All IsSendable outs.now }
+    ensures spoke { OnOk result (Spoke lines.old.items lines.new.items (packets_on wires.new) (spoken (packets_on wires.old) outs.now)) }
+    ensures again { OnOk result (AreReadBack outs.now) }
 {
     for out in outs {
         match out {
-            Out::Says(line) => push(lines, line)?,
-            Out::Sends(packet) => push(lines, send(alloc, wires, &packet)?)?,
+            Out::Says(line) => push(lines, *line)?,
+            Out::Sends(packet) => push(lines, send(alloc, wires, packet)?)?,
         }
     }
     Ok(())

@@ -24,13 +24,14 @@ use crate::speak::speak;
 use crate::world::World;
 use dm_line::line::Line;
 use dm_link::{MACHINES, Pid};
-use dm_memory::{NoMemory, list_of};
+use dm_memory::{NoMemory, list_of, push, with_room};
 use dm_node::{Node, Out, Stop};
 use dm_onekernel::Boot;
 use dm_packet::{Packet, decode};
 use dm_schedule::Step;
 use dm_wire::Wire;
 use std::alloc::Global;
+use std::mem;
 
 impl World {
     /// Does what a directive says: the lines of its group, its head first. It stops as worn exactly where a machine has
@@ -79,7 +80,8 @@ impl World {
         ensures meets { StepMeets self.old self.new (directive.Turn m) result }
         ensures stopped { self.new.stopped ≡ self.old.stopped }
     {
-        let outs = take_turn(self.alloc, &mut self.nodes, &self.boot, m)?;
+        let empty = emptied(self.alloc, &mut self.outs);
+        let outs = take_turn(empty, &mut self.nodes, &self.boot, m)?;
         let lines = self.group(Step::Turn(m), outs)?;
         Ok(lines)
     }
@@ -92,7 +94,8 @@ impl World {
         ensures meets { StepMeets self.old self.new (directive.Migrate pid to) result }
         ensures stopped { self.new.stopped ≡ self.old.stopped }
     {
-        let outs = ask_manager(self.alloc, &mut self.nodes, &self.boot, pid, to)?;
+        let empty = emptied(self.alloc, &mut self.outs);
+        let outs = ask_manager(empty, &mut self.nodes, &self.boot, pid, to)?;
         let lines = self.group(Step::Migrate { pid, to }, outs)?;
         Ok(lines)
     }
@@ -105,7 +108,8 @@ impl World {
         ensures meets { StepMeets self.old self.new (directive.Tick m) result }
         ensures stopped { self.new.stopped ≡ self.old.stopped }
     {
-        let outs = send_again(self.alloc, &self.boot, &self.nodes, m)?;
+        let empty = emptied(self.alloc, &mut self.outs);
+        let outs = send_again(empty, &self.boot, &self.nodes, m)?;
         let lines = self.group(Step::Tick(m), outs)?;
         Ok(lines)
     }
@@ -134,7 +138,8 @@ impl World {
         ensures stopped { self.new.stopped ≡ self.old.stopped }
     {
         self.wires.mark(a, b, k);
-        let outs = receive(self.alloc, &mut self.nodes, &self.boot, b, packet)?;
+        let empty = emptied(self.alloc, &mut self.outs);
+        let outs = receive(empty, &mut self.nodes, &self.boot, b, packet)?;
         let lines = self.group(Step::Deliver { a, b, k }, outs)?;
         Ok(lines)
     }
@@ -152,7 +157,7 @@ impl World {
         Ok(lines)
     }
 
-    /// The group of a directive that comes to this: its head first.
+    /// The group of a directive that comes to this: its head first. What it comes to is kept, for its memory.
     fn group(&mut self, step: Step, outs: Vec<Out>) -> Result<Vec<Line>, NoMemory>
         requires outs { All IsSendable outs.items }
         requires groups { self.old.groups < 2 ^ 127 }
@@ -164,15 +169,27 @@ impl World {
         ensures boot { self.new.boot ≡ self.old.boot }
         ensures stopped { self.new.stopped ≡ self.old.stopped }
     {
-        let mut lines = list_of(self.alloc, [Line::Head(step)])?;
-        speak(self.alloc, &mut self.wires, outs, &mut lines)?;
+        let mut lines = with_room(self.alloc, outs.len() + 1)?;
+        push(&mut lines, Line::Head(step))?;
+        speak(self.alloc, &mut self.wires, &outs, &mut lines)?;
+        self.outs = outs;
         self.groups += 1;
         Ok(lines)
     }
 }
 
-/// Machine `m` takes a turn; what it gives.
-fn take_turn(alloc: Global, nodes: &mut [Node], boot: &Boot, m: u8) -> Result<Vec<Out>, Stop>
+/// An empty list, in the memory of the one that was kept.
+fn emptied(alloc: Global, kept: &mut Vec<Out>) -> Vec<Out>
+    ensures { result.items ≡ [] }
+{
+    let mut outs = mem::replace(kept, Vec::new(alloc));
+    outs.clear();
+    outs
+}
+
+/// Machine `m` takes a turn; what it gives, in a list that was empty.
+fn take_turn(empty: Vec<Out>, nodes: &mut [Node], boot: &Boot, m: u8) -> Result<Vec<Out>, Stop>
+    requires empty { empty.items ≡ [] }
     requires within { m < length nodes.old }
     requires nodes { AreNodes nodes.old }
     requires may { MayTurn boot.now (node_in boot.now nodes.old m) }
@@ -182,7 +199,7 @@ fn take_turn(alloc: Global, nodes: &mut [Node], boot: &Boot, m: u8) -> Result<Ve
     ensures outs { IfOk result (λ outs. All IsSendable outs.items) }
     ensures whole { OrNoMemory result (FreezesWhole (node_in boot.now nodes.old m).kernel (node_in boot.now nodes.old m).kernel.inbox) }
 {
-    let mut outs = Vec::new(alloc);
+    let mut outs = empty;
     match nodes[place_of(m)].turn(boot, &mut outs) {
         Ok(()) => Ok(outs),
         Err(stop) => Err(stop),
@@ -198,12 +215,13 @@ fn place_of(m: u8) -> usize
 
 /// Machine 0 is asked to have a process move; what it gives.
 fn ask_manager(
-    alloc: Global,
+    empty: Vec<Out>,
     nodes: &mut [Node],
     boot: &Boot,
     pid: Pid,
     to: u8,
 ) -> Result<Vec<Out>, Stop>
+    requires empty { empty.items ≡ [] }
     requires within { 0 < length nodes.old }
     requires nodes { AreNodes nodes.old }
     requires may { MayAskMove (node_in boot.now nodes.old 0) }
@@ -212,7 +230,7 @@ fn ask_manager(
     ensures answers { TurnAnswers result boot.now nodes.old nodes.new 0 (node.asks_move (node_in boot.now nodes.old 0) pid to) }
     ensures outs { IfOk result (λ outs. All IsSendable outs.items) }
 {
-    let mut outs = Vec::new(alloc);
+    let mut outs = empty;
     match nodes[0].ask_move(pid, to, &mut outs) {
         Ok(()) => Ok(outs),
         Err(stop) => Err(stop),
@@ -220,33 +238,35 @@ fn ask_manager(
 }
 
 /// What machine `m` sends again.
-fn send_again(alloc: Global, boot: &Boot, nodes: &[Node], m: u8) -> Result<Vec<Out>, NoMemory>
+fn send_again(empty: Vec<Out>, boot: &Boot, nodes: &[Node], m: u8) -> Result<Vec<Out>, NoMemory>
+    requires empty { empty.items ≡ [] }
     requires within { m < length nodes.now }
     requires nodes { AreNodes nodes.now }
     requires may { MayAct (node_in boot.now nodes.now m) }
     ensures answers { IfOk result (λ outs. ActedAt boot.now nodes.now nodes.now m outs.items (node.tick (node_in boot.now nodes.now m))) }
     ensures outs { IfOk result (λ outs. All IsSendable outs.items) }
 {
-    let mut outs = Vec::new(alloc);
+    let mut outs = empty;
     nodes[usize::from(m)].tick(&mut outs)?;
     Ok(outs)
 }
 
 /// A packet comes to machine `m`; what it gives.
 fn receive(
-    alloc: Global,
+    empty: Vec<Out>,
     nodes: &mut [Node],
     boot: &Boot,
     m: u8,
     packet: Packet,
 ) -> Result<Vec<Out>, NoMemory>
+    requires empty { empty.items ≡ [] }
     requires within { m < length nodes.old }
     requires nodes { AreNodes nodes.old }
     requires may { MayArrivePacket (node_in boot.now nodes.old m) packet }
     ensures answers { IfOk result (λ outs. ActedAt boot.now nodes.old nodes.new m outs.items (node.arrives_packet (node_in boot.now nodes.old m) packet)) }
     ensures outs { IfOk result (λ outs. All IsSendable outs.items) }
 {
-    let mut outs = Vec::new(alloc);
+    let mut outs = empty;
     nodes[usize::from(m)].arrive(packet, &mut outs)?;
     Ok(outs)
 }

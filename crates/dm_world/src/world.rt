@@ -9,7 +9,7 @@ ghost use Rattle.dm_world.specs.World.{first_world};
 
 use dm_link::MACHINES;
 use dm_memory::{NoMemory, push};
-use dm_node::Node;
+use dm_node::{Node, Out};
 use dm_onekernel::Boot;
 use dm_wire::Wire;
 use std::alloc::Global;
@@ -22,6 +22,8 @@ pub struct World {
     /// The machines of the boot file.
     pub(crate) nodes: Vec<Node>,
     pub(crate) wires: Wire,
+    /// What the last machine that acted gave, kept for its memory.
+    pub(crate) outs: Vec<Out>,
     /// How many directives there were.
     pub(crate) groups: u128,
     /// A world that stopped before the end of a directive takes no further one.
@@ -43,6 +45,7 @@ impl World {
             boot,
             nodes,
             wires: Wire::new(alloc),
+            outs: Vec::new(alloc),
             groups: 0,
             stopped: false,
         })

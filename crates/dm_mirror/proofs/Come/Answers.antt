@@ -33,12 +33,8 @@ frozen_unknown : (to : ℕ) → Frozen to ≢ Unknown
 frozen_unknown to e = cc
 
 leaves_by : (pt : Point) (l : Placed) (p : Pid) (queue held_ : List MsgId) (to : ℕ) (r : Option machine.Known) → KnownStands pt l p queue held_ (Frozen to) r → (x : Process) × (q : List Message) × (l.processes p ≡ Some (record x { queue = q })) × CanMove x
-leaves_by pt l p queue held_ to None h = absurd h
-leaves_by pt l p queue held_ to (Some (Record.Here x)) h = absurd h
 leaves_by pt l p queue held_ to (Some (Record.Frozen d)) h = (d.process, h.here.0.0, h.here.0.1, h.whole)
-leaves_by pt l p queue held_ to (Some (Record.Incoming a)) h = absurd h
-leaves_by pt l p queue held_ to (Some (Record.Forward at_ moves)) h = absurd h
-leaves_by pt l p queue held_ to (Some (Record.Ended y)) h = absurd h
+leaves_by pt l p queue held_ to _ h = absurd h
 
 -- whatever waits for it
 pub without_queue : (x : Process) → CanMove x → CanMove (record x { queue = [] })

@@ -8,8 +8,7 @@ use Rattle.dm_rule.proofs.QuietTests.{eq_is}
 -- the bytes of a status, of the links, and of what stands before them
 status_length : (size : ℕ) (s : Status) → length (spell_status size s) ≡ 1 + status_size (plain_status s)
 status_length size Status.Ready = omega arith
-status_length size (Status.Waiting mask base most) = omega arith
-status_length size (Status.Moving dir owner base own left pending) = omega arith
+status_length size _ = omega arith
 
 slot_length : (o : Option Link) → length (spell_slot o) ≡ link_size (option_map plain_link o)
 slot_length None = omega arith

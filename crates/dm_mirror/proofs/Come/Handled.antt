@@ -49,12 +49,8 @@ pub record Expects (l : Placed) (p : Pid) (held_ : List MsgId) (r : Option machi
   pub comes_ : ComesStand l p held_ arrival
 
 expects_by : (pt : Point) (l : Placed) (p : Pid) (queue held_ : List MsgId) (s : ℕ) (r : Option machine.Known) → KnownStands pt l p queue held_ (Incoming s) r → Expects l p held_ r
-expects_by pt l p queue held_ s None h = absurd h
-expects_by pt l p queue held_ s (Some (Record.Here x)) h = absurd h
-expects_by pt l p queue held_ s (Some (Record.Frozen d)) h = absurd h
 expects_by pt l p queue held_ s (Some (Record.Incoming a)) h = record { arrival = a; is = refl; comes_ = h }
-expects_by pt l p queue held_ s (Some (Record.Forward to moves)) h = absurd h
-expects_by pt l p queue held_ s (Some (Record.Ended y)) h = absurd h
+expects_by pt l p queue held_ s _ h = absurd h
 
 pub expects : (b : Boot) (m : ℕ) (pt : Point) (l : Placed) (records : AllRecords) (k : KernelState) (y : Message) (p : Pid) (c : Comes b m pt l records k y p) (a : Arrives b m pt l k y p) → is_early (kind_of y.what) ≡ false → Expects l p (pt.view.held m p) (k.records p)
 expects b m pt l records k y p c a late =

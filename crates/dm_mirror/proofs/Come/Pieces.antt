@@ -14,38 +14,31 @@ use Rattle.dm_mirror.proofs.Turning.{TurnsAt, begun}
 -- what asks for a piece, or says that all has come
 pull_between : (p : Pid) (w : Wanted) → is_between (kind_of (pull p w)) ≡ true
 pull_between p (Chunk k) = refl
-pull_between p (Block k) = refl
-pull_between p Nothing = refl
+pull_between p _ = refl
 
 pull_replies : (p : Pid) (w : Wanted) → is_of_source (kind_of (pull p w)) ≡ false
 pull_replies p (Chunk k) = refl
-pull_replies p (Block k) = refl
-pull_replies p Nothing = refl
+pull_replies p _ = refl
 
 pull_about : (p : Pid) (w : Wanted) → about_of (pull p w) ≡ Of p
 pull_about p (Chunk k) = refl
-pull_about p (Block k) = refl
-pull_about p Nothing = refl
+pull_about p _ = refl
 
 pull_plain : (p : Pid) (w : Wanted) → plain_what (pull p w) ≡ None
 pull_plain p (Chunk k) = refl
-pull_plain p (Block k) = refl
-pull_plain p Nothing = refl
+pull_plain p _ = refl
 
 pull_encloses : (p : Pid) (w : Wanted) → enclosed (pull p w) ≡ []
 pull_encloses p (Chunk k) = refl
-pull_encloses p (Block k) = refl
-pull_encloses p Nothing = refl
+pull_encloses p _ = refl
 
 pull_gives : (p : Pid) (w : Wanted) (s : OneKernel) (v : View) (a : Addresses) (i : MsgId) (q : Pid) → own_gives s v a i q (kind_of (pull p w)) ≡ goes_between v i q
 pull_gives p (Chunk k) s v a i q = refl
-pull_gives p (Block k) s v a i q = refl
-pull_gives p Nothing s v a i q = refl
+pull_gives p _ s v a i q = refl
 
 pull_carries : (p : Pid) (x : Process) (n : ℕ) (held : List Message) (w : Wanted) → x.pid ≡ p → IsAsked x n w → Carries p x n (Some (coming x None held w)) (pull x.pid w)
-pull_carries p x n held (Chunk k) named asked = (named, asked, refl)
-pull_carries p x n held (Block k) named asked = (named, asked, refl)
 pull_carries p x n held Nothing named asked = (named, refl)
+pull_carries p x n held _ named asked = (named, asked, refl)
 
 -- where other records are, a machine's room is as it was
 pub room_kept : (b : Boot) (pt : Point) (m : ℕ) (p : Pid) (box : List MsgId) (asked : Pid → ℕ) (l : Placed) (records : AllRecords) (k : KernelState) (y : Message) (c : Comes b m pt l records k y p)

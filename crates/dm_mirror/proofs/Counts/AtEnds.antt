@@ -173,12 +173,6 @@ bears_before pt mid end k g m h = record { kernel = h.kernel ∙ k; grows = grow
 bears_none : (l : Line) → bears l ≡ true → label_of l ≡ None
 bears_none (Line.Label x) e = absurd (false≢true e)
 bears_none (Line.Migration Stage.Frozen p) e = refl
-bears_none (Line.Migration Stage.Asked p) e = refl
-bears_none (Line.Migration Stage.Accepted p) e = refl
-bears_none (Line.Migration Stage.StateTaken p) e = refl
-bears_none (Line.Migration Stage.MemoryTaken p) e = refl
-bears_none (Line.Migration Stage.Left p) e = refl
-bears_none (Line.Migration Stage.Restarted p) e = refl
 bears_none _ e = refl
 
 same_kernel : (s t : OneKernel) (o : Option Label) → o ≡ None → kernel_after s o ≡ Some t → t ≡ s

@@ -184,13 +184,11 @@ net_parts [] pt w h e a c = ap (λ (q : Point). (q.view.pair a c).ids) (sym (sai
 net_parts (Says l ∷ ps) pt w h e a c =
     let k = says_next pt l ps w e in
     ap (λ (q : Point). (q.view.pair a c).ids) (sym k.point) ∙ net_parts ps (moved pt l k.s) k.rest h.1 k.more a c ∙ net_ids pt.view l h.0 a c
-net_parts (Routes i ∷ ps) pt w h e a c = absurd h.0
-net_parts (Again i b ∷ ps) pt w h e a c = absurd h.0
-net_parts (Owns k q b ∷ ps) pt w h e a c = absurd h.0
 net_parts (Transmits x y l ∷ ps) pt w h e a c =
     let k = transmits_next pt x y l ps w e in
     let p : Pair = record (pt.view.pair x y) { gone = gone_after l (pt.view.pair x y).gone; wire = (pt.view.pair x y).wire ++ record { load = l; delivered = false } ∷ [] } in
     ap (λ (q : Point). (q.view.pair a c).ids) (sym k.point) ∙ net_parts ps (moved pt (packet_line pt.view x y l) pt.kernel) k.rest h.1 k.more a c ∙ set_ids pt.view.pair x y p a c ((x == a) && (y == c)) refl refl
+net_parts _ pt w h e a c = absurd h.0
 
 ids_within : (n : ℕ) (v w : View) → ((a c : ℕ) → (w.pair a c).ids ≡ (v.pair a c).ids) → PairsWithin n v → PairsWithin n w
 ids_within n v w same h = λ a c some. h a c (let e = ap (λ (ids : List MsgId). length ids) (same a c) in omega (arith, some, e))

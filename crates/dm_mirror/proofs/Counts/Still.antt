@@ -8,22 +8,12 @@ abbrev pub is_free : Line → Bool
 is_free (Line.Migration Stage.Accepted p) = false
 is_free (Line.Migration Stage.Left p) = false
 is_free (Line.Migration Stage.Restarted p) = false
-is_free (Line.Migration Stage.Frozen p) = true
-is_free (Line.Migration Stage.Asked p) = true
-is_free (Line.Migration Stage.StateTaken p) = true
-is_free (Line.Migration Stage.MemoryTaken p) = true
 is_free _ = true
 
 -- no step of the kernel, and no process has moved
 abbrev pub bears : Line → Bool
 bears (Line.Label x) = false
 bears (Line.Migration Stage.Restarted p) = false
-bears (Line.Migration Stage.Frozen p) = true
-bears (Line.Migration Stage.Asked p) = true
-bears (Line.Migration Stage.Accepted p) = true
-bears (Line.Migration Stage.StateTaken p) = true
-bears (Line.Migration Stage.MemoryTaken p) = true
-bears (Line.Migration Stage.Left p) = true
 bears _ = true
 
 pub record Still (v w : View) : Type 0 where

@@ -48,9 +48,6 @@ says_same pt next l is e =
 
 pub net_same : (ps : List Part) (pt : Point) (w : Spelled) → IsNet ps → spelled pt ps ≡ Some w → Same pt w.point
 net_same [] pt w h e = let f : record { lines = []; point = pt } ≡ w = cc in subst (λ (x : Spelled). Same pt x.point) f (record { kernel = refl; count = refl })
-net_same (Part.Routes i ∷ ps) pt w h e = absurd h.0
-net_same (Part.Again i b ∷ ps) pt w h e = absurd h.0
-net_same (Part.Owns k q b ∷ ps) pt w h e = absurd h.0
 net_same (Part.Says l ∷ ps) pt w h e =
     let (next, comes, last) = bind-is (after pt (l ∷ [])) (λ next. bind (spelled next ps) (λ rest. Some (behind (l ∷ []) rest))) w e in
     let (rest, told, end) = bind-is (spelled next ps) (λ rest. Some (behind (l ∷ []) rest)) w last in
@@ -61,6 +58,7 @@ net_same (Part.Transmits a b x ∷ ps) pt w h e =
     let (rest, told, end) = bind-is (spelled (moved pt l pt.kernel) ps) (λ rest. Some (behind (l ∷ []) rest)) w e in
     let f : behind (l ∷ []) rest ≡ w = cc in
     subst (λ (x : Spelled). Same pt x.point) f (same_on pt (moved pt l pt.kernel) rest.point (record { kernel = refl; count = refl }) (net_same ps (moved pt l pt.kernel) rest h.1 told))
+net_same _ pt w h e = absurd h.0
 
 -- the machine
 takes_next_sent : (n : NodeState) (a : ℕ) (o : Option Message) (go : NodeState → Acted) → ((m : NodeState) → (go m).state.kernel.sent ≡ m.kernel.sent) → (takes_next n a o go).state.kernel.sent ≡ n.kernel.sent
@@ -83,8 +81,7 @@ lets_go_sent (suc k) n b = lets_next_sent n b (due (n.senders b)) (λ m. lets_go
 
 comes_in_sent : (n : NodeState) (a k : ℕ) (x : Arrived Message) → (comes_in n a k x).state.kernel.sent ≡ n.kernel.sent
 comes_in_sent n a k (Taken m) = takes_kept_sent window (with_message n m) a
-comes_in_sent n a k Old = refl
-comes_in_sent n a k Early = refl
+comes_in_sent n a k _ = refl
 
 pub arrives_sent : (n : NodeState) (a : ℕ) (x : Load Message) → (arrives n a x).state.kernel.sent ≡ n.kernel.sent
 arrives_sent n a (Data k m) = comes_in_sent (with_receiver n a (after_arrival (n.receivers a) k m)) a k (arrival (n.receivers a) k m)

@@ -81,8 +81,7 @@ kept_reads (suc k) n a h = next_reads n a (next (n.receivers a)) (λ m. takes_ke
 
 comes_reads : (n : NodeState) (a k : ℕ) (x : Arrived Message) → NodeReads n → NodeReads (comes_in n a k x).state
 comes_reads n a k (Taken m) h = kept_reads window (with_message n m) a h
-comes_reads n a k Old h = h
-comes_reads n a k Early h = h
+comes_reads n a k _ h = h
 
 lets_reads : (n : NodeState) (b : ℕ) (o : Option (ℕ × Message)) (go : NodeState → Acted) → due (n.senders b) ≡ o → NodeReads n → ((s : NodeState) → NodeReads s → AreReadBack (go s).outs → NodeReads (go s).state) → AreReadBack (lets_next n b o go).outs → NodeReads (lets_next n b o go).state
 lets_reads n b None go is h k read = h

@@ -19,8 +19,7 @@ links_same a p k (o ∷ ls) leads =
 -- a process, as the plain one and the addresses say
 doing_same : (s : Status) → world.doing_of s ≡ rule.doing_of (plain_status s)
 doing_same Status.Ready = refl
-doing_same (Status.Waiting mask base size) = refl
-doing_same (Status.Moving dir owner base own left pending) = refl
+doing_same _ = refl
 
 pub alive_same : (a : Addresses) (m : ℕ) (p : Pid) (s : Standing) (x : Process) → ((k : ℕ) (w : Link) → link_at x.table k ≡ Some w → a (Slot p k) ≡ place_of w.addr)
     → world.alive_lines m p s x ≡ rule.alive_lines a p (plain_process x) (Some (record { at = m; standing = s }))

@@ -123,9 +123,8 @@ over_machine b w pt l h p a g =
     (subst (λ (k : Known). KnownStands pt l p (pt.view.queue a.at p) (pt.view.held a.at p) k ((w.nodes a.at).kernel.records p)) a.known (knows_ b w pt l h p a.at g (within_over b pt p a g.run)))
 
 ended_is : (o : Option Life) (y : Why) → kernel.ended o ≡ Some y → o ≡ Some (Life.Ended y)
-ended_is None y e = cc
-ended_is (Some (Alive z)) y e = cc
 ended_is (Some (Life.Ended z)) y e = ap (λ (x : Why). Some (Life.Ended x)) (some_same z y e)
+ended_is _ y e = cc
 
 over_said : (b : Boot) (w : WorldState) (pt : Point) (l : Placed) (h : History) (p : Pid) (a : OverAt pt.view p) → IsOfHome b w pt l h p → world.process_lines pt.kernel.machines w p ≡ rule.process_lines pt p (pt.kernel.processes p)
 over_said b w pt l h p a g =

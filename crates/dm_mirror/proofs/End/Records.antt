@@ -115,12 +115,8 @@ pub record HasEnded (pt : Point) (p : Pid) (r : Option machine.Known) : Type 0 w
   pub due : kernel.ended (pt.kernel.processes p) ≡ Some why
 
 pub has_ended : (pt : Point) (l : Placed) (p : Pid) (q held : List MsgId) (r : Option machine.Known) → KnownStands pt l p q held Ended r → HasEnded pt p r
-has_ended pt l p q held None h = absurd h
-has_ended pt l p q held (Some (Record.Here x)) h = absurd h
-has_ended pt l p q held (Some (Record.Frozen x)) h = absurd h
-has_ended pt l p q held (Some (Record.Incoming x)) h = absurd h
-has_ended pt l p q held (Some (Record.Forward x y)) h = absurd h
 has_ended pt l p q held (Some (Record.Ended x)) h = record { why = x; is = refl; due = h }
+has_ended pt l p q held _ h = absurd h
 
 -- a machine that it comes to
 pub record IsComing (l : Placed) (p : Pid) (held : List MsgId) (r : Option machine.Known) : Type 0 where
@@ -129,12 +125,8 @@ pub record IsComing (l : Placed) (p : Pid) (held : List MsgId) (r : Option machi
   pub comes : ComesStand l p held arrival
 
 pub is_coming : (pt : Point) (l : Placed) (p : Pid) (q held : List MsgId) (from : ℕ) (r : Option machine.Known) → KnownStands pt l p q held (Incoming from) r → IsComing l p held r
-is_coming pt l p q held from None h = absurd h
-is_coming pt l p q held from (Some (Record.Here x)) h = absurd h
-is_coming pt l p q held from (Some (Record.Frozen x)) h = absurd h
 is_coming pt l p q held from (Some (Record.Incoming x)) h = record { arrival = x; is = refl; comes = h }
-is_coming pt l p q held from (Some (Record.Forward x y)) h = absurd h
-is_coming pt l p q held from (Some (Record.Ended x)) h = absurd h
+is_coming pt l p q held from _ h = absurd h
 
 -- the message that lets a process restart tells that all of it has come
 pub restart_wants : (p : Pid) (x : Process) (n : ℕ) (o : Option Arrival) (w : What) → kind_of w ≡ MessageKind.Restart → Carries p x n o w → Wants o Nothing
@@ -161,38 +153,26 @@ come_all l p held a c wanted =
 -- the messages that are held
 pub held_said : (pt : Point) (l : Placed) (p : Pid) (q held : List MsgId) (k : Known) (r : Option machine.Known) → ((i : MsgId) (m : Message) → l.bag i ≡ Some m → m.id ≡ i) → (has_nothing_held k ≡ true → held ≡ []) → KnownStands pt l p q held k r → names_of (held_for r) ≡ held
 held_said pt l p q held Unknown None named none h = sym (none refl)
-held_said pt l p q held Unknown (Some (Record.Here x)) named none h = absurd h
-held_said pt l p q held Unknown (Some (Record.Frozen x)) named none h = absurd h
-held_said pt l p q held Unknown (Some (Record.Incoming x)) named none h = absurd h
 held_said pt l p q held Unknown (Some (Record.Forward x y)) named none h = absurd h
 held_said pt l p q held Unknown (Some (Record.Ended x)) named none h = absurd h
 held_said pt l p q held Here None named none h = absurd h
 held_said pt l p q held Here (Some (Record.Here x)) named none h = sym (none refl)
-held_said pt l p q held Here (Some (Record.Frozen x)) named none h = absurd h
-held_said pt l p q held Here (Some (Record.Incoming x)) named none h = absurd h
 held_said pt l p q held Here (Some (Record.Forward x y)) named none h = absurd h
 held_said pt l p q held Here (Some (Record.Ended x)) named none h = absurd h
 held_said pt l p q held (Frozen to) None named none h = absurd h
-held_said pt l p q held (Frozen to) (Some (Record.Here x)) named none h = absurd h
 held_said pt l p q held (Frozen to) (Some (Record.Frozen x)) named none h = names_are l.bag held x.held named h.held
-held_said pt l p q held (Frozen to) (Some (Record.Incoming x)) named none h = absurd h
 held_said pt l p q held (Frozen to) (Some (Record.Forward x y)) named none h = absurd h
 held_said pt l p q held (Frozen to) (Some (Record.Ended x)) named none h = absurd h
 held_said pt l p q held (Incoming from) None named none h = absurd h
-held_said pt l p q held (Incoming from) (Some (Record.Here x)) named none h = absurd h
-held_said pt l p q held (Incoming from) (Some (Record.Frozen x)) named none h = absurd h
 held_said pt l p q held (Incoming from) (Some (Record.Incoming x)) named none h = names_are l.bag held x.held named h.held
 held_said pt l p q held (Incoming from) (Some (Record.Forward x y)) named none h = absurd h
 held_said pt l p q held (Incoming from) (Some (Record.Ended x)) named none h = absurd h
 held_said pt l p q held (Forward at moves) None named none h = absurd h
-held_said pt l p q held (Forward at moves) (Some (Record.Here x)) named none h = absurd h
-held_said pt l p q held (Forward at moves) (Some (Record.Frozen x)) named none h = absurd h
-held_said pt l p q held (Forward at moves) (Some (Record.Incoming x)) named none h = absurd h
 held_said pt l p q held (Forward at moves) (Some (Record.Forward x y)) named none h = sym (none refl)
 held_said pt l p q held (Forward at moves) (Some (Record.Ended x)) named none h = absurd h
 held_said pt l p q held Ended None named none h = absurd h
-held_said pt l p q held Ended (Some (Record.Here x)) named none h = absurd h
-held_said pt l p q held Ended (Some (Record.Frozen x)) named none h = absurd h
-held_said pt l p q held Ended (Some (Record.Incoming x)) named none h = absurd h
 held_said pt l p q held Ended (Some (Record.Forward x y)) named none h = absurd h
 held_said pt l p q held Ended (Some (Record.Ended x)) named none h = sym (none refl)
+held_said pt l p q held _ (Some (Record.Here x)) named none h = absurd h
+held_said pt l p q held _ (Some (Record.Frozen x)) named none h = absurd h
+held_said pt l p q held _ (Some (Record.Incoming x)) named none h = absurd h

@@ -96,9 +96,8 @@ pub record Gone (l : Placed) (p : Pid) (r : Option machine.Known) : Type 0 where
   pub none : l.processes p ≡ None
 
 not_alive : (o : Option Life) (y : Why) → kernel.ended o ≡ Some y → kernel.alive o ≡ None
-not_alive None y e = refl
 not_alive (Some (Life.Alive x)) y e = cc
-not_alive (Some (Life.Ended because)) y e = refl
+not_alive _ y e = refl
 
 gone_of : (pt : Point) (l : Placed) (p : Pid) (queue held_ : List MsgId) (r : Option machine.Known) → Mirrors pt.kernel pt.view pt.addresses l → KnownStands pt l p queue held_ Ended r → Gone l p r
 gone_of pt l p queue held_ (Some (Record.Ended y)) mirrors h = record { because = y; is = refl; none = no_process (l.processes p) (sym (mirrors.plain.processes p) ∙ not_alive (pt.kernel.processes p) y h) }

@@ -90,8 +90,7 @@ lands_if here p x false dir owner base own left w u c is pid e = cc
 
 lands_of : (here : ℕ) (p : Pid) (x : Process) (m : Message) (u : PlainWhat) (st : Status) (c : pieces.Landed) → plain_what m.what ≡ Some u → x.pid ≡ p → pieces.lands p (plain_process x) (plainly m u) (plain_status st) ≡ Some c → Lands p x (landing.landing here x m.what st) c
 lands_of here p x m u (Status.Moving dir owner base own left pending) c is pid e = lands_if here p x (m.id.n == pending) dir owner base own left m.what u c is pid e
-lands_of here p x m u Status.Ready c is pid e = cc
-lands_of here p x m u (Status.Waiting mask base size) c is pid e = cc
+lands_of here p x m u _ c is pid e = cc
 
 -- a number that its sender doesn't count yet
 own_fresh : (b : Boot) (m : ℕ) (pt : Point) (l : Placed) (k : KernelState) (y : Message) (w : PlainWhat) (c : Taking b m pt l k y w) (p : Pid) (z : PlainProcess) → pt.kernel.processes p ≡ Some (Alive z) → pt.kernel.bag (id_of p z.sent) ≡ None

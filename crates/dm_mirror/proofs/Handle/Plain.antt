@@ -45,11 +45,7 @@ requests_plain g (operation ∷ machine ∷ high ∷ low ∷ []) ls = requests_i
     requests_if : (c : Bool) → IsPlain (if c then manage.wants_child g machine (256 * high + low) ls else manage.bad_request g ls).message
     requests_if true = wants_plain g machine (256 * high + low) ls
     requests_if false = bad_plain g ls
-requests_plain g [] ls = bad_plain g ls
-requests_plain g (a ∷ []) ls = bad_plain g ls
-requests_plain g (a ∷ c ∷ []) ls = bad_plain g ls
-requests_plain g (a ∷ c ∷ d ∷ []) ls = bad_plain g ls
-requests_plain g (a ∷ c ∷ d ∷ e ∷ f ∷ rest) ls = bad_plain g ls
+requests_plain g _ ls = bad_plain g ls
 
 control_plain : (g : Managing) (child : Addr) (o : Option What) (ls : List Link) → ((w : What) → o ≡ Some w → is_some (plain_what w) ≡ true) → IsPlain (manage.controls_child g child o ls).message
 control_plain g child None ls h = bad_plain g ls
@@ -71,8 +67,7 @@ control_of_plain operation w e = by (operation == 2) (operation == 3) (operation
 controls_plain : (g : Managing) (o : Option Addr) (body : List ℕ) (ls : List Link) → IsPlain (manage.controls g o body ls).message
 controls_plain g (Some child) (operation ∷ []) ls = control_plain g child (manage.control_of operation) ls (control_of_plain operation)
 controls_plain g None body ls = bad_plain g ls
-controls_plain g (Some child) [] ls = bad_plain g ls
-controls_plain g (Some child) (a ∷ c ∷ rest) ls = bad_plain g ls
+controls_plain g (Some child) _ ls = bad_plain g ls
 
 pub user_plain : (g : Managing) (code : ℕ) (body : List ℕ) (ls : List Link) → IsPlain (manage.takes_user g code body ls).message
 user_plain g code body ls = user_if (code == 0)

@@ -37,11 +37,7 @@ pub record IsHere (l : Placed) (p : Pid) (queue : List MsgId) (r : Option machin
 
 pub here_is : (pt : Point) (l : Placed) (p : Pid) (queue held : List MsgId) (r : Option machine.Known) → KnownStands pt l p queue held Here r → IsHere l p queue r
 here_is pt l p queue held (Some (Record.Here x)) h = record { process = x; is = refl; stands = h }
-here_is pt l p queue held None h = absurd h
-here_is pt l p queue held (Some (Record.Frozen d)) h = absurd h
-here_is pt l p queue held (Some (Record.Incoming a)) h = absurd h
-here_is pt l p queue held (Some (Record.Forward to count)) h = absurd h
-here_is pt l p queue held (Some (Record.Ended y)) h = absurd h
+here_is pt l p queue held _ h = absurd h
 
 pub record IsLeaving (l : Placed) (p : Pid) (queue held : List MsgId) (to : ℕ) (r : Option machine.Known) : Type 0 where
   pub departure : Departure
@@ -50,11 +46,7 @@ pub record IsLeaving (l : Placed) (p : Pid) (queue held : List MsgId) (to : ℕ)
 
 pub leaving_is : (pt : Point) (l : Placed) (p : Pid) (queue held : List MsgId) (to : ℕ) (r : Option machine.Known) → KnownStands pt l p queue held (Frozen to) r → IsLeaving l p queue held to r
 leaving_is pt l p queue held to (Some (Record.Frozen d)) h = record { departure = d; is = refl; stands = h }
-leaving_is pt l p queue held to None h = absurd h
-leaving_is pt l p queue held to (Some (Record.Here x)) h = absurd h
-leaving_is pt l p queue held to (Some (Record.Incoming a)) h = absurd h
-leaving_is pt l p queue held to (Some (Record.Forward at count)) h = absurd h
-leaving_is pt l p queue held to (Some (Record.Ended y)) h = absurd h
+leaving_is pt l p queue held to _ h = absurd h
 
 -- another kernel of machine m for another point, where only process p may have changed
 pub record SetsOne (pt next : Point) (l placed : Placed) (m : ℕ) (k s : KernelState) (p : Pid) : Type 0 where

@@ -39,9 +39,8 @@ room_released t given o n blocks h slots pieces =
     record { slots = h.slots; blocks = h.blocks; taken_slots = omega (arith, a, slots); taken_blocks = omega (arith, c, pieces) }
 
 life_some : (o : Option Life) (x : PlainProcess) → kernel.alive o ≡ Some x → is_some o ≡ true
-life_some None x e = cc
 life_some (Some (Alive y)) x e = refl
-life_some (Some (Ended why)) x e = cc
+life_some _ x e = cc
 
 -- spots of other machines and of other processes
 elsewhere_queue : (m : ℕ) (p : Pid) (z : Spot) → is_elsewhere m z ≡ true → z ≢ Queue m p

@@ -41,10 +41,8 @@ numbered : (p : Pid) → first_number ≤ p.num → (k : ℕ) × (p.num ≡ firs
 numbered p least = minus p.num least
   where
     minus : (n : ℕ) → first_number ≤ n → (k : ℕ) × (n ≡ first_number + k)
-    minus zero le = absurd (omega (arith, le))
-    minus (suc zero) le = absurd (omega (arith, le))
-    minus (suc (suc zero)) le = absurd (omega (arith, le))
     minus (suc (suc (suc k))) le = (k, omega arith)
+    minus _ le = absurd (omega (arith, le))
 
 pub taken_within : (pt : Point) (m : ℕ) (p : Pid) → MadeStands pt.kernel → is_some (pt.kernel.processes p) ≡ true
     → ((taken_by pt m p).slots ≤ (taken_at pt m pt.kernel.machines).slots) × ((taken_by pt m p).blocks ≤ (taken_at pt m pt.kernel.machines).blocks)
@@ -69,11 +67,7 @@ pub record HereSo (pt : Point) (l : Placed) (m : ℕ) (p : Pid) (x : Process) : 
 
 here_of : (pt : Point) (l : Placed) (p : Pid) (ids held_ : List MsgId) (k : Known) (x : Process) → KnownStands pt l p ids held_ k (Some (Record.Here x)) → (k ≡ Known.Here) × ((q : List Message) × (l.processes p ≡ Some (record x { queue = q })))
 here_of pt l p ids held_ Known.Here x h = (refl, h.0)
-here_of pt l p ids held_ Known.Unknown x h = absurd h
-here_of pt l p ids held_ (Known.Frozen to) x h = absurd h
-here_of pt l p ids held_ (Known.Incoming from) x h = absurd h
-here_of pt l p ids held_ (Known.Forward at moves) x h = absurd h
-here_of pt l p ids held_ Known.Ended x h = absurd h
+here_of pt l p ids held_ _ x h = absurd h
 
 -- what a process of the kernel with places is without them
 pub life_is : (pt : Point) (l : Placed) (p : Pid) (x : Process) → Mirrors pt.kernel pt.view pt.addresses l → l.processes p ≡ Some x → pt.kernel.processes p ≡ Some (Alive (plain_process x))

@@ -79,10 +79,9 @@ own_row b pt l m k i x (Some (Record.Here y)) mirrors h counts sent f num server
     let moves = (mirrors.places.process p (record y { queue = so.queue }) so.there).moves in
     let few = counts.moves p in
     own_here k x y p x.what f.sort num (omega (arith, moves, few)) sent
-own_row b pt l m k i x (Some (Record.Frozen leaving)) mirrors h counts sent f num server is = tt
-own_row b pt l m k i x (Some (Record.Incoming arriving)) mirrors h counts sent f num server is = tt
 own_row b pt l m k i x (Some (Record.Forward place moves)) mirrors h counts sent f num server is = sent
 own_row b pt l m k i x (Some (Record.Ended y)) mirrors h counts sent f num server is = own_ended x.to.pid x.what f.sort num
+own_row b pt l m k i x _ mirrors h counts sent f num server is = tt
 
 pub own_process : (b : Boot) (pt : Point) (l : Placed) (m : ℕ) (k : KernelState) (i : MsgId) (x : Message) → Mirrors pt.kernel pt.view pt.addresses l → KernelStands b pt l m k → CountsFew pt → k.sent < 4294967295 → OwnFront pt l m i x
     → (x.to.pid.num == 0) ≡ false → is_server x.to.pid ≡ false → FitsKnown k x (k.records x.to.pid)

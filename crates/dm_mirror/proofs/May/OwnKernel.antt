@@ -82,11 +82,7 @@ pub record Leaves (pt : Point) (l : Placed) (n : ℕ) (k : KernelState) (p : Pid
 
 leaving : (pt : Point) (l : Placed) (n : ℕ) (k : KernelState) (p : Pid) (to : ℕ) (o : Option machine.Known) → pt.view.known n p ≡ Frozen to → k.records p ≡ o → KnownStands pt l p (pt.view.queue n p) (pt.view.held n p) (Frozen to) o → Leaves pt l n k p
 leaving pt l n k p to (Some (Record.Frozen d)) known is h = record { to = to; known = known; departure = d; is = is; stands = h }
-leaving pt l n k p to None known is h = absurd h
-leaving pt l n k p to (Some (Record.Here y)) known is h = absurd h
-leaving pt l n k p to (Some (Record.Incoming a)) known is h = absurd h
-leaving pt l n k p to (Some (Record.Forward at_ moves)) known is h = absurd h
-leaving pt l n k p to (Some (Record.Ended y)) known is h = absurd h
+leaving pt l n k p to _ known is h = absurd h
 
 pub leaves_at : (b : Boot) (pt : Point) (l : Placed) (n : ℕ) (k : KernelState) (p : Pid) (to : ℕ) → Run b pt → KernelStands b pt l n k → pt.view.known n p ≡ Frozen to → Leaves pt l n k p
 leaves_at b pt l n k p to run h known =
@@ -100,11 +96,7 @@ pub record Comes (pt : Point) (l : Placed) (n : ℕ) (k : KernelState) (p : Pid)
 
 coming_to : (pt : Point) (l : Placed) (n : ℕ) (k : KernelState) (p : Pid) (from : ℕ) (o : Option machine.Known) → k.records p ≡ o → KnownStands pt l p (pt.view.queue n p) (pt.view.held n p) (Incoming from) o → Comes pt l n k p
 coming_to pt l n k p from (Some (Record.Incoming a)) is h = record { arrival = a; is = is; stands = h }
-coming_to pt l n k p from None is h = absurd h
-coming_to pt l n k p from (Some (Record.Here y)) is h = absurd h
-coming_to pt l n k p from (Some (Record.Frozen d)) is h = absurd h
-coming_to pt l n k p from (Some (Record.Forward at_ moves)) is h = absurd h
-coming_to pt l n k p from (Some (Record.Ended y)) is h = absurd h
+coming_to pt l n k p from _ is h = absurd h
 
 pub comes_at : (b : Boot) (pt : Point) (l : Placed) (n : ℕ) (k : KernelState) (p : Pid) (from : ℕ) → Run b pt → KernelStands b pt l n k → pt.view.known n p ≡ Incoming from → Comes pt l n k p
 comes_at b pt l n k p from run h known =

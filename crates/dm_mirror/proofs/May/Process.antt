@@ -14,12 +14,11 @@ within_memory n x o is e = let f : has_bytes n (Some (Alive (plain_process x))) 
 
 -- the answer that the process waits for
 awaited_by : (st : Status) (n : ℕ) (x : Message) (w : PlainWhat) → x.id.n ≡ n → plain_what x.what ≡ Some w → status_awaits (plain_status st) n w ≡ true → ((dir : Direction) (left : ℕ) → piece_fits dir left w ≡ true → IsAnswerOf dir left x.what) → IsAwaited st x
-awaited_by Status.Ready n x w id e f answer = absurd (false≢true f)
-awaited_by (Status.Waiting mask base size) n x w id e f answer = absurd (false≢true f)
 awaited_by (Status.Moving dir owner base own left pending) n x w id e f answer =
     let k = both (n == pending) (piece_fits dir left w) f in
     let number = k.0 in
     (id ∙ (let g : n ≡ pending = grind (arith, nat_tests) in g), answer dir left k.1)
+awaited_by _ n x w id e f answer = absurd (false≢true f)
 
 block_answer : (x : Message) (bytes : List ℕ) → plain_what x.what ≡ Some (PlainWhat.Block bytes) → (dir : Direction) (left : ℕ) → piece_fits dir left (PlainWhat.Block bytes) ≡ true → IsAnswerOf dir left x.what
 block_answer x bytes e Direction.FromArea left f =
@@ -97,10 +96,9 @@ process_row b pt l m k i x p None mirrors h sent f num other server is =
 process_row b pt l m k i x p (Some (Record.Here y)) mirrors h sent f num other server is =
     let so = here_so b pt l m k p.to y mirrors h server is in
     here_row k pt y i x p p.what f.what_is f.fits so.life f.id num other
-process_row b pt l m k i x p (Some (Record.Frozen leaving)) mirrors h sent f num other server is = tt
-process_row b pt l m k i x p (Some (Record.Incoming arriving)) mirrors h sent f num other server is = tt
 process_row b pt l m k i x p (Some (Record.Forward place moves)) mirrors h sent f num other server is = sent
 process_row b pt l m k i x p (Some (Record.Ended y)) mirrors h sent f num other server is = ended_row pt i x p p.what f.what_is f.fits num other
+process_row b pt l m k i x p _ mirrors h sent f num other server is = tt
 
 pub for_process : (b : Boot) (pt : Point) (l : Placed) (m : ℕ) (k : KernelState) (i : MsgId) (x : Message) (p : PlainMessage) → Mirrors pt.kernel pt.view pt.addresses l → KernelStands b pt l m k → k.sent < 4294967295 → FrontSo pt m i x p
     → (p.to.num == 0) ≡ false → pid_eq p.to manager ≡ false → is_server p.to ≡ false → FitsKnown k x (k.records p.to)

@@ -1,7 +1,7 @@
 -- The line of a process that leaves, said before the messages that go on are routed: their lines are the same, and lead to the
 -- same.
 use Rattle.dm_mirror.proofs.Names.{◌≡◌, ℕ, Bool, true, false, refl, sym, length, Some, Pid, Message, MsgId, MessageKind, Line, Load, Stage, kind_of, OneKernel, Addresses, first_gives, given, own_gives, Point, moved, at_id, About, Of, View}
-use Rattle.dm_mirror.proofs.Names.{after_put, first_told}
+use Rattle.dm_mirror.proofs.Names.{after_put, first_told, Sort, sort_of, own_given}
 use Rattle.dm_rule.specs.Parts as rule
 use Rattle.dm_mirror.proofs.Turning.{Route, First, On, Own, Late, Nothing, Leaves, LateTopic, late_point, rule_part_of}
 use Rattle.dm_mirror.proofs.Putting.{lines_put, put_end, put_point}
@@ -10,8 +10,7 @@ use Rattle.dm_mirror.proofs.Putting.{lines_put, put_end, put_point}
 pub late_part : (q : Point) (late : Late) (r : Route) → rule.lines_of (late_point q late) (rule_part_of r) ≡ rule.lines_of q (rule_part_of r)
 late_part q Nothing r = refl
 late_part q (Leaves p y) (First x) = refl
-late_part q (Leaves p y) (On x) = refl
-late_part q (Leaves p y) (Own x) = refl
+late_part q (Leaves p y) _ = refl
 
 pub late_lines : (q : Point) (late : Late) (m c : ℕ) (x : Message) (home out : Bool) → lines_put (late_point q late) m c x home out ≡ lines_put q m c x home out
 late_lines q Nothing m c x home out = refl
@@ -22,19 +21,14 @@ late_pair q Nothing = refl
 late_pair q (Leaves p y) = refl
 
 -- what is given to a kernel's own message is by the machine that acts
+own_given_same : (s : OneKernel) (v u : View) (a : Addresses) (id : MsgId) (q : Pid) (w : Sort) → u.acting ≡ v.acting → own_given s u a id q w ≡ own_given s v a id q w
+own_given_same s v u a id q Sort.Request e = λ i. own_given s (record v { acting = e i }) a id q Sort.Request
+own_given_same s v u a id q (Sort.Between passage) e = λ i. own_given s (record v { acting = e i }) a id q Sort.Unsent
+own_given_same s v u a id q Sort.Unsent e = λ i. own_given s (record v { acting = e i }) a id q Sort.Unsent
+own_given_same s v u a id q _ e = refl
+
 pub own_gives_same : (s : OneKernel) (v u : View) (a : Addresses) (id : MsgId) (q : Pid) (k : MessageKind) → u.acting ≡ v.acting → own_gives s u a id q k ≡ own_gives s v a id q k
-own_gives_same s v u a id q MessageKind.Migrate e = λ i. own_gives s (record v { acting = e i }) a id q MessageKind.Migrate
-own_gives_same s v u a id q MessageKind.Ask e = λ i. own_gives s (record v { acting = e i }) a id q MessageKind.Ask
-own_gives_same s v u a id q MessageKind.Refuse e = λ i. own_gives s (record v { acting = e i }) a id q MessageKind.Ask
-own_gives_same s v u a id q MessageKind.PullState e = λ i. own_gives s (record v { acting = e i }) a id q MessageKind.Ask
-own_gives_same s v u a id q MessageKind.State e = λ i. own_gives s (record v { acting = e i }) a id q MessageKind.Ask
-own_gives_same s v u a id q MessageKind.PullBlock e = λ i. own_gives s (record v { acting = e i }) a id q MessageKind.Ask
-own_gives_same s v u a id q MessageKind.Memory e = λ i. own_gives s (record v { acting = e i }) a id q MessageKind.Ask
-own_gives_same s v u a id q MessageKind.AllTaken e = λ i. own_gives s (record v { acting = e i }) a id q MessageKind.Ask
-own_gives_same s v u a id q MessageKind.Restart e = λ i. own_gives s (record v { acting = e i }) a id q MessageKind.Ask
-own_gives_same s v u a id q MessageKind.CallOff e = λ i. own_gives s (record v { acting = e i }) a id q MessageKind.Ask
-own_gives_same s v u a id q MessageKind.Bury e = λ i. own_gives s (record v { acting = e i }) a id q MessageKind.Ask
-own_gives_same s v u a id q _ e = refl
+own_gives_same s v u a id q k e = own_given_same s v u a id q (sort_of k) e
 
 -- a put, where the message is told to be about this
 abbrev put_about : Point → ℕ → ℕ → Message → About → Addresses → Point

@@ -83,8 +83,7 @@ pair_place m c false = refl
 
 sayable : (r : Route) → Sayable (rule_part_of r)
 sayable (First x) = tt
-sayable (On x) = tt
-sayable (Own x) = tt
+sayable _ = tt
 
 pub late_count : (q : Point) (late : Late) → (late_point q late).view.count ≡ q.view.count
 late_count q Nothing = refl

@@ -13,9 +13,8 @@ pub use Rattle.dm_rulelaws.proofs.Based.Queues.{told_kept as told_stays}
 
 -- the kernel with places behind it
 abbrev pub after_route : Placed → Route → Placed
-after_route l (First x) = l
-after_route l (On x) = l
 after_route l (Own x) = with_message l x.id (Some x)
+after_route l _ = l
 
 bag_here : (l : Placed) (x : Message) → (with_message l x.id (Some x)).bag x.id ≡ Some x
 bag_here l x = ap (λ (c : Bool). if c then Some x else l.bag x.id) (id_eq-same x.id)
@@ -33,14 +32,12 @@ bag_kept l x none i y e = elim (cases_Bool (id_eq x.id i)) [
 ]
 
 pub route_more : (pt : Point) (l : Placed) (records : AllRecords) (r : Route) → MayPut pt l records r → MoreBag l (after_route l r)
-route_more pt l records (First x) may = same_bag l
-route_more pt l records (On x) may = same_bag l
 route_more pt l records (Own x) may = record { bag = bag_kept l x may.bag; processes = λ p. refl; board = refl; manager = refl }
+route_more pt l records _ may = same_bag l
 
 pub route_there : (pt : Point) (l : Placed) (records : AllRecords) (r : Route) → MayPut pt l records r → (after_route l r).bag (message_of r).id ≡ Some (message_of r)
-route_there pt l records (First x) may = may.0
-route_there pt l records (On x) may = may.0
 route_there pt l records (Own x) may = bag_here l x
+route_there pt l records _ may = may.0
 
 -- a message that isn't the kernel's own gets no addresses
 pub route_keeps : (pt : Point) (l : Placed) (records : AllRecords) (m : ℕ) (r : Route) → turning.is_own r ≡ 0 → MayPut pt l records r → Mirrors pt.kernel pt.view pt.addresses l → KeepsPlaces pt (line_put m (message_of r).to.at (message_of r))

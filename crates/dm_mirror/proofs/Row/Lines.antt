@@ -48,9 +48,7 @@ handled_fewer v i j _ = omega arith
 dropped_fewer : (v : View) (i : MsgId) (o : Option Pid) → Fewer v (dropped_for v i o)
 dropped_fewer v i None j z = omega arith
 dropped_fewer v i (Some p) j (Queue m q) = record_fewer v.queue v.acting p (without_front i (v.queue v.acting p)) j (front_fewer i j (v.queue v.acting p)) m q
-dropped_fewer v i (Some p) j (Held m q) = omega arith
-dropped_fewer v i (Some p) j (Inbox m) = omega arith
-dropped_fewer v i (Some p) j (Untaken a b) = omega arith
+dropped_fewer v i (Some p) j _ = omega arith
 
 serving_fewer : (v : View) (p : Pid) → Fewer v (view.serving v p)
 serving_fewer v p j (Queue m q) = omega arith

@@ -117,9 +117,8 @@ some_same None = refl
 some_same (Some m) = refl
 
 status_same : (s : OneKernel) (l : Placed) (ids : List MsgId) (ms : List Message) (st : Status) → MirrorsKernel s l → Names l → AreMessages l.bag ids ms → rule.status_can_go s ids (plain_status st) ≡ status_is_runnable st ms
-status_same s l ids ms Status.Ready h names are = refl
 status_same s l ids ms (Status.Waiting mask base size) h names are = ap is_some (first_same s l mask ids ms h names are) ∙ some_same (first_on mask ms)
-status_same s l ids ms (Status.Moving dir owner base own left pending) h names are = refl
+status_same s l ids ms _ h names are = refl
 
 go_same : (b : Boot) (pt : Point) (l : Placed) (m : ℕ) (k : KernelState) (p : Pid) (z : PlainProcess) → MirrorsKernel pt.kernel l → Names l → pt.kernel.processes p ≡ Some (Alive z) → IsHere pt l m k p z
     → rule.can_go pt.kernel (pt.view.queue m p) (kernel.alive (pt.kernel.processes p)) ≡ turn.known_is_runnable (k.records p)
@@ -154,17 +153,12 @@ record Turns (c : Bool) (k : view.Known) : Type 0 where
 
 turns_of : (c : Bool) (k : view.Known) → 1 ≤ rings.turns_here c k → Turns c k
 turns_of true k least = absurd (omega (arith, least))
-turns_of false view.Unknown least = absurd (omega (arith, least))
 turns_of false view.Here least = record { server = refl; here = refl }
-turns_of false (view.Frozen to) least = absurd (omega (arith, least))
-turns_of false (view.Incoming from) least = absurd (omega (arith, least))
-turns_of false (view.Forward at_ moves) least = absurd (omega (arith, least))
-turns_of false view.Ended least = absurd (omega (arith, least))
+turns_of false _ least = absurd (omega (arith, least))
 
 rings_of : (pt : Point) (m : ℕ) (p : Pid) (o : Option Life) → pt.kernel.processes p ≡ o → is_server p ≡ false → pt.view.known m p ≡ view.Here → rings.agrees view.Here o ≡ true → Rings pt m p
-rings_of pt m p None e server here agree = cc
-rings_of pt m p (Some (Life.Ended y)) e server here agree = cc
 rings_of pt m p (Some (Alive z)) e server here agree = record { server = server; here = here; z = z; alive = e }
+rings_of pt m p _ e server here agree = cc
 
 pub in_ring : (pt : Point) (m : ℕ) (p : Pid) → rings.KnownStands pt.kernel pt.view → 1 ≤ rings p (pt.view.ring m) → Rings pt m p
 in_ring pt m p h least =

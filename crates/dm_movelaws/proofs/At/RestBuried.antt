@@ -10,9 +10,8 @@ abbrev pub Knows : Type 0
 Knows = ℕ → Pid → Known
 
 abbrev pub is_dead : Option Life → Bool
-is_dead None = false
-is_dead (Some (Alive x)) = false
 is_dead (Some (Life.Ended y)) = true
+is_dead _ = false
 
 -- what had ended before has ended, and has no queue
 pub record Buried (before : Knows) (s : OneKernel) (v : View) : Type 0 where
@@ -22,9 +21,8 @@ pub record Buried (before : Knows) (s : OneKernel) (v : View) : Type 0 where
 
 -- what has ended stays so
 dead_grows : (a b : Option Life) → LifeGrows a b → is_dead a ≡ true → is_dead b ≡ true
-dead_grows None b h e = absurd (false≢true e)
-dead_grows (Some (Alive x)) b h e = absurd (false≢true e)
 dead_grows (Some (Life.Ended y)) b h e = ap is_dead h
+dead_grows _ b h e = absurd (false≢true e)
 
 abbrev Dies : OneKernel → OneKernel → Type 0
 Dies s t = (q : Pid) → is_dead (s.processes q) ≡ true → is_dead (t.processes q) ≡ true
@@ -134,9 +132,8 @@ server_lives m true e = here_off e
 server_lives m false e = unknown_off e
 
 agrees_dead : (o : Option Life) → agrees Ended o ≡ true → is_dead o ≡ true
-agrees_dead None e = e
 agrees_dead (Some (Alive x)) e = e
-agrees_dead (Some (Life.Ended y)) e = e
+agrees_dead _ e = e
 
 pub dead_by : (s : OneKernel) (v : View) (n : ℕ) (q : Pid) → KnownStands s v → v.known n q ≡ Ended → is_dead (s.processes q) ≡ true
 dead_by s v n q h e = elim (cases_Bool (is_server q)) [

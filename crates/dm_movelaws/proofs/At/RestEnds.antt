@@ -2,7 +2,7 @@
 use Rattle.dm_movelaws.proofs.Names.{◌≡◌, ℕ, ◌+◌, ◌/◌, ◌==◌, Bool, true, false, List, [], ◌∷◌, ◌++◌, length, refl, ap, ◌∙◌, sym, ⊤, if◌then◌else◌, slice_get, false≢true, Option, None, Some, Pid, pid_of, pid_eq, MsgId, MessageKind, Stage}
 use Rattle.dm_movelaws.proofs.Names.{plain_kind, PlainMessage, PlainWhat, BootImage, Boot, Label, first_number, switchboard, manager, bind, PlainProcess, PlainStatus, Ready, Waiting, Moving, OneKernel, machine_of, with_machine, instruction}
 use Rattle.dm_movelaws.proofs.Names.{Line, Addresses, Sender, is_told_back, forwards_on, sends_on, kernel_told, leaves, accepts, takes_chunk, takes_block, here_told, ended_told, process_told, server_told, Part, Says, Routes, Again, Owns}
-use Rattle.dm_movelaws.proofs.Names.{Transmits, Point, Told, About, Of, Known, Unknown, Here, Frozen, Forward, Ended, is_kill, Sane}
+use Rattle.dm_movelaws.proofs.Names.{Transmits, Point, Told, About, Of, Known, Unknown, Here, Frozen, Forward, Ended, is_kill, Sane, by_hears}
 use Rattle.dm_onekernel.specs.Calls as calls
 use Rattle.dm_onekernel.specs.Pieces as pieces
 use Rattle.dm_onekernel.specs.Receiving as receiving
@@ -193,74 +193,34 @@ sends_stay : (to : ℕ) (ids : List MsgId) (ps : List Part) → AllStay ps → A
 sends_stay to [] ps h = h
 sends_stay to (i ∷ is) ps h = (tt, sends_stay to is ps h)
 
-leaves_ends : (o : Point) (a : ℕ) (id : MsgId) (p : Pid) (ids : List MsgId) (k : Known) → EndsOf o a (leaves id p ids k)
-leaves_ends o a id p ids (Frozen to) = Once (sends_stay to ids (Says (Line.Migration Stage.Left p) ∷ migrating.to_kernel MessageKind.Restart id.from.home ∷ []) (refl, (tt, tt)))
-leaves_ends o a id p ids _ = tt
-
-accepts_ends : (o : Point) (a from : ℕ) (p : Pid) (c : Bool) (slots blocks : ℕ) → Ends o a (accepts from p c slots blocks)
-accepts_ends o a from p true slots blocks = Once (tt, tt)
-accepts_ends o a from p false slots blocks = Once (tt, tt)
-
-chunk_ends : (o : Point) (a : ℕ) (id : MsgId) (p : Pid) (c : Bool) → Ends o a (takes_chunk id p c)
-chunk_ends o a id p true = Once (tt, tt)
-chunk_ends o a id p false = Once (tt, tt)
-
-block_ends : (o : Point) (a : ℕ) (id : MsgId) (p : Pid) (c : Bool) → Ends o a (takes_block id p c)
-block_ends o a id p true = Once (tt, tt)
-block_ends o a id p false = Once (tt, tt)
-
-told_ends : (o : Point) (m : ℕ) (id : MsgId) (p : Pid) (fits : Bool × ℕ × ℕ) (x : PlainProcess) (k : MessageKind) → EndsOf o m (kernel_told o m id p fits x k)
-told_ends o m id p fits x MessageKind.Ask = accepts_ends o m id.from.home p fits.0 fits.1 fits.2
-told_ends o m id p fits x MessageKind.Refuse = Once tt
-told_ends o m id p fits x MessageKind.PullState = Once (tt, tt)
-told_ends o m id p fits x MessageKind.State = chunk_ends o m id p (o.view.asked p == migrating.chunks_of x)
-told_ends o m id p fits x MessageKind.PullBlock = Once (tt, tt)
-told_ends o m id p fits x MessageKind.Memory = block_ends o m id p (o.view.asked p == migrating.pieces_of x)
-told_ends o m id p fits x MessageKind.AllTaken = leaves_ends o m id p (o.view.queue m p ++ o.view.held m p) (o.view.known m p)
-told_ends o m id p fits x MessageKind.Restart = Once tt
-told_ends o m id p fits x _ = tt
-
-hears_kernel_ends : (b : Boot) (o : Point) (m : ℕ) (id : MsgId) (k : MessageKind) (a : About) → EndsOf o m (rule.kernel_hears b o m id k a)
-hears_kernel_ends b o m id k (Of p) =
-    of_bind o m (kernel.alive (o.kernel.processes p)) (λ x. kernel_told o m id p (rule.fits (rule.free_room b o m) (length x.memory / 256)) x k)
-    (λ x is. told_ends o m id p (rule.fits (rule.free_room b o m) (length x.memory / 256)) x k)
-hears_kernel_ends b o m id k _ = tt
-
-moves_if : (o : Point) (a : ℕ) (id : MsgId) (p : Pid) (to : ℕ) (c : Bool)
-    → Ends o a (if c then Says (Line.Here id) ∷ [] else Says (Line.Migration Stage.Frozen p) ∷ Says (Line.Migration Stage.Asked p) ∷ migrating.to_kernel MessageKind.Ask to ∷ [])
-moves_if o a id p to true = Once tt
-moves_if o a id p to false = Once (refl, (tt, tt))
-
-here_told_ends : (o : Point) (m : ℕ) (id : MsgId) (t : Told) (k : MessageKind) → EndsOf o m (here_told o m id t k)
-here_told_ends o m id t MessageKind.Migrate = moves_if o m id t.receiver (view.target_of (Some t)) (m == view.target_of (Some t))
-here_told_ends o m id t MessageKind.Update = Once tt
-here_told_ends o m id t _ = tt
-
-server_ends : (o : Point) (m : ℕ) (id : MsgId) (t : Told) (k : MessageKind) → EndsOf o m (server_told o id t k)
-server_ends o m id t MessageKind.Update = Once tt
-server_ends o m id t _ = tt
-
-ended_told_ends : (o : Point) (m : ℕ) (id : MsgId) (k : MessageKind) → EndsOf o m (ended_told id k)
-ended_told_ends o m id MessageKind.Migrate = Once tt
-ended_told_ends o m id MessageKind.Update = Once tt
-ended_told_ends o m id _ = tt
-
-process_told_ends : (o : Point) (m : ℕ) (id : MsgId) (t : Told) (k : Known) → EndsOf o m (process_told o m id t k)
-process_told_ends o m id t Unknown = tt
-process_told_ends o m id t Here = here_told_ends o m id t t.kind
-process_told_ends o m id t (Forward at moves) = forwards_ends o m o.addresses id t.kind manager at
-process_told_ends o m id t Ended = ended_told_ends o m id t.kind
-process_told_ends o m id t _ = Once tt
+ends_of : (o : Point) (m : ℕ) (x : Option (List Part)) → ((ps : List Part) → x ≡ Some ps → Ends o m ps) → EndsOf o m x
+ends_of o m None h = tt
+ends_of o m (Some ps) h = h ps refl
 
 hears_ends : (b : Boot) (o : Point) (m : ℕ) (id : MsgId) (q : Option Told) → EndsOf o m (rule.hears b o m id q)
-hears_ends b o m id None = tt
-hears_ends b o m id (Some t) =
-    let to_server = server_told o id t t.kind in
-    let to_process = process_told o m id t (o.view.known m t.receiver) in
-    of_if o m (t.receiver.num == 0) (rule.kernel_hears b o m id t.kind t.about) (if pid_eq t.receiver switchboard then to_server else if pid_eq t.receiver manager then to_server else to_process) (λ e. hears_kernel_ends b o m id t.kind t.about)
-    (λ e. of_if o m (pid_eq t.receiver switchboard) to_server (if pid_eq t.receiver manager then to_server else to_process) (λ x. server_ends o m id t t.kind)
-    (λ x. of_if o m (pid_eq t.receiver manager) to_server to_process (λ y. server_ends o m id t t.kind)
-    (λ y. process_told_ends o m id t (o.view.known m t.receiver))))
+hears_ends b o m id q = ends_of o m (rule.hears b o m id q) (λ ps. by_hears (Ends o m) b o m id q ps (λ t is. record {
+  told = λ p x about alive. record {
+    accepted = λ ask. Once (tt, tt);
+    lacks = λ slots blocks. Once (tt, tt);
+    stays = λ kind. Once tt;
+    state = Once (tt, tt);
+    next_chunk = Once (tt, tt);
+    last_chunk = Once (tt, tt);
+    memory = Once (tt, tt);
+    next_block = Once (tt, tt);
+    last_block = Once (tt, tt);
+    left = λ ids to frozen. Once (sends_stay to ids (Says (Line.Migration Stage.Left p) ∷ migrating.to_kernel MessageKind.Restart id.from.home ∷ []) (refl, (tt, tt)));
+    restarted = λ kind. Once tt;
+  };
+  updated = λ kind. Once tt;
+  updated_none = λ kind at_. Once tt;
+  no_move = λ at_. Once tt;
+  leaving = λ to at_. Once tt;
+  coming = λ from at_. Once tt;
+  forwarded = λ to moves at_. forwards_ends o m o.addresses id t.kind manager to;
+  stays_here = λ at_. Once tt;
+  frozen = λ to at_. Once (refl, (tt, tt));
+}))
 
 comes_ends : (b : Boot) (o : Point) (m : ℕ) (id : MsgId) (q : Option PlainMessage) → o.kernel.bag id ≡ q → Sane o → ((t : Told) × (o.view.told id ≡ Some t)) → EndsOf o m (rule.comes_to b o m id q)
 comes_ends b o m id None none sane told = hears_ends b o m id (o.view.told id)

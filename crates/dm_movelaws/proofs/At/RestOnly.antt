@@ -1,7 +1,7 @@
 -- A process ends only where a group says so.
 use Rattle.dm_movelaws.proofs.Names.{◌≡◌, ℕ, ◌+◌, ◌==◌, Bool, true, false, not, filter, List, [], ◌∷◌, length, refl, ap, ◌∙◌, sym, subst, if◌then◌else◌, false≢true, Option, None, Some, Pid, pid_eq, MsgId, MessageKind, Load, plain_kind}
 use Rattle.dm_movelaws.proofs.Names.{Label, bind, bind-is, Step, Line, Stage, Addresses, Receiver, child_number, migrates, migrates_child, Part, Says, Routes, Again, Owns, Transmits, Spelled, lines_of, puts, goes_out, packet_line, behind}
-use Rattle.dm_movelaws.proofs.Names.{spelled, Point, after_line, after, at_record, View, Told, About, NothingElse, Known, Here, Frozen, Incoming, Ended, view_after, handled, receiver_of, IsNetLine, IsNet, line_view, set_all}
+use Rattle.dm_movelaws.proofs.Names.{spelled, Point, after_line, after, at_record, View, Told, About, NothingElse, Known, Here, Frozen, Incoming, Ended, view_after, handled, receiver_of, IsNetLine, IsNet, line_view, set_all, by_migrates}
 use Rattle.dm_onekernel.specs.Boot as boot
 use Rattle.dm_rule.specs.View as view
 use Rattle.dm_movelaws.proofs.At.RestBuried.{Knows}
@@ -164,19 +164,8 @@ net_stays _ h = absurd h
 pub nets_stay : (ps : List Part) → IsNet ps → AllStay ps
 nets_stay [] h = tt
 nets_stay (Says l ∷ ps) h = (net_stays l h.0, nets_stay ps h.1)
-nets_stay (Routes i ∷ ps) h = absurd h.0
-nets_stay (Again i b ∷ ps) h = absurd h.0
-nets_stay (Owns k q b ∷ ps) h = absurd h.0
 nets_stay (Transmits a b l ∷ ps) h = (tt, nets_stay ps h.1)
-
-child_stay : (a : Addresses) (p : Pid) (n : Option ℕ) → AllStay (migrates_child a p n)
-child_stay a p None = (refl, tt)
-child_stay a p (Some n) = (tt, tt)
-
-migrates_if : (a : Addresses) (p : Pid) (n : Option ℕ) (c d : Bool) → AllStay (if c then Says (Line.Pinned p) ∷ [] else if d then Says (Line.Pinned p) ∷ [] else migrates_child a p n)
-migrates_if a p n true d = (refl, tt)
-migrates_if a p n false true = (refl, tt)
-migrates_if a p n false false = child_stay a p n
+nets_stay _ h = absurd h.0
 
 pub migrates_stay : (pt : Point) (p : Pid) → AllStay (migrates pt p)
-migrates_stay pt p = migrates_if pt.addresses p (child_number pt.kernel p) (pid_eq p boot.switchboard) (pid_eq p boot.manager)
+migrates_stay pt p = by_migrates AllStay pt p (refl, tt) (refl, tt) (λ n off is. (tt, tt))

@@ -108,10 +108,8 @@ fit_calm f (Transmits a b l ∷ ps) h = (tt, fit_calm f ps h.1)
 nets_calm : (ps : List Part) → IsNet ps → AllCalm ps
 nets_calm [] h = tt
 nets_calm (Says l ∷ ps) h = (net_calm l h.0, nets_calm ps h.1)
-nets_calm (Routes i ∷ ps) h = absurd h.0
-nets_calm (Again i b ∷ ps) h = absurd h.0
-nets_calm (Owns k q b ∷ ps) h = absurd h.0
 nets_calm (Transmits a b l ∷ ps) h = (tt, nets_calm ps h.1)
+nets_calm _ h = absurd h.0
 
 outcome_calm : (b : Boot) (pt : Point) (d : Step) (ps : List Part) → rule.outcome b pt d ≡ Some ps → AllCalm ps
 outcome_calm b pt (Step.Turn m) ps is = fit_calm pt.view.pair ps (turns_fit pt.view.pair b pt m (pt.view.inbox m) ps is)

@@ -142,10 +142,7 @@ line_cleared o a any_ ps pt z h ends is = stays_cleared o a (Says any_ ∷ ps) p
 last_cleared : (o : Point) (a : ℕ) (ps : List Part) (pt : Point) (z : Spelled) → Starts o a pt.view → LastEnds o a ps → spelled pt ps ≡ Some z → Cleared o.view.known z.point.view
 last_cleared o a [] pt z h ends is = stays_cleared o a [] pt z h tt is
 last_cleared o a (Says l ∷ ps) pt z h ends is = line_cleared o a l ps pt z h ends is
-last_cleared o a (Routes i ∷ ps) pt z h ends is = stays_cleared o a (Routes i ∷ ps) pt z h (tt, ends) is
-last_cleared o a (Again i b ∷ ps) pt z h ends is = stays_cleared o a (Again i b ∷ ps) pt z h (tt, ends) is
-last_cleared o a (Owns k q b ∷ ps) pt z h ends is = stays_cleared o a (Owns k q b ∷ ps) pt z h (tt, ends) is
-last_cleared o a (Transmits x y l ∷ ps) pt z h ends is = stays_cleared o a (Transmits x y l ∷ ps) pt z h (tt, ends) is
+last_cleared o a any_ pt z h ends is = stays_cleared o a any_ pt z h (tt, ends) is
 
 ends_cleared : (o : Point) (a : ℕ) (ps : List Part) (pt : Point) (z : Spelled) → Starts o a pt.view → Ends o a ps → spelled pt ps ≡ Some z → Cleared o.view.known z.point.view
 ends_cleared o a ps pt z h (Once ends) is = last_cleared o a ps pt z h ends is

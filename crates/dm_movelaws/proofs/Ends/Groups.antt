@@ -3,6 +3,7 @@ use Rattle.dm_movelaws.proofs.Names.{◌≡◌, ℕ, ◌+◌, Bool, true, false,
 use Rattle.dm_movelaws.proofs.Names.{Boot, switchboard, manager, bind, Step, bind-is, Line, Addresses, Child, child_number, migrates, migrates_child, View, Told, after_head, after_put, view_after, own_id, Point, moved, after_line, after}
 use Rattle.dm_movelaws.proofs.Names.{Part, Says, Owns, Spelled, lines_of, behind, spelled, group_of, IsNet, arrives_net, resends_net, front_way, Phased, told_some, put_spots, put_at, head_calm, put_there, put_spot, InPhases, calm_phases}
 use Rattle.dm_movelaws.proofs.Names.{PairsFit, PacketsKeep, put_told_off, said, Sane, KnownStands, Begins, begins, WalksOf, loose_walks, begun, begun_sane, turned, resting, round_walks, handles_walks, asks, ends, count, first_none}
+use Rattle.dm_movelaws.proofs.Names.{by_migrates}
 use Rattle.dm_rule.specs.Rule as rule
 use Rattle.dm_movelaws.proofs.Ends.Smooth.{is_migrate, Extends, Smooth, Still, plain_in_bag, own_untold, smooth_same}
 use Rattle.dm_movelaws.proofs.Ends.Lines.{Tame}
@@ -129,14 +130,10 @@ owns_comes p q m b pt h w sane fits e g ids opens = elim (cases_Bool (pid_eq p q
       record { left = r.left; opens = r.opens; quiet = r.quiet; sum = λ f ext. (let s = r.sum f ext in omega (arith, s, zero_)) }
 ]
 
-child_comes : (p q : Pid) (m : ℕ) (a : Addresses) (o : Option ℕ) (pt : Point) (h : InPhases pt.view) (w : Spelled) → Sane pt → PairsFit pt.view → spelled pt (migrates_child a q o) ≡ Some w → Directed p (Step.Migrate q m) pt h (migrates_child a q o) w
-child_comes p q m a None pt h w sane fits e = no_child_comes p q m pt h w e
-child_comes p q m a (Some n) pt h w sane fits e = owns_comes p q m (a (Child n)).at pt h w sane fits e
-
-migrates_by : (p q : Pid) (m : ℕ) (o pt : Point) (c d : Bool) (h : InPhases pt.view) (w : Spelled) → Sane pt → PairsFit pt.view → let ps = if c then Says (Line.Pinned q) ∷ [] else if d then Says (Line.Pinned q) ∷ [] else migrates_child o.addresses q (child_number o.kernel q) in spelled pt ps ≡ Some w → Directed p (Step.Migrate q m) pt h ps w
-migrates_by p q m o pt true d h w sane fits e = pinned_comes p q m pt h w e
-migrates_by p q m o pt false true h w sane fits e = pinned_comes p q m pt h w e
-migrates_by p q m o pt false false h w sane fits e = child_comes p q m o.addresses (child_number o.kernel q) pt h w sane fits e
+migrates_comes : (p q : Pid) (m : ℕ) (o pt : Point) (h : InPhases pt.view) (w : Spelled) → Sane pt → PairsFit pt.view → spelled pt (migrates o q) ≡ Some w → Directed p (Step.Migrate q m) pt h (migrates o q) w
+migrates_comes p q m o pt h w sane fits =
+    by_migrates (λ (ps : List Part). spelled pt ps ≡ Some w → Directed p (Step.Migrate q m) pt h ps w) o q (pinned_comes p q m pt h w) (no_child_comes p q m pt h w)
+    (λ n off is. owns_comes p q m (o.addresses (Child n)).at pt h w sane fits)
 
 -- a group, its lines included
 record GroupIs (b : Boot) (pt : Point) (d : Step) (w : Spelled) : Type 0 where
@@ -175,7 +172,7 @@ directed p b pt (Step.Migrate q m) parts w h phased known fits is e =
     let phases = begun_phases pt (Step.Migrate q m) h in
     let f : migrates pt q ≡ parts = cc in
     subst (λ (ps : List Part). Directed p (Step.Migrate q m) start phases ps w) f
-    (migrates_by p q m pt start (pid_eq q switchboard) (pid_eq q manager) phases w (begun_sane pt (Step.Migrate q m) phased.sane) (record { within = fits.within; home = fits.home }) (ap (spelled start) f ∙ e))
+    (migrates_comes p q m pt start phases w (begun_sane pt (Step.Migrate q m) phased.sane) (record { within = fits.within; home = fits.home }) (ap (spelled start) f ∙ e))
 
 -- what comes of a group
 pub record GroupBalance (p : Pid) (w : Spelled) (ids : List MsgId) (before behind : ℕ) : Type 0 where

@@ -141,14 +141,12 @@ net_level p (Says l ∷ ps) pt w h e =
     let k = says_next pt l ps w e in
     let first : Level p pt.view (view_after pt.view l) = record { smooth = net_smooth p pt.view l h.0; still = net_still p pt.view l h.0 } in
     subst (λ (q : Point). Level p pt.view q.view) k.point (level_trans p pt.view (view_after pt.view l) k.rest.point.view first (net_level p ps (moved pt l k.s) k.rest h.1 k.more))
-net_level p (Routes i ∷ ps) pt w h e = absurd h.0
-net_level p (Again i b ∷ ps) pt w h e = absurd h.0
-net_level p (Owns k q b ∷ ps) pt w h e = absurd h.0
 net_level p (Transmits a b l ∷ ps) pt w h e =
     let k = transmits_next pt a b l ps w e in
     let x = packet_line pt.view a b l in
     let first : Level p pt.view (view_after pt.view x) = record { smooth = packet_smooth p pt.view a b (length (pt.view.pair a b).wire) l; still = λ m. refl } in
     subst (λ (q : Point). Level p pt.view q.view) k.point (level_trans p pt.view (view_after pt.view x) k.rest.point.view first (net_level p ps (moved pt x pt.kernel) k.rest h.1 k.more))
+net_level p _ pt w h e = absurd h.0
 
 -- and their lines are no directives and end no request
 abbrev Neither : (f : Line → Bool) → Type 0
@@ -160,10 +158,8 @@ net_none f n (Says l ∷ ps) h =
     let a = zero_if (f l) (n l h.0) in
     let b = net_none f n ps h.1 in
     omega (arith, a, b)
-net_none f n (Routes i ∷ ps) h = absurd h.0
-net_none f n (Again i b ∷ ps) h = absurd h.0
-net_none f n (Owns k q b ∷ ps) h = absurd h.0
 net_none f n (Transmits a b l ∷ ps) h = net_none f n ps h.1
+net_none f n _ h = absurd h.0
 
 net_line_asks : (p : Pid) → Neither (asks p)
 net_line_asks p (Line.Head d) h = absurd h

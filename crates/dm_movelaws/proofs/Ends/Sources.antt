@@ -62,12 +62,6 @@ line_acting v (Line.Queued i) e = queued_acting (handled v i) i (receiver_of (v.
 line_acting v (Line.Held i) e = held_acting (handled v i) i (receiver_of (v.told i))
 line_acting v (Line.Forwarded i m) e = forwarded_acting (handled v i) (receiver_of (v.told i))
 line_acting v (Line.Migration Stage.Frozen p) e = refl
-line_acting v (Line.Migration Stage.Asked p) e = refl
-line_acting v (Line.Migration Stage.Accepted p) e = refl
-line_acting v (Line.Migration Stage.StateTaken p) e = refl
-line_acting v (Line.Migration Stage.MemoryTaken p) e = refl
-line_acting v (Line.Migration Stage.Left p) e = refl
-line_acting v (Line.Migration Stage.Restarted p) e = refl
 line_acting v (Line.Proto i) e = proto_acting (handled v i) (v.told i)
 line_acting v _ e = refl
 
@@ -182,10 +176,8 @@ net_goes l e = (refl, refl)
 net_go : (ps : List Part) → IsNet ps → AllGo ps
 net_go [] h = tt
 net_go (Says l ∷ ps) h = (net_goes l h.0, net_go ps h.1)
-net_go (Routes i ∷ ps) h = absurd h.0
-net_go (Again i b ∷ ps) h = absurd h.0
-net_go (Owns k q b ∷ ps) h = absurd h.0
 net_go (Transmits a b l ∷ ps) h = (tt, net_go ps h.1)
+net_go _ h = absurd h.0
 
 outcome_go : (b : Boot) (pt : Point) (d : Step) (ps : List Part) → rule.outcome b pt d ≡ Some ps → AllGo ps
 outcome_go b pt (Step.Turn m) ps e = fit_go pt.view.pair ps (turns_fit pt.view.pair b pt m (pt.view.inbox m) ps e)

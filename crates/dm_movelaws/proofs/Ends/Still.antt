@@ -66,13 +66,7 @@ line_still p pt (Line.Here i) quiet need = λ m. refl
 line_still p pt (Line.NoMove i) quiet need = λ m. refl
 line_still p pt (Line.NoChild q) quiet need = λ m. refl
 line_still p pt (Line.Pinned q) quiet need = λ m. refl
-line_still p pt (Line.Migration Stage.Frozen q) quiet need = absurd quiet
 line_still p pt (Line.Migration Stage.Asked q) quiet need = λ m. refl
-line_still p pt (Line.Migration Stage.Accepted q) quiet need = absurd quiet
-line_still p pt (Line.Migration Stage.StateTaken q) quiet need = absurd quiet
-line_still p pt (Line.Migration Stage.MemoryTaken q) quiet need = absurd quiet
-line_still p pt (Line.Migration Stage.Left q) quiet need = absurd quiet
-line_still p pt (Line.Migration Stage.Restarted q) quiet need = absurd quiet
 line_still p pt _ quiet need = absurd quiet
 
 -- a line for another process ends no request
@@ -85,11 +79,5 @@ quiet_ends p v (Line.NoMove i) f quiet ext = for_other p v i f quiet ext
 quiet_ends p v (Line.NoChild q) f quiet ext = quiet
 quiet_ends p v (Line.Pinned q) f quiet ext = quiet
 quiet_ends p v (Line.Stays q) f quiet ext = absurd quiet
-quiet_ends p v (Line.Migration Stage.Frozen q) f quiet ext = refl
-quiet_ends p v (Line.Migration Stage.Asked q) f quiet ext = refl
-quiet_ends p v (Line.Migration Stage.Accepted q) f quiet ext = refl
-quiet_ends p v (Line.Migration Stage.StateTaken q) f quiet ext = refl
-quiet_ends p v (Line.Migration Stage.MemoryTaken q) f quiet ext = refl
-quiet_ends p v (Line.Migration Stage.Left q) f quiet ext = refl
 quiet_ends p v (Line.Migration Stage.Restarted q) f quiet ext = absurd quiet
 quiet_ends p v _ f quiet ext = refl

@@ -2,7 +2,7 @@
 use Rattle.dm_movelaws.proofs.Names.{◌≡◌, ℕ, ◌+◌, ◌==◌, Bool, true, false, List, [], ◌∷◌, ◌++◌, length, refl, ap, ◌∙◌, ⊤, ◌/◌, if◌then◌else◌, slice_get, Option, None, Some, Pid, pid_eq, MsgId, MessageKind, Stage, plain_kind, PlainMessage}
 use Rattle.dm_movelaws.proofs.Names.{PlainWhat, instruction, BootImage, Boot, Label, first_number, switchboard, manager, bind, PlainProcess, PlainStatus, Ready, Waiting, Moving, OneKernel, machine_of, with_machine, pid_of, Step, Line}
 use Rattle.dm_movelaws.proofs.Names.{Addresses, Sender, is_told_back, child_number, forwards_on, sends_on, kernel_told, leaves, moves_to, accepts, takes_chunk, takes_block, here_told, ended_told, process_told, server_told, migrates}
-use Rattle.dm_movelaws.proofs.Names.{migrates_child, Part, Says, Routes, Again, Owns, Transmits, Point, Told, About, Of, Known, Unknown, Here, Frozen, Forward, Ended, IsNetLine, IsNet, arrives_net, resends_net}
+use Rattle.dm_movelaws.proofs.Names.{migrates_child, Part, Says, Routes, Again, Owns, Transmits, Point, Told, About, Of, Known, Unknown, Here, Frozen, Forward, Ended, IsNetLine, IsNet, arrives_net, resends_net, by_migrates}
 use Rattle.dm_onekernel.specs.Calls as calls
 use Rattle.dm_onekernel.specs.Pieces as pieces
 use Rattle.dm_onekernel.specs.Receiving as receiving
@@ -83,9 +83,8 @@ round_none b o m (Some p) =
 
 -- a message of the bag, whose receiver is here or has ended, or is a kernel or a server
 lands_none : (id : MsgId) (l : Option pieces.Landed) → forwards_in (rule.lands id l) ≡ []
-lands_none id None = refl
 lands_none id (Some (pieces.Next request x)) = refl
-lands_none id (Some (pieces.Done reply x)) = refl
+lands_none id _ = refl
 
 here_none : (o : Point) (m : ℕ) (id : MsgId) (msg : PlainMessage) (x : PlainProcess) (k : PlainWhat) → forwards_in (rule.here_handles o m id msg x k) ≡ []
 here_none o m id msg x PlainWhat.Kill = drops_none (o.view.queue m msg.to)
@@ -179,19 +178,11 @@ net_none l fs h = refl
 nets_none : (ps : List Part) → IsNet ps → forwards_of ps ≡ []
 nets_none [] h = refl
 nets_none (Says l ∷ ps) h = net_none l (forwards_of ps) h.0 ∙ nets_none ps h.1
-nets_none (Routes i ∷ ps) h = absurd h.0
-nets_none (Again i b ∷ ps) h = absurd h.0
-nets_none (Owns k q b ∷ ps) h = absurd h.0
 nets_none (Transmits a b l ∷ ps) h = nets_none ps h.1
+nets_none _ h = absurd h.0
 
 migrates_none : (o : Point) (p : Pid) → forwards_of (migrates o p) ≡ []
-migrates_none o p =
-    none_if (pid_eq p switchboard) (Says (Line.Pinned p) ∷ []) (if pid_eq p manager then Says (Line.Pinned p) ∷ [] else migrates_child o.addresses p (child_number o.kernel p)) refl
-    (none_if (pid_eq p manager) (Says (Line.Pinned p) ∷ []) (migrates_child o.addresses p (child_number o.kernel p)) refl (child_none (child_number o.kernel p)))
-  where
-    child_none : (n : Option ℕ) → forwards_of (migrates_child o.addresses p n) ≡ []
-    child_none None = refl
-    child_none (Some n) = refl
+migrates_none o p = by_migrates (λ (ps : List Part). forwards_of ps ≡ []) o p refl refl (λ n off is. refl)
 
 -- a message goes on, and its sender may be told
 pub goes_on : (a : Addresses) (id : MsgId) (k : MessageKind) (sender : Pid) (to : ℕ) → forwards_of (forwards_on a id k sender to) ≡ (id, to) ∷ []

@@ -17,10 +17,6 @@ abbrev pub AllOk : (MsgId → Type 0) → List Part → Type 0
 AllOk ok [] = ⊤
 AllOk ok (p ∷ ps) = PartOk ok p × AllOk ok ps
 
-pub AllOk-both : (ok : MsgId → Type 0) (ps qs : List Part) → AllOk ok ps → AllOk ok qs → AllOk ok (ps ++ qs)
-AllOk-both ok [] qs h k = k
-AllOk-both ok (p ∷ ps) qs h k = (h.0, AllOk-both ok ps qs h.1 k)
-
 -- what the net says
 net_ok : (ok : MsgId → Type 0) (l : Line) → IsNetLine l → LineOk ok l
 net_ok ok (Line.Taken a b k) h = tt
@@ -34,10 +30,8 @@ net_ok ok _ h = absurd h
 pub nets_ok : (ok : MsgId → Type 0) (ps : List Part) → IsNet ps → AllOk ok ps
 nets_ok ok [] h = tt
 nets_ok ok (Says l ∷ ps) h = (net_ok ok l h.0, nets_ok ok ps h.1)
-nets_ok ok (Routes i ∷ ps) h = absurd h.0
-nets_ok ok (Again i b ∷ ps) h = absurd h.0
-nets_ok ok (Owns k q b ∷ ps) h = absurd h.0
 nets_ok ok (Transmits a b l ∷ ps) h = (tt, nets_ok ok ps h.1)
+nets_ok ok _ h = absurd h.0
 
 -- a message that was told of is for no server
 pub record ForProcess (v : View) (i : MsgId) : Type 0 where

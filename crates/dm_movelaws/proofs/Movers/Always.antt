@@ -70,16 +70,14 @@ says_is st dir owner base own left pending q w is h = subst (λ (v : PlainStatus
 asks_for : (dir : Direction) (base left : ℕ) (w : PlainWhat) → is_of_memory w ≡ true → piece_fits dir left w ≡ true → Begins base left w → AsksFor dir base left w
 asks_for Direction.FromArea base left (PlainWhat.Read from len) m f h = let size : len ≡ piece_of left = grind (arith, nat_tests) in λ i. PlainWhat.Read (h i) (size i)
 asks_for Direction.IntoArea base left (PlainWhat.Write from bytes) m f h = record { bytes = bytes; is = ap (λ (n : ℕ). PlainWhat.Write n bytes) h.0; size = h.1 }
-asks_for Direction.FromArea base left w m f h = cc
-asks_for Direction.IntoArea base left w m f h = cc
+asks_for _ base left w m f h = cc
 
 answers_for : (dir : Direction) (left : ℕ) (w : PlainWhat) → is_piece w ≡ true → piece_fits dir left w ≡ true → AnswersFor dir left w
 answers_for Direction.FromArea left (PlainWhat.Block bytes) m f = inl (record { bytes = bytes; is = refl; size = (let size : length bytes ≡ piece_of left = grind (arith, nat_tests) in size) })
 answers_for Direction.FromArea left PlainWhat.Gone m f = inr refl
 answers_for Direction.IntoArea left PlainWhat.Written m f = inl refl
 answers_for Direction.IntoArea left PlainWhat.Gone m f = inr refl
-answers_for Direction.FromArea left w m f = cc
-answers_for Direction.IntoArea left w m f = cc
+answers_for _ left w m f = cc
 
 has_piece : (r e : MsgId → ℕ) (s : OneKernel) (p : Pid) (x : PlainProcess) (dir : Direction) (owner : Pid) (base own left pending : ℕ) → s.processes p ≡ Some (Alive x) → x.status ≡ Moving dir owner base own left pending → Sound r e s → KernelFits s → AllSay s → GoneEnded s
     → HasPiece s p dir owner base left pending
@@ -125,11 +123,10 @@ kind_piece PlainWhat.Gone e = refl
 kind_piece w e = cc
 
 moves_by : (p : Pid) (x : PlainProcess) (i : MsgId) (st : PlainStatus) (w : PlainWhat) → x.status ≡ st → status_awaits st i.n w ≡ true → Moves p x (id_of p i.n)
-moves_by p x i Ready w is h = cc
-moves_by p x i (Waiting mask base size) w is h = cc
 moves_by p x i (Moving dir owner base own left pending) w is h =
     let same : i.n ≡ pending = (let k = (both (i.n == pending) (piece_fits dir left w) h).0 in grind (arith, nat_tests)) in
     record { dir = dir; owner = owner; base = base; own = own; left = left; pending = pending; status = is; name = ap (id_of p) same }
+moves_by p x i _ w is h = cc
 
 requests_move : (r e : MsgId → ℕ) (s : OneKernel) (i : MsgId) (m : PlainMessage) (x : PlainProcess) → s.bag i ≡ Some m → is_of_memory m.what ≡ true → s.processes m.sender ≡ Some (Alive x) → Sound r e s → KernelFits s → Moves m.sender x i
 requests_move r e s i m x there memory alive sound fits =

@@ -157,9 +157,8 @@ step_came s t (Label.NoSpace id a b) is = let (m, there, rest) = bind-is (s.bag 
 
 -- whoever has ended stays so
 stays : (l m : Option Life) (y : Why) → LifeGrows l m → l ≡ Some (Ended y) → m ≡ Some (Ended y)
-stays None m y g e = cc
 stays (Some (Ended z)) m y g e = g ∙ e
-stays (Some (Alive x)) m y g e = cc
+stays _ m y g e = cc
 
 pub step_gone : (s t : OneKernel) (l : Label) → kernel.step s l ≡ Some t → Grown s t → GoneEnded s → GoneEnded t
 step_gone s t l is grown h i m there gone = elim (step_came s t l is i m there) [

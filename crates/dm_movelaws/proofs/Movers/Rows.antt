@@ -111,8 +111,7 @@ lands_what_sends p x Direction.IntoArea owner base own left PlainWhat.Written c 
     (goes_on_sends p x Direction.IntoArea owner (base + piece) (own + piece) (left - piece) (left - piece == 0)) e
 lands_what_sends p x Direction.FromArea owner base own left PlainWhat.Gone c e = gone_lands p x c e
 lands_what_sends p x Direction.IntoArea owner base own left PlainWhat.Gone c e = gone_lands p x c e
-lands_what_sends p x Direction.FromArea owner base own left w c e = cc
-lands_what_sends p x Direction.IntoArea owner base own left w c e = cc
+lands_what_sends p x _ owner base own left w c e = cc
 
 if_lands_what : (p : Pid) (x : PlainProcess) (b : Bool) (dir : Direction) (owner : Pid) (base own left : ℕ) (w : PlainWhat) (c : pieces.Landed) → (if b then pieces.lands_what p x dir owner base own left w else None) ≡ Some c → LandsSends p c
 if_lands_what p x true dir owner base own left w c e = lands_what_sends p x dir owner base own left w c e
@@ -120,8 +119,7 @@ if_lands_what p x false dir owner base own left w c e = cc
 
 lands_sends : (p : Pid) (x : PlainProcess) (m : PlainMessage) (st : PlainStatus) (c : pieces.Landed) → pieces.lands p x m st ≡ Some c → LandsSends p c
 lands_sends p x m (Moving dir owner base own left pending) c e = if_lands_what p x (m.id.n == pending) dir owner base own left m.what c e
-lands_sends p x m Ready c e = cc
-lands_sends p x m (Waiting mask base size) c e = cc
+lands_sends p x m _ c e = cc
 
 -- a process goes on
 ran_says : (s t : OneKernel) (p : Pid) (k : ℕ) → kernel.step s (Label.Ran p k) ≡ Some t → AllSay s → AllSay t
@@ -139,8 +137,7 @@ ran_says s t p k is h =
 
     ready_is : (y : PlainProcess) (st : PlainStatus) (x : PlainProcess) → kernel.if_ready y st ≡ Some x → y ≡ x
     ready_is y Ready x e = stopped_is y y.stopped x e
-    ready_is y (Waiting mask base size) x e = cc
-    ready_is y (Moving dir owner base own left pending) x e = cc
+    ready_is y _ x e = cc
 
 reply_says : (s t : OneKernel) (p : Pid) (n : ℕ) (c : Reply) (next : kernel.Next) → Nexts s p next → kernel.replies s p n c next ≡ Some t → AllSay s → AllSay t
 reply_says s t p n c (kernel.Calls number (calls.Replies d y)) v is h =

@@ -38,9 +38,8 @@ AllSay s = (i : MsgId) (m : PlainMessage) (q : Pid) → s.bag i ≡ Some m → o
 
 -- nobody waits for it
 unawaited_says : (st : PlainStatus) (n : ℕ) (q : Pid) (w : PlainWhat) → (pending_of st ≡ Some n → ⊥) → StatusSays st n q w
-unawaited_says Ready n q w f = tt
-unawaited_says (Waiting mask base size) n q w f = tt
 unawaited_says (Moving dir owner base own left pending) n q w f = λ e. absurd (f (ap Some (sym e)))
+unawaited_says _ n q w f = tt
 
 set_says : (s : OneKernel) (p : Pid) (l : Life) → ((i : MsgId) (m : PlainMessage) (q : Pid) → s.bag i ≡ Some m → i.from ≡ p → Says (s.processes p) i.n q m.what → Says (Some l) i.n q m.what) → AllSay s → AllSay (with_process s p l)
 set_says s p l f h i m q there e = set_if (λ (o : Option Life). Says o i.n q m.what) s p i.from l (λ same. f i m q there same) (h i m q there e)
@@ -94,14 +93,12 @@ no_end m w a b = refl
 
 -- an answer says what its request said
 status_turns : (st : PlainStatus) (n : ℕ) (q : Pid) (v w : PlainWhat) → ((base left : ℕ) → Begins base left w) → StatusSays st n q v → StatusSays st n q w
-status_turns Ready n q v w f h = tt
-status_turns (Waiting mask base size) n q v w f h = tt
 status_turns (Moving dir owner base own left pending) n q v w f h = λ e. ((h e).0, f base left)
+status_turns _ n q v w f h = tt
 
 turns : (o : Option Life) (n : ℕ) (q : Pid) (v w : PlainWhat) → ((base left : ℕ) → Begins base left w) → Says o n q v → Says o n q w
-turns None n q v w f h = tt
 turns (Some (Alive x)) n q v w f h = status_turns x.status n q v w f h
-turns (Some (Ended y)) n q v w f h = tt
+turns _ n q v w f h = tt
 
 pub answer_says : (u : OneKernel) (id : MsgId) (m : PlainMessage) (w : PlainWhat) → m.id ≡ id → Says (u.processes id.from) id.n m.to m.what → other_end (answer_to m w) w ≡ Some m.to → ((base left : ℕ) → Begins base left w) → AllSay u → AllSay (with_sent u (Some (answer_to m w)))
 answer_says u id m w name says end f h =

@@ -113,9 +113,8 @@ gone_over s t id m is there =
     (y, ap (λ (x : PlainMessage). s.processes x.to) (sym (message_is s id n m at there)) ∙ ended_is (s.processes n.to) y over)
   where
     ended_is : (o : Option Life) (y : Why) → kernel.ended o ≡ Some y → o ≡ Some (Ended y)
-    ended_is None y e = cc
-    ended_is (Some (Alive x)) y e = cc
     ended_is (Some (Ended z)) y e = let f : z ≡ y = cc in ap (λ (v : Why). Some (Ended v)) f
+    ended_is _ y e = cc
 
 took_by : (s t : OneKernel) (id : MsgId) (m : PlainMessage) (c d : Bool) → pid_eq m.to switchboard ≡ c → pid_eq m.to manager ≡ d
     → (if c then bind (board.takes s.switchboard m m.what) (λ t. Some (service.switchboard_took s id t)) else if d then bind (manage.takes s.manager s.machines (length s.images) m m.what) (λ t. Some (service.manager_took s id t)) else None) ≡ Some t → is_fixed m.to ≡ true
@@ -161,16 +160,7 @@ fixed_off : (y q : Pid) → is_fixed y ≡ false → is_fixed q ≡ true → q �
 fixed_off y q free fixed e = false≢true (sym free ∙ ap is_fixed (sym e) ∙ fixed)
 
 pub anothers_is : (s t : OneKernel) (y : Pid) (l : Label) → is_fixed y ≡ false → ((z : Why) → s.processes y ≡ Some (Ended z) → ⊥) → IsOthers s y l → kernel.step s l ≡ Some t → IsAnothers s y l
-anothers_is s t y (Label.Ran q k) free lives h e = h
-anothers_is s t y (Label.Call q n c) free lives h e = h
-anothers_is s t y (Label.Send q id) free lives h e = h
-anothers_is s t y (Label.Wait q) free lives h e = h
-anothers_is s t y (Label.Out q w) free lives h e = h
-anothers_is s t y (Label.End q z) free lives h e = h
-anothers_is s t y (Label.Receive q id) free lives h e = h
-anothers_is s t y (Label.Refuse q id c) free lives h e = h
 anothers_is s t y (Label.Dropped id) free lives h e = λ m there to. let (z, over) = dropped_over s t id m e there in lives z (ap s.processes (sym to) ∙ over)
-anothers_is s t y (Label.Served id) free lives h e = h
 anothers_is s t y (Label.Gone id) free lives h e = λ m there to. let (z, over) = gone_over s t id m e there in lives z (ap s.processes (sym to) ∙ over)
 anothers_is s t y (Label.Took id) free lives h e = λ m there. fixed_off y m.to free (took_fixed s t id m e there)
 anothers_is s t y (Label.Created id q) free lives h e = (
@@ -182,6 +172,7 @@ anothers_is s t y (Label.Created id q) free lives h e = (
 anothers_is s t y (Label.NoSpace id a b) free lives h e = λ m there.
     let (n, at, rest) = bind-is (s.bag id) (λ n. service.has_no_room s id n n.what) t e in
     fixed_off y m.to free (ap (λ (x : PlainMessage). is_fixed x.to) (sym (message_is s id n m at there)) ∙ no_room_fixed s t id n n.what rest)
+anothers_is s t y _ free lives h e = h
 
 pub anothers_if : (s t : OneKernel) (y : Pid) (o : Option Label) → is_fixed y ≡ false → ((z : Why) → s.processes y ≡ Some (Ended z) → ⊥) → Spares s y o → kernel_after s o ≡ Some t → IsAnothersIf s y o
 anothers_if s t y None free lives h e = tt

@@ -2,7 +2,7 @@
 use Rattle.dm_movelaws.proofs.Names.{◌≡◌, ◌⊎◌, ℕ, ◌==◌, Bool, true, false, List, [], ◌∷◌, ◌++◌, length, refl, ap, ◌∙◌, sym, subst, inl, inr, ⊤, ◌/◌, if◌then◌else◌, slice_get, Option, None, Some, Pid, pid_eq, MsgId, MessageKind, Stage}
 use Rattle.dm_movelaws.proofs.Names.{plain_kind, PlainMessage, Boot, switchboard, manager, bind, PlainProcess, bind-is, Step, Line, Receiver, Addresses, child_number, to_kernel, sends_on, accepts, takes_chunk, takes_block, leaves}
 use Rattle.dm_movelaws.proofs.Names.{kernel_told, chunks_of, pieces_of, process_told, server_told, migrates, migrates_child, Part, Says, Routes, Again, Owns, Transmits, Spelled, lines_of, puts, goes_out, packet_line, behind, spelled, Point}
-use Rattle.dm_movelaws.proofs.Names.{label_of, after_line, after, group_of, Told, About, Of, Known, Frozen, own_id, arrives_net, resends_net, marks}
+use Rattle.dm_movelaws.proofs.Names.{label_of, after_line, after, group_of, Told, About, Of, Known, Frozen, own_id, arrives_net, resends_net, marks, by_migrates, IsHeardLine, kernel_kept}
 use Rattle.dm_onekernel.specs.Step as kernel
 use Rattle.dm_rule.specs.Rule as rule
 use Rattle.dm_movelaws.proofs.Stages.Marks.{marks_of, spelled_marks}
@@ -28,44 +28,13 @@ given : (qs ps : List Part) → QuietParts qs → Some qs ≡ Some ps → QuietP
 given qs ps h e = let f : qs ≡ ps = cc in subst QuietParts f h
 
 -- what kernels tell each other of a process
-accepts_quiet : (from : ℕ) (p : Pid) (room : Bool) (slots blocks : ℕ) → QuietParts (accepts from p room slots blocks)
-accepts_quiet from p true slots blocks = (refl, (tt, tt))
-accepts_quiet from p false slots blocks = (refl, (tt, tt))
-
-chunk_quiet : (i : MsgId) (p : Pid) (last : Bool) → QuietParts (takes_chunk i p last)
-chunk_quiet i p true = (refl, (tt, tt))
-chunk_quiet i p false = (refl, (tt, tt))
-
-block_quiet : (i : MsgId) (p : Pid) (last : Bool) → QuietParts (takes_block i p last)
-block_quiet i p true = (refl, (tt, tt))
-block_quiet i p false = (refl, (tt, tt))
-
-sends_quiet : (to : ℕ) (ids : List MsgId) (ps : List Part) → QuietParts ps → QuietParts (sends_on to ids ++ ps)
-sends_quiet to [] ps h = h
-sends_quiet to (i ∷ is) ps h = (tt, sends_quiet to is ps h)
-
-leaves_quiet : (i : MsgId) (p : Pid) (ids : List MsgId) (k : Known) (ps : List Part) → leaves i p ids k ≡ Some ps → QuietParts ps
-leaves_quiet i p ids (Frozen to) ps e =
-    given (Says (Line.SentOn p (length ids)) ∷ sends_on to ids ++ Says (Line.Migration Stage.Left p) ∷ to_kernel MessageKind.Restart i.from.home ∷ []) ps
-    (refl, sends_quiet to ids (Says (Line.Migration Stage.Left p) ∷ to_kernel MessageKind.Restart i.from.home ∷ []) (refl, (tt, tt))) e
-leaves_quiet i p ids _ ps e = cc
-
-told_quiet : (o : Point) (m : ℕ) (i : MsgId) (p : Pid) (room : Bool × ℕ × ℕ) (x : PlainProcess) (k : MessageKind) (ps : List Part) → kernel_told o m i p room x k ≡ Some ps → QuietParts ps
-told_quiet o m i p room x MessageKind.Ask ps e = given (accepts i.from.home p room.0 room.1 room.2) ps (accepts_quiet i.from.home p room.0 room.1 room.2) e
-told_quiet o m i p room x MessageKind.Refuse ps e = given (Says (Line.Stays p) ∷ []) ps (refl, tt) e
-told_quiet o m i p room x MessageKind.PullState ps e = given (Says (Line.Proto i) ∷ to_kernel MessageKind.State i.from.home ∷ []) ps (refl, (tt, tt)) e
-told_quiet o m i p room x MessageKind.State ps e = given (takes_chunk i p (o.view.asked p == chunks_of x)) ps (chunk_quiet i p (o.view.asked p == chunks_of x)) e
-told_quiet o m i p room x MessageKind.PullBlock ps e = given (Says (Line.Proto i) ∷ to_kernel MessageKind.Memory i.from.home ∷ []) ps (refl, (tt, tt)) e
-told_quiet o m i p room x MessageKind.Memory ps e = given (takes_block i p (o.view.asked p == pieces_of x)) ps (block_quiet i p (o.view.asked p == pieces_of x)) e
-told_quiet o m i p room x MessageKind.AllTaken ps e = leaves_quiet i p (o.view.queue m p ++ o.view.held m p) (o.view.known m p) ps e
-told_quiet o m i p room x MessageKind.Restart ps e = given (Says (Line.Migration Stage.Restarted p) ∷ []) ps (refl, tt) e
-told_quiet o m i p room x _ ps e = cc
+quiet_line : (l : Line) → IsHeardLine l → label_of l ≡ None
+quiet_line (Line.Label l) h = absurd h
+quiet_line _ h = refl
 
 kernel_quiet : (b : Boot) (o : Point) (m : ℕ) (i : MsgId) (k : MessageKind) (a : About) (ps : List Part) → rule.kernel_hears b o m i k a ≡ Some ps → QuietParts ps
-kernel_quiet b o m i k (Of q) ps e =
-    let (x, there, last) = bind-is (kernel.alive (o.kernel.processes q)) (λ x. kernel_told o m i q (rule.fits (rule.free_room b o m) (length x.memory / 256)) x k) ps e in
-    told_quiet o m i q (rule.fits (rule.free_room b o m) (length x.memory / 256)) x k ps last
-kernel_quiet b o m i k _ ps e = cc
+kernel_quiet b o m i k a ps e =
+    kernel_kept QuietParts (record { none = tt; says = λ l ps h k. (quiet_line l h, k); again = λ i to ps k. (tt, k); owns = λ k q to ps h. (tt, h) }) b o m i k a ps e
 
 -- the parts of a group mark no process, or say no label
 abbrev OrQuiet : Pid → List Part → Type 0
@@ -97,14 +66,8 @@ turns_or : (p : Pid) (b : Boot) (o : Point) (m : ℕ) (inbox : List MsgId) (ps :
 turns_or p b o m [] ps e = mild_or p None ps (round_mild p None b o m (rule.first_runnable o.kernel (o.view.queue m) (o.view.ring m)) ps e)
 turns_or p b o m (i ∷ is) ps e = comes_or p b o m i (o.kernel.bag i) ps e
 
-child_quiet : (a : Addresses) (q : Pid) (n : Option ℕ) → QuietParts (migrates_child a q n)
-child_quiet a q None = (refl, tt)
-child_quiet a q (Some n) = (tt, tt)
-
-migrates_by : (o : Point) (q : Pid) (c d : Bool) → QuietParts (if c then Says (Line.Pinned q) ∷ [] else if d then Says (Line.Pinned q) ∷ [] else migrates_child o.addresses q (child_number o.kernel q))
-migrates_by o q true d = (refl, tt)
-migrates_by o q false true = (refl, tt)
-migrates_by o q false false = child_quiet o.addresses q (child_number o.kernel q)
+migrates_quiet : (o : Point) (q : Pid) → QuietParts (migrates o q)
+migrates_quiet o q = by_migrates QuietParts o q (refl, tt) (refl, tt) (λ n off is. (tt, tt))
 
 net_or : (p : Pid) (qs ps : List Part) → marks_of p qs ≡ [] → Some qs ≡ Some ps → OrQuiet p ps
 net_or p qs ps none e = let f : qs ≡ ps = cc in inl (ap (marks_of p) (sym f) ∙ none)
@@ -117,7 +80,7 @@ outcome_or p b o (Step.Tick m) ps e =
 outcome_or p b o (Step.Deliver a c k) ps e =
     let qs = rule.arrives a c (o.view.pair a c) (o.view.pair c a) (slice_get (o.view.pair a c).wire k) in
     net_or p qs ps (net_marks p qs (arrives_net a c (o.view.pair a c) (o.view.pair c a) (slice_get (o.view.pair a c).wire k))) e
-outcome_or p b o (Step.Migrate q m) ps e = inr (given (migrates o q) ps (migrates_by o q (pid_eq q switchboard) (pid_eq q manager)) e)
+outcome_or p b o (Step.Migrate q m) ps e = inr (given (migrates o q) ps (migrates_quiet o q) e)
 
 -- the lines of parts
 quiet_append : (xs ys : List Line) → AllQuiet xs → AllQuiet ys → AllQuiet (xs ++ ys)

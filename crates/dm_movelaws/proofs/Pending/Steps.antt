@@ -56,8 +56,7 @@ completes_user p x m mask base size w c e is = cc
 
 completes_status : (p : Pid) (x : PlainProcess) (m : PlainMessage) (st : PlainStatus) (c : receiving.Completed) → receiving.completes_status p x m st ≡ Some c → Neither m.what
 completes_status p x m (Waiting mask base size) c is = completes_user p x m mask base size m.what c refl is
-completes_status p x m Ready c is = cc
-completes_status p x m (Moving dir owner base own left pending) c is = cc
+completes_status p x m _ c is = cc
 
 completes_if : (p : Pid) (x : PlainProcess) (m : PlainMessage) (stopped : Bool) (c : receiving.Completed) → (if stopped then None else receiving.completes_status p x m x.status) ≡ Some c → Neither m.what
 completes_if p x m true c is = cc

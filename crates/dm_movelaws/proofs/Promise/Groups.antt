@@ -2,7 +2,7 @@
 use Rattle.dm_movelaws.proofs.Names.{◌≡◌, ◌⊎◌, ℕ, ◌≤◌, Bool, true, false, List, [], ◌∷◌, ◌==◌, ◌&&◌, length, refl, ap, ◌∙◌, sym, subst, inl, inr, if◌then◌else◌, slice_get, Option, None, Some, cases_Bool, false≢true, Pid, Place, pid_eq}
 use Rattle.dm_movelaws.proofs.Names.{MsgId, MessageKind, id_eq, plain_kind, PlainMessage, PlainWhat, Boot, switchboard, manager, bind, id_eq-is, bind-is, Step, Line, View, Pair, marked, Told, is_kernels, after_head, Addresses, child_number}
 use Rattle.dm_movelaws.proofs.Names.{Point, after_line, moved, Part, Says, Routes, Again, Owns, Transmits, Spelled, packet_line, spelled, standing, migrates, migrates_child, group_of, letters, not_kernels, eq_is, not_true, parts, IsNet}
-use Rattle.dm_movelaws.proofs.Names.{arrives_net, resends_net, fits, under_way, kernels_by, Phased, set_is, set_other, PairsFit, Sane, begun, begun_sane, said_by, update_of}
+use Rattle.dm_movelaws.proofs.Names.{arrives_net, resends_net, fits, under_way, kernels_by, Phased, set_is, set_other, PairsFit, Sane, begun, begun_sane, said_by, update_of, by_migrates}
 use Rattle.dm_rule.specs.Rule as rule
 use Rattle.dm_movelaws.proofs.Promise.Kept.{told_stays}
 use Rattle.dm_movelaws.proofs.Promise.Spots.{Stands}
@@ -54,23 +54,15 @@ net_goes (Says l ∷ ps) j pt w net h is =
     let n = next_of pt (Says l) ps w is in
     let k = said_by pt n.next l n.steps in
     subst (λ (x : Point). Stands x.view j) n.point (net_goes ps j n.next n.rest net.1 (subst (λ (x : Point). Stands x.view j) k.is (net_stands pt.view l j net.0 h)) n.more)
-net_goes (Routes i ∷ ps) j pt w net h is = absurd net.0
-net_goes (Again i b ∷ ps) j pt w net h is = absurd net.0
-net_goes (Owns k q b ∷ ps) j pt w net h is = absurd net.0
 net_goes (Transmits a b l ∷ ps) j pt w net h is =
     let n = next_of pt (Transmits a b l) ps w is in
     let k = said_by pt n.next (packet_line pt.view a b l) (record { lines = n.steps.lines; are = n.steps.are; leads = n.steps.leads }) in
     subst (λ (x : Point). Stands x.view j) n.point (net_goes ps j n.next n.rest net.1 (subst (λ (x : Point). Stands x.view j) k.is (packet_stands pt.view a b (length (pt.view.pair a b).wire) l j h)) n.more)
+net_goes _ j pt w net h is = absurd net.0
 
 -- a directive to move a process
-child_loose : (a : Addresses) (p : Pid) (o : Option ℕ) → all_loose (migrates_child a p o) ≡ true
-child_loose a p None = refl
-child_loose a p (Some n) = refl
-
-migrates_loose : (o : Point) (p : Pid) (c d : Bool) → all_loose (if c then Says (Line.Pinned p) ∷ [] else if d then Says (Line.Pinned p) ∷ [] else migrates_child o.addresses p (child_number o.kernel p)) ≡ true
-migrates_loose o p true d = refl
-migrates_loose o p false true = refl
-migrates_loose o p false false = child_loose o.addresses p (child_number o.kernel p)
+migrates_loose : (o : Point) (p : Pid) → all_loose (migrates o p) ≡ true
+migrates_loose o p = by_migrates (λ (ps : List Part). all_loose ps ≡ true) o p refl refl (λ n off is. refl)
 
 outcome_goes : (b : Boot) (o : Point) (d : Step) (j : MsgId) (p q : Pid) (place : Place) → Waits j (update_of p q place) (begun o d) → GoesOf j (begun o d) (rule.outcome b o d)
 outcome_goes b o (Step.Turn m) j p q place h = turns_goes b o m j p q place (o.view.inbox m) refl h
@@ -78,7 +70,7 @@ outcome_goes b o (Step.Tick m) j p q place h = λ w is.
     inl (net_goes (Says (Line.Resent m (rule.outstanding o.view m o.kernel.machines)) ∷ rule.resends o.view m o.kernel.machines) j (begun o (Step.Tick m)) w (tt, resends_net o.view m o.kernel.machines) h.stands is)
 outcome_goes b o (Step.Deliver a c k) j p q place h = λ w is.
     inl (net_goes (rule.arrives a c (o.view.pair a c) (o.view.pair c a) (slice_get (o.view.pair a c).wire k)) j (begun o (Step.Deliver a c k)) w (arrives_net a c (o.view.pair a c) (o.view.pair c a) (slice_get (o.view.pair a c).wire k)) h.stands is)
-outcome_goes b o (Step.Migrate r m) j p q place h = loose_row j (update_of p q place) (begun o (Step.Migrate r m)) (migrates o r) h (migrates_loose o r (pid_eq r switchboard) (pid_eq r manager))
+outcome_goes b o (Step.Migrate r m) j p q place h = loose_row j (update_of p q place) (begun o (Step.Migrate r m)) (migrates o r) h (migrates_loose o r)
 
 -- a head leaves the streams as they are
 delivered_fits : (v : View) (a b k : ℕ) → PairsFit v → PairsFit (after_head v (Step.Deliver a b k))

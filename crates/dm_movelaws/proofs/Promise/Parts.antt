@@ -29,11 +29,6 @@ is_loose_line (Line.NoChild p) = true
 is_loose_line (Line.Pinned p) = true
 is_loose_line (Line.Migration Stage.Asked p) = true
 is_loose_line (Line.Migration Stage.Left p) = true
-is_loose_line (Line.Migration Stage.Frozen p) = false
-is_loose_line (Line.Migration Stage.Accepted p) = false
-is_loose_line (Line.Migration Stage.StateTaken p) = false
-is_loose_line (Line.Migration Stage.MemoryTaken p) = false
-is_loose_line (Line.Migration Stage.Restarted p) = false
 is_loose_line _ = false
 
 abbrev pub is_loose : Part → Bool
@@ -54,11 +49,6 @@ line_loose j v (Line.NoChild p) e = tt
 line_loose j v (Line.Pinned p) e = tt
 line_loose j v (Line.Migration Stage.Asked p) e = tt
 line_loose j v (Line.Migration Stage.Left p) e = tt
-line_loose j v (Line.Migration Stage.Frozen p) e = absurd (false≢true e)
-line_loose j v (Line.Migration Stage.Accepted p) e = absurd (false≢true e)
-line_loose j v (Line.Migration Stage.StateTaken p) e = absurd (false≢true e)
-line_loose j v (Line.Migration Stage.MemoryTaken p) e = absurd (false≢true e)
-line_loose j v (Line.Migration Stage.Restarted p) e = absurd (false≢true e)
 line_loose j v _ e = absurd (false≢true e)
 
 part_loose : (j : MsgId) (pt : Point) (p : Part) → is_loose p ≡ true → NeedsPart j pt p
@@ -67,12 +57,6 @@ part_loose j pt _ e = tt
 
 spares_quiet : (j : MsgId) (v : View) (l : Line) → Spares j v l → (touches l ≡ false) × (is_put l ≡ false)
 spares_quiet j v (Line.Migration Stage.Asked p) e = (refl, refl)
-spares_quiet j v (Line.Migration Stage.Left p) e = (refl, refl)
-spares_quiet j v (Line.Migration Stage.Frozen p) e = (refl, refl)
-spares_quiet j v (Line.Migration Stage.Accepted p) e = (refl, refl)
-spares_quiet j v (Line.Migration Stage.StateTaken p) e = (refl, refl)
-spares_quiet j v (Line.Migration Stage.MemoryTaken p) e = (refl, refl)
-spares_quiet j v (Line.Migration Stage.Restarted p) e = (refl, refl)
 spares_quiet j v (Line.Early a b n) e = absurd e
 spares_quiet j v (Line.Acked a b n) e = absurd e
 spares_quiet j v (Line.SentOn p n) e = absurd e

@@ -46,12 +46,7 @@ sends_what_same v w a b p x id _ = refl
 
 sends_next_same : (v w : View) (a b : Addresses) (p : Pid) (x : PlainProcess) (id : MsgId) (o : Option kernel.Next) → holders (addresses.sends_next v a p x id o) ≡ holders (addresses.sends_next w b p x id o)
 sends_next_same v w a b p x id (Some (kernel.Calls number (calls.Sends m y))) = sends_what_same v w a b p x id m.what
-sends_next_same v w a b p x id (Some (kernel.Calls number (calls.Replies c y))) = refl
-sends_next_same v w a b p x id (Some (kernel.Calls number (calls.Waits y))) = refl
-sends_next_same v w a b p x id (Some (kernel.Calls number (calls.Outputs word y))) = refl
-sends_next_same v w a b p x id (Some (kernel.Calls number (calls.Ends because))) = refl
-sends_next_same v w a b p x id (Some (kernel.Faults fault)) = refl
-sends_next_same v w a b p x id None = refl
+sends_next_same v w a b p x id _ = refl
 
 sends_same : (s : OneKernel) (v w : View) (a b : Addresses) (p : Pid) (id : MsgId) (o : Option PlainProcess) → holders (addresses.sends s v a p id o) ≡ holders (addresses.sends s w b p id o)
 sends_same s v w a b p id None = refl
@@ -91,9 +86,8 @@ receives_same a b p id (Some x) (Some m) = receives_what_same a b p id x m.what
 
 -- messages that are served
 lands_same : (v w : View) (a b : Addresses) (p : Pid) (o : Option pieces.Landed) → holders (lands v a p o) ≡ holders (lands w b p o)
-lands_same v w a b p None = refl
 lands_same v w a b p (Some (pieces.Done c x)) = refl
-lands_same v w a b p (Some (pieces.Next request x)) = refl
+lands_same v w a b p _ = refl
 
 serves_what_same : (v w : View) (a b : Addresses) (id : MsgId) (m : PlainMessage) (x : PlainProcess) (u : PlainWhat) → holders (serves_what v a id m x u) ≡ holders (serves_what w b id m x u)
 serves_what_same v w a b id m x (PlainWhat.Block c) = lands_same v w a b m.to (pieces.lands m.to x m x.status)
@@ -125,18 +119,13 @@ creates_same v w a b id child (Some m) = ap (λ (hs : List Holder). Receiver (an
 finds_same : (a b : Addresses) (sent : MsgId) (names : List NamedLink) (body : List ℕ) (k : board.Answer) → holders (board_finds a sent names body k) ≡ holders (board_finds b sent names body k)
 finds_same a b sent names [] k = refl
 finds_same a b sent names (operation ∷ name) board.Registered = refl
-finds_same a b sent names (operation ∷ name) (board.Found link) = refl
-finds_same a b sent names (operation ∷ name) board.Unknown = refl
-finds_same a b sent names (operation ∷ name) board.Taken = refl
-finds_same a b sent names (operation ∷ name) board.BadLink = refl
-finds_same a b sent names (operation ∷ name) board.BadRequest = refl
+finds_same a b sent names (operation ∷ name) _ = refl
 
 keeps_same : (a b : Addresses) (id : MsgId) (names : List NamedLink) (k : board.Answer) → holders (board_keeps a id names k) ≡ holders (board_keeps b id names k)
 keeps_same a b id names board.Registered = refl
 keeps_same a b id names _ = refl
 
 board_takes_same : (s : OneKernel) (v w : View) (a b : Addresses) (id : MsgId) (u : PlainWhat) → holders (board_takes s v a id u) ≡ holders (board_takes s w b id u)
-board_takes_same s v w a b id (PlainWhat.User code channel body []) = refl
 board_takes_same s v w a b id (PlainWhat.User code channel body (l ∷ ls)) =
     let sent = id_of switchboard s.switchboard.sent in
     let asked = board.asks s.switchboard.names body ls in
@@ -159,33 +148,10 @@ manager_answers_same v w a b n (Some sent) = refl
 
 manager_takes_same : (s : OneKernel) (v w : View) (a b : Addresses) (m : PlainMessage) (u : PlainWhat) (o : Option manage.Took) → holders (manager_takes s v a m u o) ≡ holders (manager_takes s w b m u o)
 manager_takes_same s v w a b m (PlainWhat.User c h d e) None = refl
-manager_takes_same s v w a b m PlainWhat.Stop None = refl
-manager_takes_same s v w a b m PlainWhat.Resume None = refl
-manager_takes_same s v w a b m PlainWhat.Kill None = refl
-manager_takes_same s v w a b m (PlainWhat.Read c d) None = refl
-manager_takes_same s v w a b m (PlainWhat.Write c d) None = refl
-manager_takes_same s v w a b m (PlainWhat.Block c) None = refl
-manager_takes_same s v w a b m PlainWhat.Written None = refl
-manager_takes_same s v w a b m PlainWhat.Gone None = refl
-manager_takes_same s v w a b m (PlainWhat.Create c d) None = refl
-manager_takes_same s v w a b m (PlainWhat.Created c) None = refl
-manager_takes_same s v w a b m PlainWhat.NoRoom None = refl
-manager_takes_same s v w a b m (PlainWhat.Move c) None = refl
-manager_takes_same s v w a b m (PlainWhat.Moved c) None = refl
 manager_takes_same s v w a b m (PlainWhat.User c h d e) (Some t) = manager_sends_same v w a b m.id c t.message
-manager_takes_same s v w a b m PlainWhat.Stop (Some t) = manager_answers_same v w a b m.id.n t.message
-manager_takes_same s v w a b m PlainWhat.Resume (Some t) = manager_answers_same v w a b m.id.n t.message
-manager_takes_same s v w a b m PlainWhat.Kill (Some t) = manager_answers_same v w a b m.id.n t.message
-manager_takes_same s v w a b m (PlainWhat.Read c d) (Some t) = manager_answers_same v w a b m.id.n t.message
-manager_takes_same s v w a b m (PlainWhat.Write c d) (Some t) = manager_answers_same v w a b m.id.n t.message
-manager_takes_same s v w a b m (PlainWhat.Block c) (Some t) = manager_answers_same v w a b m.id.n t.message
-manager_takes_same s v w a b m PlainWhat.Written (Some t) = manager_answers_same v w a b m.id.n t.message
-manager_takes_same s v w a b m PlainWhat.Gone (Some t) = manager_answers_same v w a b m.id.n t.message
-manager_takes_same s v w a b m (PlainWhat.Create c d) (Some t) = manager_answers_same v w a b m.id.n t.message
 manager_takes_same s v w a b m (PlainWhat.Created c) (Some t) = ap (λ (hs : List Holder). Child (length s.manager.children + 1) ∷ hs) (manager_answers_same v w a b m.id.n t.message)
-manager_takes_same s v w a b m PlainWhat.NoRoom (Some t) = manager_answers_same v w a b m.id.n t.message
-manager_takes_same s v w a b m (PlainWhat.Move c) (Some t) = manager_answers_same v w a b m.id.n t.message
-manager_takes_same s v w a b m (PlainWhat.Moved c) (Some t) = manager_answers_same v w a b m.id.n t.message
+manager_takes_same s v w a b m _ None = refl
+manager_takes_same s v w a b m _ (Some t) = manager_answers_same v w a b m.id.n t.message
 
 either_same : (c : Bool) (xs ys zs ws : List Gets) → holders xs ≡ holders ys → holders zs ≡ holders ws → holders (if c then xs else zs) ≡ holders (if c then ys else ws)
 either_same true xs ys zs ws e f = e

@@ -104,13 +104,8 @@ all_asks v = record v { told = λ i. Some (record { kind = MessageKind.Ask; rece
 
 taken_same : (v : View) (b : ℕ) (o : Option MsgId) (z : Spot) → ids_at (taken_id v b o) z ≡ ids_at (taken_id (all_asks v) b o) z
 taken_same v b None (Queue m p) = refl
-taken_same v b None (Held m p) = refl
-taken_same v b None (Inbox m) = refl
-taken_same v b None (Untaken c d) = refl
 taken_same v b (Some i) (Queue m p) = refl
-taken_same v b (Some i) (Held m p) = refl
-taken_same v b (Some i) (Inbox m) = refl
-taken_same v b (Some i) (Untaken c d) = refl
+taken_same v b _ _ = refl
 
 same_at : (v : View) (j : MsgId) (z : Spot) → 1 ≤ standing v j z → 1 ≤ standing (all_asks v) j z
 same_at v j (Queue m p) e = e

@@ -13,11 +13,7 @@ use Rattle.dm_movelaws.proofs.Real.Lines.{rises_same, Reals, Receivers, parts_re
 agrees_made : (k : Known) (l : Option Life) → k ≢ Unknown → agrees k l ≡ true → is_some l ≡ true
 agrees_made k (Some l) some e = refl
 agrees_made Unknown None some e = absurd (some refl)
-agrees_made Here None some e = absurd (false≢true e)
-agrees_made (Frozen to) None some e = absurd (false≢true e)
-agrees_made (Incoming from) None some e = absurd (false≢true e)
-agrees_made (Forward at moves) None some e = absurd (false≢true e)
-agrees_made Known.Ended None some e = absurd (false≢true e)
+agrees_made _ None some e = absurd (false≢true e)
 
 known_real : (b : Boot) (pt : Point) (n : ℕ) (p : Pid) → Run b pt → pt.view.known n p ≢ Unknown → IsReal pt.kernel p
 known_real b pt n p run some = elim (cases_Bool (is_server p)) [

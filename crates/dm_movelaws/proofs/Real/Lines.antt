@@ -52,9 +52,6 @@ receiver_real s i m (PlainWhat.User z1 z2 z3 z4) e = elim (or_cases (is_server m
   | inl server ↦ Server server
   | inr has ↦ has_made s m.to 0 (s.processes m.to) refl has
 ]
-receiver_real s i m PlainWhat.Stop e = has_made s m.to 0 (s.processes m.to) refl e
-receiver_real s i m PlainWhat.Resume e = has_made s m.to 0 (s.processes m.to) refl e
-receiver_real s i m PlainWhat.Kill e = has_made s m.to 0 (s.processes m.to) refl e
 receiver_real s i m (PlainWhat.Read base len) e = has_made s m.to _ (s.processes m.to) refl e.0
 receiver_real s i m (PlainWhat.Write base bytes) e = has_made s m.to _ (s.processes m.to) refl e.0
 receiver_real s i m (PlainWhat.Block bytes) e = subst (IsReal s) (sym e.0) (waits_made s i.from i.n (PlainWhat.Block bytes) (s.processes i.from) refl e.1)
@@ -65,6 +62,7 @@ receiver_real s i m (PlainWhat.Created child) e = subst (IsReal s) (sym e.0) (Se
 receiver_real s i m PlainWhat.NoRoom e = subst (IsReal s) (sym e.0) (Server refl)
 receiver_real s i m (PlainWhat.Move machine) e = absurd e
 receiver_real s i m (PlainWhat.Moved outcome) e = absurd e
+receiver_real s i m _ e = has_made s m.to 0 (s.processes m.to) refl e
 
 -- what stands between the lines of a group that begins at o
 pub record Reals (o pt : Point) : Type 0 where
@@ -99,12 +97,10 @@ told_at o pt i (Some u) t is some h e = let f : Some u ≡ Some t = sym (h.kept 
 
 line_topic : (o pt : Point) (l : Line) → Receivers o → LineReal o l → Reals o pt → IsAboutReal pt.kernel (view_after pt.view l).topic
 line_topic o pt (Line.Migration Stage.Frozen p) known need h = real_rises o.kernel pt.kernel p h.rises need
-line_topic o pt (Line.Migration Stage.Asked p) known need h = h.topic
 line_topic o pt (Line.Migration Stage.Accepted p) known need h = real_rises o.kernel pt.kernel p h.rises need
 line_topic o pt (Line.Migration Stage.StateTaken p) known need h = real_rises o.kernel pt.kernel p h.rises need
 line_topic o pt (Line.Migration Stage.MemoryTaken p) known need h = real_rises o.kernel pt.kernel p h.rises need
 line_topic o pt (Line.Migration Stage.Left p) known need h = real_rises o.kernel pt.kernel p h.rises need
-line_topic o pt (Line.Migration Stage.Restarted p) known need h = h.topic
 line_topic o pt (Line.SentOn p n) known need h = real_rises o.kernel pt.kernel p h.rises need
 line_topic o pt (Line.Lacks p a b) known need h = real_rises o.kernel pt.kernel p h.rises need
 line_topic o pt (Line.Forwarded i m) known need h =

@@ -2,7 +2,7 @@
 use Rattle.dm_movelaws.proofs.Names.{◌≡◌, ℕ, ◌==◌, Bool, true, false, List, [], ◌∷◌, ◌++◌, length, is_some, refl, ap, ◌∙◌, sym, subst, ⊤, ◌/◌, if◌then◌else◌, slice_get, Option, None, Some, false≢true, Pid, pid_eq, MsgId, MessageKind, Stage}
 use Rattle.dm_movelaws.proofs.Names.{PlainMessage, Boot, switchboard, manager, PlainProcess, pid_eq-same, bind-is, alive-is, Step, Line, Addresses, child_number, to_kernel, sends_on, accepts, takes_chunk, takes_block, leaves, kernel_told}
 use Rattle.dm_movelaws.proofs.Names.{chunks_of, pieces_of, process_told, server_told, migrates, migrates_child, Part, Says, Routes, Again, Owns, Transmits, Point, Told, About, Of, Known, Here, Frozen, IsNetLine, IsNet, arrives_net}
-use Rattle.dm_movelaws.proofs.Names.{resends_net, IsReal, Made}
+use Rattle.dm_movelaws.proofs.Names.{resends_net, IsReal, Made, by_migrates, by_kernel}
 use Rattle.dm_onekernel.specs.Step as kernel
 use Rattle.dm_rule.specs.Rule as rule
 use Rattle.dm_movelaws.proofs.Stages.Lines.{MildLine, AllMild}
@@ -70,53 +70,34 @@ net_line o _ h = absurd h
 net_real : (o : Point) (ps : List Part) → IsNet ps → AllReal o ps
 net_real o [] h = tt
 net_real o (Says l ∷ ps) h = (net_line o l h.0, net_real o ps h.1)
-net_real o (Routes i ∷ ps) h = absurd h.0
-net_real o (Again i b ∷ ps) h = absurd h.0
-net_real o (Owns k q b ∷ ps) h = absurd h.0
 net_real o (Transmits a b l ∷ ps) h = (tt, net_real o ps h.1)
+net_real o _ h = absurd h.0
 
 given : (o : Point) (qs ps : List Part) → AllReal o qs → Some qs ≡ Some ps → AllReal o ps
 given o qs ps h e = let f : qs ≡ ps = cc in subst (AllReal o) f h
 
 -- what kernels tell each other of a process
-accepts_real : (o : Point) (from : ℕ) (p : Pid) (room : Bool) (slots blocks : ℕ) → IsReal o.kernel p → AllReal o (accepts from p room slots blocks)
-accepts_real o from p true slots blocks h = (h, (tt, tt))
-accepts_real o from p false slots blocks h = (h, (tt, tt))
-
-chunk_real : (o : Point) (i : MsgId) (p : Pid) (last : Bool) → IsReal o.kernel p → AllReal o (takes_chunk i p last)
-chunk_real o i p true h = (h, (tt, tt))
-chunk_real o i p false h = (tt, (tt, tt))
-
-block_real : (o : Point) (i : MsgId) (p : Pid) (last : Bool) → IsReal o.kernel p → AllReal o (takes_block i p last)
-block_real o i p true h = (h, (tt, tt))
-block_real o i p false h = (tt, (tt, tt))
-
 sends_real : (o : Point) (to : ℕ) (ids : List MsgId) (ps : List Part) → AllReal o ps → AllReal o (sends_on to ids ++ ps)
 sends_real o to [] ps h = h
 sends_real o to (i ∷ is) ps h = (tt, sends_real o to is ps h)
 
-leaves_real : (o : Point) (i : MsgId) (p : Pid) (ids : List MsgId) (k : Known) (ps : List Part) → IsReal o.kernel p → leaves i p ids k ≡ Some ps → AllReal o ps
-leaves_real o i p ids (Frozen to) ps h e =
-    given o (Says (Line.SentOn p (length ids)) ∷ sends_on to ids ++ Says (Line.Migration Stage.Left p) ∷ to_kernel MessageKind.Restart i.from.home ∷ []) ps
-    (h, sends_real o to ids (Says (Line.Migration Stage.Left p) ∷ to_kernel MessageKind.Restart i.from.home ∷ []) (h, (tt, tt))) e
-leaves_real o i p ids _ ps h e = cc
-
-told_real : (o : Point) (m : ℕ) (i : MsgId) (p : Pid) (room : Bool × ℕ × ℕ) (x : PlainProcess) (k : MessageKind) (ps : List Part) → IsReal o.kernel p → kernel_told o m i p room x k ≡ Some ps → AllReal o ps
-told_real o m i p room x MessageKind.Ask ps h e = given o (accepts i.from.home p room.0 room.1 room.2) ps (accepts_real o i.from.home p room.0 room.1 room.2 h) e
-told_real o m i p room x MessageKind.Refuse ps h e = given o (Says (Line.Stays p) ∷ []) ps (tt, tt) e
-told_real o m i p room x MessageKind.PullState ps h e = given o (Says (Line.Proto i) ∷ to_kernel MessageKind.State i.from.home ∷ []) ps (tt, (tt, tt)) e
-told_real o m i p room x MessageKind.State ps h e = given o (takes_chunk i p (o.view.asked p == chunks_of x)) ps (chunk_real o i p (o.view.asked p == chunks_of x) h) e
-told_real o m i p room x MessageKind.PullBlock ps h e = given o (Says (Line.Proto i) ∷ to_kernel MessageKind.Memory i.from.home ∷ []) ps (tt, (tt, tt)) e
-told_real o m i p room x MessageKind.Memory ps h e = given o (takes_block i p (o.view.asked p == pieces_of x)) ps (block_real o i p (o.view.asked p == pieces_of x) h) e
-told_real o m i p room x MessageKind.AllTaken ps h e = leaves_real o i p (o.view.queue m p ++ o.view.held m p) (o.view.known m p) ps h e
-told_real o m i p room x MessageKind.Restart ps h e = given o (Says (Line.Migration Stage.Restarted p) ∷ []) ps (h, tt) e
-told_real o m i p room x _ ps h e = cc
-
 kernel_real : (b : Boot) (o : Point) (m : ℕ) (i : MsgId) (k : MessageKind) (a : About) (ps : List Part) → rule.kernel_hears b o m i k a ≡ Some ps → AllReal o ps
-kernel_real b o m i k (Of q) ps e =
-    let (x, there, last) = bind-is (kernel.alive (o.kernel.processes q)) (λ x. kernel_told o m i q (rule.fits (rule.free_room b o m) (length x.memory / 256)) x k) ps e in
-    told_real o m i q (rule.fits (rule.free_room b o m) (length x.memory / 256)) x k ps (Made (ap is_some (alive-is (o.kernel.processes q) x there))) last
-kernel_real b o m i k _ ps e = cc
+kernel_real b o m i k a ps = by_kernel (AllReal o) b o m i k a ps (λ p x about alive. (
+    let h : IsReal o.kernel p = Made (ap is_some (alive-is (o.kernel.processes p) x alive)) in
+    record {
+      accepted = λ ask. (h, (tt, tt));
+      lacks = λ slots blocks. (h, (tt, tt));
+      stays = λ kind. (tt, tt);
+      state = (tt, (tt, tt));
+      next_chunk = (tt, (tt, tt));
+      last_chunk = (h, (tt, tt));
+      memory = (tt, (tt, tt));
+      next_block = (tt, (tt, tt));
+      last_block = (h, (tt, tt));
+      left = λ ids to frozen. (h, sends_real o to ids (Says (Line.Migration Stage.Left p) ∷ to_kernel MessageKind.Restart i.from.home ∷ []) (h, (tt, tt)));
+      restarted = λ kind. (h, tt);
+    }
+    ))
 
 -- whom a machine has is somebody
 abbrev pub HereReal : Point → Type 0
@@ -153,14 +134,8 @@ turns_real b o m [] ps told here at e = mild_real o None ps (λ i k. cc) (λ p. 
 turns_real b o m (i ∷ is) ps told here at e = comes_real b o m i (o.kernel.bag i) ps (front_is o m i is told at) here e
 
 -- the directive to migrate
-child_real : (o : Point) (a : Addresses) (q : Pid) (n : Option ℕ) → AllReal o (migrates_child a q n)
-child_real o a q None = (tt, tt)
-child_real o a q (Some n) = (tt, tt)
-
-migrates_by : (o : Point) (q : Pid) (c d : Bool) → AllReal o (if c then Says (Line.Pinned q) ∷ [] else if d then Says (Line.Pinned q) ∷ [] else migrates_child o.addresses q (child_number o.kernel q))
-migrates_by o q true d = (tt, tt)
-migrates_by o q false true = (tt, tt)
-migrates_by o q false false = child_real o o.addresses q (child_number o.kernel q)
+migrates_real : (o : Point) (q : Pid) → AllReal o (migrates o q)
+migrates_real o q = by_migrates (AllReal o) o q (tt, tt) (tt, tt) (λ n off is. (tt, tt))
 
 pub outcome_real : (b : Boot) (o : Point) (d : Step) (ps : List Part) → InboxTold o → HereReal o → rule.outcome b o d ≡ Some ps → AllReal o ps
 outcome_real b o (Step.Turn m) ps told here e = turns_real b o m (o.view.inbox m) ps told here refl e
@@ -169,4 +144,4 @@ outcome_real b o (Step.Tick m) ps told here e =
 outcome_real b o (Step.Deliver a c k) ps told here e =
     let s = slice_get (o.view.pair a c).wire k in
     given o (rule.arrives a c (o.view.pair a c) (o.view.pair c a) s) ps (net_real o (rule.arrives a c (o.view.pair a c) (o.view.pair c a) s) (arrives_net a c (o.view.pair a c) (o.view.pair c a) s)) e
-outcome_real b o (Step.Migrate q m) ps told here e = given o (migrates o q) ps (migrates_by o q (pid_eq q switchboard) (pid_eq q manager)) e
+outcome_real b o (Step.Migrate q m) ps told here e = given o (migrates o q) ps (migrates_real o q) e

@@ -3,7 +3,7 @@ use Rattle.dm_movelaws.proofs.Names.{◌≡◌, ℕ, ◌≤◌, ◌==◌, Bool, 
 use Rattle.dm_movelaws.proofs.Names.{PlainWhat, instruction, BootImage, Boot, switchboard, manager, bind, PlainProcess, PlainStatus, Ready, Waiting, Moving, OneKernel, machine_of, with_machine, Step, Line, Addresses, Sender, is_told_back}
 use Rattle.dm_movelaws.proofs.Names.{child_number, forwards_on, to_kernel, sends_on, accepts, takes_chunk, takes_block, leaves, kernel_told, chunks_of, pieces_of, here_told, ended_told, process_told, server_told, migrates, migrates_child}
 use Rattle.dm_movelaws.proofs.Names.{Part, Says, Routes, Again, Owns, Transmits, Point, times, Told, About, Of, Known, Unknown, Here, Frozen, Forward, Ended, out_of, IsNetLine, IsNet, arrives_net, resends_net, first_is, times_self}
-use Rattle.dm_movelaws.proofs.Names.{times_more}
+use Rattle.dm_movelaws.proofs.Names.{times_more, by_migrates, IsHeardLine, hears_kept}
 use Rattle.dm_onekernel.specs.Calls as calls
 use Rattle.dm_onekernel.specs.Pieces as pieces
 use Rattle.dm_onekernel.specs.Receiving as receiving
@@ -29,10 +29,6 @@ AllOuts P (p ∷ ps) = PartOuts P p × AllOuts P ps
 abbrev pub OutsOf : (MsgId → Type 0) → Option (List Part) → Type 0
 OutsOf P None = ⊤
 OutsOf P (Some ps) = AllOuts P ps
-
-both : (P : MsgId → Type 0) (ps qs : List Part) → AllOuts P ps → AllOuts P qs → AllOuts P (ps ++ qs)
-both P [] qs h k = k
-both P (p ∷ ps) qs h k = (h.0, both P ps qs h.1 k)
 
 of_bind : {X : Type 0} (P : MsgId → Type 0) (o : Option X) (f : X → Option (List Part)) → ((x : X) → OutsOf P (f x)) → OutsOf P (bind o f)
 of_bind P None f h = tt
@@ -173,76 +169,17 @@ handles_outs P b o m id msg h q =
     (of_if P (pid_eq msg.to manager) to_manager to_process (manager_outs P id (manage.takes o.kernel.manager o.kernel.machines (length o.kernel.images) msg msg.what) h) (process_outs P o m id msg (o.view.known m msg.to) h q)))
 
 -- a kernel's own message: no label is said
-accepts_outs : (P : MsgId → Type 0) (from : ℕ) (p : Pid) (c : Bool) (slots blocks : ℕ) → AllOuts P (accepts from p c slots blocks)
-accepts_outs P from p true slots blocks = (tt, (tt, tt))
-accepts_outs P from p false slots blocks = (tt, (tt, tt))
+outs_line : (P : MsgId → Type 0) (l : Line) → IsHeardLine l → LineOuts P l
+outs_line P (Line.Label l) h = absurd h
+outs_line P _ h = tt
 
-chunk_outs : (P : MsgId → Type 0) (id : MsgId) (p : Pid) (c : Bool) → AllOuts P (takes_chunk id p c)
-chunk_outs P id p true = (tt, (tt, tt))
-chunk_outs P id p false = (tt, (tt, tt))
-
-block_outs : (P : MsgId → Type 0) (id : MsgId) (p : Pid) (c : Bool) → AllOuts P (takes_block id p c)
-block_outs P id p true = (tt, (tt, tt))
-block_outs P id p false = (tt, (tt, tt))
-
-sends_outs : (P : MsgId → Type 0) (to : ℕ) (ids : List MsgId) → AllOuts P (sends_on to ids)
-sends_outs P to [] = tt
-sends_outs P to (i ∷ is) = (tt, sends_outs P to is)
-
-leaves_outs : (P : MsgId → Type 0) (id : MsgId) (p : Pid) (ids : List MsgId) (k : Known) → OutsOf P (leaves id p ids k)
-leaves_outs P id p ids (Frozen to) = (tt, both P (sends_on to ids) (Says (Line.Migration Stage.Left p) ∷ to_kernel MessageKind.Restart id.from.home ∷ []) (sends_outs P to ids) (tt, (tt, tt)))
-leaves_outs P id p ids k = tt
-
-told_outs : (P : MsgId → Type 0) (o : Point) (m : ℕ) (id : MsgId) (p : Pid) (room : Bool × ℕ × ℕ) (x : PlainProcess) (k : MessageKind) → OutsOf P (kernel_told o m id p room x k)
-told_outs P o m id p room x MessageKind.Ask = accepts_outs P id.from.home p room.0 room.1 room.2
-told_outs P o m id p room x MessageKind.Refuse = (tt, tt)
-told_outs P o m id p room x MessageKind.PullState = (tt, (tt, tt))
-told_outs P o m id p room x MessageKind.State = chunk_outs P id p (o.view.asked p == chunks_of x)
-told_outs P o m id p room x MessageKind.PullBlock = (tt, (tt, tt))
-told_outs P o m id p room x MessageKind.Memory = block_outs P id p (o.view.asked p == pieces_of x)
-told_outs P o m id p room x MessageKind.AllTaken = leaves_outs P id p (o.view.queue m p ++ o.view.held m p) (o.view.known m p)
-told_outs P o m id p room x MessageKind.Restart = (tt, tt)
-told_outs P o m id p room x k = tt
-
-hears_kernel : (P : MsgId → Type 0) (b : Boot) (o : Point) (m : ℕ) (id : MsgId) (k : MessageKind) (a : About) → OutsOf P (rule.kernel_hears b o m id k a)
-hears_kernel P b o m id k (Of p) =
-    of_bind P (kernel.alive (o.kernel.processes p)) (λ x. kernel_told o m id p (rule.fits (rule.free_room b o m) (length x.memory / 256)) x k)
-    (λ x. told_outs P o m id p (rule.fits (rule.free_room b o m) (length x.memory / 256)) x k)
-hears_kernel P b o m id k _ = tt
-
-moves_outs : (P : MsgId → Type 0) (id : MsgId) (p : Pid) (to : ℕ) (c : Bool) → AllOuts P (if c then Says (Line.Here id) ∷ [] else Says (Line.Migration Stage.Frozen p) ∷ Says (Line.Migration Stage.Asked p) ∷ to_kernel MessageKind.Ask to ∷ [])
-moves_outs P id p to true = (tt, tt)
-moves_outs P id p to false = (tt, (tt, (tt, tt)))
-
-here_told_outs : (P : MsgId → Type 0) (o : Point) (m : ℕ) (id : MsgId) (t : Told) (k : MessageKind) → OutsOf P (here_told o m id t k)
-here_told_outs P o m id t MessageKind.Migrate = moves_outs P id t.receiver (view.target_of (Some t)) (m == view.target_of (Some t))
-here_told_outs P o m id t MessageKind.Update = (tt, tt)
-here_told_outs P o m id t k = tt
-
-ended_told_outs : (P : MsgId → Type 0) (id : MsgId) (k : MessageKind) → OutsOf P (ended_told id k)
-ended_told_outs P id MessageKind.Migrate = (tt, tt)
-ended_told_outs P id MessageKind.Update = (tt, tt)
-ended_told_outs P id k = tt
-
-process_told_outs : (P : MsgId → Type 0) (o : Point) (m : ℕ) (id : MsgId) (t : Told) (k : Known) → OutsOf P (process_told o m id t k)
-process_told_outs P o m id t Unknown = tt
-process_told_outs P o m id t Here = here_told_outs P o m id t t.kind
-process_told_outs P o m id t (Forward at moves) = forwards_outs P o.addresses id t.kind manager at
-process_told_outs P o m id t Ended = ended_told_outs P id t.kind
-process_told_outs P o m id t _ = (tt, tt)
-
-server_told_outs : (P : MsgId → Type 0) (o : Point) (id : MsgId) (t : Told) (k : MessageKind) → OutsOf P (server_told o id t k)
-server_told_outs P o id t MessageKind.Update = (tt, tt)
-server_told_outs P o id t k = tt
+outs_of : (P : MsgId → Type 0) (o : Option (List Part)) → ((ps : List Part) → o ≡ Some ps → AllOuts P ps) → OutsOf P o
+outs_of P None h = tt
+outs_of P (Some ps) h = h ps refl
 
 hears_outs : (P : MsgId → Type 0) (b : Boot) (o : Point) (m : ℕ) (id : MsgId) (q : Option Told) → OutsOf P (rule.hears b o m id q)
-hears_outs P b o m id None = tt
-hears_outs P b o m id (Some t) =
-    let to_server = server_told o id t t.kind in
-    let to_process = process_told o m id t (o.view.known m t.receiver) in
-    of_if P (t.receiver.num == 0) (rule.kernel_hears b o m id t.kind t.about) (if pid_eq t.receiver switchboard then to_server else if pid_eq t.receiver manager then to_server else to_process) (hears_kernel P b o m id t.kind t.about)
-    (of_if P (pid_eq t.receiver switchboard) to_server (if pid_eq t.receiver manager then to_server else to_process) (server_told_outs P o id t t.kind)
-    (of_if P (pid_eq t.receiver manager) to_server to_process (server_told_outs P o id t t.kind) (process_told_outs P o m id t (o.view.known m t.receiver))))
+hears_outs P b o m id q =
+    outs_of P (rule.hears b o m id q) (λ ps. hears_kept (AllOuts P) (record { none = tt; says = λ l ps h k. (outs_line P l h, k); again = λ i to ps k. (tt, k); owns = λ k q to ps h. (tt, h) }) b o m id q ps)
 
 comes_outs : (P : MsgId → Type 0) (b : Boot) (o : Point) (m : ℕ) (id : MsgId) (q : Option PlainMessage) → P id → Queues P o m → OutsOf P (rule.comes_to b o m id q)
 comes_outs P b o m id None h q = hears_outs P b o m id (o.view.told id)
@@ -260,19 +197,11 @@ net_line P l h = tt
 net_outs : (P : MsgId → Type 0) (ps : List Part) → IsNet ps → AllOuts P ps
 net_outs P [] h = tt
 net_outs P (Says l ∷ ps) h = (net_line P l h.0, net_outs P ps h.1)
-net_outs P (Routes i ∷ ps) h = absurd h.0
-net_outs P (Again i b ∷ ps) h = absurd h.0
-net_outs P (Owns k q b ∷ ps) h = absurd h.0
 net_outs P (Transmits a b l ∷ ps) h = (tt, net_outs P ps h.1)
-
-child_outs : (P : MsgId → Type 0) (a : Addresses) (p : Pid) (n : Option ℕ) → AllOuts P (migrates_child a p n)
-child_outs P a p None = (tt, tt)
-child_outs P a p (Some n) = (tt, tt)
+net_outs P _ h = absurd h.0
 
 migrates_outs : (P : MsgId → Type 0) (o : Point) (p : Pid) → AllOuts P (migrates o p)
-migrates_outs P o p =
-    outs_if P (pid_eq p switchboard) (Says (Line.Pinned p) ∷ []) (if pid_eq p manager then Says (Line.Pinned p) ∷ [] else migrates_child o.addresses p (child_number o.kernel p)) (tt, tt)
-    (outs_if P (pid_eq p manager) (Says (Line.Pinned p) ∷ []) (migrates_child o.addresses p (child_number o.kernel p)) (tt, tt) (child_outs P o.addresses p (child_number o.kernel p)))
+migrates_outs P o p = by_migrates (AllOuts P) o p (tt, tt) (tt, tt) (λ n off is. (tt, tt))
 
 pub outcome_outs : (P : MsgId → Type 0) (b : Boot) (o : Point) (d : Step) → ((m : ℕ) → In P (o.view.inbox m)) → ((m : ℕ) → Queues P o m) → OutsOf P (rule.outcome b o d)
 outcome_outs P b o (Step.Turn m) h q = turns_outs P b o m (o.view.inbox m) (h m) (q m)

@@ -15,9 +15,8 @@ use Rattle.dm_onekernel.specs.Step as step
 
 -- the sender of a message counts it: a living process, or a server
 abbrev pub has_sent : ℕ → Option Life → Bool
-has_sent n None = false
 has_sent n (Some (Alive x)) = nat_lt n x.sent
-has_sent n (Some (Ended because)) = false
+has_sent n _ = false
 
 abbrev pub is_sent : OneKernel → MsgId → Bool
 is_sent s i =
@@ -148,42 +147,26 @@ replies_counts : (s t : OneKernel) (p : Pid) (n : ℕ) (c : Reply) (next : step.
 replies_counts s t p n c (step.Calls number (Called.Replies reply y)) w is =
     let (z, sent, pending, counted) = w.counts in
     goes_counts s t p w.x y w.is.alive (counted.0 ∙ sent) (when-is _ (step.goes_on s p y) t is).1
-replies_counts s t p n c (step.Calls number (Called.Sends m y)) w is = cc
-replies_counts s t p n c (step.Calls number (Called.Waits y)) w is = cc
-replies_counts s t p n c (step.Calls number (Called.Outputs word y)) w is = cc
-replies_counts s t p n c (step.Calls number (Called.Ends because)) w is = cc
-replies_counts s t p n c (step.Faults fault) w is = cc
+replies_counts s t p n c _ w is = cc
 
 sends_counts : (s t : OneKernel) (p : Pid) (id : MsgId) (next : step.Next) → Nexts s p next → step.sends s p id next ≡ Some t → CountsSo s t
 sends_counts s t p id (step.Calls number (Called.Sends m y)) w is =
     let (z, sent, pending, counted) = w.counts in
     counts_to s (with_sent (step.goes_on s p y) (Some m)) t (when-is _ (with_sent (step.goes_on s p y) (Some m)) t is).1
     (counts_sends s (step.goes_on s p y) p w.x y m w.is.alive (Sent-from p w.x z m y sent pending counted) refl refl refl)
-sends_counts s t p id (step.Calls number (Called.Replies reply y)) w is = cc
-sends_counts s t p id (step.Calls number (Called.Waits y)) w is = cc
-sends_counts s t p id (step.Calls number (Called.Outputs word y)) w is = cc
-sends_counts s t p id (step.Calls number (Called.Ends because)) w is = cc
-sends_counts s t p id (step.Faults fault) w is = cc
+sends_counts s t p id _ w is = cc
 
 waits_counts : (s t : OneKernel) (p : Pid) (next : step.Next) → Nexts s p next → step.waits s p next ≡ Some t → CountsSo s t
 waits_counts s t p (step.Calls number (Called.Waits y)) w is =
     let (z, sent, pending, counted) = w.counts in
     goes_counts s t p w.x y w.is.alive (counted.0 ∙ sent) (let f : step.goes_on s p y ≡ t = cc in f)
-waits_counts s t p (step.Calls number (Called.Sends m y)) w is = cc
-waits_counts s t p (step.Calls number (Called.Replies reply y)) w is = cc
-waits_counts s t p (step.Calls number (Called.Outputs word y)) w is = cc
-waits_counts s t p (step.Calls number (Called.Ends because)) w is = cc
-waits_counts s t p (step.Faults fault) w is = cc
+waits_counts s t p _ w is = cc
 
 outputs_counts : (s t : OneKernel) (p : Pid) (word : ℕ) (next : step.Next) → Nexts s p next → step.outputs s p word next ≡ Some t → CountsSo s t
 outputs_counts s t p word (step.Calls number (Called.Outputs w y)) n is =
     let (z, sent, pending, counted) = n.counts in
     goes_counts s t p n.x y n.is.alive (counted.0 ∙ sent) (when-is _ (step.goes_on s p y) t is).1
-outputs_counts s t p word (step.Calls number (Called.Sends m y)) n is = cc
-outputs_counts s t p word (step.Calls number (Called.Replies reply y)) n is = cc
-outputs_counts s t p word (step.Calls number (Called.Waits y)) n is = cc
-outputs_counts s t p word (step.Calls number (Called.Ends because)) n is = cc
-outputs_counts s t p word (step.Faults fault) n is = cc
+outputs_counts s t p word _ n is = cc
 
 over_counts : (s t : OneKernel) (p : Pid) (x : PlainProcess) (y : Why) → s.processes p ≡ Some (Alive x) → with_process s p (Ended y) ≡ t → CountsSo s t
 over_counts s t p x y is e =
@@ -192,10 +175,7 @@ over_counts s t p x y is e =
 ends_counts : (s t : OneKernel) (p : Pid) (y : Why) (next : step.Next) → Nexts s p next → step.ends s p y next ≡ Some t → CountsSo s t
 ends_counts s t p y (step.Calls number (Called.Ends because)) w is = over_counts s t p w.x y w.is.alive (when-is _ (with_process s p (Ended y)) t is).1
 ends_counts s t p y (step.Faults fault) w is = over_counts s t p w.x y w.is.alive (when-is _ (with_process s p (Ended y)) t is).1
-ends_counts s t p y (step.Calls number (Called.Sends m z)) w is = cc
-ends_counts s t p y (step.Calls number (Called.Replies reply z)) w is = cc
-ends_counts s t p y (step.Calls number (Called.Waits z)) w is = cc
-ends_counts s t p y (step.Calls number (Called.Outputs word z)) w is = cc
+ends_counts s t p y _ w is = cc
 
 receives_counts : (s t : OneKernel) (p : Pid) (id : MsgId) (c : receiving.Completed) → Completing s p id c → step.receives s p id c ≡ Some t → CountsSo s t
 receives_counts s t p id (receiving.Receives y) w is =

@@ -2,7 +2,7 @@
 use Rattle.dm_movelaws.proofs.Names.{◌≡◌, ℕ, ◌==◌, Bool, true, false, List, [], ◌∷◌, refl, ap, ◌∙◌, sym, subst, length, ◌/◌, if◌then◌else◌, slice_get, Option, None, Some, Pid, pid_eq, MsgId, PlainMessage, Boot, switchboard, manager, Step}
 use Rattle.dm_movelaws.proofs.Names.{Line, View, Told, About, Of, Known, first_view, target_of, Addresses, child_number, is_between, Phase, Moves, is_due, IsIn, Point, first_point, Part, Says, Spelled, spelled, kernel_told, server_told}
 use Rattle.dm_movelaws.proofs.Names.{process_told, migrates, migrates_child, group_of, bind-is, IsNet, arrives_net, resends_net, not_true, front_way, Phased, phased_start, phased_group, due, Calm, calm_same, calm_in, told_some, head_calm}
-use Rattle.dm_movelaws.proofs.Names.{net_parts, migrates_quiet, Tame, plain_in_bag, parts_settle, InPhases, calm_phases, State, PairsFit, Sane, LeadsBy, begun, begun_sane, Mark, marks, in_order, StepsInOrder, plain_by}
+use Rattle.dm_movelaws.proofs.Names.{net_parts, migrates_quiet, Tame, plain_in_bag, parts_settle, InPhases, calm_phases, State, PairsFit, Sane, LeadsBy, begun, begun_sane, Mark, marks, in_order, StepsInOrder, plain_by, by_migrates}
 use Rattle.dm_onekernel.specs.Step as kernel
 use Rattle.dm_rule.specs.View as view
 use Rattle.dm_rule.specs.Rule as rule
@@ -101,17 +101,8 @@ turning o m h =
     }
 
 -- the directive to migrate
-child_marks : (p : Pid) (a : Addresses) (q : Pid) (n : Option ℕ) → marks_of p (migrates_child a q n) ≡ []
-child_marks p a q None = refl
-child_marks p a q (Some n) = refl
-
-migrates_by : (p : Pid) (o : Point) (q : Pid) (c d : Bool) → marks_of p (if c then Says (Line.Pinned q) ∷ [] else if d then Says (Line.Pinned q) ∷ [] else migrates_child o.addresses q (child_number o.kernel q)) ≡ []
-migrates_by p o q true d = refl
-migrates_by p o q false true = refl
-migrates_by p o q false false = child_marks p o.addresses q (child_number o.kernel q)
-
 migrates_marks : (p : Pid) (o : Point) (q : Pid) → marks_of p (migrates o q) ≡ []
-migrates_marks p o q = migrates_by p o q (pid_eq q switchboard) (pid_eq q manager)
+migrates_marks p o q = by_migrates (λ (ps : List Part). marks_of p ps ≡ []) o q refl refl (λ n off is. refl)
 
 -- behind the head of a group
 outcome_marked : (b : Boot) (pt : Point) (d : Step) (ps : List Part) (w : Spelled) → Phased pt → rule.outcome b pt d ≡ Some ps → spelled (begun pt d) ps ≡ Some w → MarkedBy (begun pt d) w ps

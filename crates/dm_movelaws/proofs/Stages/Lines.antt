@@ -69,10 +69,8 @@ net_line p _ ms h = absurd h
 pub net_marks : (p : Pid) (ps : List Part) → IsNet ps → marks_of p ps ≡ []
 net_marks p [] h = refl
 net_marks p (Says l ∷ ps) h = net_line p l (marks_of p ps) h.0 ∙ net_marks p ps h.1
-net_marks p (Routes i ∷ ps) h = absurd h.0
-net_marks p (Again i b ∷ ps) h = absurd h.0
-net_marks p (Owns k q b ∷ ps) h = absurd h.0
 net_marks p (Transmits a b l ∷ ps) h = net_marks p ps h.1
+net_marks p _ h = absurd h.0
 
 -- a message of the bag is handled
 settled_at : (f : ℕ → Pid → Known) (a : ℕ) (q : Pid) (x : Known) (m : ℕ) (p : Pid) → is_settled x ≡ true → is_settled (f m p) ≡ true → is_settled (at_record f a q x m p) ≡ true
@@ -144,9 +142,4 @@ line_spares pt s (Line.Here i) p o h tame mild is = spares_calm pt.view (view_af
 line_spares pt s (Line.NoMove i) p o h tame mild is = spares_calm pt.view (view_after pt.view (Line.NoMove i)) p (line_calm pt s (Line.NoMove i) h (tame i mild) is)
 line_spares pt s (Line.Migration Stage.Asked q) p o h tame mild is = spares_same pt.view p
 line_spares pt s (Line.Migration Stage.Left q) p o h tame mild is = left_spares pt.view q p mild
-line_spares pt s (Line.Migration Stage.Frozen q) p o h tame mild is = absurd mild
-line_spares pt s (Line.Migration Stage.Accepted q) p o h tame mild is = absurd mild
-line_spares pt s (Line.Migration Stage.StateTaken q) p o h tame mild is = absurd mild
-line_spares pt s (Line.Migration Stage.MemoryTaken q) p o h tame mild is = absurd mild
-line_spares pt s (Line.Migration Stage.Restarted q) p o h tame mild is = absurd mild
 line_spares pt s _ p o h tame mild is = absurd mild

@@ -16,11 +16,6 @@ mild_put p o (Line.Here i) h = refl
 mild_put p o (Line.NoMove i) h = refl
 mild_put p o (Line.Migration Stage.Asked q) h = refl
 mild_put p o (Line.Migration Stage.Left q) h = refl
-mild_put p o (Line.Migration Stage.Frozen q) h = absurd h
-mild_put p o (Line.Migration Stage.Accepted q) h = absurd h
-mild_put p o (Line.Migration Stage.StateTaken q) h = absurd h
-mild_put p o (Line.Migration Stage.MemoryTaken q) h = absurd h
-mild_put p o (Line.Migration Stage.Restarted q) h = absurd h
 mild_put p o _ h = absurd h
 
 mild_touches : (p : Pid) (o : Option MsgId) (l : Line) → MildLine p o l → touches l ≡ false
@@ -34,11 +29,6 @@ mild_touches p o (Line.Here i) h = refl
 mild_touches p o (Line.NoMove i) h = refl
 mild_touches p o (Line.Migration Stage.Asked q) h = refl
 mild_touches p o (Line.Migration Stage.Left q) h = refl
-mild_touches p o (Line.Migration Stage.Frozen q) h = absurd h
-mild_touches p o (Line.Migration Stage.Accepted q) h = absurd h
-mild_touches p o (Line.Migration Stage.StateTaken q) h = absurd h
-mild_touches p o (Line.Migration Stage.MemoryTaken q) h = absurd h
-mild_touches p o (Line.Migration Stage.Restarted q) h = absurd h
 mild_touches p o _ h = absurd h
 
 -- what parts keep

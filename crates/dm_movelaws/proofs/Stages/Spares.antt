@@ -72,35 +72,25 @@ spares_put v b i k q p fits =
 -- where nothing is under way
 rest_settled : (phase : Phase) (m : ℕ) (k : Known) → is_due phase ≡ false → token_in phase ≡ None → knows phase m k ≡ true → is_settled k ≡ true
 rest_settled Nowhere m Unknown d e h = refl
-rest_settled Nowhere m Here d e h = absurd (false≢true h)
-rest_settled Nowhere m (Frozen to) d e h = absurd (false≢true h)
-rest_settled Nowhere m (Incoming from) d e h = absurd (false≢true h)
-rest_settled Nowhere m (Forward at moves) d e h = absurd (false≢true h)
-rest_settled Nowhere m Ended d e h = absurd (false≢true h)
 rest_settled (Rests at) m k d e h = here_settled (at == m) k h
   where
     here_settled : (c : Bool) (k : Known) → (if c then is_here k else is_away k) ≡ true → is_settled k ≡ true
-    here_settled c Unknown h = refl
-    here_settled c Here h = refl
     here_settled true (Frozen to) h = absurd (false≢true h)
     here_settled false (Frozen to) h = absurd (false≢true h)
     here_settled true (Incoming from) h = absurd (false≢true h)
     here_settled false (Incoming from) h = absurd (false≢true h)
-    here_settled c (Forward at moves) h = refl
-    here_settled c Ended h = refl
+    here_settled c _ h = refl
 rest_settled (Over at) m k d e h = over_settled (at == m) k h
   where
     over_settled : (c : Bool) (k : Known) → (if c then is_over k else is_away k) ≡ true → is_settled k ≡ true
-    over_settled c Unknown h = refl
-    over_settled c Here h = refl
     over_settled true (Frozen to) h = absurd (false≢true h)
     over_settled false (Frozen to) h = absurd (false≢true h)
     over_settled true (Incoming from) h = absurd (false≢true h)
     over_settled false (Incoming from) h = absurd (false≢true h)
-    over_settled c (Forward at moves) h = refl
-    over_settled c Ended h = refl
+    over_settled c _ h = refl
 rest_settled (Moves k s t None) m x d e h = cc
 rest_settled (Moves k s t (Some i)) m x d e h = cc
+rest_settled Nowhere m _ d e h = absurd (false≢true h)
 
 -- where something is, not all machines are settled: the source holds the process, or the destination expects it
 pub restart_late : (k : MessageKind) → is_restart k ≡ true → is_early k ≡ false
@@ -151,7 +141,6 @@ told_kind : (k : MessageKind) (s d : ℕ) (p : Pid) (i : MsgId) (v : View) (t : 
 told_kind k s d p i v t h told = let f : Some t ≡ Some (told_between p k s d) = sym told ∙ h.token.told in let g : t ≡ told_between p k s d = cc in ap (λ (x : Told). x.kind) g
 
 phase_kind : (v : View) (p : Pid) (a : Phase) (i : MsgId) (t : Told) → IsIn v p a → token_in a ≡ Some i → v.told i ≡ Some t → mark_in a ≡ mark_of t.kind
-phase_kind v p (Moves k s d None) i t h e told = cc
 phase_kind v p (Moves k s d (Some j)) i t h e told =
     let f : j ≡ i = cc in
     ap mark_of (sym (told_kind k s d p j v t h (ap v.told f ∙ told)))

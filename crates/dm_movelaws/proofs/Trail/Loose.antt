@@ -172,9 +172,7 @@ pub net_loose : (ps : List Part) → IsNet ps → AllLoose ps
 net_loose [] h = tt
 net_loose (Says l ∷ ps) h = (net_line l h.0, net_loose ps h.1)
 net_loose (Transmits a b l ∷ ps) h = (transmits_loose a b l, net_loose ps h.1)
-net_loose (Routes i ∷ ps) h = absurd h.0
-net_loose (Again i b ∷ ps) h = absurd h.0
-net_loose (Owns k q b ∷ ps) h = absurd h.0
+net_loose _ h = absurd h.0
 
 -- labels
 outside : (pt : Point) (s : OneKernel) (l : Label) (h : Sane pt) → kernel.step pt.kernel l ≡ Some s → Outside s

@@ -214,16 +214,8 @@ or_left false d e = absurd (false≢true e)
 
 agrees_some : (k : Known) (o : Option Life) → agrees k o ≡ true → (k ≡ Unknown → ⊥) → is_some o ≡ true
 agrees_some Unknown o e some = absurd (some refl)
-agrees_some Here (Some x) e some = refl
-agrees_some Here None e some = absurd (false≢true e)
-agrees_some (Frozen to) (Some x) e some = refl
-agrees_some (Frozen to) None e some = absurd (false≢true e)
-agrees_some (Incoming from) (Some x) e some = refl
-agrees_some (Incoming from) None e some = absurd (false≢true e)
-agrees_some (Forward at_ moves) (Some x) e some = refl
-agrees_some (Forward at_ moves) None e some = absurd (false≢true e)
-agrees_some Ended (Some x) e some = refl
-agrees_some Ended None e some = absurd (false≢true e)
+agrees_some _ (Some x) e some = refl
+agrees_some _ None e some = absurd (false≢true e)
 
 known_made : (s : OneKernel) (v : View) (m : ℕ) (q : Pid) → KnownStands s v → (v.known m q ≡ Unknown → ⊥) → is_made s q ≡ true
 known_made s v m q h some = elim (cases_Bool (is_server q)) [

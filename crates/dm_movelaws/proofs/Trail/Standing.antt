@@ -56,9 +56,8 @@ lines_there b (e ∷ es) pt end (w, fit, is, more) = let (ls, rest) = lines_ther
 
 -- lists of one place
 one_place : (xs : List ℕ) (m : ℕ) → length xs ≡ 1 → slice_get xs 0 ≡ Some m → xs ≡ m ∷ []
-one_place [] m long e = absurd (omega (arith, long))
 one_place (x ∷ []) m long e = let f : x ≡ m = cc in ap (λ (y : ℕ). y ∷ []) f
-one_place (x ∷ y ∷ ys) m long e = absurd (omega (arith, long))
+one_place _ m long e = absurd (omega (arith, long))
 
 only_place : (m c k : ℕ) → slice_get (m ∷ []) c ≡ Some k → (c ≡ 0) × (k ≡ m)
 only_place m zero k e = (refl, (let f : m ≡ k = cc in sym f))

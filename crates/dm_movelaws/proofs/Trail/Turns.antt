@@ -3,7 +3,7 @@ use Rattle.dm_movelaws.proofs.Names.{◌≡◌, ℕ, ◌≤◌, Bool, true, fals
 use Rattle.dm_movelaws.proofs.Names.{PutFits, Boot, switchboard, manager, bind, Step, bind-is, View, Told, Of, is_kernels, own_id, after_head, front_of, Child, Receiver, Sender, child_number, to_of, sender_of, forwards_on, migrates_child}
 use Rattle.dm_movelaws.proofs.Names.{Part, Says, Spelled, spelled, IsIn, is_between, Point, after_line, group_of, Inbox, Queue, Held, times, standing, Trails, arrives_net, resends_net, both_lists, both_times, front_kernels, Phased, due}
 use Rattle.dm_movelaws.proofs.Names.{outcome_sayable, Named, Links, child_is, migrate_to, migrate_from, Treads, line_treads, KnownStands, Begins, begins, begun, begun_sane, turned, unborn, FoundBy, KnowsAt, moves_back, own_outside}
-use Rattle.dm_movelaws.proofs.Names.{own_fresh, told_there, about_same, stands_first, queued_for, told_for, either, fixed_home}
+use Rattle.dm_movelaws.proofs.Names.{own_fresh, told_there, about_same, stands_first, queued_for, told_for, either, fixed_home, by_migrates, migrates}
 use Rattle.dm_rule.specs.Rule as rule
 use Rattle.dm_movelaws.proofs.Trail.Placed.{Places}
 use Rattle.dm_movelaws.proofs.Trail.Walks.{AllGood, Walks, WalksOf, loose_walks, parts_good}
@@ -72,18 +72,13 @@ turns_walks b o t m [] start h at front =
 turns_walks b o t m (i ∷ is) start h at front = comes_walks b o t m i is (o.kernel.bag i) start h at front refl
 
 -- a directive to move a process
-child_walks : (pt : Point) (t : Trails) (p : Pid) (o : Option ℕ) → pt.view.acting ≡ 0 → child_number pt.kernel p ≡ o → Places pt.view t → Walks pt t (migrates_child pt.addresses p o)
-child_walks pt t p None first child h = loose_walks (Says (Line.NoChild p) ∷ []) pt t (no_child_loose p, tt) h
-child_walks pt t p (Some n) first child h = λ sane on. (
-  PutFits.Own (own_outside pt sane) (own_fresh pt sane) (migrate_to pt.kernel pt.view pt.addresses t (own_id pt.view) p n child (on.links (Child n) p (child_is pt.kernel p n child)))
-      (λ k. migrate_from pt.kernel pt.view pt.addresses t (own_id pt.view) p first (on.trail manager)),
-  (λ next s. owns_leave MessageKind.Migrate p (pt.addresses (Child n)).at pt next t s h),
-)
-
-migrates_by : (pt : Point) (t : Trails) (p : Pid) (c d : Bool) (ps : List Part) → Places pt.view t → Walks pt t ps → Walks pt t (if c then Says (Line.Pinned p) ∷ [] else if d then Says (Line.Pinned p) ∷ [] else ps)
-migrates_by pt t p true d ps h walks = loose_walks (Says (Line.Pinned p) ∷ []) pt t (pinned_loose p, tt) h
-migrates_by pt t p false true ps h walks = loose_walks (Says (Line.Pinned p) ∷ []) pt t (pinned_loose p, tt) h
-migrates_by pt t p false false ps h walks = walks
+migrates_walks : (pt : Point) (t : Trails) (p : Pid) → pt.view.acting ≡ 0 → Places pt.view t → Walks pt t (migrates pt p)
+migrates_walks pt t p first h =
+    by_migrates (Walks pt t) pt p (loose_walks (Says (Line.Pinned p) ∷ []) pt t (pinned_loose p, tt) h) (loose_walks (Says (Line.NoChild p) ∷ []) pt t (no_child_loose p, tt) h) (λ n off child sane on. (
+      PutFits.Own (own_outside pt sane) (own_fresh pt sane) (migrate_to pt.kernel pt.view pt.addresses t (own_id pt.view) p n child (on.links (Child n) p (child_is pt.kernel p n child)))
+          (λ k. migrate_from pt.kernel pt.view pt.addresses t (own_id pt.view) p first (on.trail manager)),
+      (λ next s. owns_leave MessageKind.Migrate p (pt.addresses (Child n)).at pt next t s h),
+    ))
 
 head_places : (v : View) (t : Trails) (d : Step) → Places v t → Places (after_head v d) t
 head_places v t (Step.Turn m) h = places_same v (after_head v (Step.Turn m)) t (λ n q. refl) (λ q. refl) h
@@ -100,7 +95,7 @@ outcome_walks b pt t (Step.Deliver a c k) base known h at =
 outcome_walks b pt t (Step.Migrate p m) base known h at =
     let start = begun pt (Step.Migrate p m) in
     let placed = head_places pt.view t (Step.Migrate p m) at in
-    migrates_by start t p (pid_eq p switchboard) (pid_eq p manager) (migrates_child pt.addresses p (child_number pt.kernel p)) placed (child_walks start t p (child_number pt.kernel p) refl refl placed)
+    migrates_walks start t p refl placed
 
 -- a group
 pub group_good : (b : Boot) (pt : Point) (t : Trails) (d : Step) (w : Spelled) → group_of b pt d ≡ Some w → Phased pt → KnownStands pt.kernel pt.view → FoundBy pt → Places pt.view t → Treads pt t → AllGood pt t w.lines

@@ -58,9 +58,8 @@ behind_is s a q p c h x mine leads e =
 
 -- an ended process has no links
 ended_none : (o : Option Life) → agrees Ended o ≡ true → kernel.alive o ≡ None
-ended_none None e = refl
 ended_none (Some (Alive x)) e = absurd (false≢true e)
-ended_none (Some (Life.Ended y)) e = refl
+ended_none _ e = refl
 
 either : (b c : Bool) → (b || c) ≡ false → (b ≡ false) × (c ≡ false)
 either true c e = absurd (false≢true (sym e))

@@ -140,24 +140,7 @@ line_stands pt pt' l (Line.Updated id n) apart h e =
     let f : moved pt (Line.Updated id n) s ≡ pt' = cc in
     subst Stands f (other_view s v (view_after v (Line.Updated id n)) (λ h. updated s v a (v.told id) h) refl (update_follows s v a l (v.told id) apart h))
 line_stands pt pt' l (Line.Migration step p) needs h e = stage_stands pt pt' l p step h e
-line_stands pt pt' l (Line.Head d) needs h e = keeps pt pt' l (Line.Head d) tt h e
-line_stands pt pt' l (Line.Idle m) needs h e = keeps pt pt' l (Line.Idle m) tt h e
-line_stands pt pt' l (Line.Packet from to k c) needs h e = keeps pt pt' l (Line.Packet from to k c) tt h e
-line_stands pt pt' l (Line.Taken from to n) needs h e = keeps pt pt' l (Line.Taken from to n) tt h e
-line_stands pt pt' l (Line.Old from to n) needs h e = keeps pt pt' l (Line.Old from to n) tt h e
-line_stands pt pt' l (Line.Early from to n) needs h e = keeps pt pt' l (Line.Early from to n) tt h e
-line_stands pt pt' l (Line.Acked from to n) needs h e = keeps pt pt' l (Line.Acked from to n) tt h e
-line_stands pt pt' l Line.Nothing needs h e = keeps pt pt' l Line.Nothing tt h e
-line_stands pt pt' l (Line.Resent m n) needs h e = keeps pt pt' l (Line.Resent m n) tt h e
-line_stands pt pt' l (Line.Queued id) needs h e = keeps pt pt' l (Line.Queued id) tt h e
-line_stands pt pt' l (Line.Held id) needs h e = keeps pt pt' l (Line.Held id) tt h e
-line_stands pt pt' l (Line.Lacks p slots blocks) needs h e = keeps pt pt' l (Line.Lacks p slots blocks) tt h e
-line_stands pt pt' l (Line.Stays p) needs h e = keeps pt pt' l (Line.Stays p) tt h e
-line_stands pt pt' l (Line.Here id) needs h e = keeps pt pt' l (Line.Here id) tt h e
-line_stands pt pt' l (Line.NoMove id) needs h e = keeps pt pt' l (Line.NoMove id) tt h e
-line_stands pt pt' l (Line.Proto id) needs h e = keeps pt pt' l (Line.Proto id) tt h e
-line_stands pt pt' l (Line.NoChild p) needs h e = keeps pt pt' l (Line.NoChild p) tt h e
-line_stands pt pt' l (Line.Pinned p) needs h e = keeps pt pt' l (Line.Pinned p) tt h e
+line_stands pt pt' l any_ needs h e = keeps pt pt' l any_ tt h e
 
 pub line_follows : (pt pt' : Point) (l : Placed) (x : Line) → LineNeeds pt x → MirrorsPoint pt l → after_line pt x ≡ Some pt' → (m : Placed) × MirrorsPoint pt' m
 line_follows pt pt' l x needs h e = let z = line_stands pt pt' l x needs h e in (z.l, z.mirrors)

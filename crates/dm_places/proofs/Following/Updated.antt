@@ -62,11 +62,10 @@ slot_leads s q x k o alive there =
 
 owner_follows : (s : OneKernel) (a : Addresses) (q r : Pid) (at moves : ℕ) (st : Status) (o : Addr) → leads_to s (Owner q) ≡ owner_in (plain_status st) → ((p : Addr) → owner_at st ≡ Some p → a (Owner q) ≡ place_of p)
     → owner_at (status_after r at moves st) ≡ Some o → told_of s a q r at moves (Owner q) ≡ place_of o
-owner_follows s a q r at moves Status.Ready o leads h e = cc
-owner_follows s a q r at moves (Status.Waiting mask base size) o leads h e = cc
 owner_follows s a q r at moves (Status.Moving dir owner base own left pending) o leads h e =
     let f : retargeted r at moves owner ≡ o = cc in
     led s a q r at moves (Owner q) owner (pid_eq-same q) leads (h owner refl) ∙ ap place_of f
+owner_follows s a q r at moves _ o leads h e = cc
 
 told_process : (s : OneKernel) (v : View) (a : Addresses) (q r : Pid) (at moves : ℕ) (x : Process) → kernel.alive (s.processes q) ≡ Some (plain_process x) → MirrorsProcess v a q x
     → MirrorsProcess v (told_of s a q r at moves) q (applied r at moves x)
@@ -85,10 +84,9 @@ retargeted_pid r at moves o true = refl
 retargeted_pid r at moves o false = refl
 
 plain_status_after : (r : Pid) (at moves : ℕ) (st : Status) → plain_status (status_after r at moves st) ≡ plain_status st
-plain_status_after r at moves Status.Ready = refl
-plain_status_after r at moves (Status.Waiting mask base size) = refl
 plain_status_after r at moves (Status.Moving dir owner base own left pending) =
     ap (λ (p : Pid). Moving dir p base own left pending) (retargeted_pid r at moves owner (places.is_behind r moves owner))
+plain_status_after r at moves _ = refl
 
 pub plain_applied : (r : Pid) (at moves : ℕ) (x : Process) → plain_process (applied r at moves x) ≡ plain_process x
 plain_applied r at moves x =

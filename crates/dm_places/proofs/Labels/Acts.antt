@@ -24,8 +24,7 @@ ready_if y false x e = (refl, let g : plain_process y ≡ x = cc in g)
 
 ready_of : (y : Process) (st : Status) (x : PlainProcess) → kernel.if_ready (plain_process y) (plain_status st) ≡ Some x → (if_ready y st ≡ Some y) × (plain_process y ≡ x)
 ready_of y Status.Ready x e = ready_if y y.stopped x e
-ready_of y (Status.Waiting mask base size) x e = cc
-ready_of y (Status.Moving dir owner base own left pending) x e = cc
+ready_of y _ x e = cc
 
 record Runs (l : Placed) (p : Pid) (x : PlainProcess) : Type 0 where
   y : Process
@@ -174,11 +173,7 @@ reply_row s t v a l p n c (kernel.Calls number (one.Replies d z)) q is h =
             places = places_process v a (given a gs) l p (Some g.y) h.places o.others (this_process v (given a gs) p g.y g.kept) o.messages o.servers;
           }),
     )
-reply_row s t v a l p n c (kernel.Calls number (one.Sends m y)) q is h = cc
-reply_row s t v a l p n c (kernel.Calls number (one.Waits y)) q is h = cc
-reply_row s t v a l p n c (kernel.Calls number (one.Outputs word y)) q is h = cc
-reply_row s t v a l p n c (kernel.Calls number (one.Ends because)) q is h = cc
-reply_row s t v a l p n c (kernel.Faults fault) q is h = cc
+reply_row s t v a l p n c _ q is h = cc
 
 pub call_follows : (s t : OneKernel) (v : View) (a : Addresses) (l : Placed) (p : Pid) (n : ℕ) (c : Reply) → kernel.step s (Label.Call p n c) ≡ Some t → Mirrors s v a l → Follows t v (given a (gives s v a (Label.Call p n c))) (acts v.acting l p)
 call_follows s t v a l p n c is h =
@@ -206,11 +201,7 @@ send_row s t v a l p id (kernel.Calls number (one.Sends m z)) nx q is h =
             places = places_sends v a (given a gs) l p (Some g.y) g.m h.places o.others (this_process v (given a gs) p g.y o.process) o.messages o.message o.servers;
           }),
     )
-send_row s t v a l p id (kernel.Calls number (one.Replies d y)) nx q is h = cc
-send_row s t v a l p id (kernel.Calls number (one.Waits y)) nx q is h = cc
-send_row s t v a l p id (kernel.Calls number (one.Outputs word y)) nx q is h = cc
-send_row s t v a l p id (kernel.Calls number (one.Ends because)) nx q is h = cc
-send_row s t v a l p id (kernel.Faults fault) nx q is h = cc
+send_row s t v a l p id _ nx q is h = cc
 
 pub send_follows : (s t : OneKernel) (v : View) (a : Addresses) (l : Placed) (p : Pid) (id : MsgId) → kernel.step s (Label.Send p id) ≡ Some t → Mirrors s v a l → Follows t v (given a (gives s v a (Label.Send p id))) (acts v.acting l p)
 send_follows s t v a l p id is h =
@@ -229,11 +220,7 @@ goes_follows s t v a l p w z is g f h = (
 -- wait
 wait_row : (s t : OneKernel) (v : View) (a : Addresses) (l : Placed) (p : Pid) (next : kernel.Next) → ActsOf s v a l p next → kernel.waits s p next ≡ Some t → Mirrors s v a l → Follows t v a (acts v.acting l p)
 wait_row s t v a l p (kernel.Calls number (one.Waits z)) q is h = goes_follows s t v a l p q.w z q.acts q.next (let f : kernel.goes_on s p z ≡ t = cc in f) h
-wait_row s t v a l p (kernel.Calls number (one.Replies d y)) q is h = cc
-wait_row s t v a l p (kernel.Calls number (one.Sends m y)) q is h = cc
-wait_row s t v a l p (kernel.Calls number (one.Outputs word y)) q is h = cc
-wait_row s t v a l p (kernel.Calls number (one.Ends because)) q is h = cc
-wait_row s t v a l p (kernel.Faults fault) q is h = cc
+wait_row s t v a l p _ q is h = cc
 
 pub wait_follows : (s t : OneKernel) (v : View) (a : Addresses) (l : Placed) (p : Pid) → kernel.step s (Label.Wait p) ≡ Some t → Mirrors s v a l → Follows t v a (acts v.acting l p)
 wait_follows s t v a l p is h =
@@ -244,11 +231,7 @@ wait_follows s t v a l p is h =
 out_row : (s t : OneKernel) (v : View) (a : Addresses) (l : Placed) (p : Pid) (word : ℕ) (next : kernel.Next) → ActsOf s v a l p next → kernel.outputs s p word next ≡ Some t → Mirrors s v a l → Follows t v a (acts v.acting l p)
 out_row s t v a l p word (kernel.Calls number (one.Outputs other z)) q is h =
     let k = when-is (word == other) (kernel.goes_on s p z) t is in goes_follows s t v a l p q.w z q.acts q.next k.1 h
-out_row s t v a l p word (kernel.Calls number (one.Replies d y)) q is h = cc
-out_row s t v a l p word (kernel.Calls number (one.Sends m y)) q is h = cc
-out_row s t v a l p word (kernel.Calls number (one.Waits y)) q is h = cc
-out_row s t v a l p word (kernel.Calls number (one.Ends because)) q is h = cc
-out_row s t v a l p word (kernel.Faults fault) q is h = cc
+out_row s t v a l p word _ q is h = cc
 
 pub out_follows : (s t : OneKernel) (v : View) (a : Addresses) (l : Placed) (p : Pid) (word : ℕ) → kernel.step s (Label.Out p word) ≡ Some t → Mirrors s v a l → Follows t v a (acts v.acting l p)
 out_follows s t v a l p word is h =
@@ -268,10 +251,7 @@ end_row s t v a l p y (kernel.Calls number (one.Ends because)) q is h =
     let k = when-is (why_eq y because) (kernels.with_process s p (Ended y)) t is in ends_follows s t v a l p y q.w q.acts q.next k.1 h
 end_row s t v a l p y (kernel.Faults fault) q is h =
     let k = when-is (why_eq y (Why.Fault fault)) (kernels.with_process s p (Ended y)) t is in ends_follows s t v a l p y q.w q.acts q.next k.1 h
-end_row s t v a l p y (kernel.Calls number (one.Replies d z)) q is h = cc
-end_row s t v a l p y (kernel.Calls number (one.Sends m z)) q is h = cc
-end_row s t v a l p y (kernel.Calls number (one.Waits z)) q is h = cc
-end_row s t v a l p y (kernel.Calls number (one.Outputs word z)) q is h = cc
+end_row s t v a l p y _ q is h = cc
 
 pub end_follows : (s t : OneKernel) (v : View) (a : Addresses) (l : Placed) (p : Pid) (y : Why) → kernel.step s (Label.End p y) ≡ Some t → Mirrors s v a l → Follows t v a (acts v.acting l p)
 end_follows s t v a l p y is h =

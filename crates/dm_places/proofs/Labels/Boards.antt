@@ -102,13 +102,12 @@ registers_kept a id sent names op name l None at h = record {
 
 to_register : (a : Addresses) (id sent : MsgId) (names : List Named) (op : ℕ) (name : List ℕ) (ls : List Link) → ((n : ℕ) (w : Link) → slice_get ls n ≡ Some w → a (Enclosed id (suc n)) ≡ place_of w.addr) → NamesKept a names
     → AsksKept a id sent names (op ∷ name) (board.asks_to_register names name ls)
-to_register a id sent names op name [] en h = nothing_given a sent names Reply.BadRequest refl h
-to_register a id sent names op name (l ∷ k ∷ ks) en h = nothing_given a sent names Reply.BadRequest refl h
 to_register a id sent names op name (l ∷ []) en h =
     asks_if a id sent names (op ∷ name) (is_name name) (board.registers names name l) (board.bad_request names)
     (asks_if a id sent names (op ∷ name) (is_general l.kind) (board.registers_new names name l (board.link_named name names)) (record { names = names; reply = Reply.BadLink })
     (registers_kept a id sent names op name l (board.link_named name names) (en 0 l refl) h) (nothing_given a sent names Reply.BadLink refl h))
     (nothing_given a sent names Reply.BadRequest refl h)
+to_register a id sent names op name _ en h = nothing_given a sent names Reply.BadRequest refl h
 
 to_look_up : (a : Addresses) (id sent : MsgId) (names : List Named) (op : ℕ) (name : List ℕ) (ls : List Link) → NamesKept a names → AsksKept a id sent names (op ∷ name) (board.asks_to_look_up names name ls)
 to_look_up a id sent names op name [] h =

@@ -119,15 +119,11 @@ wants_mirrors s v a l id mid code machine image (w ∷ ws) en at order h =
 
 requests_mirrors : (s : OneKernel) (v : View) (a : Addresses) (l : Placed) (id mid : MsgId) (code : ℕ) (body : List ℕ) (links : List Link) → LinksKept a mid links → v.acting ≡ 0 → InOrder l.manager → Mirrors s v a l
     → TookAt s v a l id mid code (one.requests (plain_manager l.manager) l.manager.machines l.manager.images body (map plain_link links)) (take.requests l.manager body links)
-requests_mirrors s v a l id mid code [] links en at order h = bad_mirrors s v a l id mid code links en at h
-requests_mirrors s v a l id mid code (b ∷ []) links en at order h = bad_mirrors s v a l id mid code links en at h
-requests_mirrors s v a l id mid code (b ∷ c ∷ []) links en at order h = bad_mirrors s v a l id mid code links en at h
-requests_mirrors s v a l id mid code (b ∷ c ∷ d ∷ []) links en at order h = bad_mirrors s v a l id mid code links en at h
 requests_mirrors s v a l id mid code (b ∷ c ∷ d ∷ e ∷ []) links en at order h =
     let g = l.manager in
     took_if s v a l id mid code (b == 1) (one.wants_child (plain_manager g) g.machines g.images c (256 * d + e) (map plain_link links)) (one.bad_request (plain_manager g) (map plain_link links))
     (take.wants_child g c (256 * d + e) links) (take.bad_request g links) (wants_mirrors s v a l id mid code c (256 * d + e) links en at order h) (bad_mirrors s v a l id mid code links en at h)
-requests_mirrors s v a l id mid code (b ∷ c ∷ d ∷ e ∷ f ∷ fs) links en at order h = bad_mirrors s v a l id mid code links en at h
+requests_mirrors s v a l id mid code _ links en at order h = bad_mirrors s v a l id mid code links en at h
 
 -- a message to a child
 tells_mirrors : (s : OneKernel) (v : View) (a : Addresses) (l : Placed) (id : MsgId) (code : ℕ) (child : Addr) (w : What) (u : PlainWhat) → plain_message (message_to l.manager.sent child w) ≡ Some (record { id = id_of manager l.manager.sent; to = child.pid; sender = manager; what = u })
@@ -150,11 +146,8 @@ control_by s v a l id mid code child false false false links to en at h = bad_mi
 controls_mirrors : (s : OneKernel) (v : View) (a : Addresses) (l : Placed) (id mid : MsgId) (code : ℕ) (o : Option Addr) (body : List ℕ) (links : List Link) → child_numbered l.manager.children code ≡ o → LinksKept a mid links → v.acting ≡ 0 → Mirrors s v a l
     → TookAt s v a l id mid code (one.controls (plain_manager l.manager) (option_map plain_child o) body (map plain_link links)) (take.controls l.manager o body links)
 controls_mirrors s v a l id mid code (Some child) (op ∷ []) links is en at h = control_by s v a l id mid code child (op == 2) (op == 3) (op == 4) links (h.places.child code child is) en at h
-controls_mirrors s v a l id mid code (Some child) [] links is en at h = bad_mirrors s v a l id mid code links en at h
-controls_mirrors s v a l id mid code (Some child) (b ∷ c ∷ cs) links is en at h = bad_mirrors s v a l id mid code links en at h
-controls_mirrors s v a l id mid code None [] links is en at h = bad_mirrors s v a l id mid code links en at h
 controls_mirrors s v a l id mid code None (b ∷ []) links is en at h = bad_mirrors s v a l id mid code links en at h
-controls_mirrors s v a l id mid code None (b ∷ c ∷ cs) links is en at h = bad_mirrors s v a l id mid code links en at h
+controls_mirrors s v a l id mid code _ _ links is en at h = bad_mirrors s v a l id mid code links en at h
 
 user_of : (s : OneKernel) (v : View) (a : Addresses) (l : Placed) (id mid : MsgId) (code : ℕ) (body : List ℕ) (links : List Link) → LinksKept a mid links → v.acting ≡ 0 → InOrder l.manager → Mirrors s v a l
     → TookAt s v a l id mid code (one.takes_user (plain_manager l.manager) l.manager.machines l.manager.images code body (map plain_link links)) (take.takes_user l.manager code body links)

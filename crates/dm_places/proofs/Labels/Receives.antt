@@ -162,8 +162,7 @@ completes_what_of v a p id x m k d mask base size u waits says is h en e = cc
 completes_status_of : (v : View) (a : Addresses) (p : Pid) (id : MsgId) (x : Process) (m : Message) (k : PlainMessage) (d : one.Completed) (st : Status) → x.status ≡ st → plain_message m ≡ Some k → MirrorsProcess v a p x → EnclosedFrom a id 0 (enclosed m.what)
     → one.completes_status p (plain_process x) k (plain_status st) ≡ Some d → Completes v a p id x m k.what d
 completes_status_of v a p id x m k d (Status.Waiting mask base size) is says h en e = completes_what_of v a p id x m k d mask base size k.what is says refl h en e
-completes_status_of v a p id x m k d Status.Ready is says h en e = cc
-completes_status_of v a p id x m k d (Status.Moving dir owner base own left pending) is says h en e = cc
+completes_status_of v a p id x m k d _ is says h en e = cc
 
 completes_with_of : (v : View) (a : Addresses) (p : Pid) (id : MsgId) (x : Process) (m : Message) (k : PlainMessage) (d : one.Completed) (b : Bool) → plain_message m ≡ Some k → MirrorsProcess v a p x → EnclosedFrom a id 0 (enclosed m.what)
     → (if b then None else one.completes_status p (plain_process x) k (plain_status x.status)) ≡ Some d → Completes v a p id x m k.what d

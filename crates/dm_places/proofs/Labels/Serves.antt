@@ -102,8 +102,7 @@ lands_of : (v : View) (a : Addresses) (p : Pid) (x : Process) (m : Message) (u :
     → pieces.lands p (plain_process x) (plainly m u) (plain_status st) ≡ Some c → Lands v a p x (landing.landing v.acting x m.what st) c
 lands_of v a p x m u (Status.Moving dir owner base own left pending) c st is h e =
     lands_if v a p x (m.id.n == pending) dir owner base own left m.what u c is h (h.owner owner (ap owner_at st)) e
-lands_of v a p x m u Status.Ready c st is h e = cc
-lands_of v a p x m u (Status.Waiting mask base size) c st is h e = cc
+lands_of v a p x m u _ c st is h e = cc
 
 landed_mirrors : (s : OneKernel) (v : View) (a : Addresses) (l : Placed) (id : MsgId) (m : Message) (u : PlainWhat) (w : Landed) (y : Process) (c : pieces.Landed) → plain_landed w y ≡ Some c → LandedKept v a m.to.pid w y → Mirrors s v a l
     → Mirrors (service.landed s id (plainly m u) c) v (given a (lands v a m.to.pid (Some c))) (after_landing (without_message l id) m.to.pid w y)

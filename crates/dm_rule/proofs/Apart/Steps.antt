@@ -39,43 +39,24 @@ sent_off s (Some m) p = refl
 -- calls, a row each
 keeps_replies : (s : OneKernel) (p q : Pid) (n : ℕ) (c : Reply) (next : kernel.Next) → q ≢ p → Keeps s p (kernel.replies s q n c next)
 keeps_replies s p q n c (kernel.Calls number (Called.Replies reply x)) off = keeps_when s p ((n == number) && reply_eq c reply) (kernel.goes_on s q x) (set_off s q p (Alive x) off)
-keeps_replies s p q n c (kernel.Calls number (Called.Sends m x)) off = tt
-keeps_replies s p q n c (kernel.Calls number (Called.Waits x)) off = tt
-keeps_replies s p q n c (kernel.Calls number (Called.Outputs word x)) off = tt
-keeps_replies s p q n c (kernel.Calls number (Called.Ends because)) off = tt
-keeps_replies s p q n c (kernel.Faults fault) off = tt
+keeps_replies s p q n c _ off = tt
 
 keeps_sends : (s : OneKernel) (p q : Pid) (id : MsgId) (next : kernel.Next) → q ≢ p → Keeps s p (kernel.sends s q id next)
-keeps_sends s p q id (kernel.Calls number (Called.Replies reply x)) off = tt
 keeps_sends s p q id (kernel.Calls number (Called.Sends m x)) off = keeps_when s p (id_eq id m.id) (with_sent (kernel.goes_on s q x) (Some m)) (set_off s q p (Alive x) off)
-keeps_sends s p q id (kernel.Calls number (Called.Waits x)) off = tt
-keeps_sends s p q id (kernel.Calls number (Called.Outputs word x)) off = tt
-keeps_sends s p q id (kernel.Calls number (Called.Ends because)) off = tt
-keeps_sends s p q id (kernel.Faults fault) off = tt
+keeps_sends s p q id _ off = tt
 
 keeps_waits : (s : OneKernel) (p q : Pid) (next : kernel.Next) → q ≢ p → Keeps s p (kernel.waits s q next)
-keeps_waits s p q (kernel.Calls number (Called.Replies reply x)) off = tt
-keeps_waits s p q (kernel.Calls number (Called.Sends m x)) off = tt
 keeps_waits s p q (kernel.Calls number (Called.Waits x)) off = set_off s q p (Alive x) off
-keeps_waits s p q (kernel.Calls number (Called.Outputs word x)) off = tt
-keeps_waits s p q (kernel.Calls number (Called.Ends because)) off = tt
-keeps_waits s p q (kernel.Faults fault) off = tt
+keeps_waits s p q _ off = tt
 
 keeps_outputs : (s : OneKernel) (p q : Pid) (w : ℕ) (next : kernel.Next) → q ≢ p → Keeps s p (kernel.outputs s q w next)
-keeps_outputs s p q w (kernel.Calls number (Called.Replies reply x)) off = tt
-keeps_outputs s p q w (kernel.Calls number (Called.Sends m x)) off = tt
-keeps_outputs s p q w (kernel.Calls number (Called.Waits x)) off = tt
 keeps_outputs s p q w (kernel.Calls number (Called.Outputs word x)) off = keeps_when s p (w == word) (kernel.goes_on s q x) (set_off s q p (Alive x) off)
-keeps_outputs s p q w (kernel.Calls number (Called.Ends because)) off = tt
-keeps_outputs s p q w (kernel.Faults fault) off = tt
+keeps_outputs s p q w _ off = tt
 
 keeps_ends : (s : OneKernel) (p q : Pid) (y : Why) (next : kernel.Next) → q ≢ p → Keeps s p (kernel.ends s q y next)
-keeps_ends s p q y (kernel.Calls number (Called.Replies reply x)) off = tt
-keeps_ends s p q y (kernel.Calls number (Called.Sends m x)) off = tt
-keeps_ends s p q y (kernel.Calls number (Called.Waits x)) off = tt
-keeps_ends s p q y (kernel.Calls number (Called.Outputs word x)) off = tt
 keeps_ends s p q y (kernel.Calls number (Called.Ends because)) off = keeps_when s p (why_eq y because) (with_process s q (Ended y)) (set_off s q p (Ended y) off)
 keeps_ends s p q y (kernel.Faults fault) off = keeps_when s p (why_eq y (Why.Fault fault)) (with_process s q (Ended y)) (set_off s q p (Ended y) off)
+keeps_ends s p q y _ off = tt
 
 keeps_receives : (s : OneKernel) (p q : Pid) (id : MsgId) (c : receiving.Completed) → q ≢ p → Keeps s p (kernel.receives s q id c)
 keeps_receives s p q id (receiving.Receives x) off = set_off (without_message s id) q p (Alive x) off

@@ -143,10 +143,6 @@ told_lists s e v (Some t) h = kills_lists s e v t.kind (Some t.receiver) h
 
 pub label_lists : (s : OneKernel) (e : MsgId → ℕ) (v : View) (l : Label) → ListsHome s e v → ListsHome s e (after_label v l)
 label_lists s e v (Label.Ran p k) h = record { inbox = h.inbox; queue = h.queue; untaken = h.untaken }
-label_lists s e v (Label.Call p n c) h = h
-label_lists s e v (Label.Send p id) h = h
-label_lists s e v (Label.Wait p) h = h
-label_lists s e v (Label.Out p w) h = h
 label_lists s e v (Label.End p y) h = record { inbox = h.inbox; queue = h.queue; untaken = h.untaken }
 label_lists s e v (Label.Receive p id) h = record {
   inbox = h.inbox;
@@ -160,6 +156,7 @@ label_lists s e v (Label.Gone id) h = handled_lists s e v id h
 label_lists s e v (Label.Took id) h = handled_lists s e v id h
 label_lists s e v (Label.Created id p) h = let k = handled_lists s e v id h in record { inbox = k.inbox; queue = k.queue; untaken = k.untaken }
 label_lists s e v (Label.NoSpace id f b) h = handled_lists s e v id h
+label_lists s e v _ h = h
 
 -- queued
 queued_lists : (s : OneKernel) (e : MsgId → ℕ) (v : View) (id : MsgId) (o : Option Pid) → stands s e v.acting id ≡ true → ListsHome s e v → ListsHome s e (queued_for v id o)

@@ -89,14 +89,10 @@ wants_home P s v a id mid code machine image (l ∷ ls) en at h =
 
 requests_home : (P : Pid → Place → Type 0) (s : OneKernel) (v : View) (a : Addresses) (id mid : MsgId) (code : ℕ) (body : List ℕ) (links : List PlainLink) → LinksHome P a mid links → v.acting ≡ 0 → AtHome P s a
     → TookAt P s v a id mid code (manage.requests s.manager s.machines (length s.images) body links)
-requests_home P s v a id mid code [] links en at h = bad_home P s v a id mid code links en at h
-requests_home P s v a id mid code (b ∷ []) links en at h = bad_home P s v a id mid code links en at h
-requests_home P s v a id mid code (b ∷ c ∷ []) links en at h = bad_home P s v a id mid code links en at h
-requests_home P s v a id mid code (b ∷ c ∷ d ∷ []) links en at h = bad_home P s v a id mid code links en at h
 requests_home P s v a id mid code (b ∷ c ∷ d ∷ e ∷ []) links en at h =
     took_if P s v a id mid code (b == 1) (manage.wants_child s.manager s.machines (length s.images) c (256 * d + e) links) (manage.bad_request s.manager links)
     (wants_home P s v a id mid code c (256 * d + e) links en at h) (bad_home P s v a id mid code links en at h)
-requests_home P s v a id mid code (b ∷ c ∷ d ∷ e ∷ f ∷ fs) links en at h = bad_home P s v a id mid code links en at h
+requests_home P s v a id mid code _ links en at h = bad_home P s v a id mid code links en at h
 
 -- a message to a child
 tells_home : (P : Pid → Place → Type 0) (s : OneKernel) (v : View) (a : Addresses) (id : MsgId) (code : ℕ) (child : Pid) (w : PlainWhat) → links_in w ≡ [] → P child (a (Child code)) → v.acting ≡ 0 → AtHome P s a
@@ -115,11 +111,8 @@ control_by P s v a id mid code child false false false links to en at h = bad_ho
 controls_home : (P : Pid → Place → Type 0) (s : OneKernel) (v : View) (a : Addresses) (id mid : MsgId) (code : ℕ) (o : Option Pid) (body : List ℕ) (links : List PlainLink) → manage.child_numbered s.manager.children code ≡ o → LinksHome P a mid links → v.acting ≡ 0 → AtHome P s a
     → TookAt P s v a id mid code (manage.controls s.manager o body links)
 controls_home P s v a id mid code (Some child) (op ∷ []) links is en at h = control_by P s v a id mid code child (op == 2) (op == 3) (op == 4) links (h.children code child is) en at h
-controls_home P s v a id mid code (Some child) [] links is en at h = bad_home P s v a id mid code links en at h
-controls_home P s v a id mid code (Some child) (b ∷ c ∷ cs) links is en at h = bad_home P s v a id mid code links en at h
-controls_home P s v a id mid code None [] links is en at h = bad_home P s v a id mid code links en at h
 controls_home P s v a id mid code None (b ∷ []) links is en at h = bad_home P s v a id mid code links en at h
-controls_home P s v a id mid code None (b ∷ c ∷ cs) links is en at h = bad_home P s v a id mid code links en at h
+controls_home P s v a id mid code _ _ links is en at h = bad_home P s v a id mid code links en at h
 
 user_home : (P : Pid → Place → Type 0) (s : OneKernel) (v : View) (a : Addresses) (id mid : MsgId) (code : ℕ) (body : List ℕ) (links : List PlainLink) → LinksHome P a mid links → v.acting ≡ 0 → AtHome P s a
     → TookAt P s v a id mid code (manage.takes_user s.manager s.machines (length s.images) code body links)

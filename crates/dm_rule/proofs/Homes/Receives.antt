@@ -24,11 +24,10 @@ set_off (x ∷ xs) (suc k) zero y e = refl
 set_off (x ∷ xs) (suc k) (suc j) y e = set_off xs k j y (let f : (k == j) ≡ false = grind (arith, nat_tests) in f)
 
 empty_at : {L : Type 0} (slots : List (Option L)) → link_at slots (position_or_len is_none slots) ≡ None
-empty_at [] = refl
-empty_at (None ∷ xs) = refl
 empty_at (Some x ∷ xs) =
     let next : 1 + position_or_len is_none xs ≡ suc (position_or_len is_none xs) = omega arith in
     ap (λ (n : ℕ). link_at (Some x ∷ xs) n) next ∙ empty_at xs
+empty_at _ = refl
 
 pub record IsEmptySlot {L : Type 0} (slots : List (Option L)) (k : ℕ) : Type 0 where
   pub within : nat_lt k (length slots) ≡ true
@@ -148,8 +147,7 @@ completes_what_home P a p id x m mask base size _ d h en e = cc
 completes_status_home : (P : Pid → Place → Type 0) (a : Addresses) (p : Pid) (id : MsgId) (x : PlainProcess) (m : PlainMessage) (st : PlainStatus) (d : receiving.Completed) → HomeProcess P a p x → EnclosedHome P a id 0 (links_in m.what)
     → receiving.completes_status p x m st ≡ Some d → HomeCompleted P a p id x m.what d
 completes_status_home P a p id x m (Waiting mask base size) d h en e = completes_what_home P a p id x m mask base size m.what d h en e
-completes_status_home P a p id x m Ready d h en e = cc
-completes_status_home P a p id x m (Moving dir owner base own left pending) d h en e = cc
+completes_status_home P a p id x m _ d h en e = cc
 
 completes_with_home : (P : Pid → Place → Type 0) (a : Addresses) (p : Pid) (id : MsgId) (x : PlainProcess) (m : PlainMessage) (b : Bool) (d : receiving.Completed) → HomeProcess P a p x → EnclosedHome P a id 0 (links_in m.what)
     → (if b then None else receiving.completes_status p x m x.status) ≡ Some d → HomeCompleted P a p id x m.what d

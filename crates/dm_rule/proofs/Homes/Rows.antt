@@ -104,8 +104,7 @@ running_home_if P a p y false x h e = let f : y ≡ x = cc in subst (HomeProcess
 
 running_home_of : (P : Pid → Place → Type 0) (a : Addresses) (p : Pid) (y : PlainProcess) (st : PlainStatus) (x : PlainProcess) → HomeProcess P a p y → kernel.if_ready y st ≡ Some x → HomeProcess P a p x
 running_home_of P a p y Ready x h e = running_home_if P a p y y.stopped x h e
-running_home_of P a p y (Waiting mask base size) x h e = cc
-running_home_of P a p y (Moving dir owner base own left pending) x h e = cc
+running_home_of P a p y _ x h e = cc
 
 pub running_home : (P : Pid → Place → Type 0) (s : OneKernel) (a : Addresses) (p : Pid) (x : PlainProcess) → AtHome P s a → kernel.running s p ≡ Some x → HomeProcess P a p x
 running_home P s a p x h e =

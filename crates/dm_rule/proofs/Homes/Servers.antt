@@ -217,13 +217,12 @@ registers_home P a id sent names op name l None at h = record {
 
 to_register : (P : Pid → Place → Type 0) (a : Addresses) (id sent : MsgId) (names : List NamedLink) (op : ℕ) (name : List ℕ) (ls : List PlainLink) → ((n : ℕ) (w : PlainLink) → slice_get ls n ≡ Some w → P w.to (a (Enclosed id (suc n)))) → NamesHome P a names
     → AsksHome P a id sent names (op ∷ name) (board.asks_to_register names name ls)
-to_register P a id sent names op name [] en h = plain_asked P a sent names board.BadRequest refl h
 to_register P a id sent names op name (l ∷ []) en h =
     asks_if P a id sent names (op ∷ name) (board.is_name name) (board.registers names name l) (board.bad_request names)
     (asks_if P a id sent names (op ∷ name) (is_general l.kind) (board.registers_new names name l (board.link_named name names)) (record { names = names; answer = board.BadLink })
     (registers_home P a id sent names op name l (board.link_named name names) (en 0 l refl) h) (plain_asked P a sent names board.BadLink refl h))
     (plain_asked P a sent names board.BadRequest refl h)
-to_register P a id sent names op name (l ∷ k ∷ ks) en h = plain_asked P a sent names board.BadRequest refl h
+to_register P a id sent names op name _ en h = plain_asked P a sent names board.BadRequest refl h
 
 to_look_up : (P : Pid → Place → Type 0) (a : Addresses) (id sent : MsgId) (names : List NamedLink) (op : ℕ) (name : List ℕ) (ls : List PlainLink) → NamesHome P a names → AsksHome P a id sent names (op ∷ name) (board.asks_to_look_up names name ls)
 to_look_up P a id sent names op name [] h =

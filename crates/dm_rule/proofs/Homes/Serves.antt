@@ -136,31 +136,8 @@ lands_what_home P a p x Direction.FromArea owner base own left (PlainWhat.Block 
 lands_what_home P a p x Direction.IntoArea owner base own left PlainWhat.Written d h at e =
     some_landed P a p (nat_le (own + left) (length x.memory)) (pieces.goes_on p x Direction.IntoArea owner base own left (pieces.piece_of left)) d (goes_on_home P a p x Direction.IntoArea owner base own left (pieces.piece_of left) h at) e
 lands_what_home P a p x Direction.FromArea owner base own left PlainWhat.Gone d h at e = let f : pieces.done Reply.Gone x ≡ d = cc in subst (LandedHome P a p) f (done_home P a p x Reply.Gone h)
-lands_what_home P a p x Direction.FromArea owner base own left (PlainWhat.User f g i j) d h at e = cc
-lands_what_home P a p x Direction.FromArea owner base own left PlainWhat.Stop d h at e = cc
-lands_what_home P a p x Direction.FromArea owner base own left PlainWhat.Resume d h at e = cc
-lands_what_home P a p x Direction.FromArea owner base own left PlainWhat.Kill d h at e = cc
-lands_what_home P a p x Direction.FromArea owner base own left (PlainWhat.Read f g) d h at e = cc
-lands_what_home P a p x Direction.FromArea owner base own left (PlainWhat.Write f g) d h at e = cc
-lands_what_home P a p x Direction.FromArea owner base own left PlainWhat.Written d h at e = cc
-lands_what_home P a p x Direction.FromArea owner base own left (PlainWhat.Create f g) d h at e = cc
-lands_what_home P a p x Direction.FromArea owner base own left (PlainWhat.Created f) d h at e = cc
-lands_what_home P a p x Direction.FromArea owner base own left PlainWhat.NoRoom d h at e = cc
-lands_what_home P a p x Direction.FromArea owner base own left (PlainWhat.Move f) d h at e = cc
-lands_what_home P a p x Direction.FromArea owner base own left (PlainWhat.Moved f) d h at e = cc
 lands_what_home P a p x Direction.IntoArea owner base own left PlainWhat.Gone d h at e = let f : pieces.done Reply.Gone x ≡ d = cc in subst (LandedHome P a p) f (done_home P a p x Reply.Gone h)
-lands_what_home P a p x Direction.IntoArea owner base own left (PlainWhat.User f g i j) d h at e = cc
-lands_what_home P a p x Direction.IntoArea owner base own left PlainWhat.Stop d h at e = cc
-lands_what_home P a p x Direction.IntoArea owner base own left PlainWhat.Resume d h at e = cc
-lands_what_home P a p x Direction.IntoArea owner base own left PlainWhat.Kill d h at e = cc
-lands_what_home P a p x Direction.IntoArea owner base own left (PlainWhat.Read f g) d h at e = cc
-lands_what_home P a p x Direction.IntoArea owner base own left (PlainWhat.Write f g) d h at e = cc
-lands_what_home P a p x Direction.IntoArea owner base own left (PlainWhat.Block f) d h at e = cc
-lands_what_home P a p x Direction.IntoArea owner base own left (PlainWhat.Create f g) d h at e = cc
-lands_what_home P a p x Direction.IntoArea owner base own left (PlainWhat.Created f) d h at e = cc
-lands_what_home P a p x Direction.IntoArea owner base own left PlainWhat.NoRoom d h at e = cc
-lands_what_home P a p x Direction.IntoArea owner base own left (PlainWhat.Move f) d h at e = cc
-lands_what_home P a p x Direction.IntoArea owner base own left (PlainWhat.Moved f) d h at e = cc
+lands_what_home P a p x _ owner base own left _ d h at e = cc
 
 if_lands_home : (P : Pid → Place → Type 0) (a : Addresses) (p : Pid) (x : PlainProcess) (b : Bool) (dir : Direction) (owner : Pid) (base own left : ℕ) (w : PlainWhat) (d : pieces.Landed) → HomeProcess P a p x → P owner (a (Owner p))
     → (if b then pieces.lands_what p x dir owner base own left w else None) ≡ Some d → LandedHome P a p d
@@ -170,8 +147,7 @@ if_lands_home P a p x false dir owner base own left w d h at e = cc
 lands_home : (P : Pid → Place → Type 0) (a : Addresses) (p : Pid) (x : PlainProcess) (m : PlainMessage) (st : PlainStatus) (d : pieces.Landed) → x.status ≡ st → HomeProcess P a p x → pieces.lands p x m st ≡ Some d → LandedHome P a p d
 lands_home P a p x m (Moving dir owner base own left pending) d is h e =
     if_lands_home P a p x (m.id.n == pending) dir owner base own left m.what d h (h.owner owner (ap owner_in is)) e
-lands_home P a p x m Ready d is h e = cc
-lands_home P a p x m (Waiting mask base size) d is h e = cc
+lands_home P a p x m _ d is h e = cc
 
 landed_home : (P : Pid → Place → Type 0) (s : OneKernel) (v : View) (a : Addresses) (id : MsgId) (m : PlainMessage) (c : pieces.Landed) → LandedHome P a m.to c → P m.to (here v m.to) → AtHome P s a
     → AtHome P (service.landed s id m c) (given a (lands v a m.to (Some c)))
@@ -202,8 +178,7 @@ gone_if p x false dir owner base own left w d is e = cc
 
 pub gone_lands : (p : Pid) (x : PlainProcess) (m : PlainMessage) (st : PlainStatus) (d : pieces.Landed) → m.what ≡ PlainWhat.Gone → pieces.lands p x m st ≡ Some d → NothingNext d
 gone_lands p x m (Moving dir owner base own left pending) d is e = gone_if p x (m.id.n == pending) dir owner base own left m.what d is e
-gone_lands p x m Ready d is e = cc
-gone_lands p x m (Waiting mask base size) d is e = cc
+gone_lands p x m _ d is e = cc
 
 pub nothing_lands : (v : View) (a : Addresses) (p : Pid) (c : pieces.Landed) → NothingNext c → lands v a p (Some c) ≡ []
 nothing_lands v a p (pieces.Done reply y) h = refl

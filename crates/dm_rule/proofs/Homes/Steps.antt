@@ -85,11 +85,7 @@ reply_row P s t v a p n c (kernel.Calls number (calls.Replies d y)) w is h =
     subst (λ (u : OneKernel). AtHome P u (given a (made v a p n c (kernel.running s p)))) k.1
     (subst (λ (g : List Gets). AtHome P (kernel.goes_on s p y) (given a g)) gs_is
     (at_home_process P s a (given a gs) p (Alive y) h o.others (alive_on P (given a gs) p y w.home) o.messages o.servers))
-reply_row P s t v a p n c (kernel.Calls number (calls.Sends m y)) w is h = cc
-reply_row P s t v a p n c (kernel.Calls number (calls.Waits y)) w is h = cc
-reply_row P s t v a p n c (kernel.Calls number (calls.Outputs word y)) w is h = cc
-reply_row P s t v a p n c (kernel.Calls number (calls.Ends because)) w is h = cc
-reply_row P s t v a p n c (kernel.Faults fault) w is h = cc
+reply_row P s t v a p n c _ w is h = cc
 
 pub call_home : (P : Pid → Place → Type 0) (s t : OneKernel) (v : View) (a : Addresses) (p : Pid) (n : ℕ) (c : Reply) → kernel.step s (Label.Call p n c) ≡ Some t → P p (here v p) → AtHome P s a → AtHome P t (given a (gives s v a (Label.Call p n c)))
 call_home P s t v a p n c is at h =
@@ -110,11 +106,7 @@ send_row P s t v a p id (kernel.Calls number (calls.Sends m y)) nx w is h =
     subst (λ (u : OneKernel). AtHome P u (given a (gives s v a (Label.Send p id)))) k.1
     (subst (λ (g : List Gets). AtHome P (with_sent (kernel.goes_on s p y) (Some m)) (given a g)) gs_is
     (at_home_sends P s a (given a gs) p (Alive y) m h o.others (alive_on P (given a gs) p y o.process) o.messages o.message o.servers))
-send_row P s t v a p id (kernel.Calls number (calls.Replies d y)) nx w is h = cc
-send_row P s t v a p id (kernel.Calls number (calls.Waits y)) nx w is h = cc
-send_row P s t v a p id (kernel.Calls number (calls.Outputs word y)) nx w is h = cc
-send_row P s t v a p id (kernel.Calls number (calls.Ends because)) nx w is h = cc
-send_row P s t v a p id (kernel.Faults fault) nx w is h = cc
+send_row P s t v a p id _ nx w is h = cc
 
 pub send_home : (P : Pid → Place → Type 0) (s t : OneKernel) (v : View) (a : Addresses) (p : Pid) (id : MsgId) → kernel.step s (Label.Send p id) ≡ Some t → P p (here v p) → AtHome P s a → AtHome P t (given a (gives s v a (Label.Send p id)))
 send_home P s t v a p id is at h =
@@ -126,11 +118,7 @@ wait_row : (P : Pid → Place → Type 0) (s t : OneKernel) (v : View) (a : Addr
 wait_row P s t v a p (kernel.Calls number (calls.Waits y)) w is h =
     let eq : kernel.goes_on s p y ≡ t = cc in
     subst (λ (u : OneKernel). AtHome P u a) eq (home_goes P s a p y h w.home)
-wait_row P s t v a p (kernel.Calls number (calls.Replies d y)) w is h = cc
-wait_row P s t v a p (kernel.Calls number (calls.Sends m y)) w is h = cc
-wait_row P s t v a p (kernel.Calls number (calls.Outputs word y)) w is h = cc
-wait_row P s t v a p (kernel.Calls number (calls.Ends because)) w is h = cc
-wait_row P s t v a p (kernel.Faults fault) w is h = cc
+wait_row P s t v a p _ w is h = cc
 
 pub wait_home : (P : Pid → Place → Type 0) (s t : OneKernel) (v : View) (a : Addresses) (p : Pid) → kernel.step s (Label.Wait p) ≡ Some t → P p (here v p) → AtHome P s a → AtHome P t a
 wait_home P s t v a p is at h =
@@ -141,11 +129,7 @@ out_row : (P : Pid → Place → Type 0) (s t : OneKernel) (v : View) (a : Addre
 out_row P s t v a p word (kernel.Calls number (calls.Outputs other y)) w is h =
     let k = when-is (word == other) (kernel.goes_on s p y) t is in
     subst (λ (u : OneKernel). AtHome P u a) k.1 (home_goes P s a p y h w.home)
-out_row P s t v a p word (kernel.Calls number (calls.Replies d y)) w is h = cc
-out_row P s t v a p word (kernel.Calls number (calls.Sends m y)) w is h = cc
-out_row P s t v a p word (kernel.Calls number (calls.Waits y)) w is h = cc
-out_row P s t v a p word (kernel.Calls number (calls.Ends because)) w is h = cc
-out_row P s t v a p word (kernel.Faults fault) w is h = cc
+out_row P s t v a p word _ w is h = cc
 
 pub out_home : (P : Pid → Place → Type 0) (s t : OneKernel) (v : View) (a : Addresses) (p : Pid) (word : ℕ) → kernel.step s (Label.Out p word) ≡ Some t → P p (here v p) → AtHome P s a → AtHome P t a
 out_home P s t v a p word is at h =
@@ -163,10 +147,7 @@ end_row P s t a p y (kernel.Calls number (calls.Ends because)) is h =
 end_row P s t a p y (kernel.Faults fault) is h =
     let k = when-is (why_eq y (Why.Fault fault)) (with_process s p (Ended y)) t is in
     subst (λ (u : OneKernel). AtHome P u a) k.1 (at_home_ended P s a p y h)
-end_row P s t a p y (kernel.Calls number (calls.Replies d z)) is h = cc
-end_row P s t a p y (kernel.Calls number (calls.Sends m z)) is h = cc
-end_row P s t a p y (kernel.Calls number (calls.Waits z)) is h = cc
-end_row P s t a p y (kernel.Calls number (calls.Outputs word z)) is h = cc
+end_row P s t a p y _ is h = cc
 
 pub end_home : (P : Pid → Place → Type 0) (s t : OneKernel) (a : Addresses) (p : Pid) (y : Why) → kernel.step s (Label.End p y) ≡ Some t → AtHome P s a → AtHome P t a
 end_home P s t a p y is h =

@@ -25,10 +25,9 @@ held_is v i p None e = cc
 held_is v i p (Some q) e = let f : q ≡ p = cc in ap (λ x. record (handled v i) { held = at_record v.held v.acting x (v.held v.acting x ++ i ∷ []) }) f
 
 held_off : (v : View) (i : MsgId) (p : Pid) (z : Spot) → z ≢ Inbox v.acting → z ≢ Held v.acting p → ids_at (record (handled v i) { held = at_record v.held v.acting p (v.held v.acting p ++ i ∷ []) }) z ≡ ids_at v z
-held_off v i p (Queue m q) a b = refl
 held_off v i p (Held m q) a b = at_record_off v.held v.acting m p q (v.held v.acting p ++ i ∷ []) (held_apart v.acting m p q b)
 held_off v i p (Inbox m) a b = handled_off v i (Inbox m) a
-held_off v i p (Untaken c d) a b = refl
+held_off v i p _ a b = refl
 
 pub Stands-held : (bag : Bag) (v w : View) (i : MsgId) (is : List MsgId) (x : Pid) → v.inbox v.acting ≡ i ∷ is → bag i ≡ Some x → w ≡ held_for (handled v i) i (receiver_of (v.told i)) → Stands bag v → Stands bag w
 Stands-held bag v w i is x front there is_w h =

@@ -15,6 +15,7 @@ use Rattle.dm_rule.proofs.Said.{fits_as}
 use Rattle.dm_rule.proofs.Moves.Lists.{Stands-held, Stands-released, both_lists, first_off}
 use Rattle.dm_rule.proofs.Moves.States.{Between, by_own, front_way, front_kernels}
 use Rattle.dm_rule.proofs.Moves.Sent.{Way, Steady, steadied, line_next, line_ends, line_owns, owns_ends, again_next, all_again, forwarded_way, sent_way}
+use Rattle.dm_rule.proofs.Requests.{by_migrates}
 
 -- what the rule saw before the head is what stands behind it
 pub record SeesSame (o pt : Point) (m : ℕ) : Type 0 where
@@ -239,15 +240,7 @@ hears_row b o pt m i is (Some t) parts w h fit front none sees e n =
     hears_by b o pt m i is t (t.receiver.num == 0) (pid_eq t.receiver switchboard) (pid_eq t.receiver manager) parts w h fit front (front_kernels pt i is h front none) sees e n
 
 -- the directive to migrate
-pub child_row : (pt : Point) (a : Addresses) (p : Pid) (o : Option ℕ) (w : Spelled) → State None pt → PairsFit pt.view → spelled pt (migrates_child a p o) ≡ Some w → State None w.point
-child_row pt a p None w h fit e = line_ends pt (Line.NoChild p) w refl (by_line None pt (Line.NoChild p) refl h h.stands (λ j. refl)) e
-child_row pt a p (Some n) w h fit e = owns_ends pt MessageKind.Migrate p (a (Child n)).at w (record { state = h; fits = fit }) e
-
-migrates_by : (o pt : Point) (p : Pid) (c d : Bool) (w : Spelled) → State None pt → PairsFit pt.view
-    → spelled pt (if c then Says (Line.Pinned p) ∷ [] else if d then Says (Line.Pinned p) ∷ [] else migrates_child o.addresses p (child_number o.kernel p)) ≡ Some w → State None w.point
-migrates_by o pt p true d w h fit e = line_ends pt (Line.Pinned p) w refl (by_line None pt (Line.Pinned p) refl h h.stands (λ j. refl)) e
-migrates_by o pt p false true w h fit e = line_ends pt (Line.Pinned p) w refl (by_line None pt (Line.Pinned p) refl h h.stands (λ j. refl)) e
-migrates_by o pt p false false w h fit e = child_row pt o.addresses p (child_number o.kernel p) w h fit e
-
 pub migrates_row : (o pt : Point) (p : Pid) (w : Spelled) → State None pt → PairsFit pt.view → spelled pt (migrates o p) ≡ Some w → State None w.point
-migrates_row o pt p w h fit e = migrates_by o pt p (pid_eq p switchboard) (pid_eq p manager) w h fit e
+migrates_row o pt p w h fit =
+    by_migrates (λ (ps : List Part). spelled pt ps ≡ Some w → State None w.point) o p (λ e. line_ends pt (Line.Pinned p) w refl (by_line None pt (Line.Pinned p) refl h h.stands (λ j. refl)) e)
+    (λ e. line_ends pt (Line.NoChild p) w refl (by_line None pt (Line.NoChild p) refl h h.stands (λ j. refl)) e) (λ n off is e. owns_ends pt MessageKind.Migrate p (o.addresses (Child n)).at w (record { state = h; fits = fit }) e)

@@ -146,9 +146,7 @@ steadied pt h = record { state = arrived pt h.between; fits = h.fits }
 forwarded_off : (v : View) (i : MsgId) (o : Option Pid) (z : Spot) → ids_at (forwarded_for (handled v i) o) z ≡ ids_at (handled v i) z
 forwarded_off v i None z = refl
 forwarded_off v i (Some p) (Queue m q) = refl
-forwarded_off v i (Some p) (Held m q) = refl
-forwarded_off v i (Some p) (Inbox m) = refl
-forwarded_off v i (Some p) (Untaken a b) = refl
+forwarded_off v i (Some p) _ = refl
 
 one_is : (i j : MsgId) → 1 ≤ times j (i ∷ []) → j ≡ i
 one_is i j least = elim (cases_Bool (id_eq j i)) [

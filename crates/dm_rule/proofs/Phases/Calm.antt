@@ -70,7 +70,6 @@ calm_token v w p k s d id b c h =
     }
 
 calm_has : (v w : View) (p : Pid) (phase : Phase) → is_apart phase ≡ true → Calm v w → HasToken v p phase → HasToken w p phase
-calm_has v w p (Moves k s d None) a c h = tt
 calm_has v w p (Moves k s d (Some id)) a c h = calm_token v w p k s d id (between_of k s d a) c h
 calm_has v w p _ a c h = tt
 

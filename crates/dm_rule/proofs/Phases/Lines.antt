@@ -71,30 +71,22 @@ handled_spots v i j e _ = refl
 pub queued_spots : (v : View) (i j : MsgId) (o : Option Pid) → id_eq i j ≡ false → (z : Spot) → standing (queued_for v i o) j z ≡ standing v j z
 queued_spots v i j None e z = refl
 queued_spots v i j (Some p) e (Queue m q) = record_times v.queue v.acting p (v.queue v.acting p ++ i ∷ []) j (last_times i j (v.queue v.acting p) e) m q
-queued_spots v i j (Some p) e (Held m q) = refl
-queued_spots v i j (Some p) e (Inbox m) = refl
-queued_spots v i j (Some p) e (Untaken a b) = refl
+queued_spots v i j (Some p) e _ = refl
 
 pub held_spots : (v : View) (i j : MsgId) (o : Option Pid) → id_eq i j ≡ false → (z : Spot) → standing (held_for v i o) j z ≡ standing v j z
 held_spots v i j None e z = refl
-held_spots v i j (Some p) e (Queue m q) = refl
 held_spots v i j (Some p) e (Held m q) = record_times v.held v.acting p (v.held v.acting p ++ i ∷ []) j (last_times i j (v.held v.acting p) e) m q
-held_spots v i j (Some p) e (Inbox m) = refl
-held_spots v i j (Some p) e (Untaken a b) = refl
+held_spots v i j (Some p) e _ = refl
 
 pub dropped_spots : (v : View) (i j : MsgId) (o : Option Pid) → id_eq i j ≡ false → (z : Spot) → standing (dropped_for v i o) j z ≡ standing v j z
 dropped_spots v i j None e z = refl
 dropped_spots v i j (Some p) e (Queue m q) = record_times v.queue v.acting p (without_front i (v.queue v.acting p)) j (front_times i j (v.queue v.acting p) e) m q
-dropped_spots v i j (Some p) e (Held m q) = refl
-dropped_spots v i j (Some p) e (Inbox m) = refl
-dropped_spots v i j (Some p) e (Untaken a b) = refl
+dropped_spots v i j (Some p) e _ = refl
 
 pub forwarded_spots : (v : View) (j : MsgId) (o : Option Pid) (z : Spot) → standing (forwarded_for v o) j z ≡ standing v j z
 forwarded_spots v j None z = refl
 forwarded_spots v j (Some p) (Queue m q) = refl
-forwarded_spots v j (Some p) (Held m q) = refl
-forwarded_spots v j (Some p) (Inbox m) = refl
-forwarded_spots v j (Some p) (Untaken a b) = refl
+forwarded_spots v j (Some p) _ = refl
 
 pub queued_known : (v : View) (i : MsgId) (o : Option Pid) (m : ℕ) (p : Pid) → (queued_for v i o).known m p ≡ v.known m p
 queued_known v i None m p = refl

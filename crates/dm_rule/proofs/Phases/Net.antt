@@ -10,6 +10,7 @@ use Rattle.dm_rule.proofs.Groups.{IsNetLine, IsNet, early_off, acked_off, turn_o
 use Rattle.dm_rule.proofs.Phases.Calm.{Came, Calm, calm_same, calm_trans, calm_still}
 use Rattle.dm_rule.proofs.Phases.Lines.{packet_calm}
 use Rattle.dm_rule.proofs.Phases.Quiet.{AllQuiet, moves_none}
+use Rattle.dm_rule.proofs.Requests.{by_migrates}
 
 pub head_calm : (v : View) (s : Step) → Calm v (after_head v s)
 head_calm v (Step.Turn m) = calm_still v (after_head v (Step.Turn m)) (λ n q. refl) (λ i. refl) (λ i z. ap (times i) (turn_off v m z))
@@ -131,22 +132,11 @@ net_parts [] pt w h e = subst (λ (q : Point). Calm pt.view q.view) (said pt w e
 net_parts (Says l ∷ ps) pt w h e =
     let k = says_next pt l ps w e in
     subst (λ (q : Point). Calm pt.view q.view) k.point (calm_trans pt.view (view_after pt.view l) k.rest.point.view (net_calm pt.view l h.0) (net_parts ps (moved pt l k.s) k.rest h.1 k.more))
-net_parts (Routes i ∷ ps) pt w h e = absurd h.0
-net_parts (Again i b ∷ ps) pt w h e = absurd h.0
-net_parts (Owns k q b ∷ ps) pt w h e = absurd h.0
 net_parts (Transmits a b l ∷ ps) pt w h e =
     let k = transmits_next pt a b l ps w e in
     subst (λ (q : Point). Calm pt.view q.view) k.point (calm_trans pt.view (view_after pt.view (packet_line pt.view a b l)) k.rest.point.view (packet_calm pt.view a b (length (pt.view.pair a b).wire) l) (net_parts ps (moved pt (packet_line pt.view a b l) pt.kernel) k.rest h.1 k.more))
+net_parts _ pt w h e = absurd h.0
 
 -- the directive to migrate puts a request, which is none of the protocol
-child_quiet : (v : View) (a : Addresses) (p : Pid) (o : Option ℕ) → AllQuiet v (migrates_child a p o)
-child_quiet v a p None = (tt, tt)
-child_quiet v a p (Some n) = (refl, tt)
-
-migrates_by : (v : View) (o : Point) (p : Pid) (c d : Bool) → AllQuiet v (if c then Says (Line.Pinned p) ∷ [] else if d then Says (Line.Pinned p) ∷ [] else migrates_child o.addresses p (child_number o.kernel p))
-migrates_by v o p true d = (tt, tt)
-migrates_by v o p false true = (tt, tt)
-migrates_by v o p false false = child_quiet v o.addresses p (child_number o.kernel p)
-
 pub migrates_quiet : (v : View) (o : Point) (p : Pid) → AllQuiet v (migrates o p)
-migrates_quiet v o p = migrates_by v o p (pid_eq p switchboard) (pid_eq p manager)
+migrates_quiet v o p = by_migrates (AllQuiet v) o p (tt, tt) (tt, tt) (λ n off is. (refl, tt))

@@ -71,7 +71,6 @@ others_token v w q k s d id i kept told spots h =
 
 others_has : (v w : View) (q : Pid) (phase : Phase) (i : MsgId) → ((j : MsgId) (t : Told) → v.told j ≡ Some t → id_eq i j ≡ false) → ((j : MsgId) → id_eq i j ≡ false → w.told j ≡ v.told j)
     → ((j : MsgId) → id_eq i j ≡ false → (z : Spot) → standing w j z ≡ standing v j z) → HasToken v q phase → HasToken w q phase
-others_has v w q (Moves k s d None) i kept told spots h = tt
 others_has v w q (Moves k s d (Some id)) i kept told spots h = others_token v w q k s d id i kept told spots h
 others_has v w q _ i kept told spots h = tt
 

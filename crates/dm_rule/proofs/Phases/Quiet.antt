@@ -88,12 +88,6 @@ line_on v w (Line.Updated i n) c h = tame_on v w i c h
 line_on v w (Line.Here i) c h = tame_on v w i c h
 line_on v w (Line.NoMove i) c h = tame_on v w i c h
 line_on v w (Line.Migration Stage.Frozen p) c h = h
-line_on v w (Line.Migration Stage.Asked p) c h = h
-line_on v w (Line.Migration Stage.Accepted p) c h = h
-line_on v w (Line.Migration Stage.StateTaken p) c h = h
-line_on v w (Line.Migration Stage.MemoryTaken p) c h = h
-line_on v w (Line.Migration Stage.Left p) c h = h
-line_on v w (Line.Migration Stage.Restarted p) c h = h
 line_on v w _ c h = h
 
 quiet_on : (v w : View) (p : Part) → Calm v w → Quiet v p → Quiet w p
@@ -109,23 +103,11 @@ quiet_touches v (Line.Taken a b n) h = absurd h
 quiet_touches v (Line.Early a b n) h = absurd h
 quiet_touches v (Line.Acked a b n) h = absurd h
 quiet_touches v (Line.Migration Stage.Frozen p) h = refl
-quiet_touches v (Line.Migration Stage.Asked p) h = refl
-quiet_touches v (Line.Migration Stage.Accepted p) h = refl
-quiet_touches v (Line.Migration Stage.StateTaken p) h = refl
-quiet_touches v (Line.Migration Stage.MemoryTaken p) h = refl
-quiet_touches v (Line.Migration Stage.Left p) h = refl
-quiet_touches v (Line.Migration Stage.Restarted p) h = refl
 quiet_touches v _ h = refl
 
 quiet_put : (v : View) (l : Line) → QuietLine v l → is_put l ≡ false
 quiet_put v (Line.Put a b i k q) h = absurd h
 quiet_put v (Line.Migration Stage.Frozen p) h = refl
-quiet_put v (Line.Migration Stage.Asked p) h = refl
-quiet_put v (Line.Migration Stage.Accepted p) h = refl
-quiet_put v (Line.Migration Stage.StateTaken p) h = refl
-quiet_put v (Line.Migration Stage.MemoryTaken p) h = refl
-quiet_put v (Line.Migration Stage.Left p) h = refl
-quiet_put v (Line.Migration Stage.Restarted p) h = refl
 quiet_put v _ h = refl
 
 -- a message of the bag is none of the protocol
@@ -156,9 +138,7 @@ serving_off v p _ = refl
 
 pub received_spots : (v : View) (p : Pid) (i j : MsgId) → id_eq i j ≡ false → (z : Spot) → standing (record (view.serving v p) { queue = at_record v.queue v.acting p (without_id i (v.queue v.acting p)) }) j z ≡ standing v j z
 received_spots v p i j e (Queue m q) = record_times v.queue v.acting p (without_id i (v.queue v.acting p)) j (without_times i j (v.queue v.acting p) e) m q
-received_spots v p i j e (Held m q) = refl
-received_spots v p i j e (Inbox m) = refl
-received_spots v p i j e (Untaken a b) = refl
+received_spots v p i j e _ = refl
 
 spares_known : (k : MessageKind) (v : View) (p : Pid) → is_kill k ≡ false → (m : ℕ) (q : Pid) → (kills k v (Some p)).known m q ≡ v.known m q
 spares_known MessageKind.Kill v p e m q = absurd (false≢true (sym e))
@@ -208,13 +188,7 @@ line_calm pt s (Line.Here i) h quiet is = hushed_calm pt.view (Line.Here i) i re
 line_calm pt s (Line.NoMove i) h quiet is = hushed_calm pt.view (Line.NoMove i) i refl (tame_plain pt.view i quiet) (λ m q. refl) (λ j e z. handled_spots pt.view i j e z)
 line_calm pt s (Line.NoChild p) h quiet is = calm_same pt.view
 line_calm pt s (Line.Pinned p) h quiet is = calm_same pt.view
-line_calm pt s (Line.Migration Stage.Frozen p) h quiet is = absurd quiet
 line_calm pt s (Line.Migration Stage.Asked p) h quiet is = calm_same pt.view
-line_calm pt s (Line.Migration Stage.Accepted p) h quiet is = absurd quiet
-line_calm pt s (Line.Migration Stage.StateTaken p) h quiet is = absurd quiet
-line_calm pt s (Line.Migration Stage.MemoryTaken p) h quiet is = absurd quiet
-line_calm pt s (Line.Migration Stage.Left p) h quiet is = absurd quiet
-line_calm pt s (Line.Migration Stage.Restarted p) h quiet is = absurd quiet
 line_calm pt s _ h quiet is = absurd quiet
 
 -- what is kept through parts

@@ -209,11 +209,8 @@ moves_if k s d false false = refl
 away_comes : (a : ℕ) (y : Known) (c : Bool) → is_away y ≡ true → (if c then comes MessageKind.Ask a y else is_away y) ≡ true
 away_comes a Unknown true h = refl
 away_comes a (Forward at moves) true h = refl
-away_comes a Here true h = absurd (false≢true h)
-away_comes a (Frozen to) true h = absurd (false≢true h)
-away_comes a (Incoming from) true h = absurd (false≢true h)
-away_comes a Ended true h = absurd (false≢true h)
 away_comes a y false h = h
+away_comes a _ true h = absurd (false≢true h)
 
 -- what is here rests here
 pub rests_here : (phase : Phase) (m : ℕ) → knows phase m Here ≡ true → phase ≡ Rests m

@@ -115,7 +115,6 @@ learns_token v w p q k s d id apart b c h =
     }
 
 learns_has : (v w : View) (p q : Pid) (phase : Phase) → pid_eq p q ≡ false → is_apart phase ≡ true → Learns v w p → HasToken v q phase → HasToken w q phase
-learns_has v w p q (Moves k s d None) apart a c h = tt
 learns_has v w p q (Moves k s d (Some id)) apart a c h = learns_token v w p q k s d id apart (between_of k s d a) c h
 learns_has v w p q _ apart a c h = tt
 
@@ -146,7 +145,6 @@ none_left v w p o c h gone i t z told b about st =
     absurd (let none : standing w i z ≡ 0 = gone i mine z in omega (arith, st, none))
 
 rests_token : (w : View) (p : Pid) (phase : Phase) → token_in phase ≡ None → HasToken w p phase
-rests_token w p (Moves k s d None) e = tt
 rests_token w p (Moves k s d (Some i)) e = cc
 rests_token w p _ e = tt
 

@@ -1,7 +1,7 @@
 -- Puts keep each address on its trail.
 use Rattle.dm_rule.proofs.Names.{◌≡◌, ◌⊎◌, ℕ, suc, ◌+◌, Bool, true, false, List, [], ◌∷◌, refl, ap, ◌∙◌, sym, subst, inl, inr, arith, if◌then◌else◌, slice_get, Option, None, Some, cases_Bool, false≢true, Pid, Place, pid_eq, MsgId, id_eq}
 use Rattle.dm_rule.proofs.Names.{MessageKind, manager, OneKernel, pid_eq-is, id_eq-is, id_eq-same, View, Told, is_kernels, after_put, Addresses, Holder, Receiver, Sender, Child, Gets, gets, given, unmoved, child_from, child_number}
-use Rattle.dm_rule.proofs.Names.{place_of_child, own_gives, first_gives, names, Trails, Trail, IsOn}
+use Rattle.dm_rule.proofs.Names.{place_of_child, own_gives, first_gives, names, Trails, Trail, IsOn, Sort, sort_of, own_given}
 use Rattle.dm_rule.specs.View as view
 use Rattle.dm_rule.proofs.States.{put_told_off}
 use Rattle.dm_rule.proofs.Phases.Lines.{put_at}
@@ -35,19 +35,14 @@ put_named s v x y id k q h r none (Owns (Comes i u is mine told move to)) = elim
 two_get : (s : OneKernel) (v : View) (t : Trails) (id : MsgId) (to from : Place) → s.bag id ≡ None → v.told id ≡ None → AllGet s v t (gets (Receiver id) to ∷ gets (Sender id) from ∷ [])
 two_get s v t id to from bag told = ((λ q e. absurd (unnamed_receiver s v id q bag told e)), ((λ q e. absurd (unnamed_sender s v id q bag told e)), tt))
 
+own_gets_by : (s : OneKernel) (v : View) (a : Addresses) (t : Trails) (id : MsgId) (q : Pid) (w : Sort) → s.bag id ≡ None → v.told id ≡ None → AllGet s v t (own_given s v a id q w)
+own_gets_by s v a t id q Sort.Request bag told = two_get s v t id _ _ bag told
+own_gets_by s v a t id q (Sort.Between passage) bag told = two_get s v t id _ _ bag told
+own_gets_by s v a t id q Sort.Unsent bag told = two_get s v t id _ _ bag told
+own_gets_by s v a t id q _ bag told = tt
+
 own_gets : (s : OneKernel) (v : View) (a : Addresses) (t : Trails) (id : MsgId) (q : Pid) (k : MessageKind) → s.bag id ≡ None → v.told id ≡ None → AllGet s v t (own_gives s v a id q k)
-own_gets s v a t id q MessageKind.Migrate bag told = two_get s v t id _ _ bag told
-own_gets s v a t id q MessageKind.Ask bag told = two_get s v t id _ _ bag told
-own_gets s v a t id q MessageKind.Refuse bag told = two_get s v t id _ _ bag told
-own_gets s v a t id q MessageKind.PullState bag told = two_get s v t id _ _ bag told
-own_gets s v a t id q MessageKind.State bag told = two_get s v t id _ _ bag told
-own_gets s v a t id q MessageKind.PullBlock bag told = two_get s v t id _ _ bag told
-own_gets s v a t id q MessageKind.Memory bag told = two_get s v t id _ _ bag told
-own_gets s v a t id q MessageKind.AllTaken bag told = two_get s v t id _ _ bag told
-own_gets s v a t id q MessageKind.Restart bag told = two_get s v t id _ _ bag told
-own_gets s v a t id q MessageKind.CallOff bag told = two_get s v t id _ _ bag told
-own_gets s v a t id q MessageKind.Bury bag told = two_get s v t id _ _ bag told
-own_gets s v a t id q _ bag told = tt
+own_gets s v a t id q k bag told = own_gets_by s v a t id q (sort_of k) bag told
 
 pub put_all : (s : OneKernel) (v : View) (a : Addresses) (t : Trails) (x y : ℕ) (id : MsgId) (k : MessageKind) (q : Pid) → s.bag id ≡ None → v.told id ≡ None → IsOn t q (given a (own_gives s v a id q k) (Receiver id))
     → (k ≡ MessageKind.Migrate → IsOn t manager (given a (own_gives s v a id q k) (Sender id))) → AllAre s v a t → AllAre s (after_put v x y id k q) (given a (first_gives (v.told id) (own_gives s v a id q k))) t
@@ -94,35 +89,24 @@ told_again v x y id k q u told i = elim (cases_Bool (id_eq id i)) [
 ]
 
 -- a message of the bag
+abbrev pub is_own_sort : Sort → Bool
+is_own_sort Sort.Request = true
+is_own_sort Sort.Notice = true
+is_own_sort (Sort.Between passage) = true
+is_own_sort Sort.Unsent = true
+is_own_sort _ = false
+
 abbrev pub is_own : MessageKind → Bool
-is_own MessageKind.Migrate = true
-is_own MessageKind.Update = true
-is_own MessageKind.Ask = true
-is_own MessageKind.Refuse = true
-is_own MessageKind.PullState = true
-is_own MessageKind.State = true
-is_own MessageKind.PullBlock = true
-is_own MessageKind.Memory = true
-is_own MessageKind.AllTaken = true
-is_own MessageKind.Restart = true
-is_own MessageKind.CallOff = true
-is_own MessageKind.Bury = true
-is_own _ = false
+is_own k = is_own_sort (sort_of k)
+
+plain_given : (s : OneKernel) (v : View) (a : Addresses) (id : MsgId) (q : Pid) (w : Sort) → is_own_sort w ≡ false → own_given s v a id q w ≡ []
+plain_given s v a id q Sort.Request e = absurd (let f : true ≡ false = e in cc)
+plain_given s v a id q (Sort.Between passage) e = absurd (let f : true ≡ false = e in cc)
+plain_given s v a id q Sort.Unsent e = absurd (let f : true ≡ false = e in cc)
+plain_given s v a id q _ e = refl
 
 pub plain_gives : (s : OneKernel) (v : View) (a : Addresses) (id : MsgId) (q : Pid) (k : MessageKind) → is_own k ≡ false → own_gives s v a id q k ≡ []
-plain_gives s v a id q MessageKind.Migrate e = absurd (let f : true ≡ false = e in cc)
-plain_gives s v a id q MessageKind.Update e = absurd (let f : true ≡ false = e in cc)
-plain_gives s v a id q MessageKind.Ask e = absurd (let f : true ≡ false = e in cc)
-plain_gives s v a id q MessageKind.Refuse e = absurd (let f : true ≡ false = e in cc)
-plain_gives s v a id q MessageKind.PullState e = absurd (let f : true ≡ false = e in cc)
-plain_gives s v a id q MessageKind.State e = absurd (let f : true ≡ false = e in cc)
-plain_gives s v a id q MessageKind.PullBlock e = absurd (let f : true ≡ false = e in cc)
-plain_gives s v a id q MessageKind.Memory e = absurd (let f : true ≡ false = e in cc)
-plain_gives s v a id q MessageKind.AllTaken e = absurd (let f : true ≡ false = e in cc)
-plain_gives s v a id q MessageKind.Restart e = absurd (let f : true ≡ false = e in cc)
-plain_gives s v a id q MessageKind.CallOff e = absurd (let f : true ≡ false = e in cc)
-plain_gives s v a id q MessageKind.Bury e = absurd (let f : true ≡ false = e in cc)
-plain_gives s v a id q _ e = refl
+plain_gives s v a id q k e = plain_given s v a id q (sort_of k) e
 
 pub not_own : (k : MessageKind) → is_own k ≡ false → k ≡ MessageKind.Migrate → ⊥
 not_own k plain e = false≢true (sym plain ∙ ap is_own e)

@@ -98,12 +98,7 @@ sends_what_spares v a p x id _ i e = two_more i id (gets (Owner p) (a (Slot p (r
 
 pub sends_next_spares : (v : View) (a : Addresses) (p : Pid) (x : PlainProcess) (id : MsgId) (o : Option kernel.Next) (i : MsgId) → id_eq id i ≡ false → spares i (addresses.sends_next v a p x id o) ≡ true
 sends_next_spares v a p x id (Some (kernel.Calls number (calls.Sends m y))) i e = sends_what_spares v a p x id m.what i e
-sends_next_spares v a p x id (Some (kernel.Calls number (calls.Replies c y))) i e = refl
-sends_next_spares v a p x id (Some (kernel.Calls number (calls.Waits y))) i e = refl
-sends_next_spares v a p x id (Some (kernel.Calls number (calls.Outputs word y))) i e = refl
-sends_next_spares v a p x id (Some (kernel.Calls number (calls.Ends because))) i e = refl
-sends_next_spares v a p x id (Some (kernel.Faults fault)) i e = refl
-sends_next_spares v a p x id None i e = refl
+sends_next_spares v a p x id _ i e = refl
 
 pub sends_spares : (s : OneKernel) (v : View) (a : Addresses) (p : Pid) (id : MsgId) (o : Option PlainProcess) (i : MsgId) → id_eq id i ≡ false → spares i (addresses.sends s v a p id o) ≡ true
 sends_spares s v a p id None i e = refl
@@ -120,11 +115,7 @@ send_other : (s t : OneKernel) (p : Pid) (id : MsgId) (n : kernel.Next) → kern
 send_other s t p id (kernel.Calls number (calls.Sends m y)) e out =
     let k = when-is (id_eq id m.id) (with_sent (kernel.goes_on s p y) (Some m)) t e in
     ap is_kernels (id_eq-is id m.id k.0) ∙ new_outside (kernel.goes_on s p y) t m out k.1
-send_other s t p id (kernel.Calls number (calls.Replies d y)) e out = cc
-send_other s t p id (kernel.Calls number (calls.Waits y)) e out = cc
-send_other s t p id (kernel.Calls number (calls.Outputs word y)) e out = cc
-send_other s t p id (kernel.Calls number (calls.Ends because)) e out = cc
-send_other s t p id (kernel.Faults fault) e out = cc
+send_other s t p id _ e out = cc
 
 -- receives
 pub receives_links_spares : (a : Addresses) (p : Pid) (id : MsgId) (n : ℕ) (slots : List (Option PlainLink)) (ls : List PlainLink) (i : MsgId) → spares i (receives_links a p id n slots ls) ≡ true
@@ -174,11 +165,7 @@ creates_spares v a id child (Some m) i own = two_more i (answer_id id) (addresse
 pub finds_spares : (a : Addresses) (sent : MsgId) (names : List NamedLink) (body : List ℕ) (k : board.Answer) (i : MsgId) → spares i (board_finds a sent names body k) ≡ true
 finds_spares a sent names [] k i = refl
 finds_spares a sent names (op ∷ name) board.Registered i = refl
-finds_spares a sent names (op ∷ name) (board.Found link) i = refl
-finds_spares a sent names (op ∷ name) board.Unknown i = refl
-finds_spares a sent names (op ∷ name) board.Taken i = refl
-finds_spares a sent names (op ∷ name) board.BadLink i = refl
-finds_spares a sent names (op ∷ name) board.BadRequest i = refl
+finds_spares a sent names (op ∷ name) _ i = refl
 
 pub keeps_spares : (a : Addresses) (id : MsgId) (names : List NamedLink) (k : board.Answer) (i : MsgId) → spares i (board_keeps a id names k) ≡ true
 keeps_spares a id names board.Registered i = refl
@@ -211,33 +198,9 @@ manager_answers_spares v a n (Some sent) i e = two_more i sent.id (gets (Enclose
 
 pub manager_takes_spares : (s : OneKernel) (v : View) (a : Addresses) (m : PlainMessage) (w : PlainWhat) (o : Option manage.Took) (i : MsgId) → ((k : manage.Took) → o ≡ Some k → (x : PlainMessage) → k.message ≡ Some x → id_eq x.id i ≡ false) → spares i (manager_takes s v a m w o) ≡ true
 manager_takes_spares s v a m (PlainWhat.User b1 b2 b3 b4) None i e = refl
-manager_takes_spares s v a m PlainWhat.Stop None i e = refl
-manager_takes_spares s v a m PlainWhat.Resume None i e = refl
-manager_takes_spares s v a m PlainWhat.Kill None i e = refl
-manager_takes_spares s v a m (PlainWhat.Read b1 b2) None i e = refl
-manager_takes_spares s v a m (PlainWhat.Write b1 b2) None i e = refl
-manager_takes_spares s v a m (PlainWhat.Block b1) None i e = refl
-manager_takes_spares s v a m PlainWhat.Written None i e = refl
-manager_takes_spares s v a m PlainWhat.Gone None i e = refl
-manager_takes_spares s v a m (PlainWhat.Create b1 b2) None i e = refl
-manager_takes_spares s v a m (PlainWhat.Created b1) None i e = refl
-manager_takes_spares s v a m PlainWhat.NoRoom None i e = refl
-manager_takes_spares s v a m (PlainWhat.Move b1) None i e = refl
-manager_takes_spares s v a m (PlainWhat.Moved b1) None i e = refl
 manager_takes_spares s v a m (PlainWhat.User b1 b2 b3 b4) (Some k) i e = manager_sends_spares v a m.id b1 k.message i (e k refl)
-manager_takes_spares s v a m PlainWhat.Stop (Some k) i e = manager_answers_spares v a m.id.n k.message i (e k refl)
-manager_takes_spares s v a m PlainWhat.Resume (Some k) i e = manager_answers_spares v a m.id.n k.message i (e k refl)
-manager_takes_spares s v a m PlainWhat.Kill (Some k) i e = manager_answers_spares v a m.id.n k.message i (e k refl)
-manager_takes_spares s v a m (PlainWhat.Read b1 b2) (Some k) i e = manager_answers_spares v a m.id.n k.message i (e k refl)
-manager_takes_spares s v a m (PlainWhat.Write b1 b2) (Some k) i e = manager_answers_spares v a m.id.n k.message i (e k refl)
-manager_takes_spares s v a m (PlainWhat.Block b1) (Some k) i e = manager_answers_spares v a m.id.n k.message i (e k refl)
-manager_takes_spares s v a m PlainWhat.Written (Some k) i e = manager_answers_spares v a m.id.n k.message i (e k refl)
-manager_takes_spares s v a m PlainWhat.Gone (Some k) i e = manager_answers_spares v a m.id.n k.message i (e k refl)
-manager_takes_spares s v a m (PlainWhat.Create b1 b2) (Some k) i e = manager_answers_spares v a m.id.n k.message i (e k refl)
-manager_takes_spares s v a m (PlainWhat.Created b1) (Some k) i e = manager_answers_spares v a m.id.n k.message i (e k refl)
-manager_takes_spares s v a m PlainWhat.NoRoom (Some k) i e = manager_answers_spares v a m.id.n k.message i (e k refl)
-manager_takes_spares s v a m (PlainWhat.Move b1) (Some k) i e = manager_answers_spares v a m.id.n k.message i (e k refl)
-manager_takes_spares s v a m (PlainWhat.Moved b1) (Some k) i e = manager_answers_spares v a m.id.n k.message i (e k refl)
+manager_takes_spares s v a m _ None i e = refl
+manager_takes_spares s v a m _ (Some k) i e = manager_answers_spares v a m.id.n k.message i (e k refl)
 
 took_outside : (s t : OneKernel) (id : MsgId) (k : manage.Took) (i : MsgId) (o : Option PlainMessage) → k.message ≡ o → Outside t → is_kernels i ≡ true → service.manager_took s id k ≡ t → (x : PlainMessage) → o ≡ Some x → id_eq x.id i ≡ false
 took_outside s t id k i None is out own e x f = cc

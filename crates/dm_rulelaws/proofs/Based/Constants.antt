@@ -36,12 +36,8 @@ asks_order g machines images machine image links true h = child_order g machines
 asks_order g machines images machine image links false h = bad_order g links h
 
 requests_order : (g : Manager) (machines images : ℕ) (body : List ℕ) (links : List PlainLink) → InOrder g → InOrder (manage.requests g machines images body links).manager
-requests_order g machines images [] links h = bad_order g links h
-requests_order g machines images (a ∷ []) links h = bad_order g links h
-requests_order g machines images (a ∷ b ∷ []) links h = bad_order g links h
-requests_order g machines images (a ∷ b ∷ c ∷ []) links h = bad_order g links h
 requests_order g machines images (a ∷ b ∷ c ∷ d ∷ []) links h = asks_order g machines images b (256 * c + d) links (a == 1) h
-requests_order g machines images (a ∷ b ∷ c ∷ d ∷ e ∷ more) links h = bad_order g links h
+requests_order g machines images _ links h = bad_order g links h
 
 control_order : (g : Manager) (child : Pid) (w : Option PlainWhat) (links : List PlainLink) → InOrder g → InOrder (manage.controls_child g child w links).manager
 control_order g child None links h = bad_order g links h
@@ -49,9 +45,8 @@ control_order g child (Some w) links h = more_order g h
 
 controls_order : (g : Manager) (child : Option Pid) (body : List ℕ) (links : List PlainLink) → InOrder g → InOrder (manage.controls g child body links).manager
 controls_order g None body links h = bad_order g links h
-controls_order g (Some p) [] links h = bad_order g links h
 controls_order g (Some p) (a ∷ []) links h = control_order g p (manage.control_of a) links h
-controls_order g (Some p) (a ∷ b ∷ more) links h = bad_order g links h
+controls_order g (Some p) _ links h = bad_order g links h
 
 user_order : (g : Manager) (machines images code : ℕ) (body : List ℕ) (links : List PlainLink) (c : Bool) → InOrder g
     → InOrder (if c then manage.requests g machines images body links else manage.controls g (manage.child_numbered g.children code) body links).manager
@@ -109,45 +104,26 @@ goes_constant s id p life = process_constant s (without_message s id) p life (ou
 -- calls
 replies_constant : (s t : OneKernel) (p : Pid) (n : ℕ) (c : Reply) (x : kernel.Next) → kernel.replies s p n c x ≡ Some t → Constant s t
 replies_constant s t p n c (kernel.Calls number (Called.Replies d y)) e = let k = when-is ((n == number) && reply_eq c d) (kernel.goes_on s p y) t e in subst (Constant s) k.1 (set_constant s p (kernels.Alive y))
-replies_constant s t p n c (kernel.Calls number (Called.Sends m y)) e = cc
-replies_constant s t p n c (kernel.Calls number (Called.Waits y)) e = cc
-replies_constant s t p n c (kernel.Calls number (Called.Outputs w y)) e = cc
-replies_constant s t p n c (kernel.Calls number (Called.Ends y)) e = cc
-replies_constant s t p n c (kernel.Faults f) e = cc
+replies_constant s t p n c _ e = cc
 
 sends_constant : (s t : OneKernel) (p : Pid) (id : MsgId) (x : kernel.Next) → kernel.sends s p id x ≡ Some t → Constant s t
 sends_constant s t p id (kernel.Calls number (Called.Sends m y)) e =
     let k = when-is (id_eq id m.id) (kernels.with_sent (kernel.goes_on s p y) (Some m)) t e in
     subst (Constant s) k.1 (sent_constant s (kernel.goes_on s p y) (Some m) (set_constant s p (kernels.Alive y)))
-sends_constant s t p id (kernel.Calls number (Called.Replies d y)) e = cc
-sends_constant s t p id (kernel.Calls number (Called.Waits y)) e = cc
-sends_constant s t p id (kernel.Calls number (Called.Outputs w y)) e = cc
-sends_constant s t p id (kernel.Calls number (Called.Ends y)) e = cc
-sends_constant s t p id (kernel.Faults f) e = cc
+sends_constant s t p id _ e = cc
 
 waits_constant : (s t : OneKernel) (p : Pid) (x : kernel.Next) → kernel.waits s p x ≡ Some t → Constant s t
 waits_constant s t p (kernel.Calls number (Called.Waits y)) e = let f : kernel.goes_on s p y ≡ t = cc in subst (Constant s) f (set_constant s p (kernels.Alive y))
-waits_constant s t p (kernel.Calls number (Called.Replies d y)) e = cc
-waits_constant s t p (kernel.Calls number (Called.Sends m y)) e = cc
-waits_constant s t p (kernel.Calls number (Called.Outputs w y)) e = cc
-waits_constant s t p (kernel.Calls number (Called.Ends y)) e = cc
-waits_constant s t p (kernel.Faults f) e = cc
+waits_constant s t p _ e = cc
 
 outputs_constant : (s t : OneKernel) (p : Pid) (word : ℕ) (x : kernel.Next) → kernel.outputs s p word x ≡ Some t → Constant s t
 outputs_constant s t p word (kernel.Calls number (Called.Outputs w y)) e = let k = when-is (word == w) (kernel.goes_on s p y) t e in subst (Constant s) k.1 (set_constant s p (kernels.Alive y))
-outputs_constant s t p word (kernel.Calls number (Called.Replies d y)) e = cc
-outputs_constant s t p word (kernel.Calls number (Called.Sends m y)) e = cc
-outputs_constant s t p word (kernel.Calls number (Called.Waits y)) e = cc
-outputs_constant s t p word (kernel.Calls number (Called.Ends y)) e = cc
-outputs_constant s t p word (kernel.Faults f) e = cc
+outputs_constant s t p word _ e = cc
 
 ends_constant : (s t : OneKernel) (p : Pid) (y : Why) (x : kernel.Next) → kernel.ends s p y x ≡ Some t → Constant s t
 ends_constant s t p y (kernel.Calls number (Called.Ends z)) e = let k = when-is (why_eq y z) (kernels.with_process s p (Ended y)) t e in subst (Constant s) k.1 (set_constant s p (Ended y))
 ends_constant s t p y (kernel.Faults f) e = let k = when-is (why_eq y (Why.Fault f)) (kernels.with_process s p (Ended y)) t e in subst (Constant s) k.1 (set_constant s p (Ended y))
-ends_constant s t p y (kernel.Calls number (Called.Replies d z)) e = cc
-ends_constant s t p y (kernel.Calls number (Called.Sends m z)) e = cc
-ends_constant s t p y (kernel.Calls number (Called.Waits z)) e = cc
-ends_constant s t p y (kernel.Calls number (Called.Outputs w z)) e = cc
+ends_constant s t p y _ e = cc
 
 -- receives
 receives_constant : (s t : OneKernel) (p : Pid) (id : MsgId) (d : receiving.Completed) → kernel.receives s p id d ≡ Some t → Constant s t

@@ -17,20 +17,12 @@ use Rattle.dm_rulelaws.proofs.Based.Sets.{set_all, killed_or}
 -- what a machine knows agrees by whether a process was made, lives or has ended
 agrees_by : Known → Option Bool → Bool
 agrees_by Unknown o = true
-agrees_by Here (Some true) = true
-agrees_by Here (Some false) = false
-agrees_by Here None = false
-agrees_by (Frozen to) (Some true) = true
-agrees_by (Frozen to) (Some false) = false
-agrees_by (Frozen to) None = false
-agrees_by (Incoming from) (Some true) = true
-agrees_by (Incoming from) (Some false) = false
-agrees_by (Incoming from) None = false
 agrees_by (Forward at moves) (Some b) = true
-agrees_by (Forward at moves) None = false
 agrees_by Ended (Some true) = false
 agrees_by Ended (Some false) = true
-agrees_by Ended None = false
+agrees_by _ None = false
+agrees_by _ (Some true) = true
+agrees_by _ (Some false) = false
 
 by_sort : (k : Known) (o : Option Life) → agrees k o ≡ agrees_by k (life_sort o)
 unfolding agrees_by
@@ -55,9 +47,8 @@ agrees_alike : (k : Known) (a b : Option Life) → life_sort a ≡ life_sort b �
 agrees_alike k a b e = by_sort k a ∙ ap (agrees_by k) e ∙ sym (by_sort k b)
 
 some_sort : (o : Option Life) → is_some o ≡ is_some (life_sort o)
-some_sort None = refl
 some_sort (Some (Alive x)) = refl
-some_sort (Some (Life.Ended y)) = refl
+some_sort _ = refl
 
 some_alike : (a b : Option Life) → life_sort a ≡ life_sort b → is_some a ≡ is_some b
 some_alike a b e = some_sort a ∙ ap is_some e ∙ sym (some_sort b)

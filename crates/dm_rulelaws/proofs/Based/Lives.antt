@@ -53,45 +53,26 @@ goes_life s p x y is = alike_goes s s p x y is refl
 -- calls
 replies_life : (s t : OneKernel) (p : Pid) (n : ℕ) (c : Reply) (x : kernel.Next) (z : PlainProcess) → s.processes p ≡ Some (Alive z) → kernel.replies s p n c x ≡ Some t → Alike s t
 replies_life s t p n c (kernel.Calls number (Called.Replies d y)) z is e = let k = when-is ((n == number) && reply_eq c d) (kernel.goes_on s p y) t e in subst (Alike s) k.1 (goes_life s p z y is)
-replies_life s t p n c (kernel.Calls number (Called.Sends m y)) z is e = cc
-replies_life s t p n c (kernel.Calls number (Called.Waits y)) z is e = cc
-replies_life s t p n c (kernel.Calls number (Called.Outputs w y)) z is e = cc
-replies_life s t p n c (kernel.Calls number (Called.Ends y)) z is e = cc
-replies_life s t p n c (kernel.Faults f) z is e = cc
+replies_life s t p n c _ z is e = cc
 
 sends_life : (s t : OneKernel) (p : Pid) (id : MsgId) (x : kernel.Next) (z : PlainProcess) → s.processes p ≡ Some (Alive z) → kernel.sends s p id x ≡ Some t → Alike s t
 sends_life s t p id (kernel.Calls number (Called.Sends m y)) z is e =
     let k = when-is (id_eq id m.id) (kernels.with_sent (kernel.goes_on s p y) (Some m)) t e in
     subst (Alike s) k.1 (alike_sent s (kernel.goes_on s p y) (Some m) (goes_life s p z y is))
-sends_life s t p id (kernel.Calls number (Called.Replies d y)) z is e = cc
-sends_life s t p id (kernel.Calls number (Called.Waits y)) z is e = cc
-sends_life s t p id (kernel.Calls number (Called.Outputs w y)) z is e = cc
-sends_life s t p id (kernel.Calls number (Called.Ends y)) z is e = cc
-sends_life s t p id (kernel.Faults f) z is e = cc
+sends_life s t p id _ z is e = cc
 
 waits_life : (s t : OneKernel) (p : Pid) (x : kernel.Next) (z : PlainProcess) → s.processes p ≡ Some (Alive z) → kernel.waits s p x ≡ Some t → Alike s t
 waits_life s t p (kernel.Calls number (Called.Waits y)) z is e = let f : kernel.goes_on s p y ≡ t = cc in subst (Alike s) f (goes_life s p z y is)
-waits_life s t p (kernel.Calls number (Called.Replies d y)) z is e = cc
-waits_life s t p (kernel.Calls number (Called.Sends m y)) z is e = cc
-waits_life s t p (kernel.Calls number (Called.Outputs w y)) z is e = cc
-waits_life s t p (kernel.Calls number (Called.Ends y)) z is e = cc
-waits_life s t p (kernel.Faults f) z is e = cc
+waits_life s t p _ z is e = cc
 
 outputs_life : (s t : OneKernel) (p : Pid) (word : ℕ) (x : kernel.Next) (z : PlainProcess) → s.processes p ≡ Some (Alive z) → kernel.outputs s p word x ≡ Some t → Alike s t
 outputs_life s t p word (kernel.Calls number (Called.Outputs w y)) z is e = let k = when-is (word == w) (kernel.goes_on s p y) t e in subst (Alike s) k.1 (goes_life s p z y is)
-outputs_life s t p word (kernel.Calls number (Called.Replies d y)) z is e = cc
-outputs_life s t p word (kernel.Calls number (Called.Sends m y)) z is e = cc
-outputs_life s t p word (kernel.Calls number (Called.Waits y)) z is e = cc
-outputs_life s t p word (kernel.Calls number (Called.Ends y)) z is e = cc
-outputs_life s t p word (kernel.Faults f) z is e = cc
+outputs_life s t p word _ z is e = cc
 
 ends_life : (s t : OneKernel) (p : Pid) (y : Why) (x : kernel.Next) → kernel.ends s p y x ≡ Some t → SetLife s t p (Some false)
 ends_life s t p y (kernel.Calls number (Called.Ends z)) e = let k = when-is (why_eq y z) (kernels.with_process s p (Ended y)) t e in subst (λ (u : OneKernel). SetLife s u p (Some false)) k.1 (set_life s s p (Ended y) refl)
 ends_life s t p y (kernel.Faults f) e = let k = when-is (why_eq y (Why.Fault f)) (kernels.with_process s p (Ended y)) t e in subst (λ (u : OneKernel). SetLife s u p (Some false)) k.1 (set_life s s p (Ended y) refl)
-ends_life s t p y (kernel.Calls number (Called.Replies d z)) e = cc
-ends_life s t p y (kernel.Calls number (Called.Sends m z)) e = cc
-ends_life s t p y (kernel.Calls number (Called.Waits z)) e = cc
-ends_life s t p y (kernel.Calls number (Called.Outputs w z)) e = cc
+ends_life s t p y _ e = cc
 
 -- receives
 receives_life : (s t : OneKernel) (p : Pid) (id : MsgId) (d : receiving.Completed) (z : PlainProcess) → s.processes p ≡ Some (Alive z) → kernel.receives s p id d ≡ Some t → Alike s t

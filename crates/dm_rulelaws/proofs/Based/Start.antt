@@ -16,9 +16,8 @@ known_of_life (Some (Alive x)) = Known.Here
 known_of_life (Some (Life.Ended y)) = Known.Ended
 
 abbrev is_alive : Option Life → Bool
-is_alive None = false
 is_alive (Some (Alive x)) = true
-is_alive (Some (Life.Ended y)) = false
+is_alive _ = false
 
 -- a process of a list after some others of the file
 record Listed (b : Boot) (earlier : List BootProcess) (p : BootProcess) (ps : List BootProcess) : Type 0 where
@@ -154,16 +153,14 @@ ring_first b earlier (p ∷ ps) m q h = elim (cases_Bool (pid_eq p.pid q)) [
 
 -- what they know agrees
 agrees_first : (c : Bool) (o : Option Life) → agrees (if c then known_of_life o else Known.Unknown) o ≡ true
-agrees_first true None = refl
 agrees_first true (Some (Alive x)) = refl
-agrees_first true (Some (Life.Ended y)) = refl
 agrees_first false o = refl
+agrees_first true _ = refl
 
 turns_first : (c : Bool) (o : Option Life) → one_if (c && is_alive o) ≡ turns_here false (if c then known_of_life o else Known.Unknown)
-turns_first true None = refl
 turns_first true (Some (Alive x)) = refl
-turns_first true (Some (Life.Ended y)) = refl
 turns_first false o = refl
+turns_first true _ = refl
 
 some_first : (o : Option Life) → is_some o ≡ true → known_of_life o ≢ Known.Unknown
 some_first None e k = absurd (false≢true e)

@@ -15,8 +15,7 @@ ready_if y x false e = cc
 
 ready_is : (y x : PlainProcess) (st : PlainStatus) → kernel.if_ready y st ≡ Some x → (y ≡ x) × (pending_of st ≡ None)
 ready_is y x Ready e = (ready_if y x y.stopped e, refl)
-ready_is y x (Waiting mask base size) e = cc
-ready_is y x (Moving dir owner base own left pending) e = cc
+ready_is y x _ e = cc
 
 pub running_is : (s : OneKernel) (p : Pid) (x : PlainProcess) → kernel.running s p ≡ Some x → Runs s p x
 running_is s p x e =
@@ -33,8 +32,7 @@ plain_length (Row.Plain r b) regs bytes m h e =
     let f : record { regs = r; bytes = b } ≡ m = cc in
     let g = h.1 in
     sym (ap (λ (v : kernel.Machine). length v.bytes) f) ∙ g
-plain_length (Row.Calls n r) regs bytes m h e = cc
-plain_length (Row.Faults f) regs bytes m h e = cc
+plain_length _ regs bytes m h e = cc
 
 pub steps_length : (k : ℕ) (m n : kernel.Machine) → kernel.plain_steps k m ≡ Some n → length n.bytes ≡ length m.bytes
 steps_length zero m n e = let f : m ≡ n = cc in sym (ap (λ (v : kernel.Machine). length v.bytes) f)
@@ -123,8 +121,7 @@ StatusCompletes s x st d = (pending_of st ≡ None) × CompletedFits s.processes
 completes_status_fits : (s : OneKernel) (p : Pid) (x : PlainProcess) (i : MsgId) (m : PlainMessage) (st : PlainStatus) (d : receiving.Completed) → WhatFits s i m m.what → ProcessFits s.processes x → receiving.completes_status p x m st ≡ Some d
     → StatusCompletes s x st d
 completes_status_fits s p x i m (Waiting mask base size) d f h e = (refl, completes_what_fits s p x i m mask base size m.what d f h e)
-completes_status_fits s p x i m Ready d f h e = cc
-completes_status_fits s p x i m (Moving dir owner base own left pending) d f h e = cc
+completes_status_fits s p x i m _ d f h e = cc
 
 completes_with_fits : (s : OneKernel) (p : Pid) (x : PlainProcess) (i : MsgId) (m : PlainMessage) (b : Bool) (d : receiving.Completed) → WhatFits s i m m.what → ProcessFits s.processes x → (if b then None else receiving.completes_status p x m x.status) ≡ Some d
     → StatusCompletes s x x.status d

@@ -28,12 +28,11 @@ pub users_on : (ps qs : Lives) → Rises ps qs → (p : Pid) → takes_users ps 
 users_on ps qs up p h = or_on (is_server p) (has_bytes 0 (ps p)) (has_bytes 0 (qs p)) (up p 0) h
 
 pub move_on : (ps qs : Lives) → Rises ps qs → (x y : PlainProcess) → length x.memory ≤ length y.memory → (st : PlainStatus) → move_fits ps x st ≡ true → move_fits qs y st ≡ true
-move_on ps qs up x y le Ready h = refl
-move_on ps qs up x y le (Waiting mask base size) h = refl
 move_on ps qs up x y le (Moving dir owner base own left pending) h =
     let k = both (has_bytes (base + left) (ps owner)) (nat_le (own + left) (length x.memory)) h in
     let own_is = k.1 in
     two (has_bytes (base + left) (qs owner)) (nat_le (own + left) (length y.memory)) (up owner (base + left) k.0) (let f : nat_le (own + left) (length y.memory) ≡ true = grind (arith, nat_tests) in f)
+move_on ps qs up x y le _ h = refl
 
 pub process_on : (ps qs : Lives) → Rises ps qs → (x : PlainProcess) → ProcessFits ps x → ProcessFits qs x
 process_on ps qs up x h = record { slots = Each-on (SlotFits ps) (SlotFits qs) (slot_on ps qs up) x.links h.slots; move = move_on ps qs up x x (omega arith) x.status h.move }

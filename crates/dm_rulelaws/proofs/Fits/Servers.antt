@@ -54,12 +54,11 @@ registers_fit ps names name l None f h = record { names = Each-last (λ (k : Nam
 registers_fit ps names name l (Some k) f h = record { names = h; answer = tt }
 
 register_fits : (ps : Lives) (names : List NamedLink) (name : List ℕ) (ls : List PlainLink) → Each (LinkFits ps) ls → NamesFit ps names → AskedFits ps (board.asks_to_register names name ls)
-register_fits ps names name [] f h = bad_asked ps names h
 register_fits ps names name (l ∷ []) f h =
     if_asked ps (board.is_name name) (board.registers names name l) (board.bad_request names)
     (if_asked ps (is_general l.kind) (board.registers_new names name l (board.link_named name names)) (record { names = names; answer = board.BadLink }) (registers_fit ps names name l (board.link_named name names) f.0 h) (record { names = h; answer = tt }))
     (bad_asked ps names h)
-register_fits ps names name (l ∷ k ∷ ks) f h = bad_asked ps names h
+register_fits ps names name _ f h = bad_asked ps names h
 
 look_up_fits : (ps : Lives) (names : List NamedLink) (name : List ℕ) (ls : List PlainLink) → NamesFit ps names → AskedFits ps (board.asks_to_look_up names name ls)
 look_up_fits ps names name [] h =
@@ -218,13 +217,9 @@ wants_fits s machine image (l ∷ ls) f h =
     (λ within. asks_for_fits s machine image l ls within f.0 f.1 h) (bad_fits s (l ∷ ls) f h)
 
 requests_fits : (s : OneKernel) (body : List ℕ) (links : List PlainLink) → Each (LinkFits s.processes) links → KernelFits s → ManagerFits s Any (manage.requests s.manager s.machines (length s.images) body links)
-requests_fits s [] links f h = bad_fits s links f h
-requests_fits s (a ∷ []) links f h = bad_fits s links f h
-requests_fits s (a ∷ b ∷ []) links f h = bad_fits s links f h
-requests_fits s (a ∷ b ∷ c ∷ []) links f h = bad_fits s links f h
 requests_fits s (a ∷ b ∷ c ∷ d ∷ []) links f h =
     if_manager s (a == 1) (manage.wants_child s.manager s.machines (length s.images) b (256 * c + d) links) (manage.bad_request s.manager links) (λ e. wants_fits s b (256 * c + d) links f h) (bad_fits s links f h)
-requests_fits s (a ∷ b ∷ c ∷ d ∷ g ∷ gs) links f h = bad_fits s links f h
+requests_fits s _ links f h = bad_fits s links f h
 
 control_by : (s : OneKernel) (child : Pid) (b c d : Bool) (links : List PlainLink) → has_bytes 0 (s.processes child) ≡ true → Each (LinkFits s.processes) links → KernelFits s
     → ManagerFits s Any (manage.controls_child s.manager child (if b then Some PlainWhat.Stop else if c then Some PlainWhat.Resume else if d then Some PlainWhat.Kill else None) links)
@@ -235,11 +230,8 @@ control_by s child false false false links made f h = bad_fits s links f h
 
 controls_fits : (s : OneKernel) (o : Option Pid) (body : List ℕ) (links : List PlainLink) → ((p : Pid) → o ≡ Some p → has_bytes 0 (s.processes p) ≡ true) → Each (LinkFits s.processes) links → KernelFits s → ManagerFits s Any (manage.controls s.manager o body links)
 controls_fits s (Some child) (op ∷ []) links made f h = control_by s child (op == 2) (op == 3) (op == 4) links (made child refl) f h
-controls_fits s (Some child) [] links made f h = bad_fits s links f h
-controls_fits s (Some child) (a ∷ b ∷ bs) links made f h = bad_fits s links f h
-controls_fits s None [] links made f h = bad_fits s links f h
 controls_fits s None (a ∷ []) links made f h = bad_fits s links f h
-controls_fits s None (a ∷ b ∷ bs) links made f h = bad_fits s links f h
+controls_fits s _ _ links made f h = bad_fits s links f h
 
 Each-get : {X : Type 0} (P : X → Type 0) (xs : List X) (k : ℕ) (x : X) → slice_get xs k ≡ Some x → Each P xs → P x
 Each-get P [] k x e h = cc

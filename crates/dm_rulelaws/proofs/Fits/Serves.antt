@@ -31,11 +31,10 @@ goes_same s p x y le links status is h =
 
 -- whoever awaits a request awaits its answers
 status_turns : (st : PlainStatus) (n : ℕ) (v w : PlainWhat) → ((dir : Direction) (left : ℕ) → piece_fits dir left v ≡ true → piece_fits dir left w ≡ true) → status_awaits st n v ≡ true → status_awaits st n w ≡ true
-status_turns Ready n v w f h = cc
-status_turns (Waiting mask base size) n v w f h = cc
 status_turns (Moving dir owner base own left pending) n v w f h =
     let k = both (n == pending) (piece_fits dir left v) h in
     two (n == pending) (piece_fits dir left w) k.0 (f dir left k.1)
+status_turns _ n v w f h = cc
 
 turns : (o : Option Life) (n : ℕ) (v w : PlainWhat) → ((dir : Direction) (left : ℕ) → piece_fits dir left v ≡ true → piece_fits dir left w ≡ true) → awaits o n v ≡ true → awaits o n w ≡ true
 turns None n v w f h = cc
@@ -123,30 +122,7 @@ lands_what_fits ps p x Direction.IntoArea owner base own left PlainWhat.Written 
     (goes_on_by ps p x x Direction.IntoArea owner base own left (left - pieces.piece_of left == 0) (omega arith) refl h has within) e
 lands_what_fits ps p x Direction.FromArea owner base own left PlainWhat.Gone c h has within e = let k : pieces.done Reply.Gone x ≡ c = cc in subst (LandedFits ps p x) k (done_fits ps p x x Reply.Gone (omega arith) refl h)
 lands_what_fits ps p x Direction.IntoArea owner base own left PlainWhat.Gone c h has within e = let k : pieces.done Reply.Gone x ≡ c = cc in subst (LandedFits ps p x) k (done_fits ps p x x Reply.Gone (omega arith) refl h)
-lands_what_fits ps p x Direction.FromArea owner base own left PlainWhat.Written c h has within e = cc
-lands_what_fits ps p x Direction.IntoArea owner base own left (PlainWhat.Block bytes) c h has within e = cc
-lands_what_fits ps p x Direction.FromArea owner base own left (PlainWhat.User z1 z2 z3 z4) c h has within e = cc
-lands_what_fits ps p x Direction.FromArea owner base own left PlainWhat.Stop c h has within e = cc
-lands_what_fits ps p x Direction.FromArea owner base own left PlainWhat.Resume c h has within e = cc
-lands_what_fits ps p x Direction.FromArea owner base own left PlainWhat.Kill c h has within e = cc
-lands_what_fits ps p x Direction.FromArea owner base own left (PlainWhat.Read z1 z2) c h has within e = cc
-lands_what_fits ps p x Direction.FromArea owner base own left (PlainWhat.Write z1 z2) c h has within e = cc
-lands_what_fits ps p x Direction.FromArea owner base own left (PlainWhat.Create z1 z2) c h has within e = cc
-lands_what_fits ps p x Direction.FromArea owner base own left (PlainWhat.Created z1) c h has within e = cc
-lands_what_fits ps p x Direction.FromArea owner base own left PlainWhat.NoRoom c h has within e = cc
-lands_what_fits ps p x Direction.FromArea owner base own left (PlainWhat.Move z1) c h has within e = cc
-lands_what_fits ps p x Direction.FromArea owner base own left (PlainWhat.Moved z1) c h has within e = cc
-lands_what_fits ps p x Direction.IntoArea owner base own left (PlainWhat.User z1 z2 z3 z4) c h has within e = cc
-lands_what_fits ps p x Direction.IntoArea owner base own left PlainWhat.Stop c h has within e = cc
-lands_what_fits ps p x Direction.IntoArea owner base own left PlainWhat.Resume c h has within e = cc
-lands_what_fits ps p x Direction.IntoArea owner base own left PlainWhat.Kill c h has within e = cc
-lands_what_fits ps p x Direction.IntoArea owner base own left (PlainWhat.Read z1 z2) c h has within e = cc
-lands_what_fits ps p x Direction.IntoArea owner base own left (PlainWhat.Write z1 z2) c h has within e = cc
-lands_what_fits ps p x Direction.IntoArea owner base own left (PlainWhat.Create z1 z2) c h has within e = cc
-lands_what_fits ps p x Direction.IntoArea owner base own left (PlainWhat.Created z1) c h has within e = cc
-lands_what_fits ps p x Direction.IntoArea owner base own left PlainWhat.NoRoom c h has within e = cc
-lands_what_fits ps p x Direction.IntoArea owner base own left (PlainWhat.Move z1) c h has within e = cc
-lands_what_fits ps p x Direction.IntoArea owner base own left (PlainWhat.Moved z1) c h has within e = cc
+lands_what_fits ps p x _ owner base own left _ c h has within e = cc
 
 -- a mover whose request is answered is awaited by no other message
 record LandsIs (ps : Lives) (p : Pid) (x : PlainProcess) (m : PlainMessage) (c : pieces.Landed) : Type 0 where
@@ -165,18 +141,16 @@ lands_by ps p x m (Moving dir owner base own left pending) c is h e =
     let k = both (has_bytes (base + left) (ps owner)) (nat_le (own + left) (length x.memory)) move in
     let l = lands_if ps p x (m.id.n == pending) dir owner base own left m.id.n pending m.what c refl h k.0 k.1 e in
     record { fits = l.0; pending = ap pending_of is ∙ ap Some l.1 }
-lands_by ps p x m Ready c is h e = cc
-lands_by ps p x m (Waiting mask base size) c is h e = cc
+lands_by ps p x m _ c is h e = cc
 
 -- what a status awaits is under its pending number, and of a data move
 awaited_is : (st : PlainStatus) (n k : ℕ) (w : PlainWhat) → pending_of st ≡ Some k → status_awaits st n w ≡ true → n ≡ k
-awaited_is Ready n k w e h = cc
-awaited_is (Waiting mask base size) n k w e h = cc
 awaited_is (Moving dir owner base own left pending) n k w e h =
     let f : pending ≡ k = cc in
     let g = (both (n == pending) (piece_fits dir left w) h).0 in
     let i : n ≡ pending = grind (arith, nat_tests) in
     i ∙ f
+awaited_is _ n k w e h = cc
 
 abbrev of_move : PlainWhat → Type 0
 of_move w = (b : Bool) → (is_of_memory w ≡ true → b ≡ true) → (is_piece w ≡ true → b ≡ true) → b ≡ true
@@ -192,29 +166,11 @@ piece_of_move Direction.IntoArea left (PlainWhat.Read base len) h b f g = f refl
 piece_of_move Direction.IntoArea left (PlainWhat.Block bytes) h b f g = g refl
 piece_of_move Direction.FromArea left (PlainWhat.Write base bytes) h b f g = f refl
 piece_of_move Direction.FromArea left PlainWhat.Written h b f g = g refl
-piece_of_move Direction.FromArea left (PlainWhat.User z1 z2 z3 z4) h b f g = cc
-piece_of_move Direction.FromArea left PlainWhat.Stop h b f g = cc
-piece_of_move Direction.FromArea left PlainWhat.Resume h b f g = cc
-piece_of_move Direction.FromArea left PlainWhat.Kill h b f g = cc
-piece_of_move Direction.FromArea left (PlainWhat.Create z1 z2) h b f g = cc
-piece_of_move Direction.FromArea left (PlainWhat.Created z1) h b f g = cc
-piece_of_move Direction.FromArea left PlainWhat.NoRoom h b f g = cc
-piece_of_move Direction.FromArea left (PlainWhat.Move z1) h b f g = cc
-piece_of_move Direction.FromArea left (PlainWhat.Moved z1) h b f g = cc
-piece_of_move Direction.IntoArea left (PlainWhat.User z1 z2 z3 z4) h b f g = cc
-piece_of_move Direction.IntoArea left PlainWhat.Stop h b f g = cc
-piece_of_move Direction.IntoArea left PlainWhat.Resume h b f g = cc
-piece_of_move Direction.IntoArea left PlainWhat.Kill h b f g = cc
-piece_of_move Direction.IntoArea left (PlainWhat.Create z1 z2) h b f g = cc
-piece_of_move Direction.IntoArea left (PlainWhat.Created z1) h b f g = cc
-piece_of_move Direction.IntoArea left PlainWhat.NoRoom h b f g = cc
-piece_of_move Direction.IntoArea left (PlainWhat.Move z1) h b f g = cc
-piece_of_move Direction.IntoArea left (PlainWhat.Moved z1) h b f g = cc
+piece_of_move _ left _ h b f g = cc
 
 awaited_of_move : (st : PlainStatus) (n : ℕ) (w : PlainWhat) → status_awaits st n w ≡ true → of_move w
-awaited_of_move Ready n w h b f g = cc
-awaited_of_move (Waiting mask base size) n w h b f g = cc
 awaited_of_move (Moving dir owner base own left pending) n w h b f g = piece_of_move dir left w (both (n == pending) (piece_fits dir left w) h).1 b f g
+awaited_of_move _ n w h b f g = cc
 
 one_not : (a b : Option PlainMessage) (x y : PlainMessage) (c : Bool) → a ≡ Some x → b ≡ Some y → One a b → c ≡ true
 one_not (Some v) (Some w) x y c e f h = absurd h

@@ -24,8 +24,7 @@ becomes s p x y is goes waits = record {
 -- a process that moves no data is awaited by nobody
 pub unawaited : (st : PlainStatus) (n : ℕ) (w : PlainWhat) (b : Bool) → pending_of st ≡ None → status_awaits st n w ≡ true → b ≡ true
 unawaited Ready n w b e h = cc
-unawaited (Waiting mask base size) n w b e h = cc
-unawaited (Moving dir owner base own left pending) n w b e h = cc
+unawaited _ n w b e h = cc
 
 pub goes_fits : (s : OneKernel) (p : Pid) (x y : PlainProcess) → s.processes p ≡ Some (Alive x) → pending_of x.status ≡ None → GoesOn s.processes x y → KernelFits s → KernelFits (kernel.goes_on s p y)
 goes_fits s p x y is still goes h =
@@ -55,11 +54,7 @@ reply_row : (s t : OneKernel) (p : Pid) (n : ℕ) (c : Reply) (next : kernel.Nex
 reply_row s t p n c (kernel.Calls number (Called.Replies d y)) w is h =
     let k = when-is ((n == number) && reply_eq c d) (kernel.goes_on s p y) t is in
     subst KernelFits k.1 (goes_fits s p w.x y w.is.alive w.is.still (goes_of s.processes w.x w.z y w.memory w.fits) h)
-reply_row s t p n c (kernel.Calls number (Called.Sends m y)) w is h = cc
-reply_row s t p n c (kernel.Calls number (Called.Waits y)) w is h = cc
-reply_row s t p n c (kernel.Calls number (Called.Outputs word y)) w is h = cc
-reply_row s t p n c (kernel.Calls number (Called.Ends because)) w is h = cc
-reply_row s t p n c (kernel.Faults fault) w is h = cc
+reply_row s t p n c _ w is h = cc
 
 pub call_step : (s t : OneKernel) (p : Pid) (n : ℕ) (c : Reply) → kernel.step s (Label.Call p n c) ≡ Some t → KernelFits s → KernelFits t
 call_step s t p n c is h =
@@ -84,11 +79,7 @@ send_row s t p id (kernel.Calls number (Called.Sends m y)) v w is h =
     let b = becomes s p w.x y w.is.alive goes (λ i n there from e. unawaited w.x.status i.n n.what (status_awaits y.status i.n n.what) w.is.still e) in
     subst KernelFits k.1
     (put_fits u m (sent_fits s u p y m m.what (set_rises s p (Alive y) b.bytes) (set_at s p (Alive y)) (ap (λ (i : MsgId). i.from) counted.id) w.fits.what) (set_fits s p (Alive y) b h))
-send_row s t p id (kernel.Calls number (Called.Replies d y)) v w is h = cc
-send_row s t p id (kernel.Calls number (Called.Waits y)) v w is h = cc
-send_row s t p id (kernel.Calls number (Called.Outputs word y)) v w is h = cc
-send_row s t p id (kernel.Calls number (Called.Ends because)) v w is h = cc
-send_row s t p id (kernel.Faults fault) v w is h = cc
+send_row s t p id _ v w is h = cc
 
 pub send_step : (s t : OneKernel) (p : Pid) (id : MsgId) → kernel.step s (Label.Send p id) ≡ Some t → KernelFits s → KernelFits t
 send_step s t p id is h =
@@ -99,11 +90,7 @@ wait_row : (s t : OneKernel) (p : Pid) (next : kernel.Next) → NextIs s p next 
 wait_row s t p (kernel.Calls number (Called.Waits y)) w is h =
     let eq : kernel.goes_on s p y ≡ t = cc in
     subst KernelFits eq (goes_fits s p w.x y w.is.alive w.is.still (goes_of s.processes w.x w.z y w.memory w.fits) h)
-wait_row s t p (kernel.Calls number (Called.Replies d y)) w is h = cc
-wait_row s t p (kernel.Calls number (Called.Sends m y)) w is h = cc
-wait_row s t p (kernel.Calls number (Called.Outputs word y)) w is h = cc
-wait_row s t p (kernel.Calls number (Called.Ends because)) w is h = cc
-wait_row s t p (kernel.Faults fault) w is h = cc
+wait_row s t p _ w is h = cc
 
 pub wait_step : (s t : OneKernel) (p : Pid) → kernel.step s (Label.Wait p) ≡ Some t → KernelFits s → KernelFits t
 wait_step s t p is h =
@@ -114,11 +101,7 @@ out_row : (s t : OneKernel) (p : Pid) (word : ℕ) (next : kernel.Next) → Next
 out_row s t p word (kernel.Calls number (Called.Outputs other y)) w is h =
     let k = when-is (word == other) (kernel.goes_on s p y) t is in
     subst KernelFits k.1 (goes_fits s p w.x y w.is.alive w.is.still (goes_of s.processes w.x w.z y w.memory w.fits) h)
-out_row s t p word (kernel.Calls number (Called.Replies d y)) w is h = cc
-out_row s t p word (kernel.Calls number (Called.Sends m y)) w is h = cc
-out_row s t p word (kernel.Calls number (Called.Waits y)) w is h = cc
-out_row s t p word (kernel.Calls number (Called.Ends because)) w is h = cc
-out_row s t p word (kernel.Faults fault) w is h = cc
+out_row s t p word _ w is h = cc
 
 pub out_step : (s t : OneKernel) (p : Pid) (word : ℕ) → kernel.step s (Label.Out p word) ≡ Some t → KernelFits s → KernelFits t
 out_step s t p word is h =
@@ -128,10 +111,7 @@ out_step s t p word is h =
 end_row : (s t : OneKernel) (p : Pid) (y : Why) (next : kernel.Next) → kernel.ends s p y next ≡ Some t → KernelFits s → KernelFits t
 end_row s t p y (kernel.Calls number (Called.Ends because)) is h = let k = when-is (why_eq y because) (with_process s p (Ended y)) t is in subst KernelFits k.1 (end_fits s p y h)
 end_row s t p y (kernel.Faults fault) is h = let k = when-is (why_eq y (Why.Fault fault)) (with_process s p (Ended y)) t is in subst KernelFits k.1 (end_fits s p y h)
-end_row s t p y (kernel.Calls number (Called.Replies d z)) is h = cc
-end_row s t p y (kernel.Calls number (Called.Sends m z)) is h = cc
-end_row s t p y (kernel.Calls number (Called.Waits z)) is h = cc
-end_row s t p y (kernel.Calls number (Called.Outputs word z)) is h = cc
+end_row s t p y _ is h = cc
 
 pub end_step : (s t : OneKernel) (p : Pid) (y : Why) → kernel.step s (Label.End p y) ≡ Some t → KernelFits s → KernelFits t
 end_step s t p y is h =

@@ -1,10 +1,10 @@
 -- Each group keeps where addresses lead, what machines know, and where messages stand.
 use Rattle.dm_rulelaws.proofs.Names.{◌≡◌, ℕ, ◌<◌, ◌≤◌, ◌==◌, not, Bool, true, false, is_some, List, [], ◌∷◌, refl, ap, ◌∙◌, sym, subst, inl, inr, arith, if◌then◌else◌, slice_get, Option, None, Some, false≢true, Pid, Place, pid_eq, MsgId}
 use Rattle.dm_rulelaws.proofs.Names.{plain_kind, PlainMessage, MessageKind, Boot, switchboard, manager, Step, id_eq-same, alive-is, Line, View, Told, About, Target, Of, Known, Unknown, Here, Frozen, Incoming, Forward, is_kernels, own_id}
-use Rattle.dm_rulelaws.proofs.Names.{receiver_of, target_in, target_of, front_told, front_of, Child, Receiver, Sender, given, child_number, place_of_child, unmoved, own_gives, names, sender_of, IsStep, forwards_on, migrates_child, Part}
-use Rattle.dm_rulelaws.proofs.Names.{Says, Routes, Again, Owns, Transmits, Spelled, Moves, is_between, is_restart, is_early, knows, receiver_in, is_of_source, Point, moved, group_of, Inbox, Queue, Held, times, standing, IsNet, IsNetLine}
+use Rattle.dm_rulelaws.proofs.Names.{receiver_of, target_in, target_of, front_told, front_of, Child, Receiver, Sender, given, child_number, place_of_child, unmoved, own_gives, names, sender_of, IsStep, forwards_on, migrates, Part, Says}
+use Rattle.dm_rulelaws.proofs.Names.{Routes, Again, Owns, Transmits, Spelled, Moves, is_between, is_restart, is_early, knows, receiver_in, is_of_source, Point, moved, group_of, Inbox, Queue, Held, times, standing, IsNet, IsNetLine}
 use Rattle.dm_rulelaws.proofs.Names.{arrives_net, resends_net, group_is, turn_off, letters, eq_is, parts, both_lists, both_times, under_way, front_kernels, Phased, due, head_calm, InPhases, calm_phases, rooted, State, Sane, sane_line}
-use Rattle.dm_rulelaws.proofs.Names.{outcome_sayable, Comes, Named, Links, child_is, source_holds, destination_expects, is_fixed, eq_self, about_same, front_one, least_of}
+use Rattle.dm_rulelaws.proofs.Names.{outcome_sayable, Comes, Named, Links, child_is, source_holds, destination_expects, is_fixed, eq_self, about_same, front_one, least_of, by_migrates}
 use Rattle.dm_rule.specs.Phases as phases
 use Rattle.dm_rule.specs.Rule as rule
 use Rattle.dm_rule.proofs.Groups.{begun}
@@ -52,14 +52,11 @@ net_loose : (n : ℕ) (ps : List Part) → IsNet ps → AllLoose n ps
 net_loose n [] h = tt
 net_loose n (Says l ∷ ps) h = (net_need n l h.0, net_loose n ps h.1)
 net_loose n (Transmits a b l ∷ ps) h = (λ pt. tt, net_loose n ps h.1)
-net_loose n (Routes i ∷ ps) h = absurd h.0
-net_loose n (Again i b ∷ ps) h = absurd h.0
-net_loose n (Owns k q b ∷ ps) h = absurd h.0
+net_loose n _ h = absurd h.0
 
 -- a directive to move a process
-child_need : (n : ℕ) (pt : Point) (p : Pid) (o : Option ℕ) → pt.view.acting ≡ 0 → child_number pt.kernel p ≡ o → Core n pt → ((k : ℕ) → names pt.kernel (Child k) ≡ Some p → IsReal n pt.view p) → AllNeed n pt (migrates_child pt.addresses p o)
-child_need n pt p None first is h real = first_need n pt (Says (Line.NoChild p)) [] tt tt
-child_need n pt p (Some k) first is h real =
+asks_need : (n : ℕ) (pt : Point) (p : Pid) (k : ℕ) → pt.view.acting ≡ 0 → child_number pt.kernel p ≡ Some k → Core n pt → ((k : ℕ) → names pt.kernel (Child k) ≡ Some p → IsReal n pt.view p) → AllNeed n pt (Owns MessageKind.Migrate p (pt.addresses (Child k)).at ∷ [])
+asks_need n pt p k first is h real =
     let id = own_id pt.view in
     let a = pt.addresses in
     let named = child_is pt.kernel p k is in
@@ -76,10 +73,9 @@ child_need n pt p (Some k) first is h real =
     } in
     first_need n pt (Owns MessageKind.Migrate p (a (Child k)).at) [] needs tt
 
-migrates_by : (n : ℕ) (pt : Point) (p : Pid) (c d : Bool) (ps : List Part) → AllNeed n pt ps → AllNeed n pt (if c then Says (Line.Pinned p) ∷ [] else if d then Says (Line.Pinned p) ∷ [] else ps)
-migrates_by n pt p true d ps h = first_need n pt (Says (Line.Pinned p)) [] tt tt
-migrates_by n pt p false true ps h = first_need n pt (Says (Line.Pinned p)) [] tt tt
-migrates_by n pt p false false ps h = h
+migrates_need : (n : ℕ) (pt : Point) (p : Pid) → pt.view.acting ≡ 0 → Core n pt → ((k : ℕ) → names pt.kernel (Child k) ≡ Some p → IsReal n pt.view p) → AllNeed n pt (migrates pt p)
+migrates_need n pt p first h real =
+    by_migrates (AllNeed n pt) pt p (first_need n pt (Says (Line.Pinned p)) [] tt tt) (first_need n pt (Says (Line.NoChild p)) [] tt tt) (λ k off is. asks_need n pt p k first is h real)
 
 pub told_there : (o : Option Told) → is_some o ≡ true → (t : Told) × (o ≡ Some t)
 told_there None e = cc
@@ -226,5 +222,4 @@ core_group n b pt (Step.Migrate p m) w fit e base h =
     let start = headed pt (Step.Migrate p m) in
     group_core n b pt (Step.Migrate p m) w fit e
     (λ ps is begins. need_some n start (rule.outcome b pt (Step.Migrate p m)) ps is
-    (migrates_by n start p (pid_eq p switchboard) (pid_eq p manager) (migrates_child pt.addresses p (child_number pt.kernel p))
-    (child_need n start p (child_number pt.kernel p) refl refl begins (λ k named. child_real pt n k p h named)))) base.sane h
+    (migrates_need n start p refl begins (λ k named. child_real pt n k p h named))) base.sane h

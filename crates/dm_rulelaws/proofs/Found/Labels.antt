@@ -136,19 +136,7 @@ label_home n pt s (Label.Created id child) need is grows h q some = elim (create
       let here : w.known child.home child ≡ Here = ap (λ (m : ℕ). w.known m child) at ∙ at_record_at pt.view.known pt.view.acting child Here in
       subst (λ (r : Pid). w.known r.home r ≢ Unknown) new.is (λ e. let f : Here ≡ Unknown = sym here ∙ e in cc)
 ]
-label_home n pt s (Label.Ran p k) need is grows h q some = other_home n pt s (after_label pt.view (Label.Ran p k)) grows (step_made pt.kernel s (Label.Ran p k) refl is) h q some
-label_home n pt s (Label.Call p k c) need is grows h q some = other_home n pt s (after_label pt.view (Label.Call p k c)) grows (step_made pt.kernel s (Label.Call p k c) refl is) h q some
-label_home n pt s (Label.Send p id) need is grows h q some = other_home n pt s (after_label pt.view (Label.Send p id)) grows (step_made pt.kernel s (Label.Send p id) refl is) h q some
-label_home n pt s (Label.Wait p) need is grows h q some = other_home n pt s (after_label pt.view (Label.Wait p)) grows (step_made pt.kernel s (Label.Wait p) refl is) h q some
-label_home n pt s (Label.Out p x) need is grows h q some = other_home n pt s (after_label pt.view (Label.Out p x)) grows (step_made pt.kernel s (Label.Out p x) refl is) h q some
-label_home n pt s (Label.End p y) need is grows h q some = other_home n pt s (after_label pt.view (Label.End p y)) grows (step_made pt.kernel s (Label.End p y) refl is) h q some
-label_home n pt s (Label.Receive p id) need is grows h q some = other_home n pt s (after_label pt.view (Label.Receive p id)) grows (step_made pt.kernel s (Label.Receive p id) refl is) h q some
-label_home n pt s (Label.Refuse p id c) need is grows h q some = other_home n pt s (after_label pt.view (Label.Refuse p id c)) grows (step_made pt.kernel s (Label.Refuse p id c) refl is) h q some
-label_home n pt s (Label.Dropped id) need is grows h q some = other_home n pt s (after_label pt.view (Label.Dropped id)) grows (step_made pt.kernel s (Label.Dropped id) refl is) h q some
-label_home n pt s (Label.Served id) need is grows h q some = other_home n pt s (after_label pt.view (Label.Served id)) grows (step_made pt.kernel s (Label.Served id) refl is) h q some
-label_home n pt s (Label.Gone id) need is grows h q some = other_home n pt s (after_label pt.view (Label.Gone id)) grows (step_made pt.kernel s (Label.Gone id) refl is) h q some
-label_home n pt s (Label.Took id) need is grows h q some = other_home n pt s (after_label pt.view (Label.Took id)) grows (step_made pt.kernel s (Label.Took id) refl is) h q some
-label_home n pt s (Label.NoSpace id a b) need is grows h q some = other_home n pt s (after_label pt.view (Label.NoSpace id a b)) grows (step_made pt.kernel s (Label.NoSpace id a b) refl is) h q some
+label_home n pt s any_ need is grows h q some = other_home n pt s (after_label pt.view any_) grows (step_made pt.kernel s any_ refl is) h q some
 
 pub label_core : (n : ℕ) (pt : Point) (s : OneKernel) (l : Label) → Sane pt → NeedsLabel pt l → kernel.step pt.kernel l ≡ Some s → Core n pt → Core n (moved pt (Line.Label l) s)
 label_core n pt s l sane need is h =

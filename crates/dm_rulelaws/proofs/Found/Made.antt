@@ -26,43 +26,24 @@ row_set s t u p was now there is same q some =
 
 replies_made : (s t : OneKernel) (p : Pid) (k : ℕ) (c : Reply) (next : kernel.Next) → Nexts s p next → kernel.replies s p k c next ≡ Some t → MadeBefore s t
 replies_made s t p k c (kernel.Calls number (Called.Replies reply y)) w is = row_set s t (kernel.goes_on s p y) p (Alive w.x) (Alive y) w.is.alive (when-is _ (kernel.goes_on s p y) t is).1 refl
-replies_made s t p k c (kernel.Calls number (Called.Sends m y)) w is = cc
-replies_made s t p k c (kernel.Calls number (Called.Waits y)) w is = cc
-replies_made s t p k c (kernel.Calls number (Called.Outputs word y)) w is = cc
-replies_made s t p k c (kernel.Calls number (Called.Ends because)) w is = cc
-replies_made s t p k c (kernel.Faults fault) w is = cc
+replies_made s t p k c _ w is = cc
 
 sends_made : (s t : OneKernel) (p : Pid) (id : MsgId) (next : kernel.Next) → Nexts s p next → kernel.sends s p id next ≡ Some t → MadeBefore s t
-sends_made s t p id (kernel.Calls number (Called.Replies reply y)) w is = cc
 sends_made s t p id (kernel.Calls number (Called.Sends m y)) w is = row_set s t (with_sent (kernel.goes_on s p y) (Some m)) p (Alive w.x) (Alive y) w.is.alive (when-is _ (with_sent (kernel.goes_on s p y) (Some m)) t is).1 refl
-sends_made s t p id (kernel.Calls number (Called.Waits y)) w is = cc
-sends_made s t p id (kernel.Calls number (Called.Outputs word y)) w is = cc
-sends_made s t p id (kernel.Calls number (Called.Ends because)) w is = cc
-sends_made s t p id (kernel.Faults fault) w is = cc
+sends_made s t p id _ w is = cc
 
 waits_made : (s t : OneKernel) (p : Pid) (next : kernel.Next) → Nexts s p next → kernel.waits s p next ≡ Some t → MadeBefore s t
-waits_made s t p (kernel.Calls number (Called.Replies reply y)) w is = cc
-waits_made s t p (kernel.Calls number (Called.Sends m y)) w is = cc
 waits_made s t p (kernel.Calls number (Called.Waits y)) w is = row_set s t (kernel.goes_on s p y) p (Alive w.x) (Alive y) w.is.alive (let f : kernel.goes_on s p y ≡ t = cc in f) refl
-waits_made s t p (kernel.Calls number (Called.Outputs word y)) w is = cc
-waits_made s t p (kernel.Calls number (Called.Ends because)) w is = cc
-waits_made s t p (kernel.Faults fault) w is = cc
+waits_made s t p _ w is = cc
 
 outputs_made : (s t : OneKernel) (p : Pid) (k : ℕ) (next : kernel.Next) → Nexts s p next → kernel.outputs s p k next ≡ Some t → MadeBefore s t
-outputs_made s t p k (kernel.Calls number (Called.Replies reply y)) w is = cc
-outputs_made s t p k (kernel.Calls number (Called.Sends m y)) w is = cc
-outputs_made s t p k (kernel.Calls number (Called.Waits y)) w is = cc
 outputs_made s t p k (kernel.Calls number (Called.Outputs word y)) w is = row_set s t (kernel.goes_on s p y) p (Alive w.x) (Alive y) w.is.alive (when-is _ (kernel.goes_on s p y) t is).1 refl
-outputs_made s t p k (kernel.Calls number (Called.Ends because)) w is = cc
-outputs_made s t p k (kernel.Faults fault) w is = cc
+outputs_made s t p k _ w is = cc
 
 ends_made : (s t : OneKernel) (p : Pid) (cause : Why) (next : kernel.Next) → Nexts s p next → kernel.ends s p cause next ≡ Some t → MadeBefore s t
-ends_made s t p cause (kernel.Calls number (Called.Replies reply y)) w is = cc
-ends_made s t p cause (kernel.Calls number (Called.Sends m y)) w is = cc
-ends_made s t p cause (kernel.Calls number (Called.Waits y)) w is = cc
-ends_made s t p cause (kernel.Calls number (Called.Outputs word y)) w is = cc
 ends_made s t p cause (kernel.Calls number (Called.Ends because)) w is = row_set s t (with_process s p (Ended cause)) p (Alive w.x) (Ended cause) w.is.alive (when-is _ (with_process s p (Ended cause)) t is).1 refl
 ends_made s t p cause (kernel.Faults fault) w is = row_set s t (with_process s p (Ended cause)) p (Alive w.x) (Ended cause) w.is.alive (when-is _ (with_process s p (Ended cause)) t is).1 refl
+ends_made s t p cause _ w is = cc
 
 receives_made : (s t : OneKernel) (p : Pid) (id : MsgId) (l : Life) (done : receiving.Completed) → s.processes p ≡ Some l → kernel.receives s p id done ≡ Some t → MadeBefore s t
 receives_made s t p id l (receiving.Receives x) there is = row_set s t (kernel.goes_on (without_message s id) p x) p l (Alive x) there (let f : kernel.goes_on (without_message s id) p x ≡ t = cc in f) refl

@@ -3,7 +3,7 @@
 use Rattle.dm_rulelaws.proofs.Names.{◌≡◌, ◌⊎◌, ℕ, ◌≤◌, Bool, true, false, List, [], ◌∷◌, refl, ap, ◌∙◌, sym, subst, inl, inr, arith, ⊤, if◌then◌else◌, Option, None, Some, cases_Bool, false≢true, Pid, Place, MsgId, id_eq, MessageKind}
 use Rattle.dm_rulelaws.proofs.Names.{manager, OneKernel, id_eq-is, id_eq-same, View, Told, About, NothingElse, Target, Of, is_kernels, own_id, after_put, Addresses, Holder, Receiver, Sender, Gets, gets, given, holder_eq, place_known}
 use Rattle.dm_rulelaws.proofs.Names.{all_follow, is_told_back, tells_back, forwards, place_told, is_behind, updated_to, updated, own_gives, first_gives, times, one_of, put_told_off, put_at, Goes, Comes, Named, Links, holder_is}
-use Rattle.dm_rulelaws.proofs.Names.{unnamed_receiver, unnamed_sender, put_named, told_again, is_own, leads_where, behind_where, plain_gives, not_own}
+use Rattle.dm_rulelaws.proofs.Names.{unnamed_receiver, unnamed_sender, put_named, told_again, is_own, leads_where, behind_where, plain_gives, not_own, Sort, sort_of, own_given}
 use Rattle.dm_rule.specs.View as view
 use Rattle.dm_rule.proofs.Trails.Places.{Owns}
 
@@ -69,10 +69,8 @@ update_by P s v a r p place on h g q e = elim (cases_Bool (is_behind s a r p pla
 ]
 
 update_about : (P : Pid → Place → Type 0) (s : OneKernel) (v : View) (a : Addresses) (r : Pid) (x : About) → ((p : Pid) (m c : ℕ) → x ≡ view.Place p m c → P p (record { at = m; moves = c })) → AllAre P s v a → AllAre P s v (updated_to s a (Some r) (place_told x))
-update_about P s v a r NothingElse on h = h
-update_about P s v a r (Target m) on h = h
-update_about P s v a r (Of p) on h = h
 update_about P s v a r (view.Place p m c) on h = update_by P s v a r p (record { at = m; moves = c }) (on p m c refl) h
+update_about P s v a r _ on h = h
 
 pub updated_all : (P : Pid → Place → Type 0) (s : OneKernel) (v : View) (a : Addresses) (o : Option Told) → ((u : Told) (p : Pid) (m c : ℕ) → o ≡ Some u → u.about ≡ view.Place p m c → P p (record { at = m; moves = c })) → AllAre P s v a → AllAre P s v (updated s v a o)
 updated_all P s v a None on h = h
@@ -91,19 +89,14 @@ updated_leaves s v a (Some u) i = update_leaves s a u.receiver u.about i
 two_get : (P : Pid → Place → Type 0) (s : OneKernel) (v : View) (id : MsgId) (to from : Place) → s.bag id ≡ None → v.told id ≡ None → AllGet P s v (gets (Receiver id) to ∷ gets (Sender id) from ∷ [])
 two_get P s v id to from bag told = ((λ q e. absurd (unnamed_receiver s v id q bag told e)), ((λ q e. absurd (unnamed_sender s v id q bag told e)), tt))
 
+own_gets_by : (P : Pid → Place → Type 0) (s : OneKernel) (v : View) (a : Addresses) (id : MsgId) (q : Pid) (w : Sort) → s.bag id ≡ None → v.told id ≡ None → AllGet P s v (own_given s v a id q w)
+own_gets_by P s v a id q Sort.Request bag told = two_get P s v id _ _ bag told
+own_gets_by P s v a id q (Sort.Between passage) bag told = two_get P s v id _ _ bag told
+own_gets_by P s v a id q Sort.Unsent bag told = two_get P s v id _ _ bag told
+own_gets_by P s v a id q _ bag told = tt
+
 own_gets : (P : Pid → Place → Type 0) (s : OneKernel) (v : View) (a : Addresses) (id : MsgId) (q : Pid) (k : MessageKind) → s.bag id ≡ None → v.told id ≡ None → AllGet P s v (own_gives s v a id q k)
-own_gets P s v a id q MessageKind.Migrate bag told = two_get P s v id _ _ bag told
-own_gets P s v a id q MessageKind.Ask bag told = two_get P s v id _ _ bag told
-own_gets P s v a id q MessageKind.Refuse bag told = two_get P s v id _ _ bag told
-own_gets P s v a id q MessageKind.PullState bag told = two_get P s v id _ _ bag told
-own_gets P s v a id q MessageKind.State bag told = two_get P s v id _ _ bag told
-own_gets P s v a id q MessageKind.PullBlock bag told = two_get P s v id _ _ bag told
-own_gets P s v a id q MessageKind.Memory bag told = two_get P s v id _ _ bag told
-own_gets P s v a id q MessageKind.AllTaken bag told = two_get P s v id _ _ bag told
-own_gets P s v a id q MessageKind.Restart bag told = two_get P s v id _ _ bag told
-own_gets P s v a id q MessageKind.CallOff bag told = two_get P s v id _ _ bag told
-own_gets P s v a id q MessageKind.Bury bag told = two_get P s v id _ _ bag told
-own_gets P s v a id q _ bag told = tt
+own_gets P s v a id q k bag told = own_gets_by P s v a id q (sort_of k) bag told
 
 pub put_all : (P : Pid → Place → Type 0) (s : OneKernel) (v : View) (a : Addresses) (x y : ℕ) (id : MsgId) (k : MessageKind) (q : Pid) → s.bag id ≡ None → v.told id ≡ None → P q (given a (own_gives s v a id q k) (Receiver id))
     → (k ≡ MessageKind.Migrate → P manager (given a (own_gives s v a id q k) (Sender id))) → AllAre P s v a → AllAre P s (after_put v x y id k q) (given a (first_gives (v.told id) (own_gives s v a id q k)))

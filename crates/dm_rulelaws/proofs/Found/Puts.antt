@@ -1,6 +1,7 @@
 -- Puts keep where addresses lead, what machines know, and where messages stand.
 use Rattle.dm_rulelaws.proofs.Names.{◌≡◌, ℕ, Bool, true, false, is_some, refl, ap, ◌∙◌, sym, subst, inl, inr, if◌then◌else◌, Option, None, Some, cases_Bool, false≢true, Pid, Place, MsgId, id_eq, MessageKind, Line, manager, OneKernel}
-use Rattle.dm_rulelaws.proofs.Names.{id_eq-is, View, Told, is_kernels, after_put, Addresses, Receiver, Sender, given, unmoved, child_number, place_of_child, own_gives, first_gives, Point, moved, not_true, put_at, put_told_off, is_own}
+use Rattle.dm_rulelaws.proofs.Names.{id_eq-is, View, Told, is_kernels, after_put, Addresses, Receiver, Sender, given, unmoved, child_number, place_of_child, own_gives, first_gives, Point, moved, not_true, put_at, put_told_off, is_own, Sort}
+use Rattle.dm_rulelaws.proofs.Names.{sort_of, own_given}
 use Rattle.dm_rulelaws.proofs.Found.Lists.{places_put}
 use Rattle.dm_rulelaws.proofs.Found.Held.{held_put}
 use Rattle.dm_rulelaws.proofs.Found.Places.{AllAre, put_all, put_routed, put_again, put_tells, routed_gives}
@@ -18,19 +19,14 @@ pub data NeedsPut (n : ℕ) (pt : Point) (b : ℕ) (id : MsgId) (k : MessageKind
       → (given pt.addresses (own_gives pt.kernel pt.view pt.addresses id q k) (Receiver id)).at ≡ b → IsReal n pt.view q → is_own k ≡ true → NeedsPut n pt b id k q
   Routed : is_kernels id ≡ false → is_own k ≡ false → pt.view.told id ≡ None → (pt.addresses (Receiver id)).at ≡ b → NeedsPut n pt b id k q
 
+own_off_by : (s : OneKernel) (v : View) (a : Addresses) (id i : MsgId) (q : Pid) (w : Sort) → id_eq id i ≡ false → given a (own_given s v a id q w) (Receiver i) ≡ a (Receiver i)
+own_off_by s v a id i q Sort.Request e = ap (λ (c : Bool). if c then place_of_child a (child_number s q) else a (Receiver i)) e
+own_off_by s v a id i q (Sort.Between passage) e = ap (λ (c : Bool). if c then unmoved q.home else a (Receiver i)) e
+own_off_by s v a id i q Sort.Unsent e = ap (λ (c : Bool). if c then unmoved q.home else a (Receiver i)) e
+own_off_by s v a id i q _ e = refl
+
 own_off : (s : OneKernel) (v : View) (a : Addresses) (id i : MsgId) (q : Pid) (k : MessageKind) → id_eq id i ≡ false → given a (own_gives s v a id q k) (Receiver i) ≡ a (Receiver i)
-own_off s v a id i q MessageKind.Migrate e = ap (λ (c : Bool). if c then place_of_child a (child_number s q) else a (Receiver i)) e
-own_off s v a id i q MessageKind.Ask e = ap (λ (c : Bool). if c then unmoved q.home else a (Receiver i)) e
-own_off s v a id i q MessageKind.Refuse e = ap (λ (c : Bool). if c then unmoved q.home else a (Receiver i)) e
-own_off s v a id i q MessageKind.PullState e = ap (λ (c : Bool). if c then unmoved q.home else a (Receiver i)) e
-own_off s v a id i q MessageKind.State e = ap (λ (c : Bool). if c then unmoved q.home else a (Receiver i)) e
-own_off s v a id i q MessageKind.PullBlock e = ap (λ (c : Bool). if c then unmoved q.home else a (Receiver i)) e
-own_off s v a id i q MessageKind.Memory e = ap (λ (c : Bool). if c then unmoved q.home else a (Receiver i)) e
-own_off s v a id i q MessageKind.AllTaken e = ap (λ (c : Bool). if c then unmoved q.home else a (Receiver i)) e
-own_off s v a id i q MessageKind.Restart e = ap (λ (c : Bool). if c then unmoved q.home else a (Receiver i)) e
-own_off s v a id i q MessageKind.CallOff e = ap (λ (c : Bool). if c then unmoved q.home else a (Receiver i)) e
-own_off s v a id i q MessageKind.Bury e = ap (λ (c : Bool). if c then unmoved q.home else a (Receiver i)) e
-own_off s v a id i q _ e = refl
+own_off s v a id i q k e = own_off_by s v a id i q (sort_of k) e
 
 put_address : (n : ℕ) (pt : Point) (b : ℕ) (id i : MsgId) (k : MessageKind) (q : Pid) → NeedsPut n pt b id k q → is_some (pt.view.told i) ≡ true
     → given pt.addresses (first_gives (pt.view.told id) (own_gives pt.kernel pt.view pt.addresses id q k)) (Receiver i) ≡ pt.addresses (Receiver i)

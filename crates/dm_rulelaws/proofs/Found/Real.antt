@@ -57,9 +57,6 @@ what_real pt n i m (PlainWhat.User z1 z2 z3 z4) h some e = elim (or_cases (is_se
   | inl server ↦ server_real n pt.view m.to some server
   | inr has ↦ has_real pt n 0 m.to h has
 ]
-what_real pt n i m PlainWhat.Stop h some e = has_real pt n 0 m.to h e
-what_real pt n i m PlainWhat.Resume h some e = has_real pt n 0 m.to h e
-what_real pt n i m PlainWhat.Kill h some e = has_real pt n 0 m.to h e
 what_real pt n i m (PlainWhat.Read z1 z2) h some e = has_real pt n (z1 + z2) m.to h e.0
 what_real pt n i m (PlainWhat.Write z1 z2) h some e = made_real pt n m.to h (has_some _ (pt.kernel.processes m.to) e.0)
 what_real pt n i m (PlainWhat.Block z1) h some e = subst (IsReal n pt.view) (sym e.0) (made_real pt n i.from h (waits_some (pt.kernel.processes i.from) i.n (PlainWhat.Block z1) e.1))
@@ -70,6 +67,7 @@ what_real pt n i m (PlainWhat.Created z1) h some e = subst (IsReal n pt.view) (s
 what_real pt n i m PlainWhat.NoRoom h some e = subst (IsReal n pt.view) (sym e.0) (server_real n pt.view manager some refl)
 what_real pt n i m (PlainWhat.Move z1) h some e = absurd e
 what_real pt n i m (PlainWhat.Moved z1) h some e = absurd e
+what_real pt n i m _ h some e = has_real pt n 0 m.to h e
 
 -- one of a list
 each_get : {X : Type 0} (P : X → Type 0) (xs : List X) (k : ℕ) (x : X) → Each P xs → slice_get xs k ≡ Some x → P x
@@ -101,10 +99,9 @@ slot_real pt n p k q (Some x) h some is e =
     subst (IsReal n pt.view) to (link_real pt n l h some (slot_link pt.kernel.processes x.links k l at (h.fits.processes p x (alive-is (pt.kernel.processes p) x is)).slots))
 
 owner_by : (pt : Point) (n : ℕ) (x : PlainProcess) (st : PlainStatus) (q : Pid) → Core n pt → move_fits pt.kernel.processes x st ≡ true → owner_in st ≡ Some q → IsReal n pt.view q
-owner_by pt n x Ready q h e f = cc
-owner_by pt n x (Waiting mask base size) q h e f = cc
 owner_by pt n x (Moving dir owner base own left pending) q h e f =
     let g : owner ≡ q = cc in subst (IsReal n pt.view) g (made_real pt n owner h (has_some (base + left) (pt.kernel.processes owner) (both (has_bytes (base + left) (pt.kernel.processes owner)) _ e).0))
+owner_by pt n x _ q h e f = cc
 
 owner_real : (pt : Point) (n : ℕ) (p q : Pid) (o : Option PlainProcess) → Core n pt → kernel.alive (pt.kernel.processes p) ≡ o → owner_of o ≡ Some q → IsReal n pt.view q
 owner_real pt n p q None h is e = cc

@@ -16,9 +16,8 @@ apart_from e i j least none = not_true (id_eq j i) (λ k. let f : e j ≡ e i = 
 
 -- served
 lands_spares : (v : View) (a : Addresses) (p : Pid) (o : Option pieces.Landed) (i : MsgId) → ((j : MsgId) → landed_id o ≡ Some j → id_eq j i ≡ false) → spares i (lands v a p o) ≡ true
-lands_spares v a p None i new = refl
 lands_spares v a p (Some (pieces.Next n y)) i new = two_more i n.id [] (new n.id refl) refl
-lands_spares v a p (Some (pieces.Done r y)) i new = refl
+lands_spares v a p _ i new = refl
 
 serve_spares : (v : View) (a : Addresses) (id : MsgId) (m : PlainMessage) (x : PlainProcess) (w : PlainWhat) (i : MsgId) → ((j : MsgId) → served_id id m x w ≡ Some j → id_eq j i ≡ false) → spares i (serves_what v a id m x w) ≡ true
 serve_spares v a id m x (PlainWhat.Read b1 b2) i new = two_more i (answer_id id) [] (new (answer_id id) refl) refl

@@ -47,45 +47,26 @@ ran_leaves n s t p k is =
 
 replies_leave : (n : ℕ) (s t : OneKernel) (p : Pid) (k : ℕ) (c : Reply) (next : kernel.Next) → Nexts s p next → kernel.replies s p k c next ≡ Some t → Leaves n s t
 replies_leave n s t p k c (kernel.Calls number (Called.Replies reply y)) w is = leaves_quiet n s t (kernel.goes_on s p y) (when-is _ (kernel.goes_on s p y) t is).1 refl (λ j z e. e)
-replies_leave n s t p k c (kernel.Calls number (Called.Sends m y)) w is = cc
-replies_leave n s t p k c (kernel.Calls number (Called.Waits y)) w is = cc
-replies_leave n s t p k c (kernel.Calls number (Called.Outputs word y)) w is = cc
-replies_leave n s t p k c (kernel.Calls number (Called.Ends because)) w is = cc
-replies_leave n s t p k c (kernel.Faults fault) w is = cc
+replies_leave n s t p k c _ w is = cc
 
 sends_leave : (n : ℕ) (s t : OneKernel) (p : Pid) (id : MsgId) (next : kernel.Next) → Nexts s p next → kernel.sends s p id next ≡ Some t → Leaves n s t
-sends_leave n s t p id (kernel.Calls number (Called.Replies reply y)) w is = cc
 sends_leave n s t p id (kernel.Calls number (Called.Sends m y)) w is =
     let (z, sent, pending, counted) = w.counts in
     leaves_sent n s t (kernel.goes_on s p y) m (when-is _ (with_sent (kernel.goes_on s p y) (Some m)) t is).1 refl (λ j z e. e) (subst (Sends n s) (sym counted.sender) (alive_sends n s p (Alive w.x) w.is.alive))
-sends_leave n s t p id (kernel.Calls number (Called.Waits y)) w is = cc
-sends_leave n s t p id (kernel.Calls number (Called.Outputs word y)) w is = cc
-sends_leave n s t p id (kernel.Calls number (Called.Ends because)) w is = cc
-sends_leave n s t p id (kernel.Faults fault) w is = cc
+sends_leave n s t p id _ w is = cc
 
 waits_leave : (n : ℕ) (s t : OneKernel) (p : Pid) (next : kernel.Next) → Nexts s p next → kernel.waits s p next ≡ Some t → Leaves n s t
-waits_leave n s t p (kernel.Calls number (Called.Replies reply y)) w is = cc
-waits_leave n s t p (kernel.Calls number (Called.Sends m y)) w is = cc
 waits_leave n s t p (kernel.Calls number (Called.Waits y)) w is = leaves_quiet n s t (kernel.goes_on s p y) (let f : kernel.goes_on s p y ≡ t = cc in f) refl (λ j z e. e)
-waits_leave n s t p (kernel.Calls number (Called.Outputs word y)) w is = cc
-waits_leave n s t p (kernel.Calls number (Called.Ends because)) w is = cc
-waits_leave n s t p (kernel.Faults fault) w is = cc
+waits_leave n s t p _ w is = cc
 
 outputs_leave : (n : ℕ) (s t : OneKernel) (p : Pid) (k : ℕ) (next : kernel.Next) → Nexts s p next → kernel.outputs s p k next ≡ Some t → Leaves n s t
-outputs_leave n s t p k (kernel.Calls number (Called.Replies reply y)) w is = cc
-outputs_leave n s t p k (kernel.Calls number (Called.Sends m y)) w is = cc
-outputs_leave n s t p k (kernel.Calls number (Called.Waits y)) w is = cc
 outputs_leave n s t p k (kernel.Calls number (Called.Outputs word y)) w is = leaves_quiet n s t (kernel.goes_on s p y) (when-is _ (kernel.goes_on s p y) t is).1 refl (λ j z e. e)
-outputs_leave n s t p k (kernel.Calls number (Called.Ends because)) w is = cc
-outputs_leave n s t p k (kernel.Faults fault) w is = cc
+outputs_leave n s t p k _ w is = cc
 
 ends_leave : (n : ℕ) (s t : OneKernel) (p : Pid) (cause : Why) (next : kernel.Next) → Nexts s p next → kernel.ends s p cause next ≡ Some t → Leaves n s t
-ends_leave n s t p cause (kernel.Calls number (Called.Replies reply y)) w is = cc
-ends_leave n s t p cause (kernel.Calls number (Called.Sends m y)) w is = cc
-ends_leave n s t p cause (kernel.Calls number (Called.Waits y)) w is = cc
-ends_leave n s t p cause (kernel.Calls number (Called.Outputs word y)) w is = cc
 ends_leave n s t p cause (kernel.Calls number (Called.Ends because)) w is = leaves_quiet n s t (with_process s p (Ended cause)) (when-is _ (with_process s p (Ended cause)) t is).1 refl (λ j z e. e)
 ends_leave n s t p cause (kernel.Faults fault) w is = leaves_quiet n s t (with_process s p (Ended cause)) (when-is _ (with_process s p (Ended cause)) t is).1 refl (λ j z e. e)
+ends_leave n s t p cause _ w is = cc
 
 receives_leave : (n : ℕ) (s t : OneKernel) (p : Pid) (id : MsgId) (done : receiving.Completed) → kernel.receives s p id done ≡ Some t → Leaves n s t
 receives_leave n s t p id (receiving.Receives x) is =
@@ -159,13 +140,9 @@ manager_wants g machines images machine image [] = tt
 manager_wants g machines images machine image (l ∷ ls) = manager_if (nat_lt machine machines && nat_lt image images) (manage.asks_for g machine image l ls) (manage.bad_request g (l ∷ ls)) refl refl
 
 manager_requests : (g : Manager) (machines images : ℕ) (body : List ℕ) (links : List PlainLink) → SentBy manager (manage.requests g machines images body links).message
-manager_requests g machines images [] links = manager_bad g links
-manager_requests g machines images (a ∷ []) links = manager_bad g links
-manager_requests g machines images (a ∷ b ∷ []) links = manager_bad g links
-manager_requests g machines images (a ∷ b ∷ c ∷ []) links = manager_bad g links
 manager_requests g machines images (a ∷ b ∷ c ∷ d ∷ []) links =
     manager_if (a == 1) (manage.wants_child g machines images b (256 * c + d) links) (manage.bad_request g links) (manager_wants g machines images b (256 * c + d) links) (manager_bad g links)
-manager_requests g machines images (a ∷ b ∷ c ∷ d ∷ f ∷ fs) links = manager_bad g links
+manager_requests g machines images _ links = manager_bad g links
 
 manager_controls_child : (g : Manager) (child : Pid) (o : Option PlainWhat) (links : List PlainLink) → SentBy manager (manage.controls_child g child o links).message
 manager_controls_child g child None links = manager_bad g links
@@ -173,11 +150,8 @@ manager_controls_child g child (Some w) links = refl
 
 manager_controls : (g : Manager) (child : Option Pid) (body : List ℕ) (links : List PlainLink) → SentBy manager (manage.controls g child body links).message
 manager_controls g (Some child) (a ∷ []) links = manager_controls_child g child (manage.control_of a) links
-manager_controls g (Some child) [] links = manager_bad g links
-manager_controls g (Some child) (a ∷ b ∷ bs) links = manager_bad g links
-manager_controls g None [] links = manager_bad g links
 manager_controls g None (a ∷ []) links = manager_bad g links
-manager_controls g None (a ∷ b ∷ bs) links = manager_bad g links
+manager_controls g _ _ links = manager_bad g links
 
 manager_created : (g : Manager) (n : ℕ) (child : Pid) (o : Option Pending) (k : manage.Took) → manage.takes_created g n child o ≡ Some k → SentBy manager k.message
 manager_created g n child None k e = cc

@@ -2,7 +2,7 @@
 use Rattle.dm_rulelaws.proofs.Names.{◌≡◌, ◌≢◌, ℕ, ◌+◌, ◌≤◌, ◌==◌, ◌&&◌, ◌||◌, Bool, true, false, not, List, [], ◌∷◌, refl, ap, ◌∙◌, sym, is_some, inl, inr, arith, ⊤, if◌then◌else◌, slice_get, Option, None, Some, false≢true, Pid, pid_eq}
 use Rattle.dm_rulelaws.proofs.Names.{MsgId, PlainMessage, Boot, IsValid, switchboard, manager, Step, Line, MessageKind, Addresses, child_from, child_number, migrates_child, migrates, Point, moved, Part, Says, Spelled, group_of, Spot, Queue}
 use Rattle.dm_rulelaws.proofs.Names.{Inbox, standing, StandsOutside, View, Told, Target, is_kernels, IsStep, arrives_net, resends_net, stands_right, StandsAsBag-elsewhere, Each, has_bytes, is_server, is_fixed, Life, OneKernel, pid_eq-is}
-use Rattle.dm_rulelaws.proofs.Names.{cases_Bool, nat_tests}
+use Rattle.dm_rulelaws.proofs.Names.{cases_Bool, nat_tests, by_migrates}
 use Rattle.dm_rule.specs.Rule as rule
 use Rattle.dm_rule.specs.View as view
 use Rattle.dm_rulelaws.proofs.Runs.{Run}
@@ -66,17 +66,8 @@ can_turn_by b m o [] is h own = can_turn (Calm m o) b m o (begun o m) refl (λ q
 can_turn_by b m o (i ∷ is) box h own = can_front b m o i is (o.kernel.bag i) refl box h own
 
 -- a process is to move
-child_plain : (v : View) (a : Addresses) (p : Pid) (n : Option ℕ) → ArePlain v (migrates_child a p n)
-child_plain v a p None = (refl, tt)
-child_plain v a p (Some n) = (tt, tt)
-
-migrates_if : (v : View) (p : Pid) (c d : Bool) (ps : List Part) → ArePlain v ps → ArePlain v (if c then Says (Line.Pinned p) ∷ [] else if d then Says (Line.Pinned p) ∷ [] else ps)
-migrates_if v p true d ps h = (refl, tt)
-migrates_if v p false true ps h = (refl, tt)
-migrates_if v p false false ps h = h
-
 migrates_plain : (v : View) (pt : Point) (p : Pid) → ArePlain v (migrates pt p)
-migrates_plain v pt p = migrates_if v p (pid_eq p switchboard) (pid_eq p manager) (migrates_child pt.addresses p (child_number pt.kernel p)) (child_plain v pt.addresses p (child_number pt.kernel p))
+migrates_plain v pt p = by_migrates (ArePlain v) pt p (refl, tt) (refl, tt) (λ n off is. (tt, tt))
 
 -- the manager's children are processes
 child_made : (s : OneKernel) (n k : ℕ) (p : Pid) (qs : List Pid) → child_from n p qs ≡ Some k → Each (λ (q : Pid). has_bytes 0 (s.processes q) ≡ true) qs → has_bytes 0 (s.processes p) ≡ true
@@ -99,15 +90,10 @@ child_num b pt p n is h =
 target_sort : (p : Pid) (m : ℕ) → is_fixed p ≡ false → own_sort MessageKind.Migrate p (Target m) ≡ true
 target_sort p m e = ap (λ (c : Bool). not c && true) e
 
-child_own : (b : Boot) (pt : Point) (p : Pid) (m : ℕ) (n : Option ℕ) → child_number pt.kernel p ≡ n → is_server p ≡ false → Run b pt → OwnsFit (moved pt (Line.Head (Step.Migrate p m)) pt.kernel).view (migrates_child pt.addresses p n)
-child_own b pt p m None is server h = NoOwns (tt, tt)
-child_own b pt p m (Some n) is server h = FirstOwns (target_sort p m (ap (λ (c : Bool). c || is_server p) (child_num b pt p n is h) ∙ server), tt)
-
-migrates_by : (b : Boot) (pt : Point) (p : Pid) (m : ℕ) (c d : Bool) → pid_eq p switchboard ≡ c → pid_eq p manager ≡ d → Run b pt
-    → OwnsFit (moved pt (Line.Head (Step.Migrate p m)) pt.kernel).view (if c then Says (Line.Pinned p) ∷ [] else if d then Says (Line.Pinned p) ∷ [] else migrates_child pt.addresses p (child_number pt.kernel p))
-migrates_by b pt p m true d one two h = NoOwns (tt, tt)
-migrates_by b pt p m false true one two h = NoOwns (tt, tt)
-migrates_by b pt p m false false one two h = child_own b pt p m (child_number pt.kernel p) refl (ap (λ (c : Bool). c || pid_eq p manager) one ∙ two) h
+migrates_own : (b : Boot) (pt : Point) (p : Pid) (m : ℕ) → Run b pt → OwnsFit (moved pt (Line.Head (Step.Migrate p m)) pt.kernel).view (migrates pt p)
+migrates_own b pt p m h =
+    by_migrates (OwnsFit (moved pt (Line.Head (Step.Migrate p m)) pt.kernel).view) pt p (NoOwns (tt, tt)) (NoOwns (tt, tt))
+    (λ n server is. FirstOwns (target_sort p m (ap (λ (c : Bool). c || is_server p) (child_num b pt p n is h) ∙ server), tt))
 
 -- what a group asks for to keep the order of messages
 abbrev pub CalmFor : Point → Step → Type 0
@@ -136,7 +122,7 @@ group_on b pt (Step.Deliver a c k) h own =
     group_by b pt (Step.Deliver a c k) (can_net ⊤ c q (rule.arrives a c (pt.view.pair a c) (pt.view.pair c a) there) (arrives_net a c (pt.view.pair a c) (pt.view.pair c a) there))
 group_on b pt (Step.Migrate p m) h own =
     let q = moved pt (Line.Head (Step.Migrate p m)) pt.kernel in
-    group_by b pt (Step.Migrate p m) (can_plain ⊥ 0 q (migrates pt p) (λ c. c) (migrates_plain q.view pt p) (migrates_by b pt p m (pid_eq p switchboard) (pid_eq p manager) refl refl h))
+    group_by b pt (Step.Migrate p m) (can_plain ⊥ 0 q (migrates pt p) (λ c. c) (migrates_plain q.view pt p) (migrates_own b pt p m h))
 
 -- each directive has its group
 pub goes_on : (b : Boot) (pt : Point) (e : Step) → IsValid b → Run b pt → OwnTold pt → IsStep pt.kernel.machines e → (w : Spelled) × (group_of b pt e ≡ Some w)

@@ -184,52 +184,29 @@ net_keeps pt (Line.Acked a c n) is = record {
 }
 net_keeps pt Line.Nothing is = record { none = refl; quiet = refl; keeps = λ z o. o }
 net_keeps pt (Line.Resent n c) is = record { none = refl; quiet = refl; keeps = λ z o. o }
-net_keeps pt (Line.Head d) is = absurd is
-net_keeps pt (Line.Idle n) is = absurd is
-net_keeps pt (Line.Label x) is = absurd is
-net_keeps pt (Line.Put a c i k q) is = absurd is
-net_keeps pt (Line.Packet a c k l) is = absurd is
-net_keeps pt (Line.Queued i) is = absurd is
-net_keeps pt (Line.Held i) is = absurd is
-net_keeps pt (Line.Forwarded i n) is = absurd is
-net_keeps pt (Line.Updated i n) is = absurd is
-net_keeps pt (Line.Migration s p) is = absurd is
-net_keeps pt (Line.SentOn p n) is = absurd is
-net_keeps pt (Line.Lacks p f c) is = absurd is
-net_keeps pt (Line.Stays p) is = absurd is
-net_keeps pt (Line.Here i) is = absurd is
-net_keeps pt (Line.NoMove i) is = absurd is
-net_keeps pt (Line.Proto i) is = absurd is
-net_keeps pt (Line.NoChild p) is = absurd is
-net_keeps pt (Line.Pinned p) is = absurd is
+net_keeps pt _ is = absurd is
 
 pub does_net : (C : Type 0) (ps : List Part) (pt : Point) → IsNet ps → Does C pt ps
 does_net C [] pt is = does_nothing C pt
 does_net C (Says l ∷ ps) pt is =
     let k = net_keeps pt l is.0 in
     does_line C pt l ps k.none k.quiet (λ c. k.keeps) (does_net C ps (moved pt l pt.kernel) is.1)
-does_net C (Routes i ∷ ps) pt is = absurd is.0
-does_net C (Again i b ∷ ps) pt is = absurd is.0
-does_net C (Owns k q b ∷ ps) pt is = absurd is.0
 does_net C (Transmits a c l ∷ ps) pt is =
     let p = packet_line pt.view a c l in
     does_lines C pt (moved pt p pt.kernel) (Transmits a c l) (p ∷ []) ps refl refl (λ zs. refl) (λ d s. (sane_by pt p pt.kernel refl refl s, λ k o. ord_packet k pt.kernel pt.view a c (length (pt.view.pair a c).wire) l o)) (does_net C ps (moved pt p pt.kernel) is.1)
+does_net C _ pt is = absurd is.0
 
 net_says : (pt : Point) (ps : List Part) → IsNet ps → said ps ≡ []
 net_says pt [] is = refl
 net_says pt (Says l ∷ ps) is = ap (λ (o : Option Label). with_label o (said ps)) (net_keeps pt l is.0).none ∙ net_says pt ps is.1
-net_says pt (Routes i ∷ ps) is = absurd is.0
-net_says pt (Again i b ∷ ps) is = absurd is.0
-net_says pt (Owns k q b ∷ ps) is = absurd is.0
 net_says pt (Transmits a c l ∷ ps) is = net_says pt ps is.1
+net_says pt _ is = absurd is.0
 
 net_own : (ps : List Part) → IsNet ps → HaveNoOwn ps
 net_own [] h = tt
 net_own (Says l ∷ ps) h = (tt, net_own ps h.1)
-net_own (Routes i ∷ ps) h = absurd h.0
-net_own (Again i b ∷ ps) h = absurd h.0
-net_own (Owns k q b ∷ ps) h = absurd h.0
 net_own (Transmits a c l ∷ ps) h = (tt, net_own ps h.1)
+net_own _ h = absurd h.0
 
 -- they say nothing of the kernel
 pub plain_says : (v : View) (ps : List Part) → ArePlain v ps → said ps ≡ []

@@ -71,34 +71,9 @@ lands_what_to p y Direction.IntoArea owner base own left PlainWhat.Written fits 
     (c, ap (λ (d : Bool). if d then Some c else None) within)
 lands_what_to p y Direction.FromArea owner base own left PlainWhat.Gone fits within off = (pieces.done Reply.Gone y, refl)
 lands_what_to p y Direction.IntoArea owner base own left PlainWhat.Gone fits within off = (pieces.done Reply.Gone y, refl)
-lands_what_to p y Direction.FromArea owner base own left PlainWhat.Written fits within off = cc
-lands_what_to p y Direction.IntoArea owner base own left (PlainWhat.Block bytes) fits within off = cc
-lands_what_to p y Direction.FromArea owner base own left (PlainWhat.User z1 z2 z3 z4) fits within off = cc
-lands_what_to p y Direction.FromArea owner base own left PlainWhat.Stop fits within off = cc
-lands_what_to p y Direction.FromArea owner base own left PlainWhat.Resume fits within off = cc
-lands_what_to p y Direction.FromArea owner base own left PlainWhat.Kill fits within off = cc
-lands_what_to p y Direction.FromArea owner base own left (PlainWhat.Read z1 z2) fits within off = cc
-lands_what_to p y Direction.FromArea owner base own left (PlainWhat.Write z1 z2) fits within off = cc
-lands_what_to p y Direction.FromArea owner base own left (PlainWhat.Create z1 z2) fits within off = cc
-lands_what_to p y Direction.FromArea owner base own left (PlainWhat.Created z1) fits within off = cc
-lands_what_to p y Direction.FromArea owner base own left PlainWhat.NoRoom fits within off = cc
-lands_what_to p y Direction.FromArea owner base own left (PlainWhat.Move z1) fits within off = cc
-lands_what_to p y Direction.FromArea owner base own left (PlainWhat.Moved z1) fits within off = cc
-lands_what_to p y Direction.IntoArea owner base own left (PlainWhat.User z1 z2 z3 z4) fits within off = cc
-lands_what_to p y Direction.IntoArea owner base own left PlainWhat.Stop fits within off = cc
-lands_what_to p y Direction.IntoArea owner base own left PlainWhat.Resume fits within off = cc
-lands_what_to p y Direction.IntoArea owner base own left PlainWhat.Kill fits within off = cc
-lands_what_to p y Direction.IntoArea owner base own left (PlainWhat.Read z1 z2) fits within off = cc
-lands_what_to p y Direction.IntoArea owner base own left (PlainWhat.Write z1 z2) fits within off = cc
-lands_what_to p y Direction.IntoArea owner base own left (PlainWhat.Create z1 z2) fits within off = cc
-lands_what_to p y Direction.IntoArea owner base own left (PlainWhat.Created z1) fits within off = cc
-lands_what_to p y Direction.IntoArea owner base own left PlainWhat.NoRoom fits within off = cc
-lands_what_to p y Direction.IntoArea owner base own left (PlainWhat.Move z1) fits within off = cc
-lands_what_to p y Direction.IntoArea owner base own left (PlainWhat.Moved z1) fits within off = cc
+lands_what_to p y _ owner base own left _ fits within off = cc
 
 lands_to : (b : Boot) (p : Pid) (y : PlainProcess) (x : PlainMessage) (ps : _) (n : ℕ) (w : PlainWhat) (st : PlainStatus) → x.what ≡ w → x.id.n ≡ n → status_awaits st n w ≡ true → move_fits ps y st ≡ true → is_of_memory w ≡ false → LandsTo p y x st
-lands_to b p y x ps n w Ready is number waits fits off = cc
-lands_to b p y x ps n w (Waiting mask base size) is number waits fits off = cc
 lands_to b p y x ps n w (Moving dir owner base own left pending) is number waits fits off =
     let k = both (n == pending) (piece_fits dir left w) waits in
     let within = (both (has_bytes (base + left) (ps owner)) (nat_le (own + left) (length y.memory)) fits).1 in
@@ -107,6 +82,7 @@ lands_to b p y x ps n w (Moving dir owner base own left pending) is number waits
       c = c;
       is = ap (λ (d : Bool). if d then pieces.lands_what p y dir owner base own left x.what else None) (ap (λ j. j == pending) number ∙ k.0) ∙ ap (pieces.lands_what p y dir owner base own left) is ∙ lands;
     }
+lands_to b p y x ps n w _ is number waits fits off = cc
 
 memory_no_user : (w : PlainWhat) → is_of_memory w ≡ true → is_user w ≡ false
 memory_no_user (PlainWhat.Read base len) e = refl
@@ -207,14 +183,12 @@ can_ended b m o i x y _ is num other ended f h = can_drop b m o i x y (ap is_dro
 
 -- by what the machine knows of it
 pub alive_of : (l : Option Life) → agrees view.Here l ≡ true → (y : PlainProcess) × (l ≡ Some (Alive y))
-alive_of None e = cc
 alive_of (Some (Alive y)) e = (y, refl)
-alive_of (Some (Ended y)) e = cc
+alive_of _ e = cc
 
 pub ended_of : (l : Option Life) → agrees view.Ended l ≡ true → (y : Why) × (l ≡ Some (Ended y))
-ended_of None e = cc
-ended_of (Some (Alive y)) e = cc
 ended_of (Some (Ended y)) e = (y, refl)
+ended_of _ e = cc
 
 told_plain : (v : View) (c : Bool) (q : Pid) (to : ℕ) → ArePlain v (if c then Owns MessageKind.Update q to ∷ [] else [])
 told_plain v true q to = (tt, tt)

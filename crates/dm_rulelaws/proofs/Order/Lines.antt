@@ -185,10 +185,6 @@ served_thin q v i =
 
 pub thin_label : (q : Which) (v : View) (l : Label) → ThinFor q v (after_label v l)
 thin_label q v (Label.Ran p k) = thin_same q v (after_label v (Label.Ran p k)) refl (box_same v q.to.home) (λ a. refl) (λ j. refl)
-thin_label q v (Label.Call p n c) = thin_same q v v refl (box_same v q.to.home) (λ a. refl) (λ j. refl)
-thin_label q v (Label.Send p id) = thin_same q v v refl (box_same v q.to.home) (λ a. refl) (λ j. refl)
-thin_label q v (Label.Wait p) = thin_same q v v refl (box_same v q.to.home) (λ a. refl) (λ j. refl)
-thin_label q v (Label.Out p w) = thin_same q v v refl (box_same v q.to.home) (λ a. refl) (λ j. refl)
 thin_label q v (Label.End p y) = thin_same q v (after_label v (Label.End p y)) refl (box_same v q.to.home) (λ a. refl) (λ j. refl)
 thin_label q v (Label.Receive p id) = record {
   queue = queue_thin v p (without_id id (v.queue v.acting p)) q.to.home q.to (thins_without id (v.queue v.acting p));
@@ -203,6 +199,7 @@ thin_label q v (Label.Gone id) = thin_handled q v id
 thin_label q v (Label.Took id) = thin_handled q v id
 thin_label q v (Label.Created id p) = thin_same q v (after_label v (Label.Created id p)) refl (handled_thin v id q.to.home) (λ a. refl) (λ j. refl)
 thin_label q v (Label.NoSpace id f b) = thin_handled q v id
+thin_label q v _ = thin_same q v v refl (box_same v q.to.home) (λ a. refl) (λ j. refl)
 
 untold_not : (o : Option Told) → o ≡ None → is_some o ≡ true → false ≡ true
 untold_not o e h = sym (ap is_some e) ∙ h

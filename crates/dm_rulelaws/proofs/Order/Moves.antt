@@ -27,9 +27,8 @@ pub record Last (s : OneKernel) (v : View) (j : MsgId) : Type 0 where
 below_of : (b c : Bool) (n k a l : ℕ) (x : Option Life) → (if b then nat_lt n a else if c then nat_lt n l else is_counted n x) ≡ true → (if b then nat_lt k a else if c then nat_lt k l else is_counted k x) ≡ false → n < k
 below_of true c n k a l x e f = grind (arith, nat_tests)
 below_of false true n k a l x e f = grind (arith, nat_tests)
-below_of false false n k a l None e f = cc
 below_of false false n k a l (Some (Alive x)) e f = grind (arith, nat_tests)
-below_of false false n k a l (Some (Ended y)) e f = cc
+below_of false false n k a l _ e f = cc
 
 counts_below : (s : OneKernel) (i j : MsgId) → counts s i ≡ true → counts s j ≡ false → i.from ≡ j.from → i.n < j.n
 counts_below s i j e f same =

@@ -144,36 +144,12 @@ later_own a (Owns k q b ∷ ps) pt w ok fit topic is sane h =
     let n = next_of pt (Owns k q b) ps w is in
     subst OwnTold n.point (later_own a ps n.next n.rest ok.1 fit.1 (puts_topic pt n.next b (own_id pt.view) k q n.ls n.lines n.leads ∙ topic) n.more (part_sane pt n.next (Owns k q b) n.ls ok.0 n.lines n.leads sane)
     (own_part pt n.next (Owns k q b) n.ls ok.0 (ap (own_sort k q) topic ∙ fit.0) n.lines n.leads sane h))
-later_own a (Routes i ∷ ps) pt w ok fit topic is sane h = absurd fit
-later_own a (Transmits c d l ∷ ps) pt w ok fit topic is sane h = absurd fit
 later_own a (Says (Line.Migration s p) ∷ ps) pt w ok fit topic is sane h =
     let l = Line.Migration s p in
     let n = next_of pt (Says l) ps w is in
     subst OwnTold n.point (later_own (topic_stage a p s) ps n.next n.rest ok.1 fit (ap (λ (v : View). v.topic) (line_topic pt n.next l n.ls refl n.lines n.leads) ∙ stage_topic pt.view p s ∙ ap (λ (b : About). topic_stage b p s) topic) n.more
     (part_sane pt n.next (Says l) n.ls ok.0 n.lines n.leads sane) (own_part pt n.next (Says l) n.ls ok.0 tt n.lines n.leads sane h))
-later_own a (Says (Line.Head s) ∷ ps) pt w ok fit topic is sane h = absurd fit
-later_own a (Says (Line.Idle m) ∷ ps) pt w ok fit topic is sane h = absurd fit
-later_own a (Says (Line.Label x) ∷ ps) pt w ok fit topic is sane h = absurd fit
-later_own a (Says (Line.Put c d i k q) ∷ ps) pt w ok fit topic is sane h = absurd fit
-later_own a (Says (Line.Packet c d k l) ∷ ps) pt w ok fit topic is sane h = absurd fit
-later_own a (Says (Line.Taken c d n) ∷ ps) pt w ok fit topic is sane h = absurd fit
-later_own a (Says (Line.Old c d n) ∷ ps) pt w ok fit topic is sane h = absurd fit
-later_own a (Says (Line.Early c d n) ∷ ps) pt w ok fit topic is sane h = absurd fit
-later_own a (Says (Line.Acked c d n) ∷ ps) pt w ok fit topic is sane h = absurd fit
-later_own a (Says Line.Nothing ∷ ps) pt w ok fit topic is sane h = absurd fit
-later_own a (Says (Line.Resent m n) ∷ ps) pt w ok fit topic is sane h = absurd fit
-later_own a (Says (Line.Queued i) ∷ ps) pt w ok fit topic is sane h = absurd fit
-later_own a (Says (Line.Held i) ∷ ps) pt w ok fit topic is sane h = absurd fit
-later_own a (Says (Line.Forwarded i m) ∷ ps) pt w ok fit topic is sane h = absurd fit
-later_own a (Says (Line.Updated i n) ∷ ps) pt w ok fit topic is sane h = absurd fit
-later_own a (Says (Line.SentOn p n) ∷ ps) pt w ok fit topic is sane h = absurd fit
-later_own a (Says (Line.Lacks p c d) ∷ ps) pt w ok fit topic is sane h = absurd fit
-later_own a (Says (Line.Stays p) ∷ ps) pt w ok fit topic is sane h = absurd fit
-later_own a (Says (Line.Here i) ∷ ps) pt w ok fit topic is sane h = absurd fit
-later_own a (Says (Line.NoMove i) ∷ ps) pt w ok fit topic is sane h = absurd fit
-later_own a (Says (Line.Proto i) ∷ ps) pt w ok fit topic is sane h = absurd fit
-later_own a (Says (Line.NoChild p) ∷ ps) pt w ok fit topic is sane h = absurd fit
-later_own a (Says (Line.Pinned p) ∷ ps) pt w ok fit topic is sane h = absurd fit
+later_own a _ pt w ok fit topic is sane h = absurd fit
 
 -- behind a first line
 then_own : (l : Line) (qs : List Part) (pt : Point) (w : Spelled) → label_of l ≡ None → AllSayable (Says l ∷ qs) → Later (view_after pt.view l).topic qs → spelled pt (Says l ∷ qs) ≡ Some w → Sane pt → OwnTold pt → OwnTold w.point

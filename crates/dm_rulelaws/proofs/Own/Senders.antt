@@ -50,11 +50,7 @@ sends_brings r e s t p id (step.Calls number (Called.Sends m y)) w is h =
     let (z, sent, pending, counted) = w.counts in
     let k = when-is _ (with_sent (step.goes_on s p y) (Some m)) t is in
     in_brings s t (step.goes_on s p y) m k.1 (λ i x there. there) (λ e. ap (λ (q : Pid). q.num == 0) counted.sender ∙ process_num s p w.x w.is.alive h.made)
-sends_brings r e s t p id (step.Calls number (Called.Replies reply y)) w is h = cc
-sends_brings r e s t p id (step.Calls number (Called.Waits y)) w is h = cc
-sends_brings r e s t p id (step.Calls number (Called.Outputs word y)) w is h = cc
-sends_brings r e s t p id (step.Calls number (Called.Ends because)) w is h = cc
-sends_brings r e s t p id (step.Faults fault) w is h = cc
+sends_brings r e s t p id _ w is h = cc
 
 -- answers
 no_room_brings : (s t : OneKernel) (id : MsgId) (m : PlainMessage) (w : PlainWhat) → service.has_no_room s id m w ≡ Some t → Brings s t
@@ -123,13 +119,9 @@ manager_wants g machines images machine image [] = tt
 manager_wants g machines images machine image (l ∷ ls) = manager_if (nat_lt machine machines && nat_lt image images) (manage.asks_for g machine image l ls) (manage.bad_request g (l ∷ ls)) refl refl
 
 manager_requests : (g : Manager) (machines images : ℕ) (body : List ℕ) (links : List PlainLink) → SentBy manager (manage.requests g machines images body links).message
-manager_requests g machines images [] links = manager_bad g links
-manager_requests g machines images (a ∷ []) links = manager_bad g links
-manager_requests g machines images (a ∷ b ∷ []) links = manager_bad g links
-manager_requests g machines images (a ∷ b ∷ c ∷ []) links = manager_bad g links
 manager_requests g machines images (a ∷ b ∷ c ∷ d ∷ []) links =
     manager_if (a == 1) (manage.wants_child g machines images b (256 * c + d) links) (manage.bad_request g links) (manager_wants g machines images b (256 * c + d) links) (manager_bad g links)
-manager_requests g machines images (a ∷ b ∷ c ∷ d ∷ f ∷ fs) links = manager_bad g links
+manager_requests g machines images _ links = manager_bad g links
 
 manager_controls_child : (g : Manager) (child : Pid) (o : Option PlainWhat) (links : List PlainLink) → SentBy manager (manage.controls_child g child o links).message
 manager_controls_child g child None links = manager_bad g links
@@ -137,11 +129,8 @@ manager_controls_child g child (Some w) links = refl
 
 manager_controls : (g : Manager) (child : Option Pid) (body : List ℕ) (links : List PlainLink) → SentBy manager (manage.controls g child body links).message
 manager_controls g (Some child) (a ∷ []) links = manager_controls_child g child (manage.control_of a) links
-manager_controls g (Some child) [] links = manager_bad g links
-manager_controls g (Some child) (a ∷ b ∷ bs) links = manager_bad g links
-manager_controls g None [] links = manager_bad g links
 manager_controls g None (a ∷ []) links = manager_bad g links
-manager_controls g None (a ∷ b ∷ bs) links = manager_bad g links
+manager_controls g _ _ links = manager_bad g links
 
 manager_created : (g : Manager) (n : ℕ) (child : Pid) (o : Option Pending) (k : manage.Took) → manage.takes_created g n child o ≡ Some k → SentBy manager k.message
 manager_created g n child None k e = cc

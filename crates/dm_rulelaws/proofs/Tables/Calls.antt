@@ -147,8 +147,7 @@ what_tables p x m mask base size _ d e = cc
 
 status_tables : (p : Pid) (x : PlainProcess) (m : PlainMessage) (st : PlainStatus) (d : receiving.Completed) → receiving.completes_status p x m st ≡ Some d → CompletedTables x d
 status_tables p x m (Waiting mask base size) d e = what_tables p x m mask base size m.what d e
-status_tables p x m Ready d e = cc
-status_tables p x m (Moving dir owner base own left pending) d e = cc
+status_tables p x m _ d e = cc
 
 pub with_tables : (p : Pid) (x : PlainProcess) (m : PlainMessage) (b : Bool) (d : receiving.Completed) → (if b then None else receiving.completes_status p x m x.status) ≡ Some d → CompletedTables x d
 with_tables p x m true d e = cc

@@ -49,13 +49,9 @@ wants_few g machines images machine image (l ∷ ls) few =
     few_if (nat_lt machine machines && nat_lt image images) (manage.asks_for g machine image l ls) (manage.bad_request g (l ∷ ls)) (let less : length ls ≤ 4 = omega (arith, few) in less) (bad_few g (l ∷ ls))
 
 requests_few : (g : Manager) (machines images : ℕ) (body : List ℕ) (links : List PlainLink) → length links ≤ 4 → SendsFew (manage.requests g machines images body links).message
-requests_few g machines images [] links few = bad_few g links
-requests_few g machines images (a ∷ []) links few = bad_few g links
-requests_few g machines images (a ∷ b ∷ []) links few = bad_few g links
-requests_few g machines images (a ∷ b ∷ c ∷ []) links few = bad_few g links
 requests_few g machines images (a ∷ b ∷ c ∷ d ∷ []) links few =
     few_if (a == 1) (manage.wants_child g machines images b (256 * c + d) links) (manage.bad_request g links) (wants_few g machines images b (256 * c + d) links few) (bad_few g links)
-requests_few g machines images (a ∷ b ∷ c ∷ d ∷ e ∷ more) links few = bad_few g links
+requests_few g machines images _ links few = bad_few g links
 
 control_by : (g : Manager) (child : Pid) (b c d : Bool) (links : List PlainLink) → SendsFew (manage.controls_child g child (if b then Some PlainWhat.Stop else if c then Some PlainWhat.Resume else if d then Some PlainWhat.Kill else None) links).message
 control_by g child true c d links = tt
@@ -64,12 +60,9 @@ control_by g child false false true links = tt
 control_by g child false false false links = bad_few g links
 
 controls_few : (g : Manager) (o : Option Pid) (body : List ℕ) (links : List PlainLink) → SendsFew (manage.controls g o body links).message
-controls_few g (Some child) [] links = bad_few g links
 controls_few g (Some child) (a ∷ []) links = control_by g child (a == 2) (a == 3) (a == 4) links
-controls_few g (Some child) (a ∷ b ∷ bs) links = bad_few g links
-controls_few g None [] links = bad_few g links
 controls_few g None (a ∷ []) links = bad_few g links
-controls_few g None (a ∷ b ∷ bs) links = bad_few g links
+controls_few g _ _ links = bad_few g links
 
 user_few : (g : Manager) (machines images code : ℕ) (body : List ℕ) (links : List PlainLink) → length links ≤ 4 → SendsFew (manage.takes_user g machines images code body links).message
 user_few g machines images code body links few =

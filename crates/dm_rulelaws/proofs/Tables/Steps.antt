@@ -38,11 +38,9 @@ next_row_is s p x (Row.Calls number regs) n is e =
     record { x = x; alive = is; same = subst (NextTables x) f (of_call x z (calls.call p z number) refl (call_tables p z number)) }
   where
     of_call : (x z : PlainProcess) (c : calls.Called) → z.links ≡ x.links → CallTables z c → CallTables x c
-    of_call x z (calls.Replies c y) e h = h ∙ ap length e
     of_call x z (calls.Sends m y) e h = (h.0 ∙ ap length e, h.1)
-    of_call x z (calls.Waits y) e h = h ∙ ap length e
-    of_call x z (calls.Outputs w y) e h = h ∙ ap length e
     of_call x z (calls.Ends y) e h = tt
+    of_call x z _ e h = h ∙ ap length e
 next_row_is s p x (Row.Faults fault) n is e =
     let f : kernel.Faults fault ≡ n = cc in
     record { x = x; alive = is; same = subst (NextTables x) f tt }
@@ -56,11 +54,7 @@ reply_row : (s t : OneKernel) (p : Pid) (n : ℕ) (c : Reply) (next : kernel.Nex
 reply_row s t p n c (kernel.Calls number (calls.Replies d y)) w is h =
     let k = when-is ((n == number) && reply_eq c d) (kernel.goes_on s p y) t is in
     subst Tables k.1 (goes_tables s p w.x y w.alive w.same h)
-reply_row s t p n c (kernel.Calls number (calls.Sends m y)) w is h = cc
-reply_row s t p n c (kernel.Calls number (calls.Waits y)) w is h = cc
-reply_row s t p n c (kernel.Calls number (calls.Outputs word y)) w is h = cc
-reply_row s t p n c (kernel.Calls number (calls.Ends because)) w is h = cc
-reply_row s t p n c (kernel.Faults fault) w is h = cc
+reply_row s t p n c _ w is h = cc
 
 pub call_step : (s t : OneKernel) (p : Pid) (n : ℕ) (c : Reply) → kernel.step s (Label.Call p n c) ≡ Some t → Tables s → Tables t
 call_step s t p n c is h =
@@ -71,11 +65,7 @@ send_row : (s t : OneKernel) (p : Pid) (id : MsgId) (next : kernel.Next) → Nex
 send_row s t p id (kernel.Calls number (calls.Sends m y)) w is h =
     let k = when-is (id_eq id m.id) (with_sent (kernel.goes_on s p y) (Some m)) t is in
     subst Tables k.1 (put_tables (kernel.goes_on s p y) m w.same.1 (goes_tables s p w.x y w.alive w.same.0 h))
-send_row s t p id (kernel.Calls number (calls.Replies d y)) w is h = cc
-send_row s t p id (kernel.Calls number (calls.Waits y)) w is h = cc
-send_row s t p id (kernel.Calls number (calls.Outputs word y)) w is h = cc
-send_row s t p id (kernel.Calls number (calls.Ends because)) w is h = cc
-send_row s t p id (kernel.Faults fault) w is h = cc
+send_row s t p id _ w is h = cc
 
 pub send_step : (s t : OneKernel) (p : Pid) (id : MsgId) → kernel.step s (Label.Send p id) ≡ Some t → Tables s → Tables t
 send_step s t p id is h =
@@ -86,11 +76,7 @@ wait_row : (s t : OneKernel) (p : Pid) (next : kernel.Next) → NextIs s p next 
 wait_row s t p (kernel.Calls number (calls.Waits y)) w is h =
     let eq : kernel.goes_on s p y ≡ t = cc in
     subst Tables eq (goes_tables s p w.x y w.alive w.same h)
-wait_row s t p (kernel.Calls number (calls.Replies d y)) w is h = cc
-wait_row s t p (kernel.Calls number (calls.Sends m y)) w is h = cc
-wait_row s t p (kernel.Calls number (calls.Outputs word y)) w is h = cc
-wait_row s t p (kernel.Calls number (calls.Ends because)) w is h = cc
-wait_row s t p (kernel.Faults fault) w is h = cc
+wait_row s t p _ w is h = cc
 
 pub wait_step : (s t : OneKernel) (p : Pid) → kernel.step s (Label.Wait p) ≡ Some t → Tables s → Tables t
 wait_step s t p is h =
@@ -101,11 +87,7 @@ out_row : (s t : OneKernel) (p : Pid) (word : ℕ) (next : kernel.Next) → Next
 out_row s t p word (kernel.Calls number (calls.Outputs other y)) w is h =
     let k = when-is (word == other) (kernel.goes_on s p y) t is in
     subst Tables k.1 (goes_tables s p w.x y w.alive w.same h)
-out_row s t p word (kernel.Calls number (calls.Replies d y)) w is h = cc
-out_row s t p word (kernel.Calls number (calls.Sends m y)) w is h = cc
-out_row s t p word (kernel.Calls number (calls.Waits y)) w is h = cc
-out_row s t p word (kernel.Calls number (calls.Ends because)) w is h = cc
-out_row s t p word (kernel.Faults fault) w is h = cc
+out_row s t p word _ w is h = cc
 
 pub out_step : (s t : OneKernel) (p : Pid) (word : ℕ) → kernel.step s (Label.Out p word) ≡ Some t → Tables s → Tables t
 out_step s t p word is h =
@@ -115,10 +97,7 @@ out_step s t p word is h =
 end_row : (s t : OneKernel) (p : Pid) (y : Why) (next : kernel.Next) → kernel.ends s p y next ≡ Some t → Tables s → Tables t
 end_row s t p y (kernel.Calls number (calls.Ends because)) is h = let k = when-is (why_eq y because) (with_process s p (Ended y)) t is in subst Tables k.1 (end_tables s p y h)
 end_row s t p y (kernel.Faults fault) is h = let k = when-is (why_eq y (Why.Fault fault)) (with_process s p (Ended y)) t is in subst Tables k.1 (end_tables s p y h)
-end_row s t p y (kernel.Calls number (calls.Replies d z)) is h = cc
-end_row s t p y (kernel.Calls number (calls.Sends m z)) is h = cc
-end_row s t p y (kernel.Calls number (calls.Waits z)) is h = cc
-end_row s t p y (kernel.Calls number (calls.Outputs word z)) is h = cc
+end_row s t p y _ is h = cc
 
 pub end_step : (s t : OneKernel) (p : Pid) (y : Why) → kernel.step s (Label.End p y) ≡ Some t → Tables s → Tables t
 end_step s t p y is h =
@@ -183,30 +162,7 @@ lands_what_tables p x Direction.IntoArea owner base own left PlainWhat.Written c
     (goes_on_by p x x Direction.IntoArea owner base own left (left - pieces.piece_of left == 0) refl) e
 lands_what_tables p x Direction.FromArea owner base own left PlainWhat.Gone c e = let k : pieces.done Reply.Gone x ≡ c = cc in subst (LandTables x) k refl
 lands_what_tables p x Direction.IntoArea owner base own left PlainWhat.Gone c e = let k : pieces.done Reply.Gone x ≡ c = cc in subst (LandTables x) k refl
-lands_what_tables p x Direction.FromArea owner base own left (PlainWhat.User z1 z2 z3 z4) c e = cc
-lands_what_tables p x Direction.FromArea owner base own left PlainWhat.Stop c e = cc
-lands_what_tables p x Direction.FromArea owner base own left PlainWhat.Resume c e = cc
-lands_what_tables p x Direction.FromArea owner base own left PlainWhat.Kill c e = cc
-lands_what_tables p x Direction.FromArea owner base own left (PlainWhat.Read z1 z2) c e = cc
-lands_what_tables p x Direction.FromArea owner base own left (PlainWhat.Write z1 z2) c e = cc
-lands_what_tables p x Direction.FromArea owner base own left PlainWhat.Written c e = cc
-lands_what_tables p x Direction.FromArea owner base own left (PlainWhat.Create z1 z2) c e = cc
-lands_what_tables p x Direction.FromArea owner base own left (PlainWhat.Created z1) c e = cc
-lands_what_tables p x Direction.FromArea owner base own left PlainWhat.NoRoom c e = cc
-lands_what_tables p x Direction.FromArea owner base own left (PlainWhat.Move z1) c e = cc
-lands_what_tables p x Direction.FromArea owner base own left (PlainWhat.Moved z1) c e = cc
-lands_what_tables p x Direction.IntoArea owner base own left (PlainWhat.User z1 z2 z3 z4) c e = cc
-lands_what_tables p x Direction.IntoArea owner base own left PlainWhat.Stop c e = cc
-lands_what_tables p x Direction.IntoArea owner base own left PlainWhat.Resume c e = cc
-lands_what_tables p x Direction.IntoArea owner base own left PlainWhat.Kill c e = cc
-lands_what_tables p x Direction.IntoArea owner base own left (PlainWhat.Read z1 z2) c e = cc
-lands_what_tables p x Direction.IntoArea owner base own left (PlainWhat.Write z1 z2) c e = cc
-lands_what_tables p x Direction.IntoArea owner base own left (PlainWhat.Block z1) c e = cc
-lands_what_tables p x Direction.IntoArea owner base own left (PlainWhat.Create z1 z2) c e = cc
-lands_what_tables p x Direction.IntoArea owner base own left (PlainWhat.Created z1) c e = cc
-lands_what_tables p x Direction.IntoArea owner base own left PlainWhat.NoRoom c e = cc
-lands_what_tables p x Direction.IntoArea owner base own left (PlainWhat.Move z1) c e = cc
-lands_what_tables p x Direction.IntoArea owner base own left (PlainWhat.Moved z1) c e = cc
+lands_what_tables p x _ owner base own left _ c e = cc
 
 lands_if : (p : Pid) (x : PlainProcess) (b : Bool) (dir : Direction) (owner : Pid) (base own left : ℕ) (w : PlainWhat) (c : pieces.Landed) → (if b then pieces.lands_what p x dir owner base own left w else None) ≡ Some c → LandTables x c
 lands_if p x true dir owner base own left w c e = lands_what_tables p x dir owner base own left w c e
@@ -214,8 +170,7 @@ lands_if p x false dir owner base own left w c e = cc
 
 lands_by : (p : Pid) (x : PlainProcess) (m : PlainMessage) (st : PlainStatus) (c : pieces.Landed) → pieces.lands p x m st ≡ Some c → LandTables x c
 lands_by p x m (Moving dir owner base own left pending) c e = lands_if p x (m.id.n == pending) dir owner base own left m.what c e
-lands_by p x m Ready c e = cc
-lands_by p x m (Waiting mask base size) c e = cc
+lands_by p x m _ c e = cc
 
 landed_tables : (s : OneKernel) (id : MsgId) (m : PlainMessage) (x : PlainProcess) (c : pieces.Landed) → s.processes m.to ≡ Some (Alive x) → LandTables x c → Tables s → Tables (service.landed s id m c)
 landed_tables s id m x (pieces.Done reply y) is same h = changed_tables s id m x y is same h

@@ -241,9 +241,7 @@ parts_keep n (Transmits a b l ∷ ps) pt w net small e =
     let packet : Keeps n pt.view (view_after pt.view line_) = record { weight_ = λ f m. calm_to f n pt.view line_ refl refl m; told = refl; known = refl } in
     let first : Keeps n pt.view o.next.view = subst (Keeps n pt.view) (sym (transmits_view pt a b l ps w o)) packet in
     subst (λ (q : Point). Keeps n pt.view q.view) o.end (keeps_on n pt.view o.next.view o.rest.point.view first (parts_keep n ps o.next o.rest net.1 small.1 o.on))
-parts_keep n (Routes i ∷ ps) pt w net small e = absurd net.0
-parts_keep n (Again i b ∷ ps) pt w net small e = absurd net.0
-parts_keep n (Owns k q b ∷ ps) pt w net small e = absurd net.0
+parts_keep n _ pt w net small e = absurd net.0
 
 takes_in : (n a b : ℕ) (ns : List ℕ) (ps : List Part) → a < n → AllTakeIn n ps → AllTakeIn n (takes a b ns ++ ps)
 takes_in n a b [] ps small h = h

@@ -48,9 +48,7 @@ net_pairs (Transmits a b l ∷ ps) pt w is e =
     let o = onward pt (Transmits a b l) ps w e in
     ap (λ (q : Point). q.view.pair) (sym o.end) ∙ net_pairs ps o.next o.rest is.1 o.on
     ∙ ap (λ (f : ℕ → ℕ → Pair). pairs_parts f ps) (ap (λ (v : View). v.pair) (transmits_view pt a b l ps w o))
-net_pairs (Routes i ∷ ps) pt w is e = absurd is.0
-net_pairs (Again i b ∷ ps) pt w is e = absurd is.0
-net_pairs (Owns k q b ∷ ps) pt w is e = absurd is.0
+net_pairs _ pt w is e = absurd is.0
 
 pub parts_both : (f : ℕ → ℕ → Pair) (ps qs : List Part) → pairs_parts f (ps ++ qs) ≡ pairs_parts (pairs_parts f ps) qs
 parts_both f [] qs = refl

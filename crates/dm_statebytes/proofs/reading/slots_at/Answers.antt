@@ -1,12 +1,12 @@
 use Rattle.dm_statebytes.proofs.Names.{◌≡◌, ◌-◌, take, ap, ◌∙◌, arith, common_steps, err_from_is_err_and, read_slots}
-use Rattle.dm_statebytes.proofs.Loops.{front_none, slot_empty, slot_held, slots_fail}
+use Rattle.dm_statebytes.proofs.Loops.{front_none, slot_empty, slot_held, slots_fail, slots_read}
 use Rattle.dm_statebytes.proofs.reading.slots_at.Goals as goal
 use Rattle.dm_statebytes.proofs.reading.slots_at.Goals.{then-left-eq1+in_ok-link, else-left-eq1}
 
 pub loop-slot-init : goal.loop-slot-init
 loop-slot-init c =
     let n : c.args.cap - 0 ≡ c.args.cap = omega arith in
-    (front_none (read_slots (c.args.cap - 0) c.args.mask c.args.bytes.now) ∙ ap (λ k. read_slots k c.args.mask c.args.bytes.now) n, grind (arith, common_steps, c.new-table.ensures), λ s le. grind (arith, common_steps, c.new-table.ensures))
+    (front_none (read_slots (c.args.cap - 0) c.args.mask c.args.bytes.now) ∙ ap (λ k. read_slots k c.args.mask c.args.bytes.now) n, grind (arith, common_steps, c.requires.empty), λ s le. grind (arith, common_steps, c.requires.empty))
 
 pub returns-in_err-link : goal.returns-in_err-link
 returns-in_err-link c =
@@ -26,3 +26,8 @@ loop-slot-preserved c =
           rw (w.table-is, w.rest-is)
           (slot_empty c.args.cap l.slot l.left l.table l.rest.now total c.loop-slot-test.true w.if-left-eq1.false l.invariant)
     ]
+
+pub returns : goal.returns
+returns c =
+    let l = c.loop-slot in
+    slots_read c.args.cap l.slot l.left l.table l.rest.now (read_slots c.args.cap c.args.mask c.args.bytes.now) (grind (arith, c.loop-slot-test.false)) l.invariant

@@ -18,8 +18,8 @@ returns-in-Ok-clause-answers c =
     let nodes = c.args.nodes.now in
     let n = node_in b nodes 0 in
     let same = node_at b nodes 0 0 c.index-nodes-0.result refl c.requires.within in
-    let gave = subst (λ s. GaveSome c.ask_move.new.self c.new-outs.result.items c.ask_move.new.outs.items (asks_move s c.args.pid c.args.to)) same c.in-Ok.ensures in
-    acted_some b nodes 0 0 c.ask_move.new.self c.new-outs.result.items c.ask_move.new.outs.items (asks_move n c.args.pid c.args.to) refl c.requires.within c.requires.nodes c.new-outs.ensures.items gave
+    let gave = subst (λ s. GaveSome c.ask_move.new.self c.args.empty.items c.ask_move.new.outs.items (asks_move s c.args.pid c.args.to)) same c.in-Ok.ensures in
+    acted_some b nodes 0 0 c.ask_move.new.self c.args.empty.items c.ask_move.new.outs.items (asks_move n c.args.pid c.args.to) refl c.requires.within c.requires.nodes c.requires.empty gave
     (λ a e. subst (λ k. ActsLawfully k a) (here_at b nodes 0 c.index-nodes-0.result c.requires.within c.requires.nodes)
     (asks_lawfully n c.args.pid c.args.to a (small c.args.to c.requires.to) c.requires.may c.requires.lawful e))
 
@@ -29,8 +29,8 @@ returns-in-Ok-clause-outs c =
     let nodes = c.args.nodes.now in
     let n = node_in b nodes 0 in
     let same = node_at b nodes 0 0 c.index-nodes-0.result refl c.requires.within in
-    let gave = subst (λ s. GaveSome c.ask_move.new.self c.new-outs.result.items c.ask_move.new.outs.items (asks_move s c.args.pid c.args.to)) same c.in-Ok.ensures in
-    turn_sendable 0 c.ask_move.new.self c.new-outs.result.items c.ask_move.new.outs.items (asks_move n c.args.pid c.args.to) c.new-outs.ensures.items gave
+    let gave = subst (λ s. GaveSome c.ask_move.new.self c.args.empty.items c.ask_move.new.outs.items (asks_move s c.args.pid c.args.to)) same c.in-Ok.ensures in
+    turn_sendable 0 c.ask_move.new.self c.args.empty.items c.ask_move.new.outs.items (asks_move n c.args.pid c.args.to) c.requires.empty gave
     (λ a e. subst (λ k. ActsLawfully k a) (here_at b nodes 0 c.index-nodes-0.result c.requires.within c.requires.nodes)
     (asks_lawfully n c.args.pid c.args.to a (small c.args.to c.requires.to) c.requires.may c.requires.lawful e))
 
@@ -40,5 +40,5 @@ returns-in-Err-clause-answers c =
     let nodes = c.args.nodes.now in
     let n = node_in b nodes 0 in
     let same = node_at b nodes 0 0 c.index-nodes-0.result refl c.requires.within in
-    let ended = subst (λ s. AnswersSome (Err c.in-Err.stop) c.ask_move.new.self c.new-outs.result.items c.ask_move.new.outs.items (asks_move s c.args.pid c.args.to)) same c.in-Err.ensures in
-    stopped c.in-Err.stop b nodes _ 0 c.ask_move.new.self c.new-outs.result.items c.ask_move.new.outs.items (asks_move n c.args.pid c.args.to) ended
+    let ended = subst (λ s. AnswersSome (Err c.in-Err.stop) c.ask_move.new.self c.args.empty.items c.ask_move.new.outs.items (asks_move s c.args.pid c.args.to)) same c.in-Err.ensures in
+    stopped c.in-Err.stop b nodes _ 0 c.ask_move.new.self c.args.empty.items c.ask_move.new.outs.items (asks_move n c.args.pid c.args.to) ended

@@ -18,8 +18,8 @@ returns-clause-answers c =
     let x = c.arrive.new.self in
     let outs = c.arrive.new.outs.items in
     let same = node_at b nodes c.from.result c.args.m c.index-nodes-from.result c.from.ensures c.requires.within in
-    let gave = subst (λ s. Gave x c.new-outs.result.items outs (arrives_packet s p)) same c.in_ok-arrive.ensures in
-    acted b nodes c.from.result c.args.m x outs (arrives_packet n p) c.from.ensures c.requires.within c.requires.nodes (subst (λ ys. Gave x ys outs (arrives_packet n p)) c.new-outs.ensures.items gave)
+    let gave = subst (λ s. Gave x c.args.empty.items outs (arrives_packet s p)) same c.in_ok-arrive.ensures in
+    acted b nodes c.from.result c.args.m x outs (arrives_packet n p) c.from.ensures c.requires.within c.requires.nodes (subst (λ ys. Gave x ys outs (arrives_packet n p)) c.requires.empty gave)
     (subst (λ k. ActsLawfully k (arrives_packet n p)) (here_at b nodes c.args.m c.index-nodes-from.result c.requires.within c.requires.nodes) (packet_lawfully n p c.requires.may))
 
 pub returns-clause-outs : goal.returns-clause-outs
@@ -31,7 +31,7 @@ returns-clause-outs c =
     let x = c.arrive.new.self in
     let outs = c.arrive.new.outs.items in
     let same = node_at b nodes c.from.result c.args.m c.index-nodes-from.result c.from.ensures c.requires.within in
-    let gave = subst (λ s. Gave x c.new-outs.result.items outs (arrives_packet s p)) same c.in_ok-arrive.ensures in
-    let all = subst (λ ys. Gave x ys outs (arrives_packet n p)) c.new-outs.ensures.items gave in
+    let gave = subst (λ s. Gave x c.args.empty.items outs (arrives_packet s p)) same c.in_ok-arrive.ensures in
+    let all = subst (λ ys. Gave x ys outs (arrives_packet n p)) c.requires.empty gave in
     all_sendable c.args.m (arrives_packet n p) outs all.outs
     (subst (λ k. ActsLawfully k (arrives_packet n p)) (here_at b nodes c.args.m c.index-nodes-from.result c.requires.within c.requires.nodes) (packet_lawfully n p c.requires.may))

@@ -17,7 +17,7 @@ returns-clause-answers c =
     let n = node_in b nodes c.args.m in
     let same = ap state_of c.index-nodes-from.is ∙ node_at b nodes c.from.result c.args.m c.index-nodes-from.result c.from.ensures c.requires.within in
     acted_still b nodes c.args.m c.tick.new.outs.items (tick n) c.requires.nodes refl
-    (c.in_ok-tick.ensures.outs ∙ ap (λ xs. xs ++ (tick (state_of c.index-nodes-from.result)).outs) c.new-outs.ensures.items ∙ ap (λ s. (tick s).outs) same)
+    (c.in_ok-tick.ensures.outs ∙ ap (λ xs. xs ++ (tick (state_of c.index-nodes-from.result)).outs) c.requires.empty ∙ ap (λ s. (tick s).outs) same)
 
 pub returns-clause-outs : goal.returns-clause-outs
 returns-clause-outs c =
@@ -26,5 +26,5 @@ returns-clause-outs c =
     let n = node_in b nodes c.args.m in
     let same = ap state_of c.index-nodes-from.is ∙ node_at b nodes c.from.result c.args.m c.index-nodes-from.result c.from.ensures c.requires.within in
     all_sendable c.args.m (tick n) c.tick.new.outs.items
-    (c.in_ok-tick.ensures.outs ∙ ap (λ xs. xs ++ (tick (state_of c.index-nodes-from.result)).outs) c.new-outs.ensures.items ∙ ap (λ s. (tick s).outs) same)
+    (c.in_ok-tick.ensures.outs ∙ ap (λ xs. xs ++ (tick (state_of c.index-nodes-from.result)).outs) c.requires.empty ∙ ap (λ s. (tick s).outs) same)
     (subst (λ k. ActsLawfully k (tick n)) (here_at b nodes c.args.m c.index-nodes-from.result c.requires.within c.requires.nodes) (ticks_lawfully n c.requires.may))

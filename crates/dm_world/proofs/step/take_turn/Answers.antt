@@ -19,8 +19,8 @@ returns-in-Ok-clause-answers c =
     let nodes = c.args.nodes.now in
     let n = node_in b nodes c.args.m in
     let same = node_at b nodes c.place_of.result c.args.m c.index-nodes-place_of.result c.place_of.ensures c.requires.within in
-    let gave = subst (λ s. GaveSome c.turn.new.self c.new-outs.result.items c.turn.new.outs.items (turn b s)) same c.in-Ok.ensures.answers in
-    acted_some b nodes c.place_of.result c.args.m c.turn.new.self c.new-outs.result.items c.turn.new.outs.items (turn b n) c.place_of.ensures c.requires.within c.requires.nodes c.new-outs.ensures.items gave
+    let gave = subst (λ s. GaveSome c.turn.new.self c.args.empty.items c.turn.new.outs.items (turn b s)) same c.in-Ok.ensures.answers in
+    acted_some b nodes c.place_of.result c.args.m c.turn.new.self c.args.empty.items c.turn.new.outs.items (turn b n) c.place_of.ensures c.requires.within c.requires.nodes c.requires.empty gave
     (λ a e. subst (λ k. ActsLawfully k a) (here_at b nodes c.args.m c.index-nodes-place_of.result c.requires.within c.requires.nodes)
     (turns_lawfully b n a c.requires.images c.requires.may c.requires.lawful e))
 
@@ -30,8 +30,8 @@ returns-in-Ok-clause-outs c =
     let nodes = c.args.nodes.now in
     let n = node_in b nodes c.args.m in
     let same = node_at b nodes c.place_of.result c.args.m c.index-nodes-place_of.result c.place_of.ensures c.requires.within in
-    let gave = subst (λ s. GaveSome c.turn.new.self c.new-outs.result.items c.turn.new.outs.items (turn b s)) same c.in-Ok.ensures.answers in
-    turn_sendable c.args.m c.turn.new.self c.new-outs.result.items c.turn.new.outs.items (turn b n) c.new-outs.ensures.items gave
+    let gave = subst (λ s. GaveSome c.turn.new.self c.args.empty.items c.turn.new.outs.items (turn b s)) same c.in-Ok.ensures.answers in
+    turn_sendable c.args.m c.turn.new.self c.args.empty.items c.turn.new.outs.items (turn b n) c.requires.empty gave
     (λ a e. subst (λ k. ActsLawfully k a) (here_at b nodes c.args.m c.index-nodes-place_of.result c.requires.within c.requires.nodes)
     (turns_lawfully b n a c.requires.images c.requires.may c.requires.lawful e))
 
@@ -41,8 +41,8 @@ returns-in-Err-clause-answers c =
     let nodes = c.args.nodes.now in
     let n = node_in b nodes c.args.m in
     let same = node_at b nodes c.place_of.result c.args.m c.index-nodes-place_of.result c.place_of.ensures c.requires.within in
-    let ended = subst (λ s. AnswersSome (Err c.in-Err.stop) c.turn.new.self c.new-outs.result.items c.turn.new.outs.items (turn b s)) same c.in-Err.ensures.answers in
-    stopped c.in-Err.stop b nodes _ c.args.m c.turn.new.self c.new-outs.result.items c.turn.new.outs.items (turn b n) ended
+    let ended = subst (λ s. AnswersSome (Err c.in-Err.stop) c.turn.new.self c.args.empty.items c.turn.new.outs.items (turn b s)) same c.in-Err.ensures.answers in
+    stopped c.in-Err.stop b nodes _ c.args.m c.turn.new.self c.args.empty.items c.turn.new.outs.items (turn b n) ended
 
 pub returns-in-Ok-clause-whole : goal.returns-in-Ok-clause-whole
 returns-in-Ok-clause-whole c =

@@ -19,9 +19,11 @@ put_at-requires c =
 -- src/arriving.rt:180:5
 pub invariant_of-self : goal.invariant_of-self
 invariant_of-self c =
-    let after : IsComing _ = chunk_after (parts c) c.args.chunk c.args.last c.args.bytes.now c.self.invariant (next (parts c) c.args.self.now c.args.chunk c.args.last c.args.bytes.now c.self.view_is c.requires) in
-    subst (λ (s : List ℕ). IsComing (record (parts c) { state = s; wanted = c.after_chunk-self-inside.result })) (sym c.put_at.ensures)
-    (subst (λ (w : Wanted). IsComing (record (parts c) { state = put c.self.inside.state.items (512 * c.args.chunk) c.args.bytes.now; wanted = w })) (sym c.after_chunk-self-inside.ensures) after)
+    let after : IsComing _ = chunk_after (parts c) c.args.chunk c.args.last c.args.bytes.now c.self.invariant.0 (next (parts c) c.args.self.now c.args.chunk c.args.last c.args.bytes.now c.self.view_is c.requires) in (
+      subst (λ (s : List ℕ). IsComing (record (parts c) { state = s; wanted = c.after_chunk-self-inside.result })) (sym c.put_at.ensures)
+          (subst (λ (w : Wanted). IsComing (record (parts c) { state = put c.self.inside.state.items (512 * c.args.chunk) c.args.bytes.now; wanted = w })) (sym c.after_chunk-self-inside.ensures) after),
+      c.self.invariant.1,
+    )
 
 -- src/arriving.rt:180:5
 pub returns : goal.returns

@@ -1,0 +1,185 @@
+-- A kernel's own message is handled: what comes of it, row by row. Whatever holds of the parts of each row holds of what comes of the message.
+use Rattle.dm_rule.proofs.Names.{◌≡◌, ℕ, ◌==◌, ◌||◌, Bool, true, false, List, [], ◌∷◌, ◌++◌, refl, ap, ◌∙◌, sym, subst, length, ◌/◌, ⊤, if◌then◌else◌, Option, None, Some, Pid, pid_of, pid_eq, MsgId, MessageKind, Line, Stage, Boot}
+use Rattle.dm_rule.proofs.Names.{switchboard, manager, PlainProcess, Told, About, Of, Known, Unknown, Here, Frozen, Incoming, Forward, Ended, target_of, Point, Part, Says, Again, Owns, Addresses, Sender, is_told_back, place_told, to_kernel}
+use Rattle.dm_rule.proofs.Names.{forwards_on, moves_to, accepts, takes_chunk, takes_block, gives_piece, sends_on, leaves, kernel_told, chunks_of, pieces_of, updates, here_told, ended_told, process_told, server_told, fits, free_room}
+use Rattle.dm_rule.proofs.Names.{kernel_hears, hears, bind-is, behind_count}
+use Rattle.dm_onekernel.specs.Step as kernel
+
+-- a process's messages go on, and it has left
+abbrev pub left_parts : MsgId → Pid → List MsgId → ℕ → List Part
+left_parts id p ids to = Says (Line.SentOn p (length ids)) ∷ sends_on to ids ++ Says (Line.Migration Stage.Left p) ∷ to_kernel MessageKind.Restart id.from.home ∷ []
+
+-- what the kernels of two machines tell each other of a process
+pub record Tells (P : List Part → Type 0) (o : Point) (m : ℕ) (id : MsgId) (k : MessageKind) (p : Pid) : Type 0 where
+  pub accepted : k ≡ MessageKind.Ask → P (Says (Line.Migration Stage.Accepted p) ∷ to_kernel MessageKind.PullState id.from.home ∷ [])
+  pub lacks : (slots blocks : ℕ) → P (Says (Line.Lacks p slots blocks) ∷ to_kernel MessageKind.Refuse id.from.home ∷ [])
+  pub stays : k ≡ MessageKind.Refuse → P (Says (Line.Stays p) ∷ [])
+  pub state : P (gives_piece id MessageKind.State)
+  pub next_chunk : P (Says (Line.Proto id) ∷ to_kernel MessageKind.PullState id.from.home ∷ [])
+  pub last_chunk : P (Says (Line.Migration Stage.StateTaken p) ∷ to_kernel MessageKind.PullBlock id.from.home ∷ [])
+  pub memory : P (gives_piece id MessageKind.Memory)
+  pub next_block : P (Says (Line.Proto id) ∷ to_kernel MessageKind.PullBlock id.from.home ∷ [])
+  pub last_block : P (Says (Line.Migration Stage.MemoryTaken p) ∷ to_kernel MessageKind.AllTaken id.from.home ∷ [])
+  pub left : (ids : List MsgId) (to : ℕ) → o.view.known m p ≡ Frozen to → P (left_parts id p ids to)
+  pub restarted : k ≡ MessageKind.Restart → P (Says (Line.Migration Stage.Restarted p) ∷ [])
+
+-- what a machine knows of a receiver that is a process
+pub record At (o : Point) (m : ℕ) (t : Told) (k : Known) : Type 0 where
+  pub known : o.view.known m t.receiver ≡ k
+  pub server : (pid_eq t.receiver switchboard || pid_eq t.receiver manager) ≡ false
+
+-- and all that a kernel's own message may say, at each receiver
+pub record Heard (P : List Part → Type 0) (o : Point) (m : ℕ) (id : MsgId) (t : Told) : Type 0 where
+  pub told : (p : Pid) (x : PlainProcess) → t.about ≡ Of p → kernel.alive (o.kernel.processes p) ≡ Some x → Tells P o m id t.kind p
+  pub updated : t.kind ≡ MessageKind.Update → P (updates o id t)
+  pub updated_none : t.kind ≡ MessageKind.Update → At o m t Ended → P (Says (Line.Updated id 0) ∷ [])
+  pub no_move : At o m t Ended → P (Says (Line.NoMove id) ∷ [])
+  pub leaving : (to : ℕ) → At o m t (Frozen to) → P (Says (Line.Held id) ∷ [])
+  pub coming : (from : ℕ) → At o m t (Incoming from) → P (Says (Line.Held id) ∷ [])
+  pub forwarded : (to moves : ℕ) → At o m t (Forward to moves) → P (forwards_on o.addresses id t.kind manager to)
+  pub stays_here : At o m t Here → P (Says (Line.Here id) ∷ [])
+  pub frozen : (to : ℕ) → At o m t Here → P (Says (Line.Migration Stage.Frozen t.receiver) ∷ Says (Line.Migration Stage.Asked t.receiver) ∷ to_kernel MessageKind.Ask to ∷ [])
+
+given : (P : List Part → Type 0) (qs ps : List Part) → P qs → Some qs ≡ Some ps → P ps
+given P qs ps h e = let k : qs ≡ ps = cc in subst P k h
+
+by_test : (P : List Part → Type 0) (c : Bool) (ps qs : List Part) → P ps → P qs → P (if c then ps else qs)
+by_test P true ps qs h k = h
+by_test P false ps qs h k = k
+
+by_leaves : (P : List Part → Type 0) (o : Point) (m : ℕ) (id : MsgId) (p : Pid) (ids : List MsgId) (k : Known) (ps : List Part) → ((to : ℕ) → o.view.known m p ≡ Frozen to → P (left_parts id p ids to)) → o.view.known m p ≡ k → leaves id p ids k ≡ Some ps → P ps
+by_leaves P o m id p ids (Frozen to) ps h is e = given P (left_parts id p ids to) ps (h to is) e
+by_leaves P o m id p ids _ ps h is e = cc
+
+by_told : (P : List Part → Type 0) (o : Point) (m : ℕ) (id : MsgId) (p : Pid) (room : Bool × ℕ × ℕ) (x : PlainProcess) (k : MessageKind) (ps : List Part) → Tells P o m id k p → kernel_told o m id p room x k ≡ Some ps → P ps
+by_told P o m id p room x MessageKind.Ask ps h e =
+    given P (accepts id.from.home p room.0 room.1 room.2) ps
+    (by_test P room.0 (Says (Line.Migration Stage.Accepted p) ∷ to_kernel MessageKind.PullState id.from.home ∷ []) (Says (Line.Lacks p room.1 room.2) ∷ to_kernel MessageKind.Refuse id.from.home ∷ []) (h.accepted refl) (h.lacks room.1 room.2)) e
+by_told P o m id p room x MessageKind.Refuse ps h e = given P (Says (Line.Stays p) ∷ []) ps (h.stays refl) e
+by_told P o m id p room x MessageKind.PullState ps h e = given P (gives_piece id MessageKind.State) ps h.state e
+by_told P o m id p room x MessageKind.State ps h e =
+    given P (takes_chunk id p (o.view.asked p == chunks_of x)) ps
+    (by_test P (o.view.asked p == chunks_of x) (Says (Line.Migration Stage.StateTaken p) ∷ to_kernel MessageKind.PullBlock id.from.home ∷ []) (Says (Line.Proto id) ∷ to_kernel MessageKind.PullState id.from.home ∷ []) h.last_chunk h.next_chunk) e
+by_told P o m id p room x MessageKind.PullBlock ps h e = given P (gives_piece id MessageKind.Memory) ps h.memory e
+by_told P o m id p room x MessageKind.Memory ps h e =
+    given P (takes_block id p (o.view.asked p == pieces_of x)) ps
+    (by_test P (o.view.asked p == pieces_of x) (Says (Line.Migration Stage.MemoryTaken p) ∷ to_kernel MessageKind.AllTaken id.from.home ∷ []) (Says (Line.Proto id) ∷ to_kernel MessageKind.PullBlock id.from.home ∷ []) h.last_block h.next_block) e
+by_told P o m id p room x MessageKind.AllTaken ps h e = by_leaves P o m id p (o.view.queue m p ++ o.view.held m p) (o.view.known m p) ps (h.left (o.view.queue m p ++ o.view.held m p)) refl e
+by_told P o m id p room x MessageKind.Restart ps h e = given P (Says (Line.Migration Stage.Restarted p) ∷ []) ps (h.restarted refl) e
+by_told P o m id p room x _ ps h e = cc
+
+pub by_kernel : (P : List Part → Type 0) (b : Boot) (o : Point) (m : ℕ) (id : MsgId) (k : MessageKind) (a : About) (ps : List Part) → ((p : Pid) (x : PlainProcess) → a ≡ Of p → kernel.alive (o.kernel.processes p) ≡ Some x → Tells P o m id k p)
+    → kernel_hears b o m id k a ≡ Some ps → P ps
+by_kernel P b o m id k (Of p) ps h e =
+    let (x, there, last) = bind-is (kernel.alive (o.kernel.processes p)) (λ x. kernel_told o m id p (fits (free_room b o m) (length x.memory / 256)) x k) ps e in
+    by_told P o m id p (fits (free_room b o m) (length x.memory / 256)) x k ps (h p x refl there) last
+by_kernel P b o m id k _ ps h e = cc
+
+by_server : (P : List Part → Type 0) (o : Point) (id : MsgId) (t : Told) (k : MessageKind) (ps : List Part) → t.kind ≡ k → (t.kind ≡ MessageKind.Update → P (updates o id t)) → server_told o id t k ≡ Some ps → P ps
+by_server P o id t MessageKind.Update ps is h e = given P (updates o id t) ps (h is) e
+by_server P o id t _ ps is h e = cc
+
+by_here : (P : List Part → Type 0) (o : Point) (m : ℕ) (id : MsgId) (t : Told) (k : MessageKind) (ps : List Part) → t.kind ≡ k → Heard P o m id t → At o m t Here → here_told o m id t k ≡ Some ps → P ps
+by_here P o m id t MessageKind.Migrate ps is h at_ e =
+    let to = target_of (Some t) in
+    given P (moves_to m id t.receiver to) ps
+    (by_test P (m == to) (Says (Line.Here id) ∷ []) (Says (Line.Migration Stage.Frozen t.receiver) ∷ Says (Line.Migration Stage.Asked t.receiver) ∷ to_kernel MessageKind.Ask to ∷ []) (h.stays_here at_) (h.frozen to at_)) e
+by_here P o m id t MessageKind.Update ps is h at_ e = given P (updates o id t) ps (h.updated is) e
+by_here P o m id t _ ps is h at_ e = cc
+
+by_ended : (P : List Part → Type 0) (o : Point) (m : ℕ) (id : MsgId) (t : Told) (k : MessageKind) (ps : List Part) → t.kind ≡ k → Heard P o m id t → At o m t Ended → ended_told id k ≡ Some ps → P ps
+by_ended P o m id t MessageKind.Migrate ps is h at_ e = given P (Says (Line.NoMove id) ∷ []) ps (h.no_move at_) e
+by_ended P o m id t MessageKind.Update ps is h at_ e = given P (Says (Line.Updated id 0) ∷ []) ps (h.updated_none is at_) e
+by_ended P o m id t _ ps is h at_ e = cc
+
+by_process : (P : List Part → Type 0) (o : Point) (m : ℕ) (id : MsgId) (t : Told) (k : Known) (ps : List Part) → Heard P o m id t → At o m t k → process_told o m id t k ≡ Some ps → P ps
+by_process P o m id t Unknown ps h at_ e = cc
+by_process P o m id t Here ps h at_ e = by_here P o m id t t.kind ps refl h at_ e
+by_process P o m id t (Frozen to) ps h at_ e = given P (Says (Line.Held id) ∷ []) ps (h.leaving to at_) e
+by_process P o m id t (Incoming from) ps h at_ e = given P (Says (Line.Held id) ∷ []) ps (h.coming from at_) e
+by_process P o m id t (Forward to moves) ps h at_ e = given P (forwards_on o.addresses id t.kind manager to) ps (h.forwarded to moves at_) e
+by_process P o m id t Ended ps h at_ e = by_ended P o m id t t.kind ps refl h at_ e
+
+by_receiver : (P : List Part → Type 0) (b : Boot) (o : Point) (m : ℕ) (id : MsgId) (t : Told) (c d g : Bool) (ps : List Part) → pid_eq t.receiver switchboard ≡ d → pid_eq t.receiver manager ≡ g → Heard P o m id t
+    → (if c then kernel_hears b o m id t.kind t.about else if d then server_told o id t t.kind else if g then server_told o id t t.kind else process_told o m id t (o.view.known m t.receiver)) ≡ Some ps → P ps
+by_receiver P b o m id t true d g ps one two h e = by_kernel P b o m id t.kind t.about ps h.told e
+by_receiver P b o m id t false true g ps one two h e = by_server P o id t t.kind ps refl h.updated e
+by_receiver P b o m id t false false true ps one two h e = by_server P o id t t.kind ps refl h.updated e
+by_receiver P b o m id t false false false ps one two h e =
+    by_process P o m id t (o.view.known m t.receiver) ps h (record { known = refl; server = ap (λ (x : Bool). x || pid_eq t.receiver manager) one ∙ two }) e
+
+pub by_hears : (P : List Part → Type 0) (b : Boot) (o : Point) (m : ℕ) (id : MsgId) (q : Option Told) (ps : List Part) → ((t : Told) → q ≡ Some t → Heard P o m id t) → hears b o m id q ≡ Some ps → P ps
+by_hears P b o m id None ps h e = cc
+by_hears P b o m id (Some t) ps h e = by_receiver P b o m id t (t.receiver.num == 0) (pid_eq t.receiver switchboard) (pid_eq t.receiver manager) ps refl refl (h t refl) e
+
+-- the lines that a kernel's own message brings about
+abbrev pub IsHeardLine : Line → Type 0
+IsHeardLine (Line.Migration step p) = ⊤
+IsHeardLine (Line.SentOn p n) = ⊤
+IsHeardLine (Line.Lacks p slots blocks) = ⊤
+IsHeardLine (Line.Stays p) = ⊤
+IsHeardLine (Line.Proto i) = ⊤
+IsHeardLine (Line.Updated i n) = ⊤
+IsHeardLine (Line.NoMove i) = ⊤
+IsHeardLine (Line.Held i) = ⊤
+IsHeardLine (Line.Forwarded i to) = ⊤
+IsHeardLine (Line.Here i) = ⊤
+IsHeardLine _ = ⊥
+
+-- what each such line keeps, each message that goes on, and each that a kernel sends
+pub record Kept (P : List Part → Type 0) : Type 0 where
+  pub none : P []
+  pub says : (l : Line) (ps : List Part) → IsHeardLine l → P ps → P (Says l ∷ ps)
+  pub again : (i : MsgId) (to : ℕ) (ps : List Part) → P ps → P (Again i to ∷ ps)
+  pub owns : (k : MessageKind) (q : Pid) (to : ℕ) (ps : List Part) → P ps → P (Owns k q to ∷ ps)
+
+kept_on : (P : List Part → Type 0) → Kept P → (to : ℕ) (ids : List MsgId) (ps : List Part) → P ps → P (sends_on to ids ++ ps)
+kept_on P c to [] ps h = h
+kept_on P c to (i ∷ is) ps h = c.again i to (sends_on to is ++ ps) (kept_on P c to is ps h)
+
+-- a message goes on, and its sender may be told
+pub kept_forward : (P : List Part → Type 0) → Kept P → (a : Addresses) (id : MsgId) (k : MessageKind) (sender : Pid) (to : ℕ) → P (forwards_on a id k sender to)
+kept_forward P c a id k sender to =
+    let back = Owns MessageKind.Update sender (a (Sender id)).at in
+    let last = if is_told_back k then back ∷ [] else [] in
+    c.says (Line.Forwarded id to) (Again id to ∷ last) tt (c.again id to last (by_test P (is_told_back k) (back ∷ []) [] (c.owns MessageKind.Update sender (a (Sender id)).at [] c.none) c.none))
+
+-- holds of all that comes of a kernel's own message
+heard_kept : (P : List Part → Type 0) → Kept P → (o : Point) (m : ℕ) (id : MsgId) (t : Told) → Heard P o m id t
+heard_kept P c o m id t =
+    let one : (l : Line) → IsHeardLine l → P (Says l ∷ []) = λ l h. c.says l [] h c.none in
+    let two : (l : Line) (k : MessageKind) (b : ℕ) → IsHeardLine l → P (Says l ∷ to_kernel k b ∷ []) = λ l k b h. c.says l (to_kernel k b ∷ []) h (c.owns k (pid_of b 0) b [] c.none) in
+    let home = id.from.home in
+    record {
+      told = λ p x about alive. record {
+        accepted = λ ask. two (Line.Migration Stage.Accepted p) MessageKind.PullState home tt;
+        lacks = λ slots blocks. two (Line.Lacks p slots blocks) MessageKind.Refuse home tt;
+        stays = λ kind. one (Line.Stays p) tt;
+        state = two (Line.Proto id) MessageKind.State home tt;
+        next_chunk = two (Line.Proto id) MessageKind.PullState home tt;
+        last_chunk = two (Line.Migration Stage.StateTaken p) MessageKind.PullBlock home tt;
+        memory = two (Line.Proto id) MessageKind.Memory home tt;
+        next_block = two (Line.Proto id) MessageKind.PullBlock home tt;
+        last_block = two (Line.Migration Stage.MemoryTaken p) MessageKind.AllTaken home tt;
+        left = λ ids to frozen.
+            (let end = Says (Line.Migration Stage.Left p) ∷ to_kernel MessageKind.Restart home ∷ [] in
+            c.says (Line.SentOn p (length ids)) (sends_on to ids ++ end) tt (kept_on P c to ids end (two (Line.Migration Stage.Left p) MessageKind.Restart home tt)));
+        restarted = λ kind. one (Line.Migration Stage.Restarted p) tt;
+      };
+      updated = λ kind. one (Line.Updated id (behind_count o.kernel o.addresses t.receiver (place_told t.about))) tt;
+      updated_none = λ kind at_. one (Line.Updated id 0) tt;
+      no_move = λ at_. one (Line.NoMove id) tt;
+      leaving = λ to at_. one (Line.Held id) tt;
+      coming = λ from at_. one (Line.Held id) tt;
+      forwarded = λ to moves at_. kept_forward P c o.addresses id t.kind manager to;
+      stays_here = λ at_. one (Line.Here id) tt;
+      frozen = λ to at_.
+          c.says (Line.Migration Stage.Frozen t.receiver) (Says (Line.Migration Stage.Asked t.receiver) ∷ to_kernel MessageKind.Ask to ∷ []) tt (two (Line.Migration Stage.Asked t.receiver) MessageKind.Ask to tt);
+    }
+
+pub hears_kept : (P : List Part → Type 0) → Kept P → (b : Boot) (o : Point) (m : ℕ) (id : MsgId) (q : Option Told) (ps : List Part) → hears b o m id q ≡ Some ps → P ps
+hears_kept P c b o m id q ps = by_hears P b o m id q ps (λ t is. heard_kept P c o m id t)
+
+-- what another kernel is told of a process alone
+pub kernel_kept : (P : List Part → Type 0) → Kept P → (b : Boot) (o : Point) (m : ℕ) (id : MsgId) (k : MessageKind) (a : About) (ps : List Part) → kernel_hears b o m id k a ≡ Some ps → P ps
+kernel_kept P c b o m id k a ps = by_kernel P b o m id k a ps (λ p x is alive. (heard_kept P c o m id (record { kind = k; receiver = manager; about = a })).told p x is alive)
