@@ -25,7 +25,7 @@ use std::alloc::Global;
 use thiserror::Error;
 use writing::{extend_with_links, put_front, put_mask};
 
-/// The fewest bytes that a state has: no link, and no word but its own.
+/// The fewest bytes that a state has: no link, and a process that is ready.
 pub const LEAST_STATE: usize = 102;
 
 /// The most bytes that a state has: 128 links, and a data move under way.

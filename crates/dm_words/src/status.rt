@@ -10,7 +10,7 @@ use itoa::Buffer;
 pub const LONGEST_LINE: usize = 96;
 
 /// The most bytes of what a status says, without its line feed.
-pub const LONGEST_TEXT: usize = 95;
+pub const LONGEST_TEXT: usize = LONGEST_LINE - 1;
 
 /// One of the files that the program reads.
 #[derive(Clone, Copy, Debug, PartialEq, Eq)]

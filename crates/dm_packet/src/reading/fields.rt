@@ -92,6 +92,7 @@ fn are_flags(byte: u8) -> bool
     byte < 16 && byte / 2 % 2 == 0
 }
 
+/// The kind of a link by its bit: a reply link where it is set.
 fn kind_of_bit(bit: u8) -> Kind
     ensures { result ≡ kind_of_bit bit }
 {
