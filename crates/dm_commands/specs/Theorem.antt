@@ -1,6 +1,8 @@
 -- The theorem on what `run` prints, in one place. Where it ends with status 0, whatever the files say, the bytes that it wrote are
 -- the text of lines of which this holds: their labels are a run of one kernel without machines, from the boot file on; no message
 -- is received twice, and each stands exactly once; and the lines at the end say where that run stands.
+-- It doesn't tie the lines to the schedule: a run that does no directive is sound too. That each directive's group is there, as the
+-- rule has it, is `IsWhole` (dm_run), in the clause of `run`.
 use Rattle.std.specs.Prelude.{◌≡◌, ℕ, ◌≤◌, List, ◌++◌}
 use Rattle.std.specs.declared.option.Option.{Option}
 use Rattle.std.specs.declared.option.Option.TheVariants.{Some}
