@@ -1,7 +1,6 @@
 -- Whether words have matches.
 use Rattle.std.specs.Prelude.{◌≡◌, [], Result, Ok, Err}
 use Rattle.clap.specs.Words.{Kinds}
-use Rattle.clap.specs.declared.parser.matches.ArgMatches.{ArgMatches}
 use Rattle.dm_memory.specs.declared.NoMemory.{NoMemory as TheNoMemory}
 use Rattle.dm_memory.specs.declared.of_clap.MatchesError.{MatchesError}
 use Rattle.dm_memory.specs.declared.of_clap.MatchesError.TheVariants.{Refused, NoMemory}

@@ -9,6 +9,7 @@ pub mod of_circular_buffer;
 pub mod of_clap;
 pub mod of_indexmap;
 pub mod of_toml;
+pub mod parcel;
 
 pub use deques::{push_back, push_back_or_return, push_front, room_for_both};
 pub use lists::{
@@ -16,6 +17,7 @@ pub use lists::{
     reserve_for, with_room, zeros,
 };
 pub use maps::{insert, insert_or_return};
+pub use parcel::Parcel;
 use thiserror::Error;
 
 /// No memory was left. Only the calls of this crate make it, each where the allocator refused it memory, and nothing is
