@@ -1,5 +1,5 @@
 -- What the proofs of this crate name of what lies below it.
-pub use Rattle.std.proofs.Common.{Bor, String, nat_lt, negsuc, pos, slice_get, string_bytes, ℤ, ◌&&◌, ◌||◌}
+pub use Rattle.std.proofs.Common.{◌≢◌, Bor, String, nat_lt, negsuc, pos, slice_get, string_bytes, ℤ, ◌&&◌, ◌||◌}
 pub use Rattle.std.proofs.Math.ListN.{drop_of_length-le}
 pub use Rattle.std.proofs.lemmas.Bool.{and_parts}
 pub use Rattle.std.proofs.lemmas.List.{drop_more}
@@ -36,7 +36,7 @@ pub use Rattle.dm_boot.specs.Rules.{assembles, broken_or, fits_machine, image_ru
 unfoldable pub use Rattle.dm_boot.specs.Rules.{broken_at, first_broken, first_long, first_unassembled, fits_after, has_area, has_good_image_count, has_good_machine_count, has_good_room, has_good_settings, has_link_count, has_machine}
 unfoldable pub use Rattle.dm_boot.specs.Rules.{is_link}
 unfoldable pub use Rattle.dm_boot.specs.Rules.{has_place, has_target, image_fits, is_limited, is_plain, keeps, memory_of, rule_of, subjects}
-pub use Rattle.dm_boot.specs.Tables.{all_items, all_known, count, in_range, integer_in, is_known, is_named, is_table, number_or, or_zero, place_from, text_at, truth_at}
+pub use Rattle.dm_boot.specs.Tables.{all_items, all_known, count, in_range, integer_in, is_known, is_named, is_table, lone_member, number_or, or_zero, place_from, text_at, truth_at}
 pub use Rattle.dm_boot.specs.Sound.{all_sound, general_link, has_sound_links}
 unfoldable pub use Rattle.dm_boot.specs.Sound.{is_sound}
 unfoldable pub use Rattle.dm_boot.specs.Tables.{first_failing, map_items, named, number_at, place_of}

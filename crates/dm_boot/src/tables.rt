@@ -1,11 +1,11 @@
 //! What a table of the boot file holds at its keys.
-ghost use Rattle.std.specs.Prelude.{◌≡◌, ◌≤◌, IfSome, map, string_bytes};
+ghost use Rattle.std.specs.Prelude.{◌≡◌, ◌≤◌, IfSome, map, option_copied, string_bytes};
 ghost use Rattle.std.specs.List.{list_all, list_any};
 ghost use Rattle.std.specs.Str.{bytes_eq};
 ghost use Rattle.std.specs.BTreeMap.{keys};
 ghost use Rattle.toml.specs.Data.{member, no_members, string, table};
 ghost use Rattle.toml.specs.View.{items_view, table_view, view};
-ghost use Rattle.dm_boot.specs.Tables.{all_known, has, has_only, in_range, is_array, is_integer, is_known, is_text, is_truth, items_at, may_have, number_at, text_at, truth_at};
+ghost use Rattle.dm_boot.specs.Tables.{all_known, has, has_only, in_range, is_array, is_integer, is_known, is_text, is_truth, items_at, lone_member, lone_text, may_have, number_at, text_at, truth_at};
 
 use toml::{Table, Value};
 
@@ -112,9 +112,10 @@ pub fn text_at<'a>(value: &'a Value, key: &str) -> &'a str
     }
 }
 
-/// The text of a table that has this key alone, where it has a text. Nothing is said of any other value.
+/// The text of a table that has this key alone, where it has a text.
 pub fn lone_text<'a>(value: &'a Value, key: &str) -> Option<&'a str>
-    ensures { IfSome result (λ text. view value.now ≡ table (member key.now (string text.now) no_members)) }
+    ensures text { option_copied result ≡ lone_text key.now (view value.now) }
+    ensures alone { IfSome result (λ text. view value.now ≡ table (member key.now (string text.now) no_members)) }
 {
     match value {
         Value::Table(table) => lone_member(table, key),
@@ -125,7 +126,8 @@ pub fn lone_text<'a>(value: &'a Value, key: &str) -> Option<&'a str>
 /// The text of a table that has this key alone, where it has a text.
 #[tactic(auto, using(crate::proofs::Keys::lone_lemmas))]
 fn lone_member<'a>(table: &'a Table, key: &str) -> Option<&'a str>
-    ensures { IfSome result (λ text. table_view table.now ≡ member key.now (string text.now) no_members) }
+    ensures text { option_copied result ≡ lone_member key.now (table_view table.now) }
+    ensures alone { IfSome result (λ text. table_view table.now ≡ member key.now (string text.now) no_members) }
 {
     if table.len() != 1 {
         return None;
