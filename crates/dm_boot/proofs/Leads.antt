@@ -2,7 +2,7 @@
 use Rattle.dm_boot.proofs.Imports.{◌≡◌, ℕ, ◌+◌, ◌*◌, ◌<◌, ◌≤◌, ◌==◌, ◌&&◌, ◌||◌, not, Bool, true, false, if◌then◌else◌, nat_le, List, [], length, slice_get, codes, Option, Some, None, refl, ap, sym, subst, ◌∙◌, arith, and_parts, nat_tests}
 use Rattle.dm_boot.proofs.Imports.{is_some, Data, get_item, Pid, Link, pid_of, pid_eq, BootProcess, Boot, first_number, process_named, switchboard, manager, blocks_of_image, memory_size, leads_to_process, leads_to_server, controls_child}
 use Rattle.dm_boot.proofs.Imports.{link_is_valid, area_is_within, count, or_zero, text_at, truth_at, place_of, named, is_switchboard, is_manager, is_server, process_tables, image_tables, image_place, image_of, images_of, starts_of}
-use Rattle.dm_boot.proofs.Imports.{processes_of, linked, link_of, link_to, control_of, pid_named, pid_of_start, is_control, code_in, channel_in, base_in, len_in, system_of, system_with, has_target, is_plain, is_limited, has_area, memory_of}
+use Rattle.dm_boot.proofs.Imports.{linked, link_of, link_to, control_of, pid_named, pid_of_start, is_control, code_in, channel_in, base_in, len_in, system_of, system_with, has_target, is_plain, is_limited, has_area, memory_of}
 use Rattle.dm_boot.proofs.Bounds.{none-is, number-bounds, number-zero, map-at, place-within, item-at}
 use Rattle.dm_boot.proofs.Found.{Start, linked-length, start-at, numbered-none, found-start, found-linked}
 

@@ -7,6 +7,8 @@ pub mod Texts
 pub mod Counted
 pub mod Placed
 pub mod Linked
+pub mod Lone
+pub mod Sound
 pub mod Documents
 pub mod Parts
 pub mod Bounds

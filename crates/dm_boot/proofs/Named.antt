@@ -1,8 +1,7 @@
 -- The elements of an array, found by their names.
-use Rattle.dm_boot.proofs.Imports.{◌≡◌, ◌∙◌, ℕ, ◌+◌, ◌<◌, ◌≤◌, Bool, true, false, if◌then◌else◌, List, [], length, get_or, drop, None, Some, refl, ap, sym, arith, codes, is_some, option_or, bytes_eq, Value, Items, no_items, item, view}
-use Rattle.dm_boot.proofs.Imports.{items_view, count, is_named, place_from, place_of, text_at}
+use Rattle.dm_boot.proofs.Imports.{◌≡◌, ℕ, ◌+◌, ◌<◌, Bool, true, false, if◌then◌else◌, List, None, Some, refl, ap, sym, arith, is_some, option_or, Items, no_items, item}
+use Rattle.dm_boot.proofs.Imports.{count, is_named, place_from, place_of}
 use Rattle.std.specs.declared.option.Option.{Option}
-use Rattle.dm_boot.proofs.Elements.{element_at, no_more}
 
 -- a place is one of the elements
 from_within : (here : Bool) (i n k : ℕ) (o : Option ℕ) → (if here then Some i else o) ≡ Some k → (o ≡ Some k → k < i + 1 + n) → k < i + (n + 1)

@@ -4,5 +4,7 @@ pub mod Named
 pub mod Text
 pub mod Build
 pub mod Rules
+pub mod Started
+pub mod Sound
 pub mod Boot
 pub mod Made

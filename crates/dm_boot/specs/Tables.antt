@@ -67,6 +67,16 @@ text_of (Some d) = text_or_empty (as_str d)
 abbrev pub text_at : List ℕ → Data → List ℕ
 text_at key d = text_of (get key d)
 
+-- the text of a table that has this key alone, where it has a text
+abbrev pub lone_member : List ℕ → Members → Option (List ℕ)
+lone_member key no_members = None
+lone_member key (member k d no_members) = if bytes_eq k key then as_str d else None
+lone_member key (member k d (member l e ms)) = None
+
+abbrev pub lone_text : List ℕ → Data → Option (List ℕ)
+lone_text key (table ms) = lone_member key ms
+lone_text key _ = None
+
 -- a truth; false where there is none
 abbrev pub truth_or_false : Option Bool → Bool
 truth_or_false None = false

@@ -8,9 +8,10 @@ ghost use Rattle.dm_boot.specs.Build.{image_tables, process_tables};
 ghost use Rattle.dm_boot.specs.Tables.{named, place_of};
 
 use crate::tables::{items_at, text_at};
-use dm_memory::{NoMemory, insert};
+use dm_memory::NoMemory;
+use dm_memory::of_indexmap::insert;
+use indexmap::IndexMap;
 use std::alloc::Global;
-use std::collections::BTreeMap;
 use toml::Value;
 
 /// The top table of a boot file. Its images and processes are found by name in a time that hardly grows with how many
@@ -19,9 +20,9 @@ use toml::Value;
 pub struct Document<'a> {
     pub top: &'a Value,
     /// The place of the first image of each name.
-    images: BTreeMap<&'a str, usize>,
+    images: IndexMap<&'a str, usize>,
     /// The place of the first process of each name.
-    processes: BTreeMap<&'a str, usize>,
+    processes: IndexMap<&'a str, usize>,
     ghost finds_images: { FindsNames images (image_tables (view top.now)) },
     ghost finds_processes: { FindsNames processes (process_tables (view top.now)) },
 }
@@ -76,10 +77,10 @@ impl<'a> Document<'a> {
 }
 
 /// The place of the first of these elements of each name.
-fn places_of<'a>(alloc: Global, items: &'a [Value]) -> Result<BTreeMap<&'a str, usize>, NoMemory>
+fn places_of<'a>(alloc: Global, items: &'a [Value]) -> Result<IndexMap<&'a str, usize>, NoMemory>
     ensures { IfOk result (λ places. FindsNames places (items_view items.now)) }
 {
-    let mut places = BTreeMap::new(alloc);
+    let mut places = IndexMap::new(alloc);
     for (i, item) in items.iter().enumerate() {
         set_place(&mut places, text_at(item, "name"), i)?;
     }
@@ -88,7 +89,7 @@ fn places_of<'a>(alloc: Global, items: &'a [Value]) -> Result<BTreeMap<&'a str, 
 
 /// Sets the place of a name that has none.
 fn set_place<'a>(
-    places: &mut BTreeMap<&'a str, usize>,
+    places: &mut IndexMap<&'a str, usize>,
     name: &'a str,
     place: usize,
 ) -> Result<(), NoMemory>

@@ -18,6 +18,7 @@ pub mod shapes;
 mod starts;
 mod system;
 pub mod tables;
+mod taken;
 pub mod targets;
 
 use dm_memory::of_toml::{DocumentError, table_from_slice};

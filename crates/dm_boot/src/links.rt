@@ -1,20 +1,43 @@
 //! The links.
-ghost use Rattle.std.specs.Prelude.{◌≡◌, ◌≤◌, IfOk, slice_get};
+ghost use Rattle.std.specs.Prelude.{◌≡◌, ◌≤◌, ◌||◌, IfOk, false, is_some, slice_get, true};
 ghost use Rattle.toml.specs.View.{view};
-ghost use Rattle.dm_boot.specs.Tables.{count};
-ghost use Rattle.dm_boot.specs.Build.{control_of, kind_with, link_of, link_to, links_of, pid_named, pid_of_start, process_tables};
+ghost use Rattle.dm_boot.specs.Tables.{count, place_of};
+ghost use Rattle.dm_boot.specs.Text.{is_server};
+ghost use Rattle.dm_boot.specs.Build.{is_control, kind_with, link_of, link_to, links_of, pid_named, pid_of_start, process_tables};
+ghost use Rattle.dm_boot.specs.Sound.{general_link, has_sound_links, is_sound};
 
 use crate::document::Document;
 use crate::names::{is_manager, is_switchboard};
-use crate::tables::{items_at, text_at, truth_at};
-use crate::targets::{base_in, channel_in, code_in, is_control, len_in};
+use crate::tables::{items_at, lone_text, text_at, truth_at};
+use crate::targets::{base_in, channel_in, code_in, is_control, is_limited, len_in};
 use dm_link::{Addr, Area, Kind, Link, MANAGER, Pid, SWITCHBOARD};
 use dm_lists::Items;
-use dm_memory::NoMemory;
+use dm_memory::{NoMemory, push, with_room};
 use dm_onekernel::boot::BootProcess;
 use dm_processor::MOST_MEMORY;
 use std::alloc::Global;
 use toml::Value;
+
+/// A link as its table says, and whether the table is sound: it leads somewhere, and its numbers are within their limits.
+#[derive(Drop)]
+struct ReadLink {
+    link: Link,
+    sound: bool,
+}
+
+/// The links of a process, and whether the tables of all are sound.
+#[derive(Drop)]
+pub struct ReadLinks {
+    pub links: Items<Link>,
+    pub sound: bool,
+}
+
+/// Whom a link leads to, and whether there is such a process or server.
+#[derive(Clone, Copy)]
+struct Led {
+    pid: Pid,
+    found: bool,
+}
 
 /// The links of a process, the first in slot 0. The starts are the processes in the order of the file.
 #[tactic(auto, using(crate::proofs::Elements::map_lemmas))]
@@ -23,45 +46,106 @@ pub fn links_of(
     document: &Document<'_>,
     starts: &[BootProcess],
     process: &Value,
-) -> Result<Items<Link>, NoMemory>
+) -> Result<ReadLinks, NoMemory>
     requires { count (process_tables (view document.now.top.now)) ≤ 4294967294 }
-    ensures { IfOk result (λ links. links ≡ links_of (view document.now.top.now) starts.now (view process.now)) }
+    ensures links { IfOk result (λ read. read.links ≡ links_of (view document.now.top.now) starts.now (view process.now)) }
+    ensures sound { IfOk result (λ read. read.sound ≡ has_sound_links (view document.now.top.now) (view process.now)) }
 {
-    let mut links = Items::new(alloc);
     let tables = items_at(process, "links");
+    let mut links = with_room(alloc, tables.len())?;
+    let mut sound = true;
     for table in tables {
-        links.push(link_of(document, starts, table))?;
+        let read = link_of(document, starts, table);
+        push(&mut links, read.link)?;
+        sound = sound && read.sound;
     }
-    Ok(links)
+    Ok(ReadLinks {
+        links: Items::from_vec(links),
+        sound,
+    })
 }
 
 /// A link, as its table says.
-#[tactic(auto, unfolding(crate::specs::Build::link_of), using(crate::proofs::Named::named_lemmas))]
-fn link_of(document: &Document<'_>, starts: &[BootProcess], link: &Value) -> Link
+#[tactic(auto, using(crate::proofs::Lone::lone_lemmas))]
+fn link_of(document: &Document<'_>, starts: &[BootProcess], link: &Value) -> ReadLink
     requires { count (process_tables (view document.now.top.now)) ≤ 4294967294 }
-    ensures { result ≡ link_of (view document.now.top.now) starts.now (view link.now) }
+    ensures link { result.link ≡ link_of (view document.now.top.now) starts.now (view link.now) }
+    ensures sound { result.sound ≡ is_sound (view document.now.top.now) (view link.now) }
 {
+    if let Some(name) = lone_text(link, "to") {
+        return plain_link(led_to(document, starts, name));
+    }
     if is_control(link) {
-        let child = document.process_named(text_at(link, "control"));
-        control_of(child.unwrap_or(0) as u32 + 1)
+        control_link(document, starts, link)
     } else {
-        link_to(pid_named(document, starts, text_at(link, "to")), link)
+        full_link(document, starts, link)
+    }
+}
+
+/// A general link with no code and no area to whom it leads.
+#[tactic(auto, unfolding(crate::specs::Build::link_to))]
+fn plain_link(led: Led) -> ReadLink
+    ensures link { result.link ≡ general_link led.pid 0 }
+    ensures sound { result.sound ≡ led.found }
+{
+    ReadLink {
+        link: general_link(led.pid, 0),
+        sound: led.found,
+    }
+}
+
+/// A link that controls a child.
+#[tactic(auto, unfolding(crate::specs::Build::link_of, crate::specs::Build::control_of, crate::specs::Rules::has_target, crate::specs::Sound::is_sound), using(crate::proofs::Named::named_lemmas))]
+fn control_link(document: &Document<'_>, starts: &[BootProcess], link: &Value) -> ReadLink
+    requires few { count (process_tables (view document.now.top.now)) ≤ 4294967294 }
+    requires control { is_control (view link.now) ≡ true }
+    ensures link { result.link ≡ link_of (view document.now.top.now) starts.now (view link.now) }
+    ensures sound { result.sound ≡ is_sound (view document.now.top.now) (view link.now) }
+{
+    let child = document.process_named(text_at(link, "control"));
+    ReadLink {
+        link: general_link(MANAGER, child.unwrap_or(0) as u32 + 1),
+        sound: child.is_some() && is_limited(document, link),
+    }
+}
+
+/// A link that leads to a process or server.
+#[tactic(auto, unfolding(crate::specs::Build::link_of, crate::specs::Rules::has_target, crate::specs::Sound::is_sound))]
+fn full_link(document: &Document<'_>, starts: &[BootProcess], link: &Value) -> ReadLink
+    requires { is_control (view link.now) ≡ false }
+    ensures link { result.link ≡ link_of (view document.now.top.now) starts.now (view link.now) }
+    ensures sound { result.sound ≡ is_sound (view document.now.top.now) (view link.now) }
+{
+    let led = led_to(document, starts, text_at(link, "to"));
+    ReadLink {
+        link: link_to(led.pid, link),
+        sound: led.found && is_limited(document, link),
     }
 }
 
 /// The process or server with a name.
-#[tactic(auto, unfolding(crate::specs::Build::pid_named))]
-fn pid_named(document: &Document<'_>, starts: &[BootProcess], name: &str) -> Pid
-    ensures { result ≡ pid_named (view document.now.top.now) starts.now name.now }
+#[tactic(auto, unfolding(crate::specs::Build::pid_named, crate::specs::Text::is_server))]
+fn led_to(document: &Document<'_>, starts: &[BootProcess], name: &str) -> Led
+    ensures pid { result.pid ≡ pid_named (view document.now.top.now) starts.now name.now }
+    ensures found { result.found ≡ (is_server name.now || is_some (place_of name.now (process_tables (view document.now.top.now)))) }
 {
     if is_switchboard(name) {
-        return SWITCHBOARD;
+        return Led {
+            pid: SWITCHBOARD,
+            found: true,
+        };
     }
     if is_manager(name) {
-        return MANAGER;
+        return Led {
+            pid: MANAGER,
+            found: true,
+        };
     }
-    let place = document.process_named(name).unwrap_or(0);
-    pid_of_start(starts, place)
+    let place = document.process_named(name);
+    Led {
+        pid: pid_of_start(starts, place.unwrap_or(0)),
+        found: place.is_some(),
+    }
 }
 
 /// The name of the process at a place.
@@ -105,20 +189,19 @@ fn kind_with(reply: bool) -> Kind
     if reply { Kind::Reply } else { Kind::General }
 }
 
-/// A general link to the process manager with the number of a child.
-#[tactic(auto, unfolding(crate::specs::Build::control_of))]
-fn control_of(child: u32) -> Link
-    ensures { result ≡ control_of child }
+/// A general link to a process where it starts, with a code and no area.
+fn general_link(pid: Pid, code: u32) -> Link
+    ensures { result ≡ general_link pid code }
 {
     Link {
         addr: Addr {
-            pid: MANAGER,
-            at: 0,
+            pid,
+            at: pid.home,
             moves: 0,
         },
         kind: Kind::General,
         to_kernel: false,
-        code: child,
+        code,
         channel: 0,
         area: Area {
             base: 0,

@@ -1,41 +1,56 @@
 //! The processes with their links.
-ghost use Rattle.std.specs.Prelude.{◌≡◌, ◌≤◌, IfOk};
+ghost use Rattle.std.specs.Prelude.{◌≡◌, ◌≤◌, IfOk, length};
 ghost use Rattle.toml.specs.View.{view};
 ghost use Rattle.dm_boot.specs.Tables.{count};
 ghost use Rattle.dm_boot.specs.Build.{linked_all, process_tables};
+ghost use Rattle.dm_boot.specs.Sound.{all_sound};
 
 use crate::MOST_PROCESSES;
 use crate::document::Document;
 use crate::links::links_of;
 use crate::tables::items_at;
 use dm_lists::Items;
-use dm_memory::NoMemory;
+use dm_memory::{NoMemory, push, with_room};
 use dm_onekernel::boot::BootProcess;
 use std::alloc::Global;
 use toml::Value;
 
+/// The processes, and whether the tables of all their links are sound.
+#[derive(Drop)]
+pub struct ReadProcesses {
+    pub processes: Items<BootProcess>,
+    pub sound: bool,
+}
+
 /// These processes, each with the links of its table.
-#[tactic(auto, using(crate::proofs::Linked::linked_lemmas))]
+#[tactic(auto, using(crate::proofs::Linked::linked_lemmas, crate::proofs::Elements::count_lemmas))]
 pub fn processes_of(
     alloc: Global,
     document: &Document<'_>,
     starts: &[BootProcess],
-) -> Result<Items<BootProcess>, NoMemory>
+) -> Result<ReadProcesses, NoMemory>
     requires few { count (process_tables (view document.now.top.now)) ≤ MOST_PROCESSES }
-    ensures { IfOk result (λ ps. ps ≡ linked_all (view document.now.top.now) starts.now starts.now (process_tables (view document.now.top.now))) }
+    requires many { length starts.now ≡ count (process_tables (view document.now.top.now)) }
+    ensures sound { IfOk result (λ read. read.sound ≡ all_sound (view document.now.top.now)) }
+    ensures processes { IfOk result (λ read. read.processes ≡ linked_all (view document.now.top.now) starts.now starts.now (process_tables (view document.now.top.now))) }
 {
     let tables = items_at(document.top, "process");
-    let mut processes = Items::new(alloc);
+    let mut processes = with_room(alloc, starts.len())?;
+    let mut sound = true;
     for (i, start) in starts.iter().enumerate() {
-        if i >= tables.len() {
-            return Ok(processes);
-        }
-        let links = links_of(alloc, document, starts, &tables[i])?;
-        processes.push(BootProcess {
-            pid: start.pid,
-            image: start.image,
-            links,
-        })?;
+        let read = links_of(alloc, document, starts, &tables[i])?;
+        sound = sound && read.sound;
+        push(
+            &mut processes,
+            BootProcess {
+                pid: start.pid,
+                image: start.image,
+                links: read.links,
+            },
+        )?;
     }
-    Ok(processes)
+    Ok(ReadProcesses {
+        processes: Items::from_vec(processes),
+        sound,
+    })
 }

@@ -5,7 +5,8 @@ ghost use Rattle.dm_boot.specs.Tables.{all_items, is_table};
 ghost use Rattle.dm_boot.specs.Rules.{is_control_link, is_image, is_link, is_link_to, is_machine, is_process, is_top, may_have_tables};
 
 use crate::tables::{
-    has_integer, has_only, has_text, items_at, may_have_array, may_have_integer, may_have_truth,
+    has_integer, has_only, has_text, items_at, lone_text, may_have_array, may_have_integer,
+    may_have_truth,
 };
 use toml::Value;
 
@@ -95,11 +96,11 @@ fn are_links(items: &[Value]) -> bool
 }
 
 /// Whether a link has its keys, with the right types: `control` alone, or `to` and others.
-#[tactic(auto, unfolding(crate::specs::Rules::is_link))]
+#[tactic(auto, unfolding(crate::specs::Rules::is_link), using(crate::proofs::Lone::lone_lemmas))]
 pub fn is_link(value: &Value) -> bool
     ensures { result ≡ is_link (view value.now) }
 {
-    is_link_to(value) || is_control_link(value)
+    lone_text(value, "to").is_some() || is_link_to(value) || is_control_link(value)
 }
 
 fn is_control_link(value: &Value) -> bool

@@ -1,11 +1,12 @@
 //! The processes without their links, and whether they fit their machines.
-ghost use Rattle.std.specs.Prelude.{◌≡◌, ◌≤◌, ◌<◌, ◌+◌, ◌^◌, ℕ, OnOk, nat_le, slice_get};
+ghost use Rattle.std.specs.Prelude.{◌≡◌, ◌≤◌, ◌<◌, ◌+◌, ◌^◌, ℕ, OnOk, nat_le, slice_get, slice_index};
 ghost use Rattle.std.specs.Bool.{OnTrue};
 ghost use Rattle.toml.specs.View.{view};
-ghost use Rattle.dm_onekernel.specs.Boot.{blocks_at, blocks_of_image, starting_at};
+ghost use Rattle.dm_onekernel.specs.Boot.{blocks_of_image};
 ghost use Rattle.dm_boot.specs.Tables.{count, first_failing};
-ghost use Rattle.dm_boot.specs.Build.{image_tables, images_of, machines_of, process_tables, start_of, starts_of};
-ghost use Rattle.dm_boot.specs.Rules.{fits_after, has_place};
+ghost use Rattle.dm_boot.specs.Build.{home_of, image_tables, images_of, machines_of, process_tables, starts_of};
+ghost use Rattle.dm_boot.specs.Rules.{fits_machine, has_place};
+ghost use Rattle.dm_boot.specs.Started.{started};
 ghost use Rattle.dm_boot.specs.Boot.{Answers, unless_at};
 ghost use Rattle.dm_boot.specs.declared.rules.BootRule.TheVariants as rules;
 
@@ -13,6 +14,7 @@ use crate::document::Document;
 use crate::limits::{image_place, machine_number};
 use crate::rules::{BootError, BootRule};
 use crate::tables::items_at;
+use crate::taken::Taken;
 use crate::{MOST_IMAGES, MOST_PROCESSES};
 use dm_link::{FIRST_NUMBER, Pid};
 use dm_lists::Items;
@@ -36,14 +38,18 @@ pub fn starts_of(
 {
     let tables = items_at(document.top, "process");
     let mut starts = Items::new(alloc);
+    let mut taken = Taken::new();
     for (i, table) in tables.iter().enumerate() {
-        let start = start_of(alloc, document, starts.as_slice(), table);
-        if !fits_after(machines, images, starts.as_slice(), &start) {
+        let start = start_of(alloc, document, &taken, table);
+        let home = start.pid.home;
+        let more = blocks_of_image(images, start.image);
+        if !fits_machine(machines, &taken, home, more) {
             return Err(BootError::Refused {
                 rule: BootRule::ProcessRoom,
                 place: i as u64,
             });
         }
+        taken.add(home, more);
         if let Err(none) = starts.push(start) {
             return Err(BootError::NoMemory(none));
         }
@@ -51,21 +57,16 @@ pub fn starts_of(
     Ok(starts)
 }
 
-/// A process without its links, after the earlier ones.
-#[tactic(auto, unfolding(crate::specs::Build::start_of))]
-fn start_of(
-    alloc: Global,
-    document: &Document<'_>,
-    earlier: &[BootProcess],
-    table: &Value,
-) -> BootProcess
-    requires few { (m : ℕ) → starting_at m earlier.now ≤ 255 }
+/// A process without its links, after those that take so much.
+#[tactic(auto)]
+fn start_of(alloc: Global, document: &Document<'_>, taken: &Taken, table: &Value) -> BootProcess
+    requires few { (m : ℕ) → slice_index taken.now.slots m ≤ 255 }
     requires few_images { count (image_tables (view document.now.top.now)) ≤ MOST_IMAGES }
-    ensures start { result ≡ start_of (view document.now.top.now) earlier.now (view table.now) }
+    ensures start { result ≡ started (view document.now.top.now) (view table.now) (slice_index taken.now.slots (home_of (view table.now))) }
     ensures home { result.pid.home ≤ 15 }
 {
     let home = machine_number(table).unwrap_or(0) as u8;
-    let others = starting_at(home, earlier);
+    let others = taken.slots(home);
     BootProcess {
         pid: Pid {
             home,
@@ -85,65 +86,28 @@ fn has_place_for(more: u32, taken: u32, room: u16) -> bool
     taken + more <= u32::from(room)
 }
 
-/// Whether a process fits its machine with the earlier ones.
-#[tactic(auto, unfolding(crate::specs::Rules::fits_after), using(std::proofs::lemmas::Option::gets))]
-fn fits_after(
-    machines: &[BootMachine],
-    images: &[BootImage],
-    earlier: &[BootProcess],
-    process: &BootProcess,
-) -> bool
-    requires few { (m : ℕ) → starting_at m earlier.now ≤ 255 }
-    requires few_blocks { (m : ℕ) → blocks_at m images.now earlier.now ≤ 65535 }
-    ensures fits { result ≡ fits_after machines.now images.now earlier.now process.now }
-    ensures slots { OnTrue result (starting_at process.now.pid.home earlier.now < 255) }
-    ensures blocks { OnTrue result (blocks_at process.now.pid.home images.now earlier.now + blocks_of_image (slice_get images.now process.now.image) ≤ 65535) }
+/// Whether a process of so many blocks fits a machine with what is taken of it.
+#[tactic(auto, using(std::proofs::lemmas::Option::gets))]
+fn fits_machine(machines: &[BootMachine], taken: &Taken, home: u8, more: u32) -> bool
+    requires home { home ≤ 15 }
+    requires few { (m : ℕ) → slice_index taken.now.blocks m ≤ 65535 }
+    requires few_blocks { more ≤ 65535 }
+    ensures fits { result ≡ fits_machine (slice_get machines.now home) (slice_index taken.now.slots home) (slice_index taken.now.blocks home) more }
+    ensures slots { OnTrue result (slice_index taken.now.slots home < 255) }
+    ensures blocks { OnTrue result (slice_index taken.now.blocks home + more ≤ 65535) }
 {
-    let home = process.pid.home;
     let place = usize::from(home);
     if place >= machines.len() {
         return false;
     }
     let slots = machines[place].slots;
-    if starting_at(home, earlier) >= u32::from(slots) {
+    if taken.slots(home) >= u32::from(slots) {
         return false;
     }
-    let taken = blocks_at(home, images, earlier);
-    let more = blocks_of_image(images, process.image);
-    if !has_place_for(more, taken, machines[place].blocks) {
+    if !has_place_for(more, taken.blocks(home), machines[place].blocks) {
         return false;
     }
     true
-}
-
-/// How many of these processes start on a machine.
-#[tactic(auto, using(crate::proofs::Counted::starting_lemmas))]
-fn starting_at(machine: u8, processes: &[BootProcess]) -> u32
-    requires { starting_at machine processes.now ≤ 255 }
-    ensures { result ≡ starting_at machine processes.now }
-{
-    let mut count = 0;
-    for process in processes {
-        if process.pid.home == machine {
-            count += 1;
-        }
-    }
-    count
-}
-
-/// The blocks that these processes take on a machine.
-#[tactic(auto, using(crate::proofs::Counted::blocks_lemmas))]
-fn blocks_at(machine: u8, images: &[BootImage], processes: &[BootProcess]) -> u32
-    requires { blocks_at machine images.now processes.now ≤ 65535 }
-    ensures { result ≡ blocks_at machine images.now processes.now }
-{
-    let mut taken = 0;
-    for process in processes {
-        if process.pid.home == machine {
-            taken += blocks_of_image(images, process.image);
-        }
-    }
-    taken
 }
 
 /// The blocks of an image.

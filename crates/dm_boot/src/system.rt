@@ -5,6 +5,7 @@ ghost use Rattle.dm_boot.specs.Before.{before_images};
 ghost use Rattle.dm_boot.specs.Tables.{count};
 ghost use Rattle.dm_boot.specs.Build.{image_tables, images_of, machines_of, process_tables, processes_of, starts_of, system_with};
 ghost use Rattle.dm_boot.specs.Rules.{first_broken, image_rules, link_rules, process_rules, rule_of};
+ghost use Rattle.dm_boot.specs.Sound.{all_sound};
 ghost use Rattle.dm_boot.specs.Boot.{Answers, boot_of_table, unless};
 
 use crate::checks::first_broken;
@@ -145,7 +146,7 @@ fn read_starts(
 }
 
 /// The processes with their links, where no rule of links is broken.
-#[tactic(auto, unfolding(crate::specs::Rules::rule_of))]
+#[tactic(auto, using(crate::proofs::Sound::length_lemmas))]
 fn read_processes(
     alloc: Global,
     document: &Document<'_>,
@@ -155,16 +156,30 @@ fn read_processes(
     requires few { count (process_tables (view document.now.top.now)) ≤ MOST_PROCESSES }
     ensures { Answers (unless (first_broken link_rules (view document.now.top.now)) (processes_of (view document.now.top.now))) result }
 {
-    let rules = [
-        TableRule::LinkCount,
-        TableRule::LinkTarget,
-        TableRule::LinkLimits,
-    ];
-    if let Some((rule, place)) = first_broken(document, &rules) {
+    let read = match processes_of(alloc, document, starts) {
+        Ok(read) => read,
+        Err(none) => return Err(BootError::NoMemory(none)),
+    };
+    if let Some((rule, place)) = first_broken_link(document, read.sound) {
         return Err(BootError::Refused { rule, place });
     }
-    match processes_of(alloc, document, starts) {
-        Ok(processes) => Ok(processes),
-        Err(none) => Err(BootError::NoMemory(none)),
+    Ok(read.processes)
+}
+
+/// The first rule of links that is broken; where all links are sound only their number can break one.
+#[tactic(auto, unfolding(crate::specs::Rules::rule_of), using(crate::proofs::Sound::sound_lemmas))]
+fn first_broken_link(document: &Document<'_>, sound: bool) -> Option<(BootRule, u64)>
+    requires { sound ≡ all_sound (view document.now.top.now) }
+    ensures { result ≡ first_broken link_rules (view document.now.top.now) }
+{
+    if sound {
+        first_broken(document, &[TableRule::LinkCount])
+    } else {
+        let rules = [
+            TableRule::LinkCount,
+            TableRule::LinkTarget,
+            TableRule::LinkLimits,
+        ];
+        first_broken(document, &rules)
     }
 }

@@ -1,10 +1,11 @@
 //! What a table of the boot file holds at its keys.
-ghost use Rattle.std.specs.Prelude.{◌≡◌, ◌≤◌, IfSome, map, string_bytes};
+ghost use Rattle.std.specs.Prelude.{◌≡◌, ◌≤◌, IfSome, map, option_copied, string_bytes};
 ghost use Rattle.std.specs.List.{list_all, list_any};
 ghost use Rattle.std.specs.Str.{bytes_eq};
 ghost use Rattle.std.specs.BTreeMap.{keys};
+ghost use Rattle.toml.specs.Data.{member, no_members, string, table};
 ghost use Rattle.toml.specs.View.{items_view, table_view, view};
-ghost use Rattle.dm_boot.specs.Tables.{all_known, has, has_only, in_range, is_array, is_integer, is_known, is_text, is_truth, items_at, may_have, number_at, text_at, truth_at};
+ghost use Rattle.dm_boot.specs.Tables.{all_known, has, has_only, in_range, is_array, is_integer, is_known, is_text, is_truth, items_at, lone_member, lone_text, may_have, number_at, text_at, truth_at};
 
 use toml::{Table, Value};
 
@@ -108,6 +109,38 @@ pub fn text_at<'a>(value: &'a Value, key: &str) -> &'a str
             None => "",
         },
         None => "",
+    }
+}
+
+/// The text of a table that has this key alone, where it has a text.
+pub fn lone_text<'a>(value: &'a Value, key: &str) -> Option<&'a str>
+    ensures text { option_copied result ≡ lone_text key.now (view value.now) }
+    ensures alone { IfSome result (λ text. view value.now ≡ table (member key.now (string text.now) no_members)) }
+{
+    match value {
+        Value::Table(table) => lone_member(table, key),
+        _ => None,
+    }
+}
+
+/// The text of a table that has this key alone, where it has a text.
+#[tactic(auto, using(crate::proofs::Keys::lone_lemmas))]
+fn lone_member<'a>(table: &'a Table, key: &str) -> Option<&'a str>
+    ensures text { option_copied result ≡ lone_member key.now (table_view table.now) }
+    ensures alone { IfSome result (λ text. table_view table.now ≡ member key.now (string text.now) no_members) }
+{
+    if table.len() != 1 {
+        return None;
+    }
+    match table.first_key_value() {
+        Some((name, value)) => {
+            if name.as_str() == key {
+                value.as_str()
+            } else {
+                None
+            }
+        }
+        None => None,
     }
 }
 

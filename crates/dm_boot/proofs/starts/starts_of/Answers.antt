@@ -1,10 +1,10 @@
-use Rattle.dm_boot.proofs.Imports.{◌≡◌, ◌+◌, ◌*◌, ◌≤◌, ◌<◌, true, false, [], ◌∷◌, ◌++◌, length, drop, slice_get, refl, ap, sym, ◌∙◌, arith, common_steps, items_view, view, blocks_at, blocks_of_image, starting_at, ProcessRoom, count}
+use Rattle.dm_boot.proofs.Imports.{◌≡◌, ◌+◌, ◌*◌, ◌≤◌, ◌<◌, true, false, [], ◌∷◌, ◌++◌, length, get_or, drop, slice_get, home_of, refl, ap, sym, ◌∙◌, arith, common_steps, items_view, view, blocks_at, blocks_of_image, starting_at, ProcessRoom, count}
 use Rattle.dm_boot.proofs.Imports.{first_failing, process_tables, starts_from, starts_of, fits_after, has_place}
 use Rattle.std.proofs.Common.{rules}
 use Rattle.dm_boot.proofs.Elements.{count-view, failing-end}
 use Rattle.dm_boot.proofs.Texts.{kept-here, broken-here}
 use Rattle.dm_boot.proofs.Placed.{Step, step-kept, step-broken, step-built, starts-end}
-use Rattle.dm_boot.proofs.Counted.{starting_below, below-one, below-most, slots-push, blocks-push}
+use Rattle.dm_boot.proofs.Counted.{starting_below, below-one, below-most, slots-push, blocks-push, counts-none, counts-push, started-counted, fits-counted}
 use Rattle.dm_boot.proofs.starts.starts_of.Goals as goal
 
 pub loop-i-init : goal.loop-i-init
@@ -18,10 +18,11 @@ loop-i-init c =
       homes = ap (starting_below 16) none;
       slots = λ m. rw none (omega arith);
       blocks = λ m. rw none (omega arith);
+      counts = rw none (counts-none c.new-taken.result c.args.images.now c.new-taken.ensures.slots c.new-taken.ensures.blocks);
     }
 
-pub returns-then-not-fits_after-clause-starts : goal.returns-then-not-fits_after-clause-starts
-returns-then-not-fits_after-clause-starts c =
+pub returns-then-not-fits_machine-clause-starts : goal.returns-then-not-fits_machine-clause-starts
+returns-then-not-fits_machine-clause-starts c =
     let d = view c.args.document.now.top.now in
     let vs = c.items_at-tables.result.now in
     let i = c.loop-i.i in
@@ -33,9 +34,11 @@ returns-then-not-fits_after-clause-starts c =
       many = c.loop-i.invariant.many;
       within = c.loop-i-test.true;
       read = c.index-tables-i.is;
-      start = cc (c.start_of-start.ensures.start);
+      start = c.start_of-start.ensures.start ∙ started-counted d c.loop-i.starts (view c.index-tables-i.result) _ (c.loop-i.invariant.counts.slots (home_of (view c.index-tables-i.result)));
     } in
-    let fails : fits_after c.args.machines.now c.args.images.now c.loop-i.starts c.start_of-start.result ≡ false = cc (c.fits_after.ensures.fits) in
+    let fails : fits_after c.args.machines.now c.args.images.now c.loop-i.starts c.start_of-start.result ≡ false =
+    sym (fits-counted c.args.machines.now c.loop-i.taken c.args.images.now c.loop-i.starts c.start_of-start.result c.blocks_of_image-more.result c.loop-i.invariant.counts c.blocks_of_image-more.ensures.blocks)
+    ∙ sym c.fits_machine.ensures.fits ∙ c.if-not-fits_machine.true in
     broken-here ProcessRoom (first_failing (has_place d) 0 (process_tables d)) (starts_of d) i
     (ap (first_failing (has_place d) 0) (sym c.items_at-tables.ensures) ∙ sym c.loop-i.invariant.places ∙ step-broken step fails)
 
@@ -53,11 +56,17 @@ loop-i-preserved c =
       many = c.loop-i.invariant.many;
       within = c.loop-i-test.true;
       read = c.index-tables-i.is;
-      start = cc (c.start_of-start.ensures.start);
+      start = c.start_of-start.ensures.start ∙ started-counted d c.loop-i.starts (view c.index-tables-i.result) _ (c.loop-i.invariant.counts.slots (home_of (view c.index-tables-i.result)));
     } in
-    let fits : fits_after c.args.machines.now c.args.images.now c.loop-i.starts s ≡ true = cc (c.fits_after.ensures.fits) in
-    let room : starting_at s.pid.home c.loop-i.starts < 255 = search rules in
-    let blocks : blocks_at s.pid.home c.args.images.now c.loop-i.starts + blocks_of_image (slice_get c.args.images.now s.image) ≤ 65535 = search rules in
+    let counts = c.loop-i.invariant.counts in
+    let more = c.blocks_of_image-more.ensures.blocks in
+    let passes : c.fits_machine.result ≡ true = c.if-not-fits_machine.false in
+    let fits : fits_after c.args.machines.now c.args.images.now c.loop-i.starts s ≡ true =
+    sym (fits-counted c.args.machines.now c.loop-i.taken c.args.images.now c.loop-i.starts s c.blocks_of_image-more.result counts more) ∙ sym c.fits_machine.ensures.fits ∙ passes in
+    let free : get_or c.loop-i.taken.slots s.pid.home 0 < 255 = search rules in
+    let left : get_or c.loop-i.taken.blocks s.pid.home 0 + c.blocks_of_image-more.result ≤ 65535 = search rules in
+    let room : starting_at s.pid.home c.loop-i.starts < 255 = rw (← counts.slots s.pid.home) free in
+    let blocks : blocks_at s.pid.home c.args.images.now c.loop-i.starts + blocks_of_image (slice_get c.args.images.now s.image) ≤ 65535 = rw (← counts.blocks s.pid.home, ← more) left in
     let new : c.push.new.self ≡ c.loop-i.starts ++ s ∷ [] = search rules in
     rw new (record {
       places = sym (step-kept step fits) ∙ c.loop-i.invariant.places;
@@ -66,6 +75,7 @@ loop-i-preserved c =
       homes = below-one 16 c.loop-i.starts s (omega (arith, c.start_of-start.ensures.home)) ∙ ap (λ n. n + 1) c.loop-i.invariant.homes;
       slots = slots-push c.loop-i.starts s c.loop-i.invariant.slots room;
       blocks = blocks-push c.args.images.now c.loop-i.starts s c.loop-i.invariant.blocks blocks;
+      counts = counts-push c.loop-i.taken c.add.new.self c.args.images.now c.loop-i.starts s c.blocks_of_image-more.result counts c.start_of-start.ensures.home more c.add.ensures.slots c.add.ensures.blocks;
     })
 
 pub returns-clause-starts : goal.returns-clause-starts

@@ -1,5 +1,5 @@
 use Rattle.dm_boot.proofs.Imports.{◌≡◌, ℕ, ◌≤◌, ◌++◌, drop, length, items_view, view, starting_at, blocks_at, first_failing, starts_from, starts_of, has_place}
-use Rattle.dm_boot.proofs.Counted.{starting_below}
+use Rattle.dm_boot.proofs.Counted.{starting_below, Counts}
 use Rattle.dm_boot.proofs.starts.starts_of.Given as goal
 
 abbrev pub invariant-loop-i : goal.invariant-loop-i
@@ -9,5 +9,6 @@ invariant-loop-i l = record {
   many : length l.starts ≡ l.i;
   homes : starting_below 16 l.starts ≡ l.i;
   slots : (m : ℕ) → starting_at m l.starts ≤ 255;
+  counts : Counts l.taken l.images l.starts;
   blocks : (m : ℕ) → blocks_at m l.images l.starts ≤ 65535;
 }
