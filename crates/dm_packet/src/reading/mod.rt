@@ -115,7 +115,7 @@ fn ack_at(from: u8, to: u8, bytes: &[u8]) -> Result<Front, PacketError>
 /// The parts of the packet that the bytes spell, or the first rule that they break. What its message carries, if it has
 /// one, is put where it is told.
 #[tactic(auto, unfolding(crate::specs::Packets::packet_of))]
-pub fn parts_at(bytes: &[u8], what: &mut What) -> Result<Front, PacketError>
+pub(crate) fn parts_at(bytes: &[u8], what: &mut What) -> Result<Front, PacketError>
     ensures { ReadsParts result what.new (packet_of bytes.now) }
 {
     let (opening, rest) = opening_at(bytes)?;

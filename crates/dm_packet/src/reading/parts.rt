@@ -69,7 +69,7 @@ pub fn piece_from_at(bytes: &[u8], base: u32) -> Result<(u16, &[u8]), PacketErro
 }
 
 /// A piece that begins at an address.
-pub fn piece_at(bytes: &[u8], base: u32) -> Result<(&[u8], &[u8]), PacketError>
+pub(crate) fn piece_at(bytes: &[u8], base: u32) -> Result<(&[u8], &[u8]), PacketError>
     ensures read { ReadsSlice result ((counted (piece_from base) run).read bytes.now) }
     ensures few { IfOk result (λ x. length x.0.now ≤ 256) }
 {
@@ -122,7 +122,7 @@ pub fn u16_at_most(bytes: &[u8], most: u16) -> Result<(u16, &[u8]), PacketError>
 }
 
 /// A block of memory: 256 bytes.
-pub fn block_of(bytes: &[u8]) -> [u8; 256]
+pub(crate) fn block_of(bytes: &[u8]) -> [u8; 256]
     requires { length bytes.now ≡ 256 }
     ensures { result ≡ bytes.now }
 {
