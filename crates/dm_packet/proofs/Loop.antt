@@ -1,5 +1,5 @@
 -- Reading one value after the other, as a loop does.
-use Rattle.dm_packet.proofs.Names.{◌≡◌, ℕ, suc, ◌-◌, ◌+◌, ◌≤◌, ◌<◌, List, [], ◌∷◌, ◌++◌, Result, Ok, Err, refl, sym, ap, ◌∙◌, append_assoc, arith, append-nil, PacketError, ◌>>=◌, read_times}
+use Rattle.dm_packet.proofs.Names.{◌≡◌, ℕ, suc, ◌-◌, ◌+◌, ◌<◌, List, [], ◌∷◌, ◌++◌, Result, Ok, Err, refl, sym, ap, ◌∙◌, append_assoc, arith, PacketError, ◌>>=◌, read_times}
 
 -- what was read before, and what is still read
 abbrev pub with_front : {X : Type 0} → List X → Result (List X × List ℕ) PacketError → Result (List X × List ℕ) PacketError

@@ -1,6 +1,6 @@
 -- Numbers as bytes, the highest first: what bytes read as spells those bytes.
-use Rattle.dm_packet.proofs.Names.{◌/◌, ◌%◌, ◌≡◌, ℕ, zero, suc, ◌+◌, ◌*◌, ◌^◌, ◌<◌, ◌≤◌, List, [], ◌∷◌, length, take, drop, get_or, refl, sym, ap, ◌∙◌, arith, inl, inr, div-one, mod-eq_of_lt, mul-add-div_right, mul-add-mod_self_right}
-use Rattle.dm_packet.proofs.Names.{mul_assoc, one-le-pow, pow-succ', cases_lt, length-take, get_or-drop, get_or-take, get_or_past, div-mul-add, byte_at, bytes_high_first, big_bytes, big_from, big_number, big_from-cons, big_from-lt}
+use Rattle.dm_packet.proofs.Names.{◌/◌, ◌%◌, ◌≡◌, ℕ, zero, suc, ◌+◌, ◌*◌, ◌^◌, ◌<◌, ◌≤◌, List, [], ◌∷◌, length, take, drop, get_or, refl, sym, ap, ◌∙◌, arith, div-one, mod-eq_of_lt, mul-add-div_right, mul-add-mod_self_right}
+use Rattle.dm_packet.proofs.Names.{mul_assoc, one-le-pow, pow-succ', get_or-drop, div-mul-add, byte_at, bytes_high_first, big_bytes, big_from, big_number, big_from-cons, big_from-lt}
 
 abbrev pub IsBytes : List ℕ → Type 0
 IsBytes bytes = (i : ℕ) → get_or bytes i 0 < 256

@@ -3,6 +3,7 @@ pub mod Fields
 pub mod Reads
 pub mod Whats
 pub mod Packets
+pub mod Parts
 pub mod Lawful
 pub mod Widths
 pub mod Writes

@@ -29,6 +29,22 @@ pub struct Head {
     pub kind: MessageKind,
 }
 
+/// A packet but for what its message carries.
+#[derive(Clone, Copy)]
+pub enum Front {
+    Data {
+        from: u8,
+        to: u8,
+        seq: u32,
+        head: Head,
+    },
+    Ack {
+        from: u8,
+        to: u8,
+        count: u32,
+    },
+}
+
 impl Head {
     /// Whether the message's name says that it is an answer exactly where its kind does.
     pub fn is_named_right(self) -> bool

@@ -13,8 +13,9 @@ pub mod writing;
 
 pub use dm_memory::NoMemory;
 use dm_memory::extend_from_slice;
-use dm_message::Message;
-use reading::packet_at;
+use dm_message::{Message, What};
+use front::Front;
+use reading::parts_at;
 use thiserror::Error;
 use writing::{Buffer, put_packet};
 
@@ -98,7 +99,27 @@ pub fn decode(bytes: &[u8]) -> Result<Packet, PacketError>
     ensures only { (p : Packet) → IsLawfulPacket p → FitsPacket p → bytes.now ≡ spelling p → result ≡ Ok p }
     ensures size { OnOk result (length bytes.now ≤ MOST_PACKET) }
 {
-    packet_at(bytes)
+    let mut what = What::Stop;
+    let front = parts_at(bytes, &mut what)?;
+    match front {
+        Front::Data {
+            from,
+            to,
+            seq,
+            head,
+        } => Ok(Packet::Data {
+            from,
+            to,
+            seq,
+            message: Message {
+                id: head.id,
+                to: head.to,
+                sender: head.sender,
+                what,
+            },
+        }),
+        Front::Ack { from, to, count } => Ok(Packet::Ack { from, to, count }),
+    }
 }
 
 /// Puts the one spelling of a packet, at most 1,024 bytes, at the end of a buffer, or leaves the buffer as it was.

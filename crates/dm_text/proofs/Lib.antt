@@ -1,4 +1,5 @@
 pub mod Names
+pub mod Begun
 pub mod EndsBack
 pub mod Fields
 pub mod Hex

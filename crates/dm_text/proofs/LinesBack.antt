@@ -1,6 +1,6 @@
 -- The text of lines spells those lines, and no others.
 use Rattle.dm_text.proofs.Names.{◌≡◌, ℕ, suc, ◌==◌, if◌then◌else◌, Bool, true, false, List, [], ◌∷◌, ◌++◌, length, refl, ap, sym, ◌∙◌, append_assoc, arith, Some, None, All, Option, EndLine, Line, end_words, words, spaced, spelled}
-use Rattle.dm_text.proofs.Names.{text_of_lines, text_of_ends, pieces, line_of, line_of_words, lines_from, lines_in, lines_of, end_of, end_of_words, ends_from, Trace, at_end, led_or_ended, trace_from, trace_in, trace_of, LineFits, EndFits}
+use Rattle.dm_text.proofs.Names.{text_of_lines, text_of_ends, pieces, line_of, line_of_words, lines_from, lines_in, lines_of, end_of, end_of_words, ends_from, Trace, at_end, trace_from, trace_in, trace_of, LineFits, EndFits}
 use Rattle.std.proofs.Common.{append-nil}
 use Rattle.dm_text.proofs.Pieces.{free, free-above, free-append, above-le, AreWords, pieces-free, pieces-next}
 use Rattle.dm_text.proofs.LineBack.{words-are, words-back}

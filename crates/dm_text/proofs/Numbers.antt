@@ -1,5 +1,5 @@
 -- Numbers in decimal, read back.
-use Rattle.dm_text.proofs.Names.{◌≡◌, ℕ, zero, suc, ◌+◌, ◌-◌, ◌*◌, ◌/◌, ◌%◌, ◌^◌, ◌<◌, ◌≤◌, ◌==◌, nat_lt, nat_le, Bool, true, false, ◌&&◌, ◌||◌, if◌then◌else◌, List, [], ◌∷◌, ◌++◌, length, get_or, refl, ap, ◌∙◌, arith, Some, None}
+use Rattle.dm_text.proofs.Names.{◌≡◌, ℕ, zero, suc, ◌+◌, ◌-◌, ◌*◌, ◌/◌, ◌%◌, ◌^◌, ◌<◌, ◌≤◌, ◌==◌, nat_lt, nat_le, Bool, true, false, ◌&&◌, ◌||◌, if◌then◌else◌, List, [], ◌∷◌, ◌++◌, length, get_or, refl, ap, sym, ◌∙◌, append_assoc, arith, Some, None}
 use Rattle.dm_text.proofs.Names.{length-append, decimal_digit, decimal_step, Option, decimal, and-false, nat_tests, ne_eqb, lt-ltb, le-ltb, decimal_by_steps_wide, get_or_append_left, number_after, read_number, is_padded}
 use Rattle.dm_text.proofs.Pieces.{above, above-append}
 
@@ -74,3 +74,18 @@ read-decimal limit n l h =
 -- a number of two digits
 pub two_digits : (n : ℕ) → 10 ≤ n → n < 100 → decimal n ≡ (48 + n / 10) ∷ (48 + n % 10) ∷ []
 two_digits n ge lt = decimal_step n ge (omega arith) ∙ ap (λ ds. ds ++ (48 + n % 10) ∷ []) (decimal_digit (n / 10) (omega arith))
+
+-- a number that is put digit by digit
+pub two_put : (old one both : List ℕ) (n : ℕ) → 10 ≤ n → n < 100 → one ≡ old ++ (48 + n / 10) ∷ [] → both ≡ one ++ (48 + n % 10) ∷ [] → both ≡ old ++ decimal n
+two_put old one both n ge lt e f =
+    f
+    ∙ ap (λ t. t ++ (48 + n % 10) ∷ []) e
+    ∙ append_assoc old ((48 + n / 10) ∷ []) ((48 + n % 10) ∷ [])
+    ∙ ap (λ ds. old ++ ds) (sym (two_digits n ge lt))
+
+pub more_put : (old front all : List ℕ) (n : ℕ) → 10 ≤ n → n < 2 ^ 64 → front ≡ old ++ decimal (n / 10) → all ≡ front ++ (48 + n % 10) ∷ [] → all ≡ old ++ decimal n
+more_put old front all n ge lt e f =
+    f
+    ∙ ap (λ t. t ++ (48 + n % 10) ∷ []) e
+    ∙ append_assoc old (decimal (n / 10)) ((48 + n % 10) ∷ [])
+    ∙ ap (λ ds. old ++ ds) (sym (decimal_step n ge lt))

@@ -7,8 +7,7 @@ ghost use Rattle.dm_text.specs.Text.{spaced, spelled};
 ghost use Rattle.dm_text.specs.Words.{pid_word};
 ghost use Rattle.dm_text.specs.Written.{Keeps, word_text};
 
-use crate::rows::{put_message, put_process_number};
-use crate::word::Word::{Byte, Bytes, Name, Number, Process};
+use crate::word::Word::{Byte, Bytes, Message, Name, Number, Process};
 use crate::word::{Word, put_count, put_line, put_listed, put_numbers, put_words};
 use dm_line::end_line::{Doing, EndLine, Standing};
 use dm_link::{Area, Kind, Link, Pid};
@@ -243,6 +242,22 @@ fn put_child(into: &mut Vec<u8>, number: u32, pid: Pid, at: u8) -> Result<(), No
     )
 }
 
+/// Writes the line of a server.
+fn put_server(into: &mut Vec<u8>, pid: Pid, sent: u32) -> Result<(), NoMemory>
+    ensures ok { OnOk result (into.new.items ≡ into.old.items ++ spelled (end_words (end.Server pid sent))) }
+    ensures err { OnErr result (Keeps into.old.items into.new.items) }
+{
+    put_line(into, "server", &[Process(pid), Number(sent)])
+}
+
+/// Writes the line of a message that waits for the manager.
+fn put_pending(into: &mut Vec<u8>, id: MsgId) -> Result<(), NoMemory>
+    ensures ok { OnOk result (into.new.items ≡ into.old.items ++ spelled (end_words (end.Pending id))) }
+    ensures err { OnErr result (Keeps into.old.items into.new.items) }
+{
+    put_line(into, "pending", &[Message(id)])
+}
+
 /// Writes the line of a queue.
 fn put_queue(into: &mut Vec<u8>, pid: Pid, ids: &[MsgId]) -> Result<(), NoMemory>
     ensures ok { OnOk result (into.new.items ≡ into.old.items ++ spelled (end_words (end.Queue pid ids.now))) }
@@ -302,10 +317,10 @@ pub(crate) fn put_end(into: &mut Vec<u8>, end: &EndLine) -> Result<(), NoMemory>
             slot,
             ref link,
         } => put_held_link(into, pid, slot, link),
-        EndLine::Server { pid, sent } => put_process_number(into, "server", pid, sent),
+        EndLine::Server { pid, sent } => put_server(into, pid, sent),
         EndLine::Name { ref name, ref link } => put_linked(into, "name", &[Bytes(name)], link),
         EndLine::Child { number, pid, at } => put_child(into, number, pid, at),
-        EndLine::Pending(id) => put_message(into, "pending", id),
+        EndLine::Pending(id) => put_pending(into, id),
         EndLine::Queue { pid, ref ids } => put_queue(into, pid, ids.as_slice()),
         EndLine::Holding {
             machine,

@@ -6,4 +6,5 @@ mod ends;
 mod labels;
 mod rows;
 pub mod text;
+mod within;
 pub mod word;

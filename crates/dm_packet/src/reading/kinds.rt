@@ -1,251 +1,296 @@
 //! What the messages of each kind carry: one reader for each kind with fields of its own, and the choice among them.
 ghost use Rattle.dm_message.specs.declared.kind.MessageKind.TheVariants as kinds;
-ghost use Rattle.dm_packet.specs.Reads.{Reads};
+ghost use Rattle.dm_packet.specs.Parts.{ReadsInto};
 ghost use Rattle.dm_packet.specs.Whats.{read_what};
 
-use super::fields::{addr_at, byte_at, channel_at, machine_at, pid_at, u16_at, u32_at};
-use super::lists::{bytes_within_at, links_at, three_links_at};
+use super::fields::{addr_at, byte_at, channel_at, machine_at, pid_at, run_at, u16_at, u32_at};
+use super::lists::{bytes_within_at, kept, links_at, three_links_at};
 use super::parts::{
-    asker_at, block_bytes_at, blocks_of_at, byte_at_most, outcome_at, piece_at, piece_from_at,
+    asker_at, block_of, blocks_of_at, byte_at_most, outcome_at, piece_at, piece_from_at,
     u16_at_most, yes_or_no_at,
 };
 use crate::PacketError;
 use dm_message::{MessageKind, What};
 
 #[tactic(auto, unfolding(crate::specs::Whats::read_what))]
-fn user_at(bytes: &[u8]) -> Result<(What, &[u8]), PacketError>
-    ensures { Reads result (read_what kinds.User bytes.now) }
+fn user_at<'a>(bytes: &'a [u8], into: &mut What) -> Result<&'a [u8], PacketError>
+    ensures { ReadsInto result into.new (read_what kinds.User bytes.now) }
 {
     let (code, rest) = u32_at(bytes)?;
     let (channel, rest) = channel_at(rest)?;
-    let (body, rest) = bytes_within_at(rest, 0)?;
+    let (body, rest) = bytes_within_at(rest, 0, 256)?;
     let (links, rest) = links_at(rest, 4)?;
-    let user = What::User {
+    *into = What::User {
         code,
         channel,
-        body,
+        body: kept(body),
         links,
     };
-    Ok((user, rest))
+    Ok(rest)
 }
 
 #[tactic(auto, unfolding(crate::specs::Whats::read_what))]
-fn read_at(bytes: &[u8]) -> Result<(What, &[u8]), PacketError>
-    ensures { Reads result (read_what kinds.Read bytes.now) }
+fn read_at<'a>(bytes: &'a [u8], into: &mut What) -> Result<&'a [u8], PacketError>
+    ensures { ReadsInto result into.new (read_what kinds.Read bytes.now) }
 {
     let (base, rest) = u32_at(bytes)?;
     let (len, rest) = piece_from_at(rest, base)?;
-    Ok((What::Read { base, len }, rest))
+    *into = What::Read { base, len };
+    Ok(rest)
 }
 
 #[tactic(auto, unfolding(crate::specs::Whats::read_what))]
-fn write_at(bytes: &[u8]) -> Result<(What, &[u8]), PacketError>
-    ensures { Reads result (read_what kinds.Write bytes.now) }
+fn write_at<'a>(bytes: &'a [u8], into: &mut What) -> Result<&'a [u8], PacketError>
+    ensures { ReadsInto result into.new (read_what kinds.Write bytes.now) }
 {
     let (base, rest) = u32_at(bytes)?;
-    let (bytes, rest) = piece_at(rest, base)?;
-    Ok((What::Write { base, bytes }, rest))
+    let (piece, rest) = piece_at(rest, base)?;
+    *into = What::Write {
+        base,
+        bytes: kept(piece),
+    };
+    Ok(rest)
 }
 
 #[tactic(auto, unfolding(crate::specs::Whats::read_what))]
-fn block_at(bytes: &[u8]) -> Result<(What, &[u8]), PacketError>
-    ensures { Reads result (read_what kinds.Block bytes.now) }
+fn block_at<'a>(bytes: &'a [u8], into: &mut What) -> Result<&'a [u8], PacketError>
+    ensures { ReadsInto result into.new (read_what kinds.Block bytes.now) }
 {
-    let (bytes, rest) = bytes_within_at(bytes, 1)?;
-    Ok((What::Block { bytes }, rest))
+    let (bytes, rest) = bytes_within_at(bytes, 1, 256)?;
+    *into = What::Block { bytes: kept(bytes) };
+    Ok(rest)
 }
 
 #[tactic(auto, unfolding(crate::specs::Whats::read_what))]
-fn create_at(bytes: &[u8]) -> Result<(What, &[u8]), PacketError>
-    ensures { Reads result (read_what kinds.Create bytes.now) }
+fn create_at<'a>(bytes: &'a [u8], into: &mut What) -> Result<&'a [u8], PacketError>
+    ensures { ReadsInto result into.new (read_what kinds.Create bytes.now) }
 {
     let (image, rest) = u16_at(bytes)?;
     let (links, rest) = three_links_at(rest)?;
-    Ok((What::Create { image, links }, rest))
+    *into = What::Create { image, links };
+    Ok(rest)
 }
 
 #[tactic(auto, unfolding(crate::specs::Whats::read_what))]
-fn ask_at(bytes: &[u8]) -> Result<(What, &[u8]), PacketError>
-    ensures { Reads result (read_what kinds.Ask bytes.now) }
+fn ask_at<'a>(bytes: &'a [u8], into: &mut What) -> Result<&'a [u8], PacketError>
+    ensures { ReadsInto result into.new (read_what kinds.Ask bytes.now) }
 {
     let (pid, rest) = pid_at(bytes)?;
     let (blocks, rest) = blocks_of_at(rest, pid)?;
     let (moves, rest) = u32_at(rest)?;
     let (size, rest) = u32_at(rest)?;
     let (asker, rest) = asker_at(rest)?;
-    let ask = What::Ask {
+    *into = What::Ask {
         pid,
         blocks,
         moves,
         size,
         asker,
     };
-    Ok((ask, rest))
+    Ok(rest)
 }
 
 #[tactic(auto, unfolding(crate::specs::Whats::read_what))]
-fn refuse_at(bytes: &[u8]) -> Result<(What, &[u8]), PacketError>
-    ensures { Reads result (read_what kinds.Refuse bytes.now) }
+fn refuse_at<'a>(bytes: &'a [u8], into: &mut What) -> Result<&'a [u8], PacketError>
+    ensures { ReadsInto result into.new (read_what kinds.Refuse bytes.now) }
 {
     let (pid, rest) = pid_at(bytes)?;
     let (free_slots, rest) = byte_at_most(rest, 64)?;
     let (free_blocks, rest) = u16_at_most(rest, 4_096)?;
-    let refuse = What::Refuse {
+    *into = What::Refuse {
         pid,
         free_slots,
         free_blocks,
     };
-    Ok((refuse, rest))
+    Ok(rest)
 }
 
 #[tactic(auto, unfolding(crate::specs::Whats::read_what))]
-fn pull_state_at(bytes: &[u8]) -> Result<(What, &[u8]), PacketError>
-    ensures { Reads result (read_what kinds.PullState bytes.now) }
+fn pull_state_at<'a>(bytes: &'a [u8], into: &mut What) -> Result<&'a [u8], PacketError>
+    ensures { ReadsInto result into.new (read_what kinds.PullState bytes.now) }
 {
     let (pid, rest) = pid_at(bytes)?;
     let (chunk, rest) = u32_at(rest)?;
-    Ok((What::PullState { pid, chunk }, rest))
+    *into = What::PullState { pid, chunk };
+    Ok(rest)
 }
 
 #[tactic(auto, unfolding(crate::specs::Whats::read_what))]
-fn state_at(bytes: &[u8]) -> Result<(What, &[u8]), PacketError>
-    ensures { Reads result (read_what kinds.State bytes.now) }
+fn state_at<'a>(bytes: &'a [u8], into: &mut What) -> Result<&'a [u8], PacketError>
+    ensures { ReadsInto result into.new (read_what kinds.State bytes.now) }
 {
     let (pid, rest) = pid_at(bytes)?;
     let (chunk, rest) = u32_at(rest)?;
     let (last, rest) = yes_or_no_at(rest, PacketError::Flags)?;
-    let (bytes, rest) = bytes_within_at(rest, 1)?;
-    let state = What::State {
+    let (bytes, rest) = bytes_within_at(rest, 1, 512)?;
+    *into = What::State {
         pid,
         chunk,
         last,
-        bytes,
+        bytes: kept(bytes),
     };
-    Ok((state, rest))
+    Ok(rest)
 }
 
 #[tactic(auto, unfolding(crate::specs::Whats::read_what))]
-fn pull_block_at(bytes: &[u8]) -> Result<(What, &[u8]), PacketError>
-    ensures { Reads result (read_what kinds.PullBlock bytes.now) }
+fn pull_block_at<'a>(bytes: &'a [u8], into: &mut What) -> Result<&'a [u8], PacketError>
+    ensures { ReadsInto result into.new (read_what kinds.PullBlock bytes.now) }
 {
     let (pid, rest) = pid_at(bytes)?;
     let (block, rest) = byte_at(rest)?;
-    Ok((What::PullBlock { pid, block }, rest))
+    *into = What::PullBlock { pid, block };
+    Ok(rest)
 }
 
 #[tactic(auto, unfolding(crate::specs::Whats::read_what))]
-fn memory_at(bytes: &[u8]) -> Result<(What, &[u8]), PacketError>
-    ensures { Reads result (read_what kinds.Memory bytes.now) }
+fn memory_at<'a>(bytes: &'a [u8], into: &mut What) -> Result<&'a [u8], PacketError>
+    ensures { ReadsInto result into.new (read_what kinds.Memory bytes.now) }
 {
     let (pid, rest) = pid_at(bytes)?;
     let (block, rest) = byte_at(rest)?;
-    let (bytes, rest) = block_bytes_at(rest)?;
-    Ok((What::Memory { pid, block, bytes }, rest))
+    let (bytes, rest) = run_at(rest, 256)?;
+    *into = What::Memory {
+        pid,
+        block,
+        bytes: block_of(bytes),
+    };
+    Ok(rest)
 }
 
 #[tactic(auto, unfolding(crate::specs::Whats::read_what))]
-fn created_at(bytes: &[u8]) -> Result<(What, &[u8]), PacketError>
-    ensures { Reads result (read_what kinds.Created bytes.now) }
+fn created_at<'a>(bytes: &'a [u8], into: &mut What) -> Result<&'a [u8], PacketError>
+    ensures { ReadsInto result into.new (read_what kinds.Created bytes.now) }
 {
     let (pid, rest) = pid_at(bytes)?;
-    Ok((What::Created { pid }, rest))
+    *into = What::Created { pid };
+    Ok(rest)
 }
 
 #[tactic(auto, unfolding(crate::specs::Whats::read_what))]
-fn all_taken_at(bytes: &[u8]) -> Result<(What, &[u8]), PacketError>
-    ensures { Reads result (read_what kinds.AllTaken bytes.now) }
+fn all_taken_at<'a>(bytes: &'a [u8], into: &mut What) -> Result<&'a [u8], PacketError>
+    ensures { ReadsInto result into.new (read_what kinds.AllTaken bytes.now) }
 {
     let (pid, rest) = pid_at(bytes)?;
-    Ok((What::AllTaken { pid }, rest))
+    *into = What::AllTaken { pid };
+    Ok(rest)
 }
 
 #[tactic(auto, unfolding(crate::specs::Whats::read_what))]
-fn restart_at(bytes: &[u8]) -> Result<(What, &[u8]), PacketError>
-    ensures { Reads result (read_what kinds.Restart bytes.now) }
+fn restart_at<'a>(bytes: &'a [u8], into: &mut What) -> Result<&'a [u8], PacketError>
+    ensures { ReadsInto result into.new (read_what kinds.Restart bytes.now) }
 {
     let (pid, rest) = pid_at(bytes)?;
-    Ok((What::Restart { pid }, rest))
+    *into = What::Restart { pid };
+    Ok(rest)
 }
 
 #[tactic(auto, unfolding(crate::specs::Whats::read_what))]
-fn call_off_at(bytes: &[u8]) -> Result<(What, &[u8]), PacketError>
-    ensures { Reads result (read_what kinds.CallOff bytes.now) }
+fn call_off_at<'a>(bytes: &'a [u8], into: &mut What) -> Result<&'a [u8], PacketError>
+    ensures { ReadsInto result into.new (read_what kinds.CallOff bytes.now) }
 {
     let (pid, rest) = pid_at(bytes)?;
-    Ok((What::CallOff { pid }, rest))
+    *into = What::CallOff { pid };
+    Ok(rest)
 }
 
 #[tactic(auto, unfolding(crate::specs::Whats::read_what))]
-fn bury_at(bytes: &[u8]) -> Result<(What, &[u8]), PacketError>
-    ensures { Reads result (read_what kinds.Bury bytes.now) }
+fn bury_at<'a>(bytes: &'a [u8], into: &mut What) -> Result<&'a [u8], PacketError>
+    ensures { ReadsInto result into.new (read_what kinds.Bury bytes.now) }
 {
     let (pid, rest) = pid_at(bytes)?;
-    Ok((What::Bury { pid }, rest))
+    *into = What::Bury { pid };
+    Ok(rest)
 }
 
 #[tactic(auto, unfolding(crate::specs::Whats::read_what))]
-fn migrate_at(bytes: &[u8]) -> Result<(What, &[u8]), PacketError>
-    ensures { Reads result (read_what kinds.Migrate bytes.now) }
+fn migrate_at<'a>(bytes: &'a [u8], into: &mut What) -> Result<&'a [u8], PacketError>
+    ensures { ReadsInto result into.new (read_what kinds.Migrate bytes.now) }
 {
     let (machine, rest) = machine_at(bytes)?;
-    Ok((What::Migrate { machine }, rest))
+    *into = What::Migrate { machine };
+    Ok(rest)
 }
 
 #[tactic(auto, unfolding(crate::specs::Whats::read_what))]
-fn move_at(bytes: &[u8]) -> Result<(What, &[u8]), PacketError>
-    ensures { Reads result (read_what kinds.Move bytes.now) }
+fn move_at<'a>(bytes: &'a [u8], into: &mut What) -> Result<&'a [u8], PacketError>
+    ensures { ReadsInto result into.new (read_what kinds.Move bytes.now) }
 {
     let (machine, rest) = machine_at(bytes)?;
-    Ok((What::Move { machine }, rest))
+    *into = What::Move { machine };
+    Ok(rest)
 }
 
 #[tactic(auto, unfolding(crate::specs::Whats::read_what))]
-fn update_at(bytes: &[u8]) -> Result<(What, &[u8]), PacketError>
-    ensures { Reads result (read_what kinds.Update bytes.now) }
+fn update_at<'a>(bytes: &'a [u8], into: &mut What) -> Result<&'a [u8], PacketError>
+    ensures { ReadsInto result into.new (read_what kinds.Update bytes.now) }
 {
     let (about, rest) = addr_at(bytes)?;
-    Ok((What::Update { about }, rest))
+    *into = What::Update { about };
+    Ok(rest)
 }
 
 #[tactic(auto, unfolding(crate::specs::Whats::read_what))]
-fn moved_at(bytes: &[u8]) -> Result<(What, &[u8]), PacketError>
-    ensures { Reads result (read_what kinds.Moved bytes.now) }
+fn moved_at<'a>(bytes: &'a [u8], into: &mut What) -> Result<&'a [u8], PacketError>
+    ensures { ReadsInto result into.new (read_what kinds.Moved bytes.now) }
 {
     let (outcome, rest) = outcome_at(bytes)?;
-    Ok((What::Moved { outcome }, rest))
+    *into = What::Moved { outcome };
+    Ok(rest)
 }
 
-/// What a message of this kind carries.
+/// What a message of this kind carries, put where it is told.
 #[tactic(auto, unfolding(crate::specs::Whats::read_what))]
-pub fn what_at(kind: MessageKind, bytes: &[u8]) -> Result<(What, &[u8]), PacketError>
-    ensures { Reads result (read_what kind bytes.now) }
+pub fn what_at<'a>(
+    kind: MessageKind,
+    bytes: &'a [u8],
+    into: &mut What,
+) -> Result<&'a [u8], PacketError>
+    ensures { ReadsInto result into.new (read_what kind bytes.now) }
 {
     match kind {
-        MessageKind::User => user_at(bytes),
-        MessageKind::Stop => Ok((What::Stop, bytes)),
-        MessageKind::Resume => Ok((What::Resume, bytes)),
-        MessageKind::Kill => Ok((What::Kill, bytes)),
-        MessageKind::Read => read_at(bytes),
-        MessageKind::Write => write_at(bytes),
-        MessageKind::Block => block_at(bytes),
-        MessageKind::Written => Ok((What::Written, bytes)),
-        MessageKind::Gone => Ok((What::Gone, bytes)),
-        MessageKind::Create => create_at(bytes),
-        MessageKind::Created => created_at(bytes),
-        MessageKind::NoRoom => Ok((What::NoRoom, bytes)),
-        MessageKind::Migrate => migrate_at(bytes),
-        MessageKind::Update => update_at(bytes),
-        MessageKind::Ask => ask_at(bytes),
-        MessageKind::Refuse => refuse_at(bytes),
-        MessageKind::PullState => pull_state_at(bytes),
-        MessageKind::State => state_at(bytes),
-        MessageKind::PullBlock => pull_block_at(bytes),
-        MessageKind::Memory => memory_at(bytes),
-        MessageKind::AllTaken => all_taken_at(bytes),
-        MessageKind::Restart => restart_at(bytes),
-        MessageKind::Move => move_at(bytes),
-        MessageKind::Moved => moved_at(bytes),
-        MessageKind::CallOff => call_off_at(bytes),
-        MessageKind::Bury => bury_at(bytes),
+        MessageKind::User => user_at(bytes, into),
+        MessageKind::Stop => {
+            *into = What::Stop;
+            Ok(bytes)
+        }
+        MessageKind::Resume => {
+            *into = What::Resume;
+            Ok(bytes)
+        }
+        MessageKind::Kill => {
+            *into = What::Kill;
+            Ok(bytes)
+        }
+        MessageKind::Read => read_at(bytes, into),
+        MessageKind::Write => write_at(bytes, into),
+        MessageKind::Block => block_at(bytes, into),
+        MessageKind::Written => {
+            *into = What::Written;
+            Ok(bytes)
+        }
+        MessageKind::Gone => {
+            *into = What::Gone;
+            Ok(bytes)
+        }
+        MessageKind::Create => create_at(bytes, into),
+        MessageKind::Created => created_at(bytes, into),
+        MessageKind::NoRoom => {
+            *into = What::NoRoom;
+            Ok(bytes)
+        }
+        MessageKind::Migrate => migrate_at(bytes, into),
+        MessageKind::Update => update_at(bytes, into),
+        MessageKind::Ask => ask_at(bytes, into),
+        MessageKind::Refuse => refuse_at(bytes, into),
+        MessageKind::PullState => pull_state_at(bytes, into),
+        MessageKind::State => state_at(bytes, into),
+        MessageKind::PullBlock => pull_block_at(bytes, into),
+        MessageKind::Memory => memory_at(bytes, into),
+        MessageKind::AllTaken => all_taken_at(bytes, into),
+        MessageKind::Restart => restart_at(bytes, into),
+        MessageKind::Move => move_at(bytes, into),
+        MessageKind::Moved => moved_at(bytes, into),
+        MessageKind::CallOff => call_off_at(bytes, into),
+        MessageKind::Bury => bury_at(bytes, into),
     }
 }

@@ -1,8 +1,8 @@
 //! Bytes and links behind their number.
 ghost use Rattle.std.specs.Prelude.{◌≡◌, IfOk, length, ◌≤◌, ◌<◌};
-ghost use Rattle.dm_packet.specs.Field.{run, read_times};
+ghost use Rattle.dm_packet.specs.Field.{read_times};
 ghost use Rattle.dm_packet.specs.Fields.{bytes_within, link, links};
-ghost use Rattle.dm_packet.specs.Reads.{ReadsItems};
+ghost use Rattle.dm_packet.specs.Reads.{ReadsItems, ReadsSlice};
 
 use super::fields::{byte_at, link_at, run_at, u16_at};
 use crate::PacketError;
@@ -10,32 +10,27 @@ use arrayvec::ArrayVec;
 use dm_link::Link;
 use dm_message::{Enclosed, MOST_LINKS};
 
-/// So many bytes.
-pub fn items_at<const N: usize>(
-    bytes: &[u8],
-    len: u16,
-) -> Result<(ArrayVec<u8, N>, &[u8]), PacketError>
-    requires { len ≤ N }
-    ensures { ReadsItems result ((run len).read bytes.now) }
-{
-    let (front, rest) = run_at(bytes, len as usize)?;
-    let mut items = ArrayVec::new();
-    let _ = items.try_extend_from_slice(front);
-    Ok((items, rest))
-}
-
-/// At least so many bytes, at most as many as there is room for, behind their number.
-pub fn bytes_within_at<const N: usize>(
-    bytes: &[u8],
-    least: u16,
-) -> Result<(ArrayVec<u8, N>, &[u8]), PacketError>
-    ensures { ReadsItems result ((bytes_within least N).read bytes.now) }
+/// At least so many bytes, at most so many, behind their number.
+pub fn bytes_within_at(bytes: &[u8], least: u16, most: u16) -> Result<(&[u8], &[u8]), PacketError>
+    ensures read { ReadsSlice result ((bytes_within least most).read bytes.now) }
+    ensures few { IfOk result (λ x. length x.0.now ≤ most) }
 {
     let (len, rest) = u16_at(bytes)?;
-    if len < least || len as usize > N {
+    if len < least || len > most {
         return Err(PacketError::Limit);
     }
-    items_at(rest, len)
+    run_at(rest, len as usize)
+}
+
+/// These bytes, kept where there is room for them.
+#[inline]
+pub fn kept<const N: usize>(bytes: &[u8]) -> ArrayVec<u8, N>
+    requires { length bytes.now ≤ N }
+    ensures { result.items ≡ bytes.now }
+{
+    let mut items = ArrayVec::new();
+    let _ = items.try_extend_from_slice(bytes);
+    items
 }
 
 /// So many links.

@@ -1,6 +1,9 @@
 //! Reading from the left, each field tested as soon as it is there.
 ghost use Rattle.std.specs.Prelude.{◌≡◌};
-ghost use Rattle.dm_packet.specs.Packets.{head, head_parts, id, opening, packet_kind, packet_of, read_message, read_rest};
+ghost use Rattle.dm_packet.specs.Packets.{head, head_parts, id, opening, packet_kind, packet_of};
+ghost use Rattle.dm_packet.specs.Parts.{ReadsParts, read_ended};
+ghost use Rattle.dm_message.specs.declared.What.{What as TheWhat};
+ghost use Rattle.dm_packet.specs.declared.front.PacketKind.TheVariants as kinds;
 ghost use Rattle.dm_packet.specs.Reads.{Reads};
 
 pub mod fields;
@@ -8,9 +11,9 @@ mod kinds;
 mod lists;
 pub mod parts;
 
-use crate::front::{Head, Opening, PacketKind};
-use crate::{Packet, PacketError};
-use dm_message::{Message, MsgId};
+use crate::PacketError;
+use crate::front::{Front, Head, Opening, PacketKind};
+use dm_message::{MsgId, What};
 use fields::{addr_at, byte_at, machine_at, pid_at, u32_at};
 use kinds::what_at;
 use parts::{is_over, kind_at, yes_or_no_at};
@@ -50,21 +53,6 @@ fn head_at(bytes: &[u8]) -> Result<(Head, &[u8]), PacketError>
     Ok((head, rest))
 }
 
-#[tactic(auto, unfolding(crate::specs::Packets::read_message))]
-fn message_at(bytes: &[u8]) -> Result<(Message, &[u8]), PacketError>
-    ensures { Reads result (read_message bytes.now) }
-{
-    let (head, rest) = head_at(bytes)?;
-    let (what, rest) = what_at(head.kind, rest)?;
-    let message = Message {
-        id: head.id,
-        to: head.to,
-        sender: head.sender,
-        what,
-    };
-    Ok((message, rest))
-}
-
 fn packet_kind_at(bytes: &[u8]) -> Result<(PacketKind, &[u8]), PacketError>
     ensures { Reads result (packet_kind.read bytes.now) }
 {
@@ -93,44 +81,47 @@ fn opening_at(bytes: &[u8]) -> Result<(Opening, &[u8]), PacketError>
     Ok((Opening { kind, from, to }, rest))
 }
 
-/// What stands behind the front.
-#[tactic(auto, unfolding(crate::specs::Packets::read_rest))]
-fn rest_at(opening: Opening, bytes: &[u8]) -> Result<(Packet, &[u8]), PacketError>
-    ensures { Reads result (read_rest opening.kind opening.from opening.to bytes.now) }
+/// The front of a message's packet, and what the message carries, put where it is told. Nothing stands behind it.
+#[tactic(auto, unfolding(crate::specs::Packets::read_rest, crate::specs::Packets::read_message))]
+fn data_at(from: u8, to: u8, bytes: &[u8], what: &mut What) -> Result<Front, PacketError>
+    ensures { ReadsParts result what.new (read_ended kinds.Data from to bytes.now) }
 {
-    let Opening { kind, from, to } = opening;
-    let (number, rest) = u32_at(bytes)?;
-    match kind {
-        PacketKind::Data => {
-            let (message, rest) = message_at(rest)?;
-            let data = Packet::Data {
-                from,
-                to,
-                seq: number,
-                message,
-            };
-            Ok((data, rest))
-        }
-        PacketKind::Ack => {
-            let ack = Packet::Ack {
-                from,
-                to,
-                count: number,
-            };
-            Ok((ack, rest))
-        }
-    }
-}
-
-/// The packet that the bytes spell, or the first rule that they break.
-#[tactic(auto, unfolding(crate::specs::Packets::packet_of))]
-pub fn packet_at(bytes: &[u8]) -> Result<Packet, PacketError>
-    ensures { result ≡ packet_of bytes.now }
-{
-    let (opening, rest) = opening_at(bytes)?;
-    let (packet, rest) = rest_at(opening, rest)?;
+    let (seq, rest) = u32_at(bytes)?;
+    let (head, rest) = head_at(rest)?;
+    let rest = what_at(head.kind, rest, what)?;
     if !is_over(rest) {
         return Err(PacketError::Trailing);
     }
-    Ok(packet)
+    Ok(Front::Data {
+        from,
+        to,
+        seq,
+        head,
+    })
+}
+
+/// The front of an acknowledgement. Nothing stands behind it.
+#[tactic(auto, unfolding(crate::specs::Packets::read_rest))]
+fn ack_at(from: u8, to: u8, bytes: &[u8]) -> Result<Front, PacketError>
+    ensures { (what : TheWhat) → ReadsParts result what (read_ended kinds.Ack from to bytes.now) }
+{
+    let (count, rest) = u32_at(bytes)?;
+    if !is_over(rest) {
+        return Err(PacketError::Trailing);
+    }
+    Ok(Front::Ack { from, to, count })
+}
+
+/// The parts of the packet that the bytes spell, or the first rule that they break. What its message carries, if it has
+/// one, is put where it is told.
+#[tactic(auto, unfolding(crate::specs::Packets::packet_of))]
+pub(crate) fn parts_at(bytes: &[u8], what: &mut What) -> Result<Front, PacketError>
+    ensures { ReadsParts result what.new (packet_of bytes.now) }
+{
+    let (opening, rest) = opening_at(bytes)?;
+    let Opening { kind, from, to } = opening;
+    match kind {
+        PacketKind::Data => data_at(from, to, rest, what),
+        PacketKind::Ack => ack_at(from, to, rest),
+    }
 }

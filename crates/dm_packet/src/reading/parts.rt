@@ -1,14 +1,13 @@
 //! The fields that only some kinds have.
-ghost use Rattle.std.specs.Prelude.{length, nat_le, ◌&&◌, ◌+◌, ◌==◌, ◌≡◌};
-ghost use Rattle.dm_packet.specs.Reads.{Reads, ReadsItems};
+ghost use Rattle.std.specs.Prelude.{IfOk, length, nat_le, ◌≤◌, ◌&&◌, ◌+◌, ◌==◌, ◌≡◌};
+ghost use Rattle.dm_packet.specs.Reads.{Reads, ReadsSlice};
 ghost use Rattle.dm_packet.specs.Field.{counted, run};
-ghost use Rattle.dm_packet.specs.Whats.{asker, at_most, blocks_of, memory, message_kind, optional, outcome, piece_from, yes_or_no};
+ghost use Rattle.dm_packet.specs.Whats.{asker, at_most, blocks_of, message_kind, optional, outcome, piece_from, yes_or_no};
 
 use super::fields::{addr_at, byte_at, run_at, u16_at, u32_at};
-use super::lists::items_at;
 use crate::PacketError;
 use dm_link::Pid;
-use dm_message::{Asker, Body, MessageKind, Outcome};
+use dm_message::{Asker, MessageKind, Outcome};
 
 /// Whether nothing follows: a packet, and the state bytes of a process, end with their last field.
 pub fn is_over(rest: &[u8]) -> bool
@@ -70,11 +69,12 @@ pub fn piece_from_at(bytes: &[u8], base: u32) -> Result<(u16, &[u8]), PacketErro
 }
 
 /// A piece that begins at an address.
-pub fn piece_at(bytes: &[u8], base: u32) -> Result<(Body, &[u8]), PacketError>
-    ensures { ReadsItems result ((counted (piece_from base) run).read bytes.now) }
+pub(crate) fn piece_at(bytes: &[u8], base: u32) -> Result<(&[u8], &[u8]), PacketError>
+    ensures read { ReadsSlice result ((counted (piece_from base) run).read bytes.now) }
+    ensures few { IfOk result (λ x. length x.0.now ≤ 256) }
 {
     let (len, rest) = piece_from_at(bytes, base)?;
-    items_at(rest, len)
+    run_at(rest, len as usize)
 }
 
 /// How many blocks a process has.
@@ -121,12 +121,12 @@ pub fn u16_at_most(bytes: &[u8], most: u16) -> Result<(u16, &[u8]), PacketError>
     Ok((number, rest))
 }
 
-/// A block of memory.
-pub fn block_bytes_at(bytes: &[u8]) -> Result<([u8; 256], &[u8]), PacketError>
-    ensures { Reads result ((run 256).read bytes.now) }
+/// A block of memory: 256 bytes.
+pub(crate) fn block_of(bytes: &[u8]) -> [u8; 256]
+    requires { length bytes.now ≡ 256 }
+    ensures { result ≡ bytes.now }
 {
-    let (front, rest) = run_at(bytes, 256)?;
     let mut block = [0; 256];
-    block.copy_from_slice(front);
-    Ok((block, rest))
+    block.copy_from_slice(bytes);
+    block
 }
