@@ -1,8 +1,8 @@
 -- What deliveries and ticks say keeps that each message stands once; and so does every group.
 use Rattle.dm_rule.proofs.Names.{◌≡◌, ◌≢◌, ℕ, zero, suc, ◌+◌, ◌-◌, ◌≤◌, ◌==◌, Bool, true, false, not, filter, List, [], ◌∷◌, ◌++◌, refl, ap, ◌∙◌, sym, subst, nat_lt, arith, length, ⊤, if◌then◌else◌, slice_get, Option, None, Some}
-use Rattle.dm_rule.proofs.Names.{false≢true, nat_tests, MsgId, bind, OneKernel, Step, Line, Load, View, Pair, view_after, Point, label_of, kernel_after, moved, after_line, Part, Says, Routes, Again, Owns, Transmits, Spelled, packet_line}
-use Rattle.dm_rule.proofs.Names.{spelled, Spot, Queue, Untaken, ids_at, standing, bind-is, Boot, group_of, IsValid, Sent, after_head, window, first_point, Leads, StandsOnceAlways, first_view, start-sound, inl, inr, Pid, PlainMessage, to_of}
-use Rattle.dm_rule.proofs.Names.{migrates, StandsAsBag, StandsOutside, StandsRight, is_kernels}
+use Rattle.dm_rule.proofs.Names.{false≢true, nat_tests, MsgId, bind, OneKernel, Step, Line, Load, View, Pair, view_after, Point, label_of, kernel_after, moved, after_line, Part, Says, Transmits, Spelled, packet_line, spelled, Spot, Queue}
+use Rattle.dm_rule.proofs.Names.{Untaken, ids_at, standing, bind-is, Boot, group_of, IsValid, Sent, after_head, window, first_point, Leads, StandsOnceAlways, first_view, start-sound, inl, inr, Pid, PlainMessage, to_of, migrates}
+use Rattle.dm_rule.proofs.Names.{StandsAsBag, StandsOutside, StandsRight, is_kernels}
 use Rattle.dm_rule.specs.View as view
 use Rattle.dm_rule.proofs.Lines.{Stands-stays, Stands-taken, pair_keeps}
 use Rattle.dm_rule.specs.Rule as rule

@@ -49,11 +49,11 @@ pub use Rattle.dm_rule.proofs.Names.{after_put, after_stage, after_step, after_t
 pub use Rattle.dm_rule.proofs.Names.{board_keeps, board_takes, child_from, child_number, chunks_of, comes, cons_option, counts, dropped_for, enclosed_of, ended, ended_told, filter, filter_map, first_gives, first_point, first_view, fits}
 pub use Rattle.dm_rule.proofs.Names.{follows_up, forward_about, forwarded_for, forwards, forwards_on, free_room, front_of, front_told, gets, given, gives, gives_piece, goes_out, gone_to, group_of, handled, handled_first, headed, hears}
 pub use Rattle.dm_rule.proofs.Names.{held_for, here_told, holder_eq, id_eq-is, id_eq-same, is_apart, is_away, is_behind, is_between, is_counted, is_early, is_for_home, is_general, is_here, is_kernels, is_restart, is_told_back, kernel_after}
-pub use Rattle.dm_rule.proofs.Names.{kernel_hears, kernel_told, kills, known_at, knows, label_of, lands, lands-is, leaves, length-append, lines_of, link_to, links_in, manager_takes, marked, migrates, migrates_child, moved, moved_back}
-pub use Rattle.dm_rule.proofs.Names.{moves_to, name_link, names, next_step, nexts, not_server, oldest, on_mask, outcome, own_given, own_gives, own_id, owner_in, owner_of, packet_line, pid_eq-is, pid_eq-same, pieces_of, place_known}
-pub use Rattle.dm_rule.proofs.Names.{place_of_child, place_told, plain_kind, process_told, puts, queued_for, receiver_in, receiver_of, reply_code, reply_eq, request_id, right_true, ring_at, routed_on, sender_in, sender_of, sends_on}
-pub use Rattle.dm_rule.proofs.Names.{sent_at, served_told, server_told, serves_what, slice_set, slot_of, slots_of, slots_with, sort_of, spelled, standing, start-sound, stayed, taken_id, takes_block, takes_chunk, target_of, tells_back}
-pub use Rattle.dm_rule.proofs.Names.{times, to_kernel, to_of, told_between, unentered, unmoved, untaken, updated, updated_to, updates, view_after, when-is, why_eq, with_machine, without, without_front, without_id, ◌||◌}
+pub use Rattle.dm_rule.proofs.Names.{kernel_hears, kernel_told, kills, known_at, knows, label_of, lands, lands-is, leaves, length-append, lines_of, link_to, links_in, manager_takes, marked, migrates, moved, moved_back, moves_to, name_link}
+pub use Rattle.dm_rule.proofs.Names.{names, next_step, nexts, not_server, oldest, on_mask, outcome, own_given, own_gives, own_id, owner_in, owner_of, packet_line, pid_eq-is, pid_eq-same, pieces_of, place_known, place_of_child, place_told}
+pub use Rattle.dm_rule.proofs.Names.{plain_kind, process_told, puts, queued_for, receiver_in, receiver_of, reply_code, reply_eq, request_id, right_true, ring_at, routed_on, sender_in, sender_of, sends_on, sent_at, served_told, server_told}
+pub use Rattle.dm_rule.proofs.Names.{serves_what, slice_set, slot_of, slots_of, slots_with, sort_of, spelled, standing, start-sound, stayed, taken_id, takes_block, takes_chunk, target_of, tells_back, times, to_kernel, to_of, told_between}
+pub use Rattle.dm_rule.proofs.Names.{unentered, unmoved, untaken, updated, updated_to, updates, view_after, when-is, why_eq, with_machine, without, without_front, without_id, ◌||◌}
 pub use Rattle.dm_rule.proofs.Once.{one_of}
 pub use Rattle.dm_rule.proofs.Pairs.Moves.{or_first}
 pub use Rattle.dm_rule.proofs.Phases.Always.{Phased, phased_group, phased_start}

@@ -6,7 +6,7 @@ use Rattle.dm_movelaws.proofs.Names.{begun_sane, said_by, again_rides, again_sam
 use Rattle.dm_rule.specs.Rule as rule
 use Rattle.dm_rule.specs.View as view
 use Rattle.dm_movelaws.proofs.Ends.Sends.{puts_lead}
-use Rattle.dm_movelaws.proofs.Forwards.Rows.{Onward, with_forward, part_forwards, forwards_of, goes_on, GoesOn, GoesOnOwn, Form, Nothing, Plain, Own, FormOf, outcome_form}
+use Rattle.dm_movelaws.proofs.Forwards.Rows.{Onward, with_forward, part_forwards, forwards_of, goes_on, GoesOn, GoesOnOwn, Form, Nothing, Plain, Own, outcome_form}
 use Rattle.dm_movelaws.proofs.Promise.Parts.{next_of}
 use Rattle.dm_movelaws.proofs.Promise.Spots.{Stands}
 use Rattle.dm_movelaws.proofs.Promise.Stands.{put_this, packet_stands}
@@ -240,7 +240,7 @@ pub forwards_tell : ForwardsTell
 forwards_tell b es pt d w p q to valid leads f =
     let run = (run_always b es pt valid leads).run in
     let g = grouped b pt d w f.is in
-    let s = sent_by b pt d w g f.id f.message to f.earlier f.later f.there f.says (subst (FormOf pt d) g.is (outcome_form b pt d)) in
+    let s = sent_by b pt d w g f.id f.message to f.earlier f.later f.there f.says (outcome_form b pt d g.parts g.is) in
     let h = s.goes in
     let same : Some h.message ≡ Some f.message = sym h.there ∙ ap pt.kernel.bag s.id_is ∙ f.there in
     let message : h.message ≡ f.message = cc in
@@ -281,7 +281,7 @@ pub requests_tell : RequestsTell
 requests_tell b es pt d w q to valid leads f =
     let run = (run_always b es pt valid leads).run in
     let g = grouped b pt d w f.is in
-    let s = own_by b pt d w g f.id f.told to f.earlier f.later run.based.phased.sane f.there f.request f.says (subst (FormOf pt d) g.is (outcome_form b pt d)) in
+    let s = own_by b pt d w g f.id f.told to f.earlier f.later run.based.phased.sane f.there f.request f.says (outcome_form b pt d g.parts g.is) in
     let h = s.goes in
     let same : Some h.told ≡ Some f.told = sym h.told_is ∙ ap pt.view.told s.id_is ∙ f.there in
     let told : h.told ≡ f.told = cc in

@@ -1,9 +1,9 @@
 -- Each step keeps what the messages of data moves say.
 use Rattle.dm_movelaws.proofs.Names.{◌≡◌, ◌⊎◌, ℕ, ◌+◌, ◌-◌, ◌==◌, ◌&&◌, Bool, true, false, length, take, drop, refl, ap, ◌∙◌, sym, subst, inl, inr, nat_le, ⊤, if◌then◌else◌, slice_get, Option, None, Some, Pid, pid_eq, PlainLink}
 use Rattle.dm_movelaws.proofs.Names.{first_empty, link_at, MsgId, id_eq, PlainMessage, PlainWhat, direction_numbered, Direction, Row, instruction, switchboard, manager, Label, Reply, Why, reply_eq, why_eq, bind, reg, PlainProcess}
-use Rattle.dm_movelaws.proofs.Names.{PlainStatus, Ready, Waiting, Moving, Alive, OneKernel, with_process, with_sent, Called, Replies, Sends, Waits, Outputs, Ends, CallNumber, Out, Make, Copy, Drop, Send, Receive, Move, call_number}
-use Rattle.dm_movelaws.proofs.Names.{answer_to, first_failed, without_message, is_dropped, is_of_memory, pending_of, ServerSends, board_takes, manager_takes, LandsSo, lands-is, Sound, bind-is, when-is, alive-is, Nexts, nexts, Completing}
-use Rattle.dm_movelaws.proofs.Names.{completing, KernelFits, if_some}
+use Rattle.dm_movelaws.proofs.Names.{PlainStatus, Ready, Waiting, Moving, Alive, OneKernel, with_process, with_sent, Called, Replies, Sends, Waits, Outputs, Ends, CallNumber, Make, Copy, Drop, Send, Receive, Move, call_number, answer_to}
+use Rattle.dm_movelaws.proofs.Names.{first_failed, without_message, is_dropped, is_of_memory, pending_of, ServerSends, board_takes, manager_takes, LandsSo, lands-is, Sound, bind-is, when-is, alive-is, Nexts, nexts, Completing, completing}
+use Rattle.dm_movelaws.proofs.Names.{KernelFits, if_some}
 use Rattle.dm_onekernel.specs.Kernel.{Ended}
 use Rattle.dm_onekernel.specs.Calls as calls
 use Rattle.dm_onekernel.specs.Manager as manage

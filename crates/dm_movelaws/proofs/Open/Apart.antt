@@ -1,9 +1,9 @@
 -- Each line of a group leaves a process that moves alone, where it stands.
 use Rattle.dm_movelaws.proofs.Names.{◌≡◌, ◌≢◌, ℕ, ◌+◌, ◌==◌, ◌&&◌, ◌||◌, Bool, true, false, List, [], ◌∷◌, ◌++◌, length, refl, ap, ◌∙◌, sym, subst, ⊤, if◌then◌else◌, slice_get, Option, None, Some, false≢true, Pid, pid_of, pid_eq, MsgId}
-use Rattle.dm_movelaws.proofs.Names.{MessageKind, plain_kind, Load, PlainMessage, PlainWhat, Boot, Label, Why, first_number, switchboard, manager, Life, Alive, OneKernel, bind, bind-is, when-is, Step, Line, Receiver, IsOthers, Spares}
-use Rattle.dm_movelaws.proofs.Names.{migrates, Part, Says, Routes, Again, Owns, Transmits, Spelled, lines_of, puts, goes_out, packet_line, behind, spelled, Moves, knows, IsIn, Point, label_of, kernel_after, moved, after_line, after}
-use Rattle.dm_movelaws.proofs.Names.{group_of, Here, own_id, SparesPart, FirstApart, ApartOf, apart_first, turns_apart, net_apart, migrates_apart, arrives_net, resends_net, Rooted, nowhere_known, moves_away, is_server, is_fixed, IsAnothers}
-use Rattle.dm_movelaws.proofs.Names.{IsAnothersIf, moves_known}
+use Rattle.dm_movelaws.proofs.Names.{MessageKind, plain_kind, Load, PlainMessage, PlainWhat, Boot, Label, Why, first_number, switchboard, manager, Life, OneKernel, bind, bind-is, when-is, Step, Line, Receiver, IsOthers, Spares, migrates}
+use Rattle.dm_movelaws.proofs.Names.{Part, Says, Routes, Again, Owns, Transmits, Spelled, lines_of, puts, goes_out, packet_line, behind, spelled, Moves, knows, IsIn, Point, label_of, kernel_after, moved, after_line, after, group_of, Here}
+use Rattle.dm_movelaws.proofs.Names.{own_id, SparesPart, FirstApart, ApartOf, apart_first, turns_apart, net_apart, migrates_apart, arrives_net, resends_net, Rooted, nowhere_known, moves_away, is_server, is_fixed, IsAnothers, IsAnothersIf}
+use Rattle.dm_movelaws.proofs.Names.{moves_known}
 use Rattle.dm_onekernel.specs.Kernel.{Ended}
 use Rattle.dm_onekernel.specs.Manager as manage
 use Rattle.dm_onekernel.specs.Service as service

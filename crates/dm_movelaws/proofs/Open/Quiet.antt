@@ -1,9 +1,7 @@
 -- A group that marks a process says no label.
-use Rattle.dm_movelaws.proofs.Names.{◌≡◌, ◌⊎◌, ℕ, ◌==◌, Bool, true, false, List, [], ◌∷◌, ◌++◌, length, refl, ap, ◌∙◌, sym, subst, inl, inr, ⊤, ◌/◌, if◌then◌else◌, slice_get, Option, None, Some, Pid, pid_eq, MsgId, MessageKind, Stage}
-use Rattle.dm_movelaws.proofs.Names.{plain_kind, PlainMessage, Boot, switchboard, manager, bind, PlainProcess, bind-is, Step, Line, Receiver, Addresses, child_number, to_kernel, sends_on, accepts, takes_chunk, takes_block, leaves}
-use Rattle.dm_movelaws.proofs.Names.{kernel_told, chunks_of, pieces_of, process_told, server_told, migrates, migrates_child, Part, Says, Routes, Again, Owns, Transmits, Spelled, lines_of, puts, goes_out, packet_line, behind, spelled, Point}
-use Rattle.dm_movelaws.proofs.Names.{label_of, after_line, after, group_of, Told, About, Of, Known, Frozen, own_id, arrives_net, resends_net, marks, by_migrates, IsHeardLine, kernel_kept}
-use Rattle.dm_onekernel.specs.Step as kernel
+use Rattle.dm_movelaws.proofs.Names.{◌≡◌, ◌⊎◌, ℕ, ◌==◌, Bool, true, false, List, [], ◌∷◌, ◌++◌, refl, ap, ◌∙◌, sym, subst, inl, inr, ⊤, if◌then◌else◌, slice_get, Option, None, Some, Pid, pid_eq, MsgId, MessageKind, plain_kind, PlainMessage}
+use Rattle.dm_movelaws.proofs.Names.{Boot, switchboard, manager, bind, bind-is, Step, Line, Receiver, process_told, server_told, migrates, Part, Says, Routes, Again, Owns, Transmits, Spelled, lines_of, puts, goes_out, packet_line, behind}
+use Rattle.dm_movelaws.proofs.Names.{spelled, Point, label_of, after_line, after, group_of, Told, About, Known, own_id, arrives_net, resends_net, marks, by_migrates, IsHeardLine, kernel_kept}
 use Rattle.dm_rule.specs.Rule as rule
 use Rattle.dm_movelaws.proofs.Stages.Marks.{marks_of, spelled_marks}
 use Rattle.dm_movelaws.proofs.Stages.Lines.{AllMild, mild_marks, net_marks}

@@ -1,9 +1,7 @@
 -- The processes that the parts of a group are about are somebody's.
-use Rattle.dm_movelaws.proofs.Names.{◌≡◌, ℕ, ◌==◌, Bool, true, false, List, [], ◌∷◌, ◌++◌, length, is_some, refl, ap, ◌∙◌, sym, subst, ⊤, ◌/◌, if◌then◌else◌, slice_get, Option, None, Some, false≢true, Pid, pid_eq, MsgId, MessageKind, Stage}
-use Rattle.dm_movelaws.proofs.Names.{PlainMessage, Boot, switchboard, manager, PlainProcess, pid_eq-same, bind-is, alive-is, Step, Line, Addresses, child_number, to_kernel, sends_on, accepts, takes_chunk, takes_block, leaves, kernel_told}
-use Rattle.dm_movelaws.proofs.Names.{chunks_of, pieces_of, process_told, server_told, migrates, migrates_child, Part, Says, Routes, Again, Owns, Transmits, Point, Told, About, Of, Known, Here, Frozen, IsNetLine, IsNet, arrives_net}
-use Rattle.dm_movelaws.proofs.Names.{resends_net, IsReal, Made, by_migrates, by_kernel}
-use Rattle.dm_onekernel.specs.Step as kernel
+use Rattle.dm_movelaws.proofs.Names.{◌≡◌, ℕ, ◌==◌, Bool, true, false, List, [], ◌∷◌, ◌++◌, is_some, refl, ap, ◌∙◌, sym, subst, ⊤, if◌then◌else◌, slice_get, Option, None, Some, false≢true, Pid, pid_eq, MsgId, MessageKind, Stage}
+use Rattle.dm_movelaws.proofs.Names.{PlainMessage, Boot, switchboard, manager, pid_eq-same, alive-is, Step, Line, to_kernel, sends_on, process_told, server_told, migrates, Part, Says, Routes, Again, Owns, Transmits, Point, Told, About}
+use Rattle.dm_movelaws.proofs.Names.{Known, Here, IsNetLine, IsNet, arrives_net, resends_net, IsReal, Made, by_migrates, by_kernel}
 use Rattle.dm_rule.specs.Rule as rule
 use Rattle.dm_movelaws.proofs.Stages.Lines.{MildLine, AllMild}
 use Rattle.dm_movelaws.proofs.Stages.Turns.{round_mild, handles_mild}

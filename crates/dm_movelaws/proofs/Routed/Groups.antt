@@ -5,10 +5,9 @@ use Rattle.dm_movelaws.proofs.Names.{label_of, kernel_after, moved, after, group
 use Rattle.dm_movelaws.proofs.Names.{bag_receive, bag_dropped, bag_gone, bag_no_space, bag_created, bag_served, bag_took, group_is, stands_right, is_put, hushed, hidden, put_told_off, Sane, AllSayable, part_sane, outcome_sayable, Rides}
 use Rattle.dm_movelaws.proofs.Names.{Steps, said_by, again_rides, begun, begun_sane, Run}
 use Rattle.dm_onekernel.specs.Step as kernel
-use Rattle.dm_rule.specs.Rule as rule
 use Rattle.dm_rule.specs.View as view
 use Rattle.dm_movelaws.proofs.Ends.Sends.{puts_lead}
-use Rattle.dm_movelaws.proofs.Routed.Outs.{LineOuts, PartOuts, AllOuts, OutsOf, outcome_outs}
+use Rattle.dm_movelaws.proofs.Routed.Outs.{LineOuts, PartOuts, AllOuts, outcome_outs}
 use Rattle.dm_movelaws.proofs.Routed.Steps.{is_sent, step_counts}
 
 -- a message that was told of
@@ -156,8 +155,8 @@ told_group b pt d w e run next h i ask sent =
     let g = group_is b pt d w e in
     let sane = run.based.phased.sane in
     let first : Counted pt.view (begun pt d) = counted_quiet pt.view pt (Line.Head d) pt.kernel refl refl (record { kept = λ j k. k; each = λ j a s. inl (h j a s) }) in
-    let outs : OutsOf (IsTold pt.view) (rule.outcome b pt d) = outcome_outs (IsTold pt.view) b pt d (λ m j least. run.found.told j (Inbox m) least) (λ m p j least. run.found.told j (Queue m p) least) in
-    let last = counted_parts pt.view g.parts (begun pt d) g.rest (outcome_sayable b pt d g.parts g.is) (subst (OutsOf (IsTold pt.view)) g.is outs) (begun_sane pt d sane) g.said first in
+    let outs = outcome_outs (IsTold pt.view) b pt d g.parts (λ m j least. run.found.told j (Inbox m) least) (λ m p j least. run.found.told j (Queue m p) least) g.is in
+    let last = counted_parts pt.view g.parts (begun pt d) g.rest (outcome_sayable b pt d g.parts g.is) outs (begun_sane pt d sane) g.said first in
     elim ((subst (Counted pt.view) g.point last).each i ask sent) [
       | inl told ↦ told
       | inr there ↦ stands_told b w.point i (w.point.kernel.bag i) next refl there

@@ -1,8 +1,9 @@
 -- What a turn says of a kernel's own message fits the trails.
 use Rattle.dm_movelaws.proofs.Names.{◌≡◌, ℕ, ◌+◌, ◌/◌, ◌==◌, ◌≤◌, Bool, true, false, List, [], ◌∷◌, ◌++◌, length, refl, ap, ◌∙◌, sym, subst, false≢true, if◌then◌else◌, Option, None, Some, Pid, pid_eq, MsgId, MessageKind, Line, Stage, Boot}
 use Rattle.dm_movelaws.proofs.Names.{switchboard, manager, bind, PlainProcess, pid_eq-same, Told, About, Of, Known, Unknown, Here, Frozen, Incoming, Forward, Ended, target_of, front_told, front_of, view_after, Receiver, Point, Part, Says}
-use Rattle.dm_movelaws.proofs.Names.{to_kernel, forwards_on, accepts, takes_chunk, takes_block, leaves, chunks_of, pieces_of, kernel_told, here_told, ended_told, process_told, server_told, updates, Moves, IsIn, is_between, receiver_in}
-use Rattle.dm_movelaws.proofs.Names.{sender_in, times, Trails, both_lists, Sane, Named, source_holds, destination_expects}
+use Rattle.dm_movelaws.proofs.Names.{to_kernel, forwards_on, accepts, takes_chunk, takes_block, chunks_of, pieces_of, kernel_told, here_told, ended_told, process_told, server_told, updates, Moves, IsIn, is_between, receiver_in, sender_in}
+use Rattle.dm_movelaws.proofs.Names.{times, Trails, both_lists, Sane, Named, source_holds, destination_expects}
+use Rattle.dm_rule.proofs.Names.{leaves}
 use Rattle.dm_onekernel.specs.Step as kernel
 use Rattle.dm_rule.specs.Rule as rule
 use Rattle.dm_movelaws.proofs.Trail.Placed.{is_held, Places, placed_comes, placed_restarts, places_set, places_held, moves_held, moves_comes, moves_forward}

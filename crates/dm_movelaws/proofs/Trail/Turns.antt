@@ -1,9 +1,9 @@
 -- The lines of each group fit the trails, and behind them each process is placed on its trail.
-use Rattle.dm_movelaws.proofs.Names.{◌≡◌, ℕ, ◌≤◌, Bool, true, false, List, [], ◌∷◌, refl, ap, ◌∙◌, sym, subst, inl, inr, arith, if◌then◌else◌, slice_get, Option, None, Some, Pid, pid_eq, MsgId, plain_kind, PlainMessage, MessageKind, Line}
-use Rattle.dm_movelaws.proofs.Names.{PutFits, Boot, switchboard, manager, bind, Step, bind-is, View, Told, Of, is_kernels, own_id, after_head, front_of, Child, Receiver, Sender, child_number, to_of, sender_of, forwards_on, migrates_child}
-use Rattle.dm_movelaws.proofs.Names.{Part, Says, Spelled, spelled, IsIn, is_between, Point, after_line, group_of, Inbox, Queue, Held, times, standing, Trails, arrives_net, resends_net, both_lists, both_times, front_kernels, Phased, due}
-use Rattle.dm_movelaws.proofs.Names.{outcome_sayable, Named, Links, child_is, migrate_to, migrate_from, Treads, line_treads, KnownStands, Begins, begins, begun, begun_sane, turned, unborn, FoundBy, KnowsAt, moves_back, own_outside}
-use Rattle.dm_movelaws.proofs.Names.{own_fresh, told_there, about_same, stands_first, queued_for, told_for, either, fixed_home, by_migrates, migrates}
+use Rattle.dm_movelaws.proofs.Names.{◌≡◌, ℕ, ◌≤◌, true, List, [], ◌∷◌, refl, ap, ◌∙◌, sym, subst, inl, inr, arith, slice_get, Option, None, Some, Pid, MsgId, plain_kind, PlainMessage, MessageKind, Line, PutFits, Boot, manager, bind, Step}
+use Rattle.dm_movelaws.proofs.Names.{bind-is, View, Told, Of, is_kernels, own_id, after_head, front_of, Child, Receiver, Sender, to_of, sender_of, forwards_on, Says, Spelled, spelled, IsIn, is_between, Point, after_line, group_of, Inbox}
+use Rattle.dm_movelaws.proofs.Names.{Queue, Held, times, standing, Trails, arrives_net, resends_net, both_lists, both_times, front_kernels, Phased, due, outcome_sayable, Named, Links, child_is, migrate_to, migrate_from, Treads, line_treads}
+use Rattle.dm_movelaws.proofs.Names.{KnownStands, Begins, begins, begun, begun_sane, turned, unborn, FoundBy, KnowsAt, moves_back, own_outside, own_fresh, told_there, about_same, stands_first, queued_for, told_for, either, fixed_home}
+use Rattle.dm_movelaws.proofs.Names.{by_migrates, migrates}
 use Rattle.dm_rule.specs.Rule as rule
 use Rattle.dm_movelaws.proofs.Trail.Placed.{Places}
 use Rattle.dm_movelaws.proofs.Trail.Walks.{AllGood, Walks, WalksOf, loose_walks, parts_good}

@@ -3,7 +3,7 @@ use Rattle.dm_movelaws.proofs.Names.{◌≡◌, ℕ, ◌==◌, ◌||◌, Bool, t
 use Rattle.dm_movelaws.proofs.Names.{Step, Line, Load, Receiver, Part, Says, Routes, Again, Owns, Transmits, Spelled, lines_of, puts, goes_out, packet_line, behind, spelled, Point, moved, after_line, after, group_of, View}
 use Rattle.dm_rule.specs.Rule as rule
 use Rattle.dm_rule.specs.View as view
-use Rattle.dm_movelaws.proofs.Updates.Rows.{Handles, is_updated, PartQuiet, AllQuiet, Shape, Quiet, Updates, ShapeOf}
+use Rattle.dm_movelaws.proofs.Updates.Rows.{Handles, is_updated, PartQuiet, AllQuiet, Shape, Quiet, Updates}
 use Rattle.dm_movelaws.proofs.Updates.Shapes.{outcome_shape}
 
 abbrev begun : Point → Step → Point
@@ -118,4 +118,4 @@ by_shape b pt d w id n xs ys g there (Updates m i k form handles) =
     handled_line b pt d w m k n i id handles (sym all) point (same_line d xs ys id i n k (sym there ∙ sym all))
 
 pub handled_by : (b : Boot) (pt : Point) (d : Step) (w : Spelled) (id : MsgId) (n : ℕ) (xs ys : List Line) → group_of b pt d ≡ Some w → w.lines ≡ xs ++ Line.Updated id n ∷ ys → Handled b pt d w id n
-handled_by b pt d w id n xs ys is there = let g = group_says b pt d w is in by_shape b pt d w id n xs ys g there (subst (ShapeOf pt) g.is (outcome_shape b pt d))
+handled_by b pt d w id n xs ys is there = let g = group_says b pt d w is in by_shape b pt d w id n xs ys g there (outcome_shape b pt d g.parts g.is)

@@ -1,11 +1,9 @@
 -- A kernel's own message, a turn, and the other directives: the labels of a group are other processes'.
-use Rattle.dm_rule.proofs.Names.{◌≡◌, ◌≢◌, ℕ, ◌+◌, ◌==◌, Bool, true, false, List, [], ◌∷◌, ◌++◌, length, refl, ap, ◌∙◌, sym, ◌/◌, if◌then◌else◌, Option, None, Some, Pid, pid_of, pid_eq, MsgId, MessageKind, Stage, PlainMessage, Boot}
-use Rattle.dm_rule.proofs.Names.{first_number, switchboard, manager, PlainProcess, OneKernel, Line, Told, About, Of, Known, Unknown, Here, Frozen, Forward, Ended, target_of, Addresses, child_number, Point, label_of, Part, Says, Routes}
-use Rattle.dm_rule.proofs.Names.{Again, Owns, Transmits, to_kernel, sends_on, accepts, takes_chunk, takes_block, leaves, kernel_told, chunks_of, pieces_of, here_told, ended_told, process_told, server_told, migrates, migrates_child, Spares}
-use Rattle.dm_onekernel.specs.Step as kernel
+use Rattle.dm_rule.proofs.Names.{◌≡◌, ◌≢◌, ℕ, ◌+◌, List, [], ◌∷◌, refl, ap, ◌∙◌, sym, Option, None, Some, Pid, pid_of, MsgId, PlainMessage, Boot, first_number, OneKernel, Line, Told, Here, Point, label_of, Part, Says, Transmits, migrates}
+use Rattle.dm_rule.proofs.Names.{Spares}
 use Rattle.dm_rule.specs.Rule as rule
 use Rattle.dm_rule.proofs.Groups.{IsNetLine, IsNet}
-use Rattle.dm_rule.proofs.Apart.Rows.{AllApart, FirstApart, ApartOf, apart_first, ForOther, of_bind, of_if, round_apart, forwards_apart, handles_apart}
+use Rattle.dm_rule.proofs.Apart.Rows.{AllApart, ApartOf, apart_first, ForOther, round_apart, handles_apart}
 use Rattle.dm_rule.proofs.Requests.{by_migrates}
 use Rattle.dm_rule.proofs.Hearing.{IsHeardLine, hears_kept}
 

@@ -1,17 +1,13 @@
 -- What a turn says of a kernel's own message has what its lines need; so each group keeps what each line keeps.
-use Rattle.dm_rulelaws.proofs.Names.{◌≡◌, ℕ, ◌==◌, ◌||◌, Bool, true, false, not, List, [], ◌∷◌, ◌++◌, length, refl, ap, ◌∙◌, sym, subst, ◌/◌, if◌then◌else◌, slice_get, Option, None, Some, arith, false≢true, nat_tests, Pid, pid_eq, MsgId}
-use Rattle.dm_rulelaws.proofs.Names.{MessageKind, Stage, PlainMessage, Boot, switchboard, manager, PlainProcess, Life, Alive, OneKernel, Step, Line, View, Told, About, Of, Known, Unknown, Here, Frozen, Incoming, Forward, target_of}
-use Rattle.dm_rulelaws.proofs.Names.{after_head, Addresses, child_number, Point, moved, Part, Says, Routes, Again, Owns, Transmits, Spelled, is_between, is_apart, is_away, is_here, comes, Phase, Moves, knows, receiver_in, to_kernel}
-use Rattle.dm_rulelaws.proofs.Names.{sends_on, accepts, takes_chunk, takes_block, leaves, kernel_told, chunks_of, pieces_of, here_told, ended_told, process_told, server_told, updates, migrates, migrates_child, group_of, at_record_at}
-use Rattle.dm_rulelaws.proofs.Names.{IsNetLine, IsNet, arrives_net, resends_net, front_way, Sane, InPhases, calm_phases, due, head_calm, told_some, Rooted, Phased, rooted, moves_away, State, is_server, has_nothing_held, agrees, KnownStands}
-use Rattle.dm_rulelaws.proofs.Names.{right_true, by_migrates, by_hears, left_parts}
-use Rattle.dm_onekernel.specs.Step as kernel
-use Rattle.dm_rule.specs.View.{Ended}
+use Rattle.dm_rulelaws.proofs.Names.{◌≡◌, ℕ, ◌==◌, Bool, true, false, not, List, [], ◌∷◌, ◌++◌, length, refl, ap, ◌∙◌, sym, subst, if◌then◌else◌, slice_get, Option, None, Some, arith, false≢true, nat_tests, Pid, MsgId, MessageKind, Stage}
+use Rattle.dm_rulelaws.proofs.Names.{PlainMessage, Boot, manager, Life, Alive, OneKernel, Step, Line, View, Told, Of, Known, Unknown, Here, Frozen, Incoming, Forward, after_head, Point, moved, Part, Says, Transmits, Spelled, is_between}
+use Rattle.dm_rulelaws.proofs.Names.{is_apart, is_away, is_here, comes, Phase, Moves, knows, receiver_in, to_kernel, sends_on, updates, migrates, group_of, at_record_at, IsNetLine, IsNet, arrives_net, resends_net, front_way, Sane, InPhases}
+use Rattle.dm_rulelaws.proofs.Names.{calm_phases, due, head_calm, told_some, Rooted, Phased, rooted, moves_away, State, is_server, has_nothing_held, agrees, KnownStands, right_true, by_migrates, by_hears, left_parts}
 use Rattle.dm_rule.specs.Phases as phases
 use Rattle.dm_rule.specs.Rule as rule
 use Rattle.dm_rule.proofs.Groups as groups
 use Rattle.dm_rulelaws.proofs.Based.Needs.{Living, Leaving, Needs, Rides, Keeps, Walks, WalksOf, AllLoose, loose_walks, first_walks, said_by, again_rides, begun, begun_sane, outcome_keeps}
-use Rattle.dm_rulelaws.proofs.Based.Rows.{turned, resting, living, of_bind, of_if, round_walks, handles_walks, forwards_walks}
+use Rattle.dm_rulelaws.proofs.Based.Rows.{turned, resting, living, round_walks, handles_walks, forwards_walks}
 
 -- what leaves
 leaving_rides : (p : Pid) → Rides (λ q. Leaving q.view p)
@@ -132,7 +128,7 @@ hears_walks b o m i is q h front told = walks_of (turned o m) (rule.hears b o m 
             memory = piece_walks pt i MessageKind.Memory;
             next_block = piece_walks pt i MessageKind.PullBlock;
             last_block = loose_walks (Says (Line.Migration Stage.MemoryTaken p) ∷ to_kernel MessageKind.AllTaken i.from.home ∷ []) pt (λ q. tt, (λ q. tt, tt));
-            left = λ ids to frozen. leaves_walks pt i p ids to frozen lived.server;
+            left = λ ids to leaves. leaves_walks pt i p ids to leaves.known lived.server;
             restarted = λ kind. first_walks (Says (Line.Migration Stage.Restarted p)) [] pt (lived, e.off (ap is_between kind)) tt;
           }
           );
