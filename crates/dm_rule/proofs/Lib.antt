@@ -14,6 +14,7 @@ pub mod Turns
 pub mod Requests
 pub mod Hearing
 pub mod Serving
+pub mod Changes
 pub mod Said
 pub mod Moves
 pub mod Handled
