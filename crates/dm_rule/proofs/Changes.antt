@@ -1,12 +1,8 @@
 -- A step of the kernel without machines: where it leads, row by row. Whatever holds where each row leads holds where the step leads.
-use Rattle.dm_rule.proofs.Names.{◌≡◌, ℕ, ◌+◌, ◌==◌, ◌&&◌, Bool, true, false, take, drop, refl, ap, ◌∙◌, sym, subst, length, nat_le, if◌then◌else◌, slice_get, Option, None, Some, Pid, pid_of, pid_eq, MsgId, id_eq, Label, Reply, Why, reply_eq, why_eq, PlainMessage}
-use Rattle.dm_rule.proofs.Names.{PlainWhat, BootImage, PlainLink, first_number, switchboard, manager, bind, PlainProcess, PlainStatus, Ready, Alive, OneKernel, with_process, with_sent, without_message, answer_to, is_of_memory, plain_kind}
-use Rattle.dm_rule.proofs.Names.{bind-is, when-is, alive-is, Nexts, nexts, LandsSo, lands-is}
-use Rattle.dm_onekernel.specs.Service.{is_dropped}
-use Rattle.dm_onekernel.specs.Kernel.{Life, Ended}
-use Rattle.dm_laws.proofs.Servers.{ended-is}
-use Rattle.dm_laws.proofs.Steps.{Runs, Completing, completing}
-use Rattle.dm_laws.proofs.Counted.{pending_of}
+use Rattle.dm_rule.proofs.Names.{◌≡◌, ℕ, ◌+◌, ◌==◌, ◌&&◌, Bool, true, false, take, drop, refl, ap, ◌∙◌, sym, subst, length, nat_le, if◌then◌else◌, slice_get, Option, None, Some, Pid, pid_of, pid_eq, MsgId, id_eq, Label, Reply, Why}
+use Rattle.dm_rule.proofs.Names.{reply_eq, why_eq, PlainMessage, PlainWhat, BootImage, PlainLink, first_number, switchboard, manager, bind, PlainProcess, PlainStatus, Ready, Alive, OneKernel, with_process, with_sent, without_message}
+use Rattle.dm_rule.proofs.Names.{answer_to, is_of_memory, plain_kind, bind-is, when-is, alive-is, Nexts, nexts, LandsSo, lands-is, is_dropped, Life, ended-is, Runs, Completing, completing, pending_of}
+use Rattle.dm_onekernel.specs.Kernel.{Ended}
 use Rattle.dm_onekernel.specs.Calls as calls
 use Rattle.dm_onekernel.specs.Manager as manage
 use Rattle.dm_onekernel.specs.Pieces as pieces
@@ -31,6 +27,20 @@ pub record Over (s : OneKernel) (id : MsgId) (m : PlainMessage) (y : Why) : Type
   pub there : s.bag id ≡ Some m
   pub ended : s.processes m.to ≡ Some (Ended y)
 
+-- the kinds that the kernel of a living process serves; this message is one of them, and no kill
+abbrev pub is_served : PlainWhat → Bool
+is_served (PlainWhat.User code channel body links) = false
+is_served (PlainWhat.Create image links) = false
+is_served (PlainWhat.Created child) = false
+is_served PlainWhat.NoRoom = false
+is_served (PlainWhat.Move machine) = false
+is_served (PlainWhat.Moved outcome) = false
+is_served w = true
+
+pub record Mild (m : PlainMessage) : Type 0 where
+  pub mild : is_kill (plain_kind m.what) ≡ false
+  pub served : is_served m.what ≡ true
+
 -- a kernel is asked for a process
 pub record Asked (s : OneKernel) (id : MsgId) (m : PlainMessage) (image : ℕ) (links : _) : Type 0 where
   pub there : s.bag id ≡ Some m
@@ -48,13 +58,13 @@ pub record Changes (P : OneKernel → Type 0) (s : OneKernel) (l : Label) : Type
   pub refuses : (p : Pid) (id : MsgId) (c d : Reply) (y : PlainProcess) → l ≡ Label.Refuse p id c → Completing s p id (receiving.Refuses d y) → kernel.completing s p id ≡ Some (receiving.Refuses d y) → P (kernel.goes_on s p y)
   pub dropped : (id : MsgId) (m : PlainMessage) (y : Why) → l ≡ Label.Dropped id → Over s id m y → is_dropped m.what ≡ true → P (without_message s id)
   pub gone : (id : MsgId) (m : PlainMessage) (y : Why) → l ≡ Label.Gone id → Over s id m y → is_of_memory m.what ≡ true → P (with_sent (without_message s id) (Some (answer_to m PlainWhat.Gone)))
-  pub stops : (id : MsgId) (m : PlainMessage) (x : PlainProcess) (b : Bool) → l ≡ Label.Served id → Lives s id m x → is_kill (plain_kind m.what) ≡ false → P (service.changed s id m (record x { stopped = b }))
+  pub stops : (id : MsgId) (m : PlainMessage) (x : PlainProcess) (b : Bool) → l ≡ Label.Served id → Lives s id m x → Mild m → P (service.changed s id m (record x { stopped = b }))
   pub kills : (id : MsgId) (m : PlainMessage) (x : PlainProcess) → l ≡ Label.Served id → Lives s id m x → m.what ≡ PlainWhat.Kill → P (with_process (without_message s id) m.to (Ended Why.Killed))
   pub reads : (id : MsgId) (m : PlainMessage) (x : PlainProcess) (base len : ℕ) → l ≡ Label.Served id → Lives s id m x → m.what ≡ PlainWhat.Read base len → P (with_sent (service.changed s id m x) (Some (answer_to m (PlainWhat.Block (take len (drop base x.memory))))))
   pub writes : (id : MsgId) (m : PlainMessage) (x : PlainProcess) (base : ℕ) (bytes : _) → l ≡ Label.Served id → Lives s id m x → m.what ≡ PlainWhat.Write base bytes
       → P (with_sent (service.changed s id m (record x { memory = pieces.written_at x.memory base bytes })) (Some (answer_to m PlainWhat.Written)))
-  pub lands : (id : MsgId) (m : PlainMessage) (x : PlainProcess) (r : PlainMessage) (y : PlainProcess) → l ≡ Label.Served id → Lives s id m x → is_kill (plain_kind m.what) ≡ false → pieces.lands m.to x m x.status ≡ Some (pieces.Next r y) → P (with_sent (service.changed s id m y) (Some r))
-  pub done : (id : MsgId) (m : PlainMessage) (x : PlainProcess) (c : Reply) (y : PlainProcess) → l ≡ Label.Served id → Lives s id m x → is_kill (plain_kind m.what) ≡ false → pieces.lands m.to x m x.status ≡ Some (pieces.Done c y) → P (service.changed s id m y)
+  pub lands : (id : MsgId) (m : PlainMessage) (x : PlainProcess) (r : PlainMessage) (y : PlainProcess) → l ≡ Label.Served id → Lives s id m x → Mild m → pieces.lands m.to x m x.status ≡ Some (pieces.Next r y) → P (with_sent (service.changed s id m y) (Some r))
+  pub done : (id : MsgId) (m : PlainMessage) (x : PlainProcess) (c : Reply) (y : PlainProcess) → l ≡ Label.Served id → Lives s id m x → Mild m → pieces.lands m.to x m x.status ≡ Some (pieces.Done c y) → P (service.changed s id m y)
   pub board : (id : MsgId) (m : PlainMessage) (k : board.Took) → l ≡ Label.Took id → s.bag id ≡ Some m → pid_eq m.to switchboard ≡ true → board.takes s.switchboard m m.what ≡ Some k → P (service.switchboard_took s id k)
   pub manager : (id : MsgId) (m : PlainMessage) (k : manage.Took) → l ≡ Label.Took id → s.bag id ≡ Some m → pid_eq m.to manager ≡ true → manage.takes s.manager s.machines (length s.images) m m.what ≡ Some k → P (service.manager_took s id k)
   pub creates : (id : MsgId) (child : Pid) (m : PlainMessage) (image : ℕ) (links : _) (i : BootImage) → l ≡ Label.Created id child → Asked s id m image links → slice_get s.images image ≡ Some i → pid_eq child (pid_of m.to.home (first_number + s.made m.to.home)) ≡ true
@@ -108,7 +118,7 @@ refuses_step : (P : OneKernel → Type 0) (s t : OneKernel) (p : Pid) (id : MsgI
 refuses_step P s t p id r (receiving.Receives y) h w e = cc
 refuses_step P s t p id r (receiving.Refuses d y) h w e = subst P (when-is (reply_eq r d) (kernel.goes_on s p y) t e).1 (h.refuses p id r d y refl (completing s p id (receiving.Refuses d y) w) w)
 
-lands_step : (P : OneKernel → Type 0) (s t : OneKernel) (id : MsgId) (m : PlainMessage) (x : PlainProcess) (c : Option pieces.Landed) → Changes P s (Label.Served id) → Lives s id m x → is_kill (plain_kind m.what) ≡ false → pieces.lands m.to x m x.status ≡ c
+lands_step : (P : OneKernel → Type 0) (s t : OneKernel) (id : MsgId) (m : PlainMessage) (x : PlainProcess) (c : Option pieces.Landed) → Changes P s (Label.Served id) → Lives s id m x → Mild m → pieces.lands m.to x m x.status ≡ c
     → bind c (λ v. Some (service.landed s id m v)) ≡ Some t → P t
 lands_step P s t id m x None h w mild is e = cc
 lands_step P s t id m x (Some (pieces.Next r y)) h w mild is e = given P (service.landed s id m (pieces.Next r y)) t (h.lands id m x r y refl w mild is) e
@@ -119,16 +129,16 @@ answered_step P s t id m true r h e = given P (service.answered s id m r) t h e
 answered_step P s t id m false r h e = cc
 
 serves_step : (P : OneKernel → Type 0) (s t : OneKernel) (id : MsgId) (m : PlainMessage) (x : PlainProcess) (w : PlainWhat) → m.what ≡ w → Changes P s (Label.Served id) → Lives s id m x → service.serves s id m x w ≡ Some t → P t
-serves_step P s t id m x PlainWhat.Stop is h w e = given P (service.changed s id m (record x { stopped = true })) t (h.stops id m x true refl w (ap (λ v. is_kill (plain_kind v)) is)) e
-serves_step P s t id m x PlainWhat.Resume is h w e = given P (service.changed s id m (record x { stopped = false })) t (h.stops id m x false refl w (ap (λ v. is_kill (plain_kind v)) is)) e
+serves_step P s t id m x PlainWhat.Stop is h w e = given P (service.changed s id m (record x { stopped = true })) t (h.stops id m x true refl w (record { mild = ap (λ v. is_kill (plain_kind v)) is; served = ap is_served is })) e
+serves_step P s t id m x PlainWhat.Resume is h w e = given P (service.changed s id m (record x { stopped = false })) t (h.stops id m x false refl w (record { mild = ap (λ v. is_kill (plain_kind v)) is; served = ap is_served is })) e
 serves_step P s t id m x PlainWhat.Kill is h w e = given P (with_process (without_message s id) m.to (Ended Why.Killed)) t (h.kills id m x refl w is) e
 serves_step P s t id m x (PlainWhat.Read base len) is h w e =
     answered_step P s t id m (nat_le (base + len) (length x.memory)) (record { process = x; answer = answer_to m (PlainWhat.Block (take len (drop base x.memory))) }) (h.reads id m x base len refl w is) e
 serves_step P s t id m x (PlainWhat.Write base bytes) is h w e =
     answered_step P s t id m (nat_le (base + length bytes) (length x.memory)) (record { process = record x { memory = pieces.written_at x.memory base bytes }; answer = answer_to m PlainWhat.Written }) (h.writes id m x base bytes refl w is) e
-serves_step P s t id m x (PlainWhat.Block bytes) is h w e = lands_step P s t id m x (pieces.lands m.to x m x.status) h w (ap (λ v. is_kill (plain_kind v)) is) refl e
-serves_step P s t id m x PlainWhat.Written is h w e = lands_step P s t id m x (pieces.lands m.to x m x.status) h w (ap (λ v. is_kill (plain_kind v)) is) refl e
-serves_step P s t id m x PlainWhat.Gone is h w e = lands_step P s t id m x (pieces.lands m.to x m x.status) h w (ap (λ v. is_kill (plain_kind v)) is) refl e
+serves_step P s t id m x (PlainWhat.Block bytes) is h w e = lands_step P s t id m x (pieces.lands m.to x m x.status) h w (record { mild = ap (λ v. is_kill (plain_kind v)) is; served = ap is_served is }) refl e
+serves_step P s t id m x PlainWhat.Written is h w e = lands_step P s t id m x (pieces.lands m.to x m x.status) h w (record { mild = ap (λ v. is_kill (plain_kind v)) is; served = ap is_served is }) refl e
+serves_step P s t id m x PlainWhat.Gone is h w e = lands_step P s t id m x (pieces.lands m.to x m x.status) h w (record { mild = ap (λ v. is_kill (plain_kind v)) is; served = ap is_served is }) refl e
 serves_step P s t id m x _ is h w e = cc
 
 takes_step : (P : OneKernel → Type 0) (s t : OneKernel) (id : MsgId) (m : PlainMessage) (c d : Bool) → pid_eq m.to switchboard ≡ c → pid_eq m.to manager ≡ d → Changes P s (Label.Took id) → s.bag id ≡ Some m

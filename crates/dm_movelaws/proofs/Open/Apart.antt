@@ -3,7 +3,7 @@ use Rattle.dm_movelaws.proofs.Names.{◌≡◌, ◌≢◌, ℕ, ◌+◌, ◌==�
 use Rattle.dm_movelaws.proofs.Names.{MessageKind, plain_kind, Load, PlainMessage, PlainWhat, Boot, Label, Why, first_number, switchboard, manager, Life, OneKernel, bind, bind-is, when-is, Step, Line, Receiver, IsOthers, Spares, migrates}
 use Rattle.dm_movelaws.proofs.Names.{Part, Says, Routes, Again, Owns, Transmits, Spelled, lines_of, puts, goes_out, packet_line, behind, spelled, Moves, knows, IsIn, Point, label_of, kernel_after, moved, after_line, after, group_of, Here}
 use Rattle.dm_movelaws.proofs.Names.{own_id, SparesPart, FirstApart, ApartOf, apart_first, turns_apart, net_apart, migrates_apart, arrives_net, resends_net, Rooted, nowhere_known, moves_away, is_server, is_fixed, IsAnothers, IsAnothersIf}
-use Rattle.dm_movelaws.proofs.Names.{moves_known}
+use Rattle.dm_movelaws.proofs.Names.{moves_known, took_for, created_for, no_space_for}
 use Rattle.dm_onekernel.specs.Kernel.{Ended}
 use Rattle.dm_onekernel.specs.Manager as manage
 use Rattle.dm_onekernel.specs.Service as service
@@ -116,62 +116,15 @@ gone_over s t id m is there =
     ended_is (Some (Ended z)) y e = let f : z ≡ y = cc in ap (λ (v : Why). Some (Ended v)) f
     ended_is _ y e = cc
 
-took_by : (s t : OneKernel) (id : MsgId) (m : PlainMessage) (c d : Bool) → pid_eq m.to switchboard ≡ c → pid_eq m.to manager ≡ d
-    → (if c then bind (board.takes s.switchboard m m.what) (λ t. Some (service.switchboard_took s id t)) else if d then bind (manage.takes s.manager s.machines (length s.images) m m.what) (λ t. Some (service.manager_took s id t)) else None) ≡ Some t → is_fixed m.to ≡ true
-took_by s t id m true d x y e = or_right (m.to.num == 0) (is_server m.to) (ap (λ (v : Bool). v || pid_eq m.to manager) x)
-  where
-    or_right : (u v : Bool) → v ≡ true → (u || v) ≡ true
-    or_right true v e = refl
-    or_right false v e = e
-took_by s t id m false true x y e = or_right (m.to.num == 0) (is_server m.to) (ap (λ (v : Bool). v || pid_eq m.to manager) x ∙ y)
-  where
-    or_right : (u v : Bool) → v ≡ true → (u || v) ≡ true
-    or_right true v e = refl
-    or_right false v e = e
-took_by s t id m false false x y e = cc
-
-took_fixed : (s t : OneKernel) (id : MsgId) (m : PlainMessage) → kernel.step s (Label.Took id) ≡ Some t → s.bag id ≡ Some m → is_fixed m.to ≡ true
-took_fixed s t id m is there =
-    let (n, at, rest) = bind-is (s.bag id) (service.takes s id) t is in
-    ap (λ (x : PlainMessage). is_fixed x.to) (sym (message_is s id n m at there)) ∙ took_by s t id n (pid_eq n.to switchboard) (pid_eq n.to manager) refl refl rest
-
-kernel_fixed : (s : OneKernel) (q : Pid) (c : Bool) → (service.is_kernel s q && c) ≡ true → is_fixed q ≡ true
-kernel_fixed s q c e = let f : (q.num == 0) ≡ true = left (q.num == 0) _ (left (service.is_kernel s q) c e) in ap (λ (v : Bool). v || is_server q) f
-  where
-    left : (u v : Bool) → (u && v) ≡ true → u ≡ true
-    left true v e = refl
-    left false v e = absurd (false≢true e)
-
-creates_fixed : (s t : OneKernel) (id : MsgId) (m : PlainMessage) (child : Pid) (w : PlainWhat) → service.creates s id m child w ≡ Some t → is_fixed m.to ≡ true
-creates_fixed s t id m child (PlainWhat.Create image links) e =
-    let (x, found, rest) = bind-is (slice_get s.images image) (service.creates_of s id m child links) t e in
-    kernel_fixed s m.to _ (when-is _ _ t rest).0
-creates_fixed s t id m child w e = cc
-
-and_true : (c : Bool) → c ≡ true → (c && true) ≡ true
-and_true true e = refl
-and_true false e = e
-
-no_room_fixed : (s t : OneKernel) (id : MsgId) (m : PlainMessage) (w : PlainWhat) → service.has_no_room s id m w ≡ Some t → is_fixed m.to ≡ true
-no_room_fixed s t id m (PlainWhat.Create image links) e = kernel_fixed s m.to true (and_true (service.is_kernel s m.to) (when-is (service.is_kernel s m.to) _ t e).0)
-no_room_fixed s t id m w e = cc
-
 fixed_off : (y q : Pid) → is_fixed y ≡ false → is_fixed q ≡ true → q ≢ y
 fixed_off y q free fixed e = false≢true (sym free ∙ ap is_fixed (sym e) ∙ fixed)
 
 pub anothers_is : (s t : OneKernel) (y : Pid) (l : Label) → is_fixed y ≡ false → ((z : Why) → s.processes y ≡ Some (Ended z) → ⊥) → IsOthers s y l → kernel.step s l ≡ Some t → IsAnothers s y l
 anothers_is s t y (Label.Dropped id) free lives h e = λ m there to. let (z, over) = dropped_over s t id m e there in lives z (ap s.processes (sym to) ∙ over)
 anothers_is s t y (Label.Gone id) free lives h e = λ m there to. let (z, over) = gone_over s t id m e there in lives z (ap s.processes (sym to) ∙ over)
-anothers_is s t y (Label.Took id) free lives h e = λ m there. fixed_off y m.to free (took_fixed s t id m e there)
-anothers_is s t y (Label.Created id q) free lives h e = (
-  h,
-  λ m there.
-      let (n, at, rest) = bind-is (s.bag id) (λ n. service.creates s id n q n.what) t e in
-      fixed_off y m.to free (ap (λ (x : PlainMessage). is_fixed x.to) (sym (message_is s id n m at there)) ∙ creates_fixed s t id n q n.what rest),
-)
-anothers_is s t y (Label.NoSpace id a b) free lives h e = λ m there.
-    let (n, at, rest) = bind-is (s.bag id) (λ n. service.has_no_room s id n n.what) t e in
-    fixed_off y m.to free (ap (λ (x : PlainMessage). is_fixed x.to) (sym (message_is s id n m at there)) ∙ no_room_fixed s t id n n.what rest)
+anothers_is s t y (Label.Took id) free lives h e = λ m there. fixed_off y m.to free (took_for s t id e m there)
+anothers_is s t y (Label.Created id q) free lives h e = (h, λ m there. fixed_off y m.to free (created_for s t id q e m there))
+anothers_is s t y (Label.NoSpace id a b) free lives h e = λ m there. fixed_off y m.to free (no_space_for s t id a b e m there)
 anothers_is s t y _ free lives h e = h
 
 pub anothers_if : (s t : OneKernel) (y : Pid) (o : Option Label) → is_fixed y ≡ false → ((z : Why) → s.processes y ≡ Some (Ended z) → ⊥) → Spares s y o → kernel_after s o ≡ Some t → IsAnothersIf s y o

@@ -1,7 +1,7 @@
 -- What each step of the kernel without machines does to lives: most leave who is alive, one ends, one is made.
 use Rattle.dm_rulelaws.proofs.Names.{◌≡◌, ℕ, ◌+◌, ◌==◌, ◌&&◌, Bool, true, false, length, refl, ap, ◌∙◌, sym, subst, inl, inr, if◌then◌else◌, slice_get, Option, None, Some, cases_Bool, false≢true, Pid, pid_eq, pid_of, MsgId, id_eq}
 use Rattle.dm_rulelaws.proofs.Names.{plain_kind, Called, PlainMessage, PlainWhat, Label, Reply, Why, first_number, manager, switchboard, reply_eq, why_eq, bind, Alive, Ended, Life, OneKernel, PlainProcess, answer_to, without_message, begun}
-use Rattle.dm_rulelaws.proofs.Names.{pid_eq-is, pid_eq-same, bind-is, when-is, alive-is, nexts, completing, is_kill}
+use Rattle.dm_rulelaws.proofs.Names.{pid_eq-is, pid_eq-same, bind-is, when-is, alive-is, nexts, completing, is_kill, take, drop, by_step}
 use Rattle.dm_onekernel.specs.Kernel as kernels
 use Rattle.dm_onekernel.specs.Manager as manage
 use Rattle.dm_onekernel.specs.Pieces as pieces
@@ -9,8 +9,7 @@ use Rattle.dm_onekernel.specs.Receiving as receiving
 use Rattle.dm_onekernel.specs.Service as service
 use Rattle.dm_onekernel.specs.Step as kernel
 use Rattle.dm_onekernel.specs.Switchboard as board
-use Rattle.dm_rulelaws.proofs.Names.{take, drop}
-use Rattle.dm_rule.proofs.Changes.{by_step, Lives}
+use Rattle.dm_rule.proofs.Changes.{Lives}
 
 -- nobody was made, alive or ended
 abbrev pub life_sort : Option Life → Option Bool
@@ -103,7 +102,7 @@ step_lives s t l =
       refuses = λ p id c d y is w e. by (kernel.goes_on s p y) (Label.Refuse p id c) is (goes_life s p w.x y w.alive);
       dropped = λ id m y is w e. by (without_message s id) (Label.Dropped id) is (λ q. refl);
       gone = λ id m y is w e. by (kernels.with_sent (without_message s id) (Some (answer_to m PlainWhat.Gone))) (Label.Gone id) is (λ q. refl);
-      stops = λ id m x b is w mild. (let y = record x { stopped = b } in served (service.changed s id m y) id m x is w mild (alike_goes s (without_message s id) m.to x y w.alive refl));
+      stops = λ id m x b is w mild. (let y = record x { stopped = b } in served (service.changed s id m y) id m x is w mild.mild (alike_goes s (without_message s id) m.to x y w.alive refl));
       kills = λ id m x is w kill. by (kernels.with_process (without_message s id) m.to (Ended Why.Killed)) (Label.Served id) is (record {
         message = m;
         there = w.there;
@@ -116,8 +115,8 @@ step_lives s t l =
       writes = λ id m x base bytes is w e.
           (let y = record x { memory = pieces.written_at x.memory base bytes } in
           served (kernels.with_sent (service.changed s id m y) (Some (answer_to m PlainWhat.Written))) id m x is w (ap (λ v. is_kill (plain_kind v)) e) (alike_goes s (without_message s id) m.to x y w.alive refl));
-      lands = λ id m x r y is w mild c. served (kernels.with_sent (service.changed s id m y) (Some r)) id m x is w mild (alike_goes s (without_message s id) m.to x y w.alive refl);
-      done = λ id m x c y is w mild f. served (service.changed s id m y) id m x is w mild (alike_goes s (without_message s id) m.to x y w.alive refl);
+      lands = λ id m x r y is w mild c. served (kernels.with_sent (service.changed s id m y) (Some r)) id m x is w mild.mild (alike_goes s (without_message s id) m.to x y w.alive refl);
+      done = λ id m x c y is w mild f. served (service.changed s id m y) id m x is w mild.mild (alike_goes s (without_message s id) m.to x y w.alive refl);
       board = λ id m k is there c took. by (service.switchboard_took s id k) (Label.Took id) is (alike_sent s (record (without_message s id) { switchboard = k.switchboard }) k.answer (λ q. refl));
       manager = λ id m k is there c took. by (service.manager_took s id k) (Label.Took id) is (alike_sent s (record (without_message s id) { manager = k.manager }) k.message (λ q. refl));
       creates = λ id child m image links i is w found name.
