@@ -51,7 +51,6 @@ pub use Rattle.dm_rule.proofs.Names.{receives_what, released, reply_eq, right_tr
 pub use Rattle.dm_rule.proofs.Names.{slot_of, sort_of, spelled, standing, stayed, taken_id, takes_block, takes_chunk, target_of, tells_back, times, to_kernel, to_of, token_in, told_between, trails_after, unmoved, untaken, updated}
 pub use Rattle.dm_rule.proofs.Names.{updated_to, updates, view_after, when-is, why_eq, with_pair, with_ring, without_front, without_id, ◌||◌}
 pub use Rattle.dm_rule.proofs.Once.{one_of-same}
-pub use Rattle.dm_rule.proofs.Outcomes.{by_net, by_outcome}
 pub use Rattle.dm_rule.proofs.Pairs.Lines.{AllFit, line_view, onward, pair_same, taken_pair, touches}
 pub use Rattle.dm_rule.proofs.Pairs.Migrating.{migrates_fit}
 pub use Rattle.dm_rule.proofs.Pairs.Moves.{or_first as or_last}
@@ -71,7 +70,7 @@ pub use Rattle.dm_rule.proofs.Phases.Rests.{released_on}
 pub use Rattle.dm_rule.proofs.Phases.Stand.{held_plain, queued_plain}
 pub use Rattle.dm_rule.proofs.Phases.Start.{start_known, starts}
 pub use Rattle.dm_rule.proofs.Said.{fits_as}
-pub use Rattle.dm_rule.proofs.Serving.{Loose, by_forwards, by_handles, by_round, loose_handles, loose_round}
+pub use Rattle.dm_rule.proofs.Serving.{Loose, loose_handles, loose_round}
 pub use Rattle.dm_rule.proofs.States.{PacketsKeep, PairsFit, said as last_point, puts_next, said, says_next, transmits_next}
 pub use Rattle.dm_rule.proofs.Trails.Along.{Carries, along_treads, trails_always_by}
 pub use Rattle.dm_rule.proofs.Trails.Found.{treads_start}
@@ -119,13 +118,13 @@ pub use Rattle.dm_rulelaws.proofs.Goes.Runs.{Both, both_group, both_start}
 pub use Rattle.dm_rulelaws.proofs.Goes.Serves.{first_is}
 pub use Rattle.dm_rulelaws.proofs.Goes.Turns.{times_more, times_self}
 pub use Rattle.dm_rulelaws.proofs.Names.{AllSayable, AtHome, BagStep, Grown, InPhases, IsNet, IsNetLine, IsPending, KernelFits, KnownStands, LeadsBy, Links, Named, One, Outside, Phased, ReceivedAt, Rooted, SaidOn, Sane, Sayable, State}
-pub use Rattle.dm_rulelaws.proofs.Names.{Target, WhatFits, about_same, agrees, arrives_net, at_home, at_machine_at, at_place, at_record_at, awaits, bag_call, bag_created, bag_dropped, bag_end, bag_gone, bag_no_space, bag_out, bag_ran}
-pub use Rattle.dm_rulelaws.proofs.Names.{bag_receive, bag_refuse, bag_sends, bag_served, bag_took, bag_wait, both_lists, both_times, by_hears, by_migrates, by_step, calm_phases, came, child_is, destination_expects, dropped_known, due}
-pub use Rattle.dm_rulelaws.proofs.Names.{eq_is, eq_self, first_off, first_told, forwarded_back, forwarded_known, front_gone, front_kernels, front_way, goes_between, group_is, grown_none, has_bytes, has_no_queue, has_nothing_held, head_calm}
-pub use Rattle.dm_rulelaws.proofs.Names.{held_known, hidden, homes_are, hushed, is_fixed, is_kill, is_piece, is_put, is_server, kernels_fresh, label_on, label_topic, labels, length-drop, length-take, letters, machine_of, move_fits}
-pub use Rattle.dm_rulelaws.proofs.Names.{moves_away, not_false, not_kernels, not_true, one_of, or_first, out_off, outcome_sayable, pair_keeps, part_sane, parts, phased_group, phased_start, pid_eq-swap, piece_fits, proto_acting, proto_known}
-pub use Rattle.dm_rulelaws.proofs.Names.{put_at, put_told_off, queued_known, rejoins, resends_net, rests_here, rooted, sane_line, second, served_keeps, server_at, source_holds, stands_right, status_awaits, times-append, token_is, told_some}
-pub use Rattle.dm_rulelaws.proofs.Names.{turn_off, under_way, with_label}
+pub use Rattle.dm_rulelaws.proofs.Names.{Stops, Target, WhatFits, about_same, agrees, arrives_net, at_home, at_machine_at, at_place, at_record_at, awaits, bag_call, bag_created, bag_dropped, bag_end, bag_gone, bag_no_space, bag_out}
+pub use Rattle.dm_rulelaws.proofs.Names.{bag_ran, bag_receive, bag_refuse, bag_sends, bag_served, bag_took, bag_wait, both_lists, both_times, by_forwards, by_handles, by_hears, by_migrates, by_net, by_outcome, by_round, by_step}
+pub use Rattle.dm_rulelaws.proofs.Names.{calm_phases, came, child_is, destination_expects, dropped_known, due, eq_is, eq_self, first_off, first_told, forwarded_back, forwarded_known, front_gone, front_kernels, front_way, goes_between}
+pub use Rattle.dm_rulelaws.proofs.Names.{group_is, grown_none, has_bytes, has_no_queue, has_nothing_held, head_calm, held_known, hidden, homes_are, hushed, is_fixed, is_kill, is_piece, is_put, is_server, kernels_fresh, label_on}
+pub use Rattle.dm_rulelaws.proofs.Names.{label_topic, labels, left_parts, length-drop, length-take, letters, machine_of, move_fits, moves_away, not_false, not_kernels, not_true, one_of, or_first, out_off, outcome_sayable, pair_keeps}
+pub use Rattle.dm_rulelaws.proofs.Names.{part_sane, parts, phased_group, phased_start, pid_eq-swap, piece_fits, proto_acting, proto_known, put_at, put_told_off, queued_known, rejoins, resends_net, rests_here, rooted, sane_line, second}
+pub use Rattle.dm_rulelaws.proofs.Names.{served_keeps, server_at, source_holds, stands_right, status_awaits, times-append, token_is, told_some, turn_off, under_way, with_label}
 pub use Rattle.dm_rulelaws.proofs.Own.Told.{is_place, own_sort}
 pub use Rattle.dm_rulelaws.proofs.Queued.{IsQueued}
 pub use Rattle.dm_rulelaws.proofs.RunLabels.{after_replay, group_replay, labels-append, replay-append}

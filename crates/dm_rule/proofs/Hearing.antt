@@ -10,7 +10,8 @@ abbrev pub left_parts : MsgId → Pid → List MsgId → ℕ → List Part
 left_parts id p ids to = Says (Line.SentOn p (length ids)) ∷ sends_on to ids ++ Says (Line.Migration Stage.Left p) ∷ to_kernel MessageKind.Restart id.from.home ∷ []
 
 -- it is frozen there, and these are its messages
-pub record Leaves (o : Point) (m : ℕ) (p : Pid) (ids : List MsgId) (to : ℕ) : Type 0 where
+pub record Leaves (o : Point) (m : ℕ) (k : MessageKind) (p : Pid) (ids : List MsgId) (to : ℕ) : Type 0 where
+  pub kind : k ≡ MessageKind.AllTaken
   pub known : o.view.known m p ≡ Frozen to
   pub lists : ids ≡ o.view.queue m p ++ o.view.held m p
 
@@ -25,7 +26,7 @@ pub record Tells (P : List Part → Type 0) (o : Point) (m : ℕ) (id : MsgId) (
   pub memory : P (gives_piece id MessageKind.Memory)
   pub next_block : P (Says (Line.Proto id) ∷ to_kernel MessageKind.PullBlock id.from.home ∷ [])
   pub last_block : P (Says (Line.Migration Stage.MemoryTaken p) ∷ to_kernel MessageKind.AllTaken id.from.home ∷ [])
-  pub left : (ids : List MsgId) (to : ℕ) → Leaves o m p ids to → P (left_parts id p ids to)
+  pub left : (ids : List MsgId) (to : ℕ) → Leaves o m k p ids to → P (left_parts id p ids to)
   pub restarted : k ≡ MessageKind.Restart → P (Says (Line.Migration Stage.Restarted p) ∷ [])
 
 -- what a machine knows of a receiver that is a process
@@ -52,8 +53,8 @@ by_test : (P : List Part → Type 0) (c : Bool) (ps qs : List Part) → P ps →
 by_test P true ps qs h k = h
 by_test P false ps qs h k = k
 
-by_leaves : (P : List Part → Type 0) (o : Point) (m : ℕ) (id : MsgId) (p : Pid) (ids : List MsgId) (k : Known) (ps : List Part) → ids ≡ o.view.queue m p ++ o.view.held m p → ((to : ℕ) → Leaves o m p ids to → P (left_parts id p ids to)) → o.view.known m p ≡ k → leaves id p ids k ≡ Some ps → P ps
-by_leaves P o m id p ids (Frozen to) ps lists h is e = given P (left_parts id p ids to) ps (h to (record { known = is; lists = lists })) e
+by_leaves : (P : List Part → Type 0) (o : Point) (m : ℕ) (id : MsgId) (p : Pid) (ids : List MsgId) (k : Known) (ps : List Part) → ids ≡ o.view.queue m p ++ o.view.held m p → ((to : ℕ) → Leaves o m MessageKind.AllTaken p ids to → P (left_parts id p ids to)) → o.view.known m p ≡ k → leaves id p ids k ≡ Some ps → P ps
+by_leaves P o m id p ids (Frozen to) ps lists h is e = given P (left_parts id p ids to) ps (h to (record { kind = refl; known = is; lists = lists })) e
 by_leaves P o m id p ids _ ps lists h is e = cc
 
 by_told : (P : List Part → Type 0) (o : Point) (m : ℕ) (id : MsgId) (p : Pid) (room : Bool × ℕ × ℕ) (x : PlainProcess) (k : MessageKind) (ps : List Part) → Tells P o m id k p → kernel_told o m id p room x k ≡ Some ps → P ps

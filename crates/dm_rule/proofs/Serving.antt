@@ -86,7 +86,7 @@ pub record Handles (P : List Part → Type 0) (o : Point) (m : ℕ) (id : MsgId)
   pub created : IsFixed msg.to → P (says (Label.Created id (pid_of m (first_number + o.kernel.made m))) ∷ Routes (answer_id id) ∷ [])
   pub no_space : IsFixed msg.to → (slots blocks : ℕ) → P (says (Label.NoSpace id slots blocks) ∷ Routes (answer_id id) ∷ [])
   pub took : IsFixed msg.to → (sent : Option PlainMessage) → P (says (Label.Took id) ∷ routes sent)
-  pub queued : To o m msg Here → P (Says (Line.Queued id) ∷ [])
+  pub queued : To o m msg Here → plain_kind msg.what ≡ MessageKind.User → P (Says (Line.Queued id) ∷ [])
   pub served : To o m msg Here → is_kill (plain_kind msg.what) ≡ false → P (says (Label.Served id) ∷ [])
   pub answers : To o m msg Here → is_kill (plain_kind msg.what) ≡ false → (i : MsgId) → P (says (Label.Served id) ∷ Routes i ∷ [])
   pub kills : To o m msg Here → is_kill (plain_kind msg.what) ≡ true → P (says (Label.Served id) ∷ drops (o.view.queue m msg.to))
@@ -125,7 +125,7 @@ by_lands P id (Some (pieces.Next request x)) ps done next e = given P (says (Lab
 by_lands P id (Some (pieces.Done reply x)) ps done next e = given P (says (Label.Served id) ∷ []) ps done e
 
 by_here : (P : List Part → Type 0) (o : Point) (m : ℕ) (id : MsgId) (msg : PlainMessage) (x : PlainProcess) (w : PlainWhat) (ps : List Part) → msg.what ≡ w → To o m msg Here → Handles P o m id msg → here_handles o m id msg x w ≡ Some ps → P ps
-by_here P o m id msg x (PlainWhat.User code channel body links) ps is to h e = given P (Says (Line.Queued id) ∷ []) ps (h.queued to) e
+by_here P o m id msg x (PlainWhat.User code channel body links) ps is to h e = given P (Says (Line.Queued id) ∷ []) ps (h.queued to (ap plain_kind is)) e
 by_here P o m id msg x PlainWhat.Stop ps is to h e = given P (says (Label.Served id) ∷ []) ps (h.served to (ap (λ w. is_kill (plain_kind w)) is)) e
 by_here P o m id msg x PlainWhat.Resume ps is to h e = given P (says (Label.Served id) ∷ []) ps (h.served to (ap (λ w. is_kill (plain_kind w)) is)) e
 by_here P o m id msg x PlainWhat.Kill ps is to h e = given P (says (Label.Served id) ∷ drops (o.view.queue m msg.to)) ps (h.kills to (ap (λ w. is_kill (plain_kind w)) is)) e
@@ -225,7 +225,7 @@ loose_handles P L c up b o m id msg ps queued held forwarded =
       created = λ fixed. routed (Label.Created id (pid_of m (first_number + o.kernel.made m))) (answer_id id);
       no_space = λ fixed slots blocks. routed (Label.NoSpace id slots blocks) (answer_id id);
       took = λ fixed sent. up (says (Label.Took id) ∷ routes sent) (c.label (Label.Took id) (routes sent) (loose_sent L c sent));
-      queued = queued;
+      queued = λ to user. queued to;
       served = λ to mild. one (Label.Served id);
       answers = λ to mild i. routed (Label.Served id) i;
       kills = λ to kills. up (says (Label.Served id) ∷ drops (o.view.queue m msg.to)) (c.label (Label.Served id) (drops (o.view.queue m msg.to)) (loose_drops L c (o.view.queue m msg.to)));

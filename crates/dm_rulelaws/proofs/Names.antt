@@ -54,6 +54,7 @@ pub use Rattle.dm_rule.proofs.Names.{sender_of, sends_on, sent_at, served_told, 
 pub use Rattle.dm_rule.proofs.Names.{target_of, tells_back, times, to_kernel, to_of, told_between, unentered, unmoved, untaken, updated, updated_to, updates, view_after, when-is, why_eq, with_machine, without, without_front, without_id}
 pub use Rattle.dm_rule.proofs.Names.{◌||◌}
 pub use Rattle.dm_rule.proofs.Once.{one_of}
+pub use Rattle.dm_rule.proofs.Outcomes.{by_net, by_outcome}
 pub use Rattle.dm_rule.proofs.Pairs.Moves.{or_first}
 pub use Rattle.dm_rule.proofs.Phases.Always.{Phased, phased_group, phased_start}
 pub use Rattle.dm_rule.proofs.Phases.Answers.{about_same, due, front_gone, inbox_is, second}
@@ -67,6 +68,7 @@ pub use Rattle.dm_rule.proofs.Phases.Rests.{rests_here}
 pub use Rattle.dm_rule.proofs.Phases.Stand.{InPhases, calm_phases, token_at, token_is}
 pub use Rattle.dm_rule.proofs.Requests.{by_migrates}
 pub use Rattle.dm_rule.proofs.Rooted.Groups.{moves_away, rooted}
+pub use Rattle.dm_rule.proofs.Serving.{Stops, by_forwards, by_handles, by_round}
 pub use Rattle.dm_rule.proofs.Standing.{StandsAsBag-elsewhere, StandsAsBag-one, times-append}
 pub use Rattle.dm_rule.proofs.States.{State, put_told_off}
 pub use Rattle.dm_rule.proofs.Telling.{AllSayable, Sane, Sayable, came_from, outcome_sayable, part_sane, sane_line}

@@ -6,19 +6,16 @@ use Rattle.dm_rule.proofs.Groups.{IsNetLine, IsNet}
 use Rattle.dm_rule.proofs.Apart.Rows.{AllApart, ApartOf, apart_first, ForOther, round_apart, handles_apart}
 use Rattle.dm_rule.proofs.Requests.{by_migrates}
 use Rattle.dm_rule.proofs.Hearing.{IsHeardLine, hears_kept}
+use Rattle.dm_rule.proofs.Apart.Rows.{apart_of}
 
 -- a kernel's own message is handled: no label
 apart_line : (y : Pid) (l : Line) → IsHeardLine l → (z : OneKernel) → Spares z y (label_of l)
 apart_line y (Line.Label l) h z = absurd h
 apart_line y _ h z = tt
 
-apart_of : (z : OneKernel) (y : Pid) (o : Option (List Part)) → ((ps : List Part) → o ≡ Some ps → AllApart y ps) → ApartOf z y o
-apart_of z y None h = tt
-apart_of z y (Some ps) h = apart_first z y ps (h ps refl)
-
 hears_apart : (z : OneKernel) (y : Pid) (b : Boot) (o : Point) (m : ℕ) (id : MsgId) (q : Option Told) → ApartOf z y (rule.hears b o m id q)
 hears_apart z y b o m id q =
-    apart_of z y (rule.hears b o m id q) (λ ps. hears_kept (AllApart y) (record { none = tt; says = λ l ps h k. (apart_line y l h, k); again = λ i to ps k. (λ s. tt, k); owns = λ k q to ps h. (λ s. tt, h) }) b o m id q ps)
+    apart_of z y (rule.hears b o m id q) (λ ps e. apart_first z y ps (hears_kept (AllApart y) (record { none = tt; says = λ l ps h k. (apart_line y l h, k); again = λ i to ps k. (λ s. tt, k); owns = λ k q to ps h. (λ s. tt, h) }) b o m id q ps e))
 
 -- a turn
 other_is : (z : OneKernel) (y : Pid) (id : MsgId) (msg : PlainMessage) → z.bag id ≡ Some msg → msg.to ≢ y → ForOther z y id

@@ -15,16 +15,13 @@ use Rattle.dm_rule.proofs.Moves.Sent.{fits_put, fits_packet}
 use Rattle.dm_rule.proofs.Telling.{Sane, plain_not, Sayable, part_sane}
 use Rattle.dm_rule.proofs.Phases.Calm.{Calm, Plain, calm_same, calm_trans, calm_others, calm_still}
 use Rattle.dm_rule.proofs.Phases.Lines.{handled_spots, queued_spots, held_spots, dropped_spots, forwarded_spots, queued_known, held_known, dropped_known, forwarded_known, record_times, without_times, put_calm, packet_calm}
+pub use Rattle.dm_rule.proofs.Serving.{is_kill}
 
 -- a message that was told of, and is none of the protocol
 pub record Tame (v : View) (i : MsgId) : Type 0 where
   pub what : Told
   pub told : v.told i ≡ Some what
   pub plain : is_between what.kind ≡ false
-
-abbrev pub is_kill : MessageKind → Bool
-is_kill MessageKind.Kill = true
-is_kill _ = false
 
 -- and no kill
 pub record Mild (v : View) (i : MsgId) : Type 0 where
