@@ -145,6 +145,7 @@ pub record GroupIs (b : Boot) (pt : Point) (d : Step) (w : Spelled) : Type 0 whe
   pub rest : Spelled
   pub said : spelled (moved pt (Line.Head d) pt.kernel) parts ≡ Some rest
   pub point : rest.point ≡ w.point
+  pub whole : rule.headed (Line.Head d) rest ≡ w
 
 pub group_is : (b : Boot) (pt : Point) (d : Step) (w : Spelled) → group_of b pt d ≡ Some w → GroupIs b pt d w
 group_is b pt d w e =
@@ -153,7 +154,7 @@ group_is b pt d w e =
     let (rest, told, end) = bind-is (spelled start parts) (λ w. Some (rule.headed (Line.Head d) w)) w last in
     let f : moved pt (Line.Head d) pt.kernel ≡ start = cc in
     let g : rule.headed (Line.Head d) rest ≡ w = cc in
-    record { parts = parts; is = is; rest = rest; said = ap (λ p. spelled p parts) f ∙ told; point = ap (λ (x : Spelled). x.point) g }
+    record { parts = parts; is = is; rest = rest; said = ap (λ p. spelled p parts) f ∙ told; point = ap (λ (x : Spelled). x.point) g; whole = g }
 
 -- every group keeps that each message stands once
 pub State-group : (b : Boot) (pt : Point) (d : Step) (w : Spelled) → group_of b pt d ≡ Some w → PairsFit pt.view → State None pt → State None w.point

@@ -2,6 +2,8 @@
 use Rattle.dm_rule.proofs.Names.{◌≡◌, ℕ, List, [], ◌∷◌, refl, subst, slice_get, Option, None, Some, Pid, MsgId, Boot, PlainMessage, Step, Line, Load, Part, Says, Transmits, Point, migrates}
 use Rattle.dm_rule.specs.Rule as rule
 use Rattle.dm_rule.proofs.Groups.{IsNetLine, IsNet, arrives_net, resends_net}
+use Rattle.dm_rule.proofs.Names.{bind, bind-is, Spelled, spelled, behind, lines_of, after, moved, group_of}
+use Rattle.dm_rule.proofs.Groups.{group_is}
 
 -- what deliveries and repeats say and transmit, part by part
 pub by_net : (P : List Part → Type 0) → P [] → ((l : Line) (ps : List Part) → IsNetLine l → P ps → P (Says l ∷ ps)) → ((a b : ℕ) (l : Load) (ps : List Part) → P ps → P (Transmits a b l ∷ ps)) → (ps : List Part) → IsNet ps → P ps
@@ -40,3 +42,19 @@ by_outcome P b o (Step.Deliver a c k) ps h e =
     let qs = rule.arrives a c (o.view.pair a c) (o.view.pair c a) s in
     given (P (Step.Deliver a c k)) qs ps (h.delivers a c k qs (arrives_net a c (o.view.pair a c) (o.view.pair c a) s)) e
 by_outcome P b o (Step.Migrate p m) ps h e = given (P (Step.Migrate p m)) (migrates o p) ps (h.asks p m) e
+
+-- what is said and where it leads, part by part
+pub by_parts : (P : List Part → Point → Spelled → Type 0) → ((pt : Point) → P [] pt (record { lines = []; point = pt }))
+    → ((p : Part) (ps : List Part) (pt next : Point) (ls : List Line) (z : Spelled) → lines_of pt p ≡ Some ls → after pt ls ≡ Some next → P ps next z → P (p ∷ ps) pt (behind ls z)) → (ps : List Part) (pt : Point) (w : Spelled) → spelled pt ps ≡ Some w → P ps pt w
+by_parts P none more [] pt w e = let f : record { lines = []; point = pt } ≡ w = cc in subst (P [] pt) f (none pt)
+by_parts P none more (p ∷ ps) pt w e =
+    let (ls, lines, rest) = bind-is (lines_of pt p) (λ (xs : List Line). bind (after pt xs) (λ (q : Point). bind (spelled q ps) (λ (z : Spelled). Some (behind xs z)))) w e in
+    let (next, leads, last) = bind-is (after pt ls) (λ (q : Point). bind (spelled q ps) (λ (z : Spelled). Some (behind ls z))) w rest in
+    let (z, is, end) = bind-is (spelled next ps) (λ (y : Spelled). Some (behind ls y)) w last in
+    let f : behind ls z ≡ w = cc in
+    subst (P (p ∷ ps) pt) f (more p ps pt next ls z lines leads (by_parts P none more ps next z is))
+
+-- a group is its head and what is spelled behind it
+pub by_group : (P : Spelled → Type 0) (b : Boot) (pt : Point) (d : Step) (w : Spelled) → ((ps : List Part) (rest : Spelled) → rule.outcome b pt d ≡ Some ps → spelled (moved pt (Line.Head d) pt.kernel) ps ≡ Some rest → P (rule.headed (Line.Head d) rest))
+    → group_of b pt d ≡ Some w → P w
+by_group P b pt d w h e = let g = group_is b pt d w e in subst P g.whole (h g.parts g.rest g.is g.said)

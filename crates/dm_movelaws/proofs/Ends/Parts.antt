@@ -8,6 +8,7 @@ use Rattle.dm_movelaws.proofs.Ends.Smooth.{asks_for, is_migrate, plain_not, Exte
 use Rattle.dm_movelaws.proofs.Ends.Lines.{Tame, QuietLine, Foreign, tame_plain, line_smooth}
 use Rattle.dm_movelaws.proofs.Ends.Still.{still_same, still_trans, line_still, quiet_ends}
 pub use Rattle.dm_rule.proofs.Phases.Lines.{first_kept}
+use Rattle.dm_rule.proofs.Outcomes.{by_parts}
 
 -- a put of a message that is no request to move this process
 first_plain : (p : Pid) (o : Option Told) (k : MessageKind) (q : Pid) (a : view.About) (t : Told) → Some (view.first_told o (record { kind = k; receiver = q; about = a })) ≡ Some t → (is_migrate k && pid_eq p q) ≡ false → ((u : Told) → o ≡ Some u → asks_for p u ≡ false)
@@ -224,13 +225,7 @@ lines_count f pt (Transmits a b l) ps ls h is =
     omega (arith, e, z)
 
 pub parts_count : (f : Line → Bool) → Silent f → (ps : List Part) (pt : Point) (w : Spelled) → spelled pt ps ≡ Some w → count f w.lines ≡ part_count f ps
-parts_count f h [] pt w is = let g : record { lines = []; point = pt } ≡ w = cc in sym (ap (λ (x : Spelled). count f x.lines) g)
-parts_count f h (x ∷ ps) pt w is =
-    let (ls, lines, rest) = bind-is (lines_of pt x) (λ (xs : List Line). bind (after pt xs) (λ (q : Point). bind (spelled q ps) (λ (z : Spelled). Some (behind xs z)))) w is in
-    let (next, leads, last) = bind-is (after pt ls) (λ (q : Point). bind (spelled q ps) (λ (z : Spelled). Some (behind ls z))) w rest in
-    let (z, more, end) = bind-is (spelled next ps) (λ (y : Spelled). Some (behind ls y)) w last in
-    let g : behind ls z ≡ w = cc in
-    sym (ap (λ (y : Spelled). count f y.lines) g) ∙ count-append f ls z.lines ∙ ap (λ n. count f ls + n) (parts_count f h ps next z more) ∙ lines_count f pt x ps ls h lines
+parts_count f h = by_parts (λ ps pt w. count f w.lines ≡ part_count f ps) (λ pt. refl) (λ x ps pt next ls z lines leads rest. count-append f ls z.lines ∙ ap (λ n. count f ls + n) rest ∙ lines_count f pt x ps ls h lines)
 
 -- quiet parts end none, and are no directive
 pub quiet_count : (p : Pid) (v : View) (ps : List Part) (f : MsgId → Option Told) → AllQuiet p v ps → Extends v.told f → part_count (ends f p) ps ≡ 0

@@ -7,6 +7,7 @@ use Rattle.dm_movelaws.proofs.Lists.Hears.{migrates_ok}
 use Rattle.dm_movelaws.proofs.Lists.Parts.{ForProcess, NoQueues, AllOk, nets_ok, line_queues, parts_queues}
 use Rattle.dm_movelaws.proofs.Lists.Hears.{hears_ok}
 use Rattle.dm_movelaws.proofs.Lists.Turns.{round_ok, handles_ok}
+use Rattle.dm_rule.proofs.Outcomes.{by_group}
 
 at_front : (xs is : List MsgId) (i : MsgId) → xs ≡ i ∷ is → 1 ≤ times i xs
 at_front xs is i e =
@@ -33,14 +34,10 @@ abbrev NoneQueued : View → Type 0
 NoneQueued v = (m : ℕ) (p : Pid) → is_server p ≡ true → v.queue m p ≡ []
 
 queues_group : (b : Boot) (pt : Point) (d : Step) (w : Spelled) → group_of b pt d ≡ Some w → Run b pt → NoneQueued pt.view → NoneQueued w.point.view
-queues_group b pt d w e h none =
-    let (ps, is, more) = bind-is (rule.outcome b pt d) (λ ps. bind (after_line pt (Line.Head d)) (λ start. bind (spelled start ps) (λ w. Some (rule.headed (Line.Head d) w)))) w e in
-    let begun : Point = moved pt (Line.Head d) pt.kernel in
-    let (rest, said, end) = bind-is (spelled begun ps) (λ w. Some (rule.headed (Line.Head d) w)) w more in
-    let g : rule.headed (Line.Head d) rest ≡ w = cc in
-    let first : NoQueues pt.view pt.view = record { told = λ i t f. f; none = none } in
-    let last = parts_queues pt.view ps begun rest (outcome_ok b pt d ps h is) said (line_queues pt.view pt.view (Line.Head d) tt first) in
-    subst (λ (x : Spelled). NoneQueued x.point.view) g last.none
+queues_group b pt d w e h none = by_group (λ v. NoneQueued v.point.view) b pt d w (λ ps rest is said. (
+  let first : NoQueues pt.view pt.view = record { told = λ i t f. f; none = none } in
+  (parts_queues pt.view ps (moved pt (Line.Head d) pt.kernel) rest (outcome_ok b pt d ps h is) said (line_queues pt.view pt.view (Line.Head d) tt first)).none
+  )) e
 
 -- wherever the rule leads
 record Kept (b : Boot) (pt : Point) : Type 0 where

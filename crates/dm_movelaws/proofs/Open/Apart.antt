@@ -12,6 +12,8 @@ use Rattle.dm_onekernel.specs.Switchboard as board
 use Rattle.dm_rule.specs.Rule as rule
 use Rattle.dm_movelaws.proofs.Open.Spares.{dropped_over}
 pub use Rattle.dm_rule.proofs.Apart.Groups.{kernel_same}
+use Rattle.dm_rule.proofs.Outcomes.{by_parts}
+use Rattle.dm_rule.proofs.Outcomes.{by_group}
 
 -- each of these lines spares the process where it stands
 abbrev pub AllAlone : Pid → Point → List Line → Type 0
@@ -46,30 +48,21 @@ part_alone y pt (Owns k q b) ls h is = puts_alone y pt b (own_id pt.view) k q ls
 part_alone y pt (Transmits a b l) ls h is = let f : packet_line pt.view a b l ∷ [] ≡ ls = cc in subst (AllAlone y pt) f (tt, λ next e. tt)
 
 parts_alone : (y : Pid) (ps : List Part) (pt : Point) (w : Spelled) → FirstApart pt.kernel y ps → spelled pt ps ≡ Some w → AllAlone y pt w.lines
-parts_alone y [] pt w h is = let f : record { lines = []; point = pt } ≡ w = cc in subst (λ (x : Spelled). AllAlone y pt x.lines) f tt
-parts_alone y (p ∷ ps) pt w h is =
-    let (ls, lines, rest) = bind-is (lines_of pt p) (λ (xs : List Line). bind (after pt xs) (λ (q : Point). bind (spelled q ps) (λ (z : Spelled). Some (behind xs z)))) w is in
-    let (next, leads, last) = bind-is (after pt ls) (λ (q : Point). bind (spelled q ps) (λ (z : Spelled). Some (behind ls z))) w rest in
-    let (z, more, end) = bind-is (spelled next ps) (λ (v : Spelled). Some (behind ls v)) w last in
-    let f : behind ls z ≡ w = cc in
-    let others : AllAlone y next z.lines = parts_alone y ps next z (apart_first next.kernel y ps h.1) more in
-    subst (λ (x : Spelled). AllAlone y pt x.lines) f
-    (alone_append y ls z.lines pt (part_alone y pt p ls h.0 lines) (λ mid e. let g : next ≡ mid = (let k : Some next ≡ Some mid = sym leads ∙ e in cc) in subst (λ (q : Point). AllAlone y q z.lines) g others))
+parts_alone y qs p w h is = by_parts (λ ps pt v. FirstApart pt.kernel y ps → AllAlone y pt v.lines) (λ pt h. tt) (λ x ps pt next ls z lines leads rest h. (
+  let others : AllAlone y next z.lines = rest (apart_first next.kernel y ps h.1) in
+  alone_append y ls z.lines pt (part_alone y pt x ls h.0 lines) (λ mid e. let g : next ≡ mid = (let k : Some next ≡ Some mid = sym leads ∙ e in cc) in subst (λ (q : Point). AllAlone y q z.lines) g others)
+  )) qs p w is h
 
 -- a group
 apart_some : (z : OneKernel) (y : Pid) (o : Option (List Part)) (ps : List Part) → o ≡ Some ps → ApartOf z y o → FirstApart z y ps
 apart_some z y o ps e h = subst (ApartOf z y) e h
 
 group_alone : (b : Boot) (pt : Point) (d : Step) (w : Spelled) (y : Pid) → ApartOf pt.kernel y (rule.outcome b pt d) → group_of b pt d ≡ Some w → AllAlone y pt w.lines
-group_alone b pt d w y h e =
-    let (parts, is, more) = bind-is (rule.outcome b pt d) (λ parts. bind (after_line pt (Line.Head d)) (λ begun. bind (spelled begun parts) (λ w. Some (rule.headed (Line.Head d) w)))) w e in
-    let (start, head, last) = bind-is (after_line pt (Line.Head d)) (λ begun. bind (spelled begun parts) (λ w. Some (rule.headed (Line.Head d) w))) w more in
-    let (rest, told, end) = bind-is (spelled start parts) (λ w. Some (rule.headed (Line.Head d) w)) w last in
-    let f : moved pt (Line.Head d) pt.kernel ≡ start = cc in
-    let g : rule.headed (Line.Head d) rest ≡ w = cc in
-    let begun = moved pt (Line.Head d) pt.kernel in
-    let k : AllAlone y begun rest.lines = parts_alone y parts begun rest (apart_some pt.kernel y (rule.outcome b pt d) parts is h) (ap (λ p. spelled p parts) f ∙ told) in
-    subst (λ (x : Spelled). AllAlone y pt x.lines) g (tt, λ next n. let m : begun ≡ next = cc in subst (λ (q : Point). AllAlone y q rest.lines) m k)
+group_alone b pt d w y h = by_group (λ v. AllAlone y pt v.lines) b pt d w (λ ps rest is said. (
+  let begun = moved pt (Line.Head d) pt.kernel in
+  let k : AllAlone y begun rest.lines = parts_alone y ps begun rest (apart_some pt.kernel y (rule.outcome b pt d) ps is h) said in
+  (tt, λ next n. let m : begun ≡ next = cc in subst (λ (q : Point). AllAlone y q rest.lines) m k)
+  ))
 
 outcome_apart : (b : Boot) (pt : Point) (d : Step) (y : Pid) → Rooted pt → ((m : ℕ) → pid_of m (first_number + pt.kernel.made m) ≢ y) → ((m : ℕ) (p : Pid) → pt.view.known m p ≡ Here → p ≢ y) → ApartOf pt.kernel y (rule.outcome b pt d)
 outcome_apart b pt (Step.Turn m) y h child off = turns_apart y b pt m (pt.view.inbox m) (child m) (off m) (h.served m)

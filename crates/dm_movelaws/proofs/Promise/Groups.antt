@@ -11,6 +11,7 @@ use Rattle.dm_movelaws.proofs.Promise.Parts.{all_loose, GoesOf, next_of}
 use Rattle.dm_movelaws.proofs.Promise.Rows.{Waits, loose_row, round_goes, handles_goes}
 use Rattle.dm_movelaws.proofs.Promise.Told.{hears_goes, hears_this}
 use Rattle.dm_movelaws.proofs.Promise.Parts.{Goes}
+use Rattle.dm_rule.proofs.Groups.{group_is}
 
 -- no message of the bag is an update
 no_update : (k : PlainWhat) → plain_kind k ≡ MessageKind.Update → ⊥
@@ -93,28 +94,10 @@ waits_begun o d j t update told h phased = record {
   stands = head_stands o.view d j h;
 }
 
--- a group is its head and what is spelled behind it
-record Grouped (b : Boot) (o : Point) (d : Step) (w : Spelled) : Type 0 where
-  parts : List Part
-  is : rule.outcome b o d ≡ Some parts
-  rest : Spelled
-  said : spelled (begun o d) parts ≡ Some rest
-  lines : Line.Head d ∷ rest.lines ≡ w.lines
-  point : rest.point ≡ w.point
-
-grouped : (b : Boot) (o : Point) (d : Step) (w : Spelled) → group_of b o d ≡ Some w → Grouped b o d w
-grouped b o d w e =
-    let (parts, is, more) = bind-is (rule.outcome b o d) (λ parts. bind (after_line o (Line.Head d)) (λ begun. bind (spelled begun parts) (λ w. Some (rule.headed (Line.Head d) w)))) w e in
-    let (start, head, last) = bind-is (after_line o (Line.Head d)) (λ begun. bind (spelled begun parts) (λ w. Some (rule.headed (Line.Head d) w))) w more in
-    let (rest, told, end) = bind-is (spelled start parts) (λ w. Some (rule.headed (Line.Head d) w)) w last in
-    let f : moved o (Line.Head d) o.kernel ≡ start = cc in
-    let g : rule.headed (Line.Head d) rest ≡ w = cc in
-    record { parts = parts; is = is; rest = rest; said = ap (λ (x : Point). spelled x parts) f ∙ told; lines = ap (λ (x : Spelled). x.lines) g; point = ap (λ (x : Spelled). x.point) g }
-
 pub group_ends : (b : Boot) (o : Point) (d : Step) (w : Spelled) (j : MsgId) (p q : Pid) (place : Place) → group_of b o d ≡ Some w → Phased o → o.view.told j ≡ Some (update_of p q place) → Stands o.view j → Stands w.point.view j ⊎ ((n : ℕ) × (w.lines ≡ Line.Head d ∷ Line.Updated j n ∷ []))
 group_ends b o d w j p q place e phased told h =
-    let g = grouped b o d w e in
+    let g = group_is b o d w e in
     elim (outcome_goes b o d g.parts j p q place (λ e. waits_begun o e j (update_of p q place) refl told h phased) g.is g.rest g.said) [
       | inl there ↦ inl (subst (λ (x : Point). Stands x.view j) g.point there)
-      | inr says ↦ let (n, is) = says in inr (n, sym g.lines ∙ ap (λ (ls : List Line). Line.Head d ∷ ls) is)
+      | inr says ↦ let (n, is) = says in inr (n, sym (ap (λ (x : Spelled). x.lines) g.whole) ∙ ap (λ (ls : List Line). Line.Head d ∷ ls) is)
     ]

@@ -8,6 +8,7 @@ use Rattle.dm_rule.specs.View as view
 use Rattle.dm_movelaws.proofs.Ends.Sends.{puts_lead}
 use Rattle.dm_movelaws.proofs.Ends.Smooth.{told_by}
 use Rattle.dm_movelaws.proofs.Real.Rows.{LineReal, AllReal, PartReal}
+use Rattle.dm_rule.proofs.Outcomes.{by_parts}
 
 -- who was made stays so, and there are as many machines
 pub record Rises (s t : OneKernel) : Type 0 where
@@ -226,11 +227,5 @@ part_reals o pt next (Transmits a b l) ls known need is leads sane h =
     subst (Reals o) k.is (line_reals o pt k.kernel x known tt k.step sane h)
 
 pub parts_reals : (o : Point) (ps : List Part) (pt : Point) (w : Spelled) → Receivers o → AllReal o ps → AllSayable ps → Sane pt → spelled pt ps ≡ Some w → Reals o pt → Reals o w.point
-parts_reals o [] pt w known need ok sane is h = let f : record { lines = []; point = pt } ≡ w = cc in subst (λ (x : Spelled). Reals o x.point) f h
-parts_reals o (p ∷ ps) pt w known need ok sane is h =
-    let (ls, lines, rest) = bind-is (lines_of pt p) (λ (xs : List Line). bind (after pt xs) (λ (q : Point). bind (spelled q ps) (λ (z : Spelled). Some (behind xs z)))) w is in
-    let (next, leads, last) = bind-is (after pt ls) (λ (q : Point). bind (spelled q ps) (λ (z : Spelled). Some (behind ls z))) w rest in
-    let (z, more, end) = bind-is (spelled next ps) (λ (y : Spelled). Some (behind ls y)) w last in
-    let f : behind ls z ≡ w = cc in
-    subst (λ (x : Spelled). Reals o x.point) f
-    (parts_reals o ps next z known need.1 ok.1 (part_sane pt next p ls ok.0 lines leads sane) more (part_reals o pt next p ls known need.0 lines leads sane h))
+parts_reals o qs q w known need ok sane is h = by_parts (λ ps pt v. AllReal o ps → AllSayable ps → Sane pt → Reals o pt → Reals o v.point) (λ pt need ok sane h. h)
+    (λ p ps pt next ls z lines leads rest need ok sane h. rest need.1 ok.1 (part_sane pt next p ls ok.0 lines leads sane) (part_reals o pt next p ls known need.0 lines leads sane h)) qs q w is need ok sane h

@@ -9,6 +9,7 @@ use Rattle.dm_rule.specs.View as view
 use Rattle.dm_movelaws.proofs.Ends.Sends.{puts_lead}
 use Rattle.dm_movelaws.proofs.Routed.Outs.{LineOuts, PartOuts, AllOuts, outcome_outs}
 use Rattle.dm_movelaws.proofs.Routed.Steps.{is_sent, step_counts}
+use Rattle.dm_rule.proofs.Outcomes.{by_parts}
 
 -- a message that was told of
 abbrev pub IsTold : View → MsgId → Type 0
@@ -129,15 +130,8 @@ counted_part v pt next (Transmits a b l) ok outs sane s h =
     subst (Counted v) k.is (counted_quiet v pt (packet_line pt.view a b l) k.kernel refl k.step h)
 
 counted_parts : (v : View) (ps : List Part) (pt : Point) (w : Spelled) → AllSayable ps → AllOuts (IsTold v) ps → Sane pt → spelled pt ps ≡ Some w → Counted v pt → Counted v w.point
-counted_parts v [] pt w ok outs sane is h = let f : record { lines = []; point = pt } ≡ w = cc in subst (λ (x : Spelled). Counted v x.point) f h
-counted_parts v (p ∷ ps) pt w ok outs sane is h =
-    let (ls, lines, rest) = bind-is (lines_of pt p) (λ (xs : List Line). bind (after pt xs) (λ (q : Point). bind (spelled q ps) (λ (z : Spelled). Some (behind xs z)))) w is in
-    let (next, leads, last) = bind-is (after pt ls) (λ (q : Point). bind (spelled q ps) (λ (z : Spelled). Some (behind ls z))) w rest in
-    let (z, more, end) = bind-is (spelled next ps) (λ (y : Spelled). Some (behind ls y)) w last in
-    let f : behind ls z ≡ w = cc in
-    let s : Steps pt p next = record { lines = ls; are = lines; leads = leads } in
-    subst (λ (x : Spelled). Counted v x.point) f
-    (counted_parts v ps next z ok.1 outs.1 (part_sane pt next p ls ok.0 lines leads sane) more (counted_part v pt next p (ok.0, tt) outs.0 sane s h))
+counted_parts v qs q w ok outs sane is h = by_parts (λ ps pt u. AllSayable ps → AllOuts (IsTold v) ps → Sane pt → Counted v pt → Counted v u.point) (λ pt ok outs sane h. h) (λ p ps pt next ls z lines leads rest ok outs sane h.
+    rest ok.1 outs.1 (part_sane pt next p ls ok.0 lines leads sane) (counted_part v pt next p (ok.0, tt) outs.0 sane (record { lines = ls; are = lines; leads = leads }) h)) qs q w is ok outs sane h
 
 -- between groups
 abbrev pub AllTold : Point → Type 0

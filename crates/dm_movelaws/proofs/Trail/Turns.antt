@@ -11,6 +11,7 @@ use Rattle.dm_movelaws.proofs.Trail.Loose.{places_same, owns_leave, no_child_loo
 use Rattle.dm_movelaws.proofs.Trail.Rows.{Front, round_walks, handles_walks}
 use Rattle.dm_movelaws.proofs.Trail.Forwards.{forwards_walks}
 use Rattle.dm_movelaws.proofs.Trail.Hears.{Heard, hears_walks}
+use Rattle.dm_rule.proofs.Outcomes.{by_group}
 
 waits_for : (o : Point) (m : ℕ) (p : Pid) (i : MsgId) (q : Pid) → Begins o m → FoundBy o → 1 ≤ times i (both_lists (turned o m).view p) → Named (turned o m).kernel (turned o m).view (Receiver i) q → q ≡ p
 waits_for o m p i q start h least named =
@@ -96,10 +97,8 @@ outcome_walks b pt t d ps base known h at = by_outcome (λ x. Walks (begun pt x)
 
 -- a group
 pub group_good : (b : Boot) (pt : Point) (t : Trails) (d : Step) (w : Spelled) → group_of b pt d ≡ Some w → Phased pt → KnownStands pt.kernel pt.view → FoundBy pt → Places pt.view t → Treads pt t → AllGood pt t w.lines
-group_good b pt t d w e base known h at on =
-    let (ps, is, more) = bind-is (rule.outcome b pt d) (λ ps. bind (after_line pt (Line.Head d)) (λ start. bind (spelled start ps) (λ w. Some (rule.headed (Line.Head d) w)))) w e in
-    let (rest, said, end) = bind-is (spelled (begun pt d) ps) (λ w. Some (rule.headed (Line.Head d) w)) w more in
-    let g : rule.headed (Line.Head d) rest ≡ w = cc in
-    let walks = outcome_walks b pt t d ps base known h at is in
-    let good : AllGood (begun pt d) t rest.lines = parts_good ps (begun pt d) t rest (outcome_sayable b pt d ps is) walks (begun_sane pt d base.sane) (line_treads pt (begun pt d) t (Line.Head d) refl tt on) said in
-    subst (λ (x : Spelled). AllGood pt t x.lines) g (tt, (λ next comes. let f : begun pt d ≡ next = cc in subst (λ (q : Point). AllGood q t rest.lines) f good))
+group_good b pt t d w e base known h at on = by_group (λ v. AllGood pt t v.lines) b pt d w (λ ps rest is said. (
+  let walks = outcome_walks b pt t d ps base known h at is in
+  let good : AllGood (begun pt d) t rest.lines = parts_good ps (begun pt d) t rest (outcome_sayable b pt d ps is) walks (begun_sane pt d base.sane) (line_treads pt (begun pt d) t (Line.Head d) refl tt on) said in
+  (tt, (λ next comes. let f : begun pt d ≡ next = cc in subst (λ (q : Point). AllGood q t rest.lines) f good))
+  )) e
