@@ -1,9 +1,5 @@
 -- The lines of a group lead to where the group leads.
-use Rattle.dm_movelaws.proofs.Names.{◌≡◌, List, [], ◌∷◌, ◌++◌, refl, ap, ◌∙◌, subst, Option, Some, Boot, bind, bind-is, Step, Line, Part, Spelled, lines_of, behind, spelled, Point, after_line, after, group_of}
-use Rattle.dm_rule.specs.Rule as rule
-use Rattle.dm_rule.proofs.Outcomes.{by_parts}
-use Rattle.dm_rule.proofs.Outcomes.{by_group}
-use Rattle.dm_rule.proofs.Names.{moved}
+use Rattle.dm_movelaws.proofs.Names.{◌≡◌, List, [], ◌∷◌, ◌++◌, refl, ap, ◌∙◌, Option, Some, Boot, bind, bind-is, Step, Line, Part, Spelled, spelled, Point, after_line, after, group_of, by_parts, by_group, moved}
 
 pub after-append : (xs ys : List Line) (pt mid end : Point) → after pt xs ≡ Some mid → after mid ys ≡ Some end → after pt (xs ++ ys) ≡ Some end
 after-append [] ys pt mid end e f = let g : pt ≡ mid = cc in ap (λ (x : Point). after x ys) g ∙ f

@@ -67,7 +67,7 @@ pub use Rattle.dm_rule.specs.Phases.{Alone, HasToken, IsIn, IsToken, Moves, Nowh
 pub use Rattle.dm_rule.specs.Phases.{told_between}
 pub use Rattle.dm_rule.specs.Point.{Point, after, after_line, first_point, kernel_after, label_of, moved}
 pub use Rattle.dm_rule.specs.Quiet.{IsQuiet, has_mail, is_quiet, pair_is_quiet}
-pub use Rattle.dm_rule.specs.Rule.{Ran, Room, arrives, board_took, called, comes_to, completes, creates, drops, ended_handles, executes, first_awaited, first_runnable, fits, free_room, goes_round, group_of, has, has_room, headed, hears}
+pub use Rattle.dm_rule.specs.Rule.{Room, arrives, board_took, called, comes_to, completes, creates, drops, ended_handles, executes, first_awaited, first_runnable, fits, free_room, goes_round, group_of, has, has_room, headed, hears}
 pub use Rattle.dm_rule.specs.Rule.{here_handles, kept_from, kernel_handles, kernel_hears, less, let_go, manager_took, more, numbers_from, outcome, outstanding, process_handles, ran, receives, repeats, resends, routes, says, serves_status}
 pub use Rattle.dm_rule.specs.Rule.{stops, takes, takes_on, turns}
 pub use Rattle.dm_rule.specs.Spots.{Held, Inbox, Queue, Spot, StandsAsBag, StandsNowhere, StandsOnce, StandsOutside, StandsRight, Untaken, ids_at, standing, times, untaken}

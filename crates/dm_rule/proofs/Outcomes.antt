@@ -1,8 +1,8 @@
 -- The outcome of a directive: what holds of each way that it may come about holds of it.
-use Rattle.dm_rule.proofs.Names.{◌≡◌, ℕ, List, [], ◌∷◌, refl, subst, slice_get, Option, None, Some, Pid, MsgId, Boot, PlainMessage, Step, Line, Load, Part, Says, Transmits, Point, migrates}
+use Rattle.dm_rule.proofs.Names.{◌≡◌, ℕ, List, [], ◌∷◌, refl, subst, slice_get, Option, None, Some, Pid, MsgId, Boot, PlainMessage, Step, Line, Load, Part, Says, Transmits, Point, migrates, bind, bind-is, Spelled, spelled, behind, lines_of}
+use Rattle.dm_rule.proofs.Names.{after, moved, group_of}
 use Rattle.dm_rule.specs.Rule as rule
 use Rattle.dm_rule.proofs.Groups.{IsNetLine, IsNet, arrives_net, resends_net}
-use Rattle.dm_rule.proofs.Names.{bind, bind-is, Spelled, spelled, behind, lines_of, after, moved, group_of}
 use Rattle.dm_rule.proofs.Groups.{group_is}
 
 -- what deliveries and repeats say and transmit, part by part

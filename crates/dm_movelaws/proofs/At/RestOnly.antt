@@ -1,11 +1,10 @@
 -- A process ends only where a group says so.
-use Rattle.dm_movelaws.proofs.Names.{◌≡◌, ℕ, ◌+◌, ◌==◌, Bool, true, false, not, filter, List, [], ◌∷◌, length, refl, ap, ◌∙◌, sym, subst, if◌then◌else◌, false≢true, Option, None, Some, Pid, MsgId, MessageKind, Load, plain_kind, Label, bind}
-use Rattle.dm_movelaws.proofs.Names.{bind-is, Step, Line, Stage, Receiver, migrates, Part, Says, Routes, Again, Owns, Transmits, Spelled, lines_of, puts, goes_out, packet_line, behind, spelled, Point, after_line, after, at_record, View}
-use Rattle.dm_movelaws.proofs.Names.{Told, About, NothingElse, Known, Here, Frozen, Incoming, Ended, view_after, handled, receiver_of, IsNetLine, IsNet, line_view, set_all, by_migrates}
+use Rattle.dm_movelaws.proofs.Names.{◌≡◌, ℕ, ◌+◌, ◌==◌, Bool, true, false, not, filter, List, [], ◌∷◌, length, refl, ap, ◌∙◌, sym, subst, if◌then◌else◌, false≢true, Option, None, Some, Pid, MsgId, MessageKind, Load, plain_kind, Label}
+use Rattle.dm_movelaws.proofs.Names.{bind-is, Step, Line, Stage, Receiver, migrates, Part, Says, Routes, Again, Owns, Transmits, Spelled, lines_of, puts, goes_out, packet_line, spelled, Point, after_line, after, at_record, View, Told}
+use Rattle.dm_movelaws.proofs.Names.{About, NothingElse, Known, Here, Frozen, Incoming, Ended, view_after, handled, receiver_of, IsNetLine, IsNet, line_view, set_all, by_migrates, by_parts}
 use Rattle.dm_rule.specs.View as view
 use Rattle.dm_movelaws.proofs.At.RestBuried.{Knows}
 use Rattle.dm_movelaws.proofs.At.RestEnds.{is_ending, PartStays, AllStay}
-use Rattle.dm_rule.proofs.Outcomes.{by_parts}
 
 -- what has ended had ended before
 pub record Only (before : Knows) (v : View) : Type 0 where

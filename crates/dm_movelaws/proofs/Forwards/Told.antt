@@ -1,17 +1,14 @@
 -- Where a group that sends a message on leads: the update for its sender is under way.
 use Rattle.dm_movelaws.proofs.Names.{◌≡◌, ℕ, ◌==◌, Bool, true, false, List, [], ◌∷◌, ◌++◌, length, refl, ap, ◌∙◌, sym, subst, if◌then◌else◌, Option, None, Some, Pid, Place, MsgId, MessageKind, Load, plain_kind, PlainMessage, PlainWhat}
-use Rattle.dm_movelaws.proofs.Names.{Boot, manager, bind, bind-is, Step, Line, Receiver, Sender, is_told_back, Part, Says, Routes, Again, Owns, Transmits, Spelled, lines_of, puts, goes_out, packet_line, behind, spelled, Point, after_line}
-use Rattle.dm_movelaws.proofs.Names.{after, group_of, View, Told, About, Known, Forward, own_id, handled, receiver_of, actor, view_after, fits, fits_put, fits_packet, pair_same, put_at, fits_as, PairsFit, Sane, part_sane, Steps, begun}
-use Rattle.dm_movelaws.proofs.Names.{begun_sane, said_by, again_rides, again_same, own_fresh, front, Run, Tells, ForwardsTell, RequestsTell, update_of, IsUnderWay, run_always, last_point, first_none, forwarded_own}
-use Rattle.dm_rule.specs.Rule as rule
+use Rattle.dm_movelaws.proofs.Names.{Boot, manager, bind-is, Step, Line, Receiver, Sender, is_told_back, Part, Says, Routes, Again, Owns, Transmits, Spelled, lines_of, puts, goes_out, packet_line, spelled, Point, View, Told, About, Known}
+use Rattle.dm_movelaws.proofs.Names.{Forward, own_id, handled, receiver_of, actor, view_after, fits, fits_put, fits_packet, pair_same, put_at, fits_as, PairsFit, Sane, part_sane, Steps, begun, begun_sane, said_by, again_rides, again_same}
+use Rattle.dm_movelaws.proofs.Names.{own_fresh, front, Run, Tells, ForwardsTell, RequestsTell, update_of, IsUnderWay, run_always, last_point, first_none, forwarded_own, GroupIs, group_is, by_parts}
 use Rattle.dm_rule.specs.View as view
 use Rattle.dm_movelaws.proofs.Ends.Sends.{puts_lead}
 use Rattle.dm_movelaws.proofs.Forwards.Rows.{Onward, with_forward, part_forwards, forwards_of, goes_on, GoesOn, GoesOnOwn, Form, Nothing, Plain, Own, outcome_form}
 use Rattle.dm_movelaws.proofs.Promise.Parts.{next_of}
 use Rattle.dm_movelaws.proofs.Promise.Spots.{Stands}
 use Rattle.dm_movelaws.proofs.Promise.Stands.{put_this, packet_stands}
-use Rattle.dm_rule.proofs.Groups.{GroupIs, group_is}
-use Rattle.dm_rule.proofs.Outcomes.{by_parts}
 
 -- the messages that lines send on
 abbrev sent_on : List Line → List Onward

@@ -1,13 +1,12 @@
 -- Messages wait only where a machine has a list for them.
-use Rattle.dm_movelaws.proofs.Names.{◌≡◌, ℕ, ◌+◌, ◌≤◌, Bool, true, false, List, [], ◌∷◌, refl, ap, ◌∙◌, subst, arith, if◌then◌else◌, Some, Pid, MsgId, PlainMessage, Boot, IsValid, bind, id_eq-same, bind-is, Step, Line, Leads, Part, Spelled}
-use Rattle.dm_movelaws.proofs.Names.{spelled, Point, first_point, moved, after_line, group_of, Inbox, times, View, is_server, Both, both_start, both_group, Run, run_start, run_group, ListsAlways, some_is, by_outcome}
+use Rattle.dm_movelaws.proofs.Names.{◌≡◌, ℕ, ◌+◌, ◌≤◌, Bool, true, false, List, [], ◌∷◌, refl, ap, ◌∙◌, subst, arith, if◌then◌else◌, Some, Pid, MsgId, PlainMessage, Boot, IsValid, id_eq-same, Step, Line, Leads, Part, Spelled, Point}
+use Rattle.dm_movelaws.proofs.Names.{first_point, moved, group_of, Inbox, times, View, is_server, Both, both_start, both_group, Run, run_start, run_group, ListsAlways, some_is, by_outcome, by_group}
 use Rattle.dm_rule.specs.Rule as rule
 use Rattle.dm_movelaws.proofs.At.RestQueues.{drops_always}
 use Rattle.dm_movelaws.proofs.Lists.Hears.{migrates_ok}
 use Rattle.dm_movelaws.proofs.Lists.Parts.{ForProcess, NoQueues, AllOk, nets_ok, line_queues, parts_queues}
 use Rattle.dm_movelaws.proofs.Lists.Hears.{hears_ok}
 use Rattle.dm_movelaws.proofs.Lists.Turns.{round_ok, handles_ok}
-use Rattle.dm_rule.proofs.Outcomes.{by_group}
 
 at_front : (xs is : List MsgId) (i : MsgId) → xs ≡ i ∷ is → 1 ≤ times i xs
 at_front xs is i e =
@@ -35,9 +34,9 @@ NoneQueued v = (m : ℕ) (p : Pid) → is_server p ≡ true → v.queue m p ≡ 
 
 queues_group : (b : Boot) (pt : Point) (d : Step) (w : Spelled) → group_of b pt d ≡ Some w → Run b pt → NoneQueued pt.view → NoneQueued w.point.view
 queues_group b pt d w e h none = by_group (λ v. NoneQueued v.point.view) b pt d w (λ ps rest is said. (
-  let first : NoQueues pt.view pt.view = record { told = λ i t f. f; none = none } in
-  (parts_queues pt.view ps (moved pt (Line.Head d) pt.kernel) rest (outcome_ok b pt d ps h is) said (line_queues pt.view pt.view (Line.Head d) tt first)).none
-  )) e
+    let first : NoQueues pt.view pt.view = record { told = λ i t f. f; none = none } in
+    (parts_queues pt.view ps (moved pt (Line.Head d) pt.kernel) rest (outcome_ok b pt d ps h is) said (line_queues pt.view pt.view (Line.Head d) tt first)).none
+    )) e
 
 -- wherever the rule leads
 record Kept (b : Boot) (pt : Point) : Type 0 where

@@ -1,9 +1,8 @@
 -- No message is queued for a server: each line keeps it, where what it queues is for a process.
 use Rattle.dm_movelaws.proofs.Names.{◌≡◌, ℕ, ◌+◌, ◌==◌, Bool, true, false, not, filter, List, [], ◌∷◌, ◌++◌, length, refl, ap, ◌∙◌, sym, subst, ⊤, if◌then◌else◌, false≢true, Option, None, Some, Pid, MsgId, MessageKind, plain_kind, Label}
-use Rattle.dm_movelaws.proofs.Names.{bind, bind-is, Step, Line, Load, Stage, Receiver, Part, Says, Routes, Again, Owns, Transmits, Spelled, lines_of, puts, goes_out, packet_line, behind, spelled, Point, after_line, after, at_record}
-use Rattle.dm_movelaws.proofs.Names.{without_id, without_front, View, Told, About, NothingElse, view_after, handled, receiver_of, IsNetLine, IsNet, is_put, hushed, line_view, is_server, set_all, killed_or, told_kept}
+use Rattle.dm_movelaws.proofs.Names.{bind-is, Step, Line, Load, Stage, Receiver, Part, Says, Routes, Again, Owns, Transmits, Spelled, lines_of, puts, goes_out, packet_line, spelled, Point, after_line, after, at_record, without_id}
+use Rattle.dm_movelaws.proofs.Names.{without_front, View, Told, About, NothingElse, view_after, handled, receiver_of, IsNetLine, IsNet, is_put, hushed, line_view, is_server, set_all, killed_or, told_kept, by_parts}
 use Rattle.dm_rule.specs.View as view
-use Rattle.dm_rule.proofs.Outcomes.{by_parts}
 
 -- what is queued is so
 abbrev pub LineOk : (MsgId → Type 0) → Line → Type 0

@@ -1,14 +1,10 @@
 -- Whoever says that a piece's owner has ended is an owner that has.
-use Rattle.dm_movelaws.proofs.Names.{◌≡◌, ◌⊎◌, ◌+◌, ◌==◌, ◌&&◌, Bool, true, false, length, take, drop, ap, ◌∙◌, sym, subst, inl, inr, nat_le, if◌then◌else◌, slice_get, Option, None, Some, Pid, pid_eq, MsgId, id_eq, Called, PlainMessage}
-use Rattle.dm_movelaws.proofs.Names.{PlainWhat, switchboard, manager, Label, Reply, Why, reply_eq, why_eq, bind, PlainProcess, Life, OneKernel, with_process, with_sent, answer_to, without_message, is_dropped, is_of_memory, is_piece, Grown}
-use Rattle.dm_movelaws.proofs.Names.{LifeGrows, stayed, came, ServerSends, board_takes, manager_takes, ended-is, LandsSo, lands-is, bind-is, when-is, Nexts, nexts, HasEnded, if_some, by_step}
+use Rattle.dm_movelaws.proofs.Names.{◌≡◌, ◌⊎◌, true, false, length, take, drop, ap, ◌∙◌, sym, subst, inl, inr, Option, None, Some, Pid, MsgId, PlainMessage, PlainWhat, switchboard, manager, Label, Why, Life, OneKernel, with_sent, answer_to}
+use Rattle.dm_movelaws.proofs.Names.{without_message, is_piece, Grown, LifeGrows, stayed, came, ServerSends, board_takes, manager_takes, lands-is, HasEnded, by_step}
 use Rattle.dm_onekernel.specs.Kernel.{Ended}
-use Rattle.dm_onekernel.specs.Manager as manage
 use Rattle.dm_onekernel.specs.Pieces as pieces
-use Rattle.dm_onekernel.specs.Receiving as receiving
 use Rattle.dm_onekernel.specs.Service as service
 use Rattle.dm_onekernel.specs.Step as kernel
-use Rattle.dm_onekernel.specs.Switchboard as board
 
 -- each message that says that its sender has ended
 abbrev pub GoneEnded : OneKernel → Type 0

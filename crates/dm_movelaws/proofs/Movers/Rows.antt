@@ -1,17 +1,12 @@
 -- Each step keeps what the messages of data moves say.
-use Rattle.dm_movelaws.proofs.Names.{◌≡◌, ◌⊎◌, ℕ, ◌+◌, ◌-◌, ◌==◌, ◌&&◌, Bool, true, false, length, take, drop, refl, ap, ◌∙◌, sym, subst, inl, inr, nat_le, ⊤, if◌then◌else◌, slice_get, Option, None, Some, Pid, pid_eq, PlainLink}
-use Rattle.dm_movelaws.proofs.Names.{first_empty, link_at, MsgId, id_eq, PlainMessage, PlainWhat, direction_numbered, Direction, Row, instruction, switchboard, manager, Label, Reply, Why, reply_eq, why_eq, bind, reg, PlainProcess}
-use Rattle.dm_movelaws.proofs.Names.{PlainStatus, Ready, Waiting, Moving, Alive, OneKernel, with_process, with_sent, Called, Replies, Sends, Waits, Outputs, Ends, CallNumber, Make, Copy, Drop, Send, Receive, Move, call_number, answer_to}
-use Rattle.dm_movelaws.proofs.Names.{first_failed, without_message, is_dropped, is_of_memory, pending_of, ServerSends, board_takes, manager_takes, LandsSo, lands-is, Sound, bind-is, when-is, alive-is, Nexts, nexts, Completing, completing}
-use Rattle.dm_movelaws.proofs.Names.{KernelFits, if_some, by_step, Lives}
-use Rattle.dm_onekernel.specs.Kernel.{Ended}
+use Rattle.dm_movelaws.proofs.Names.{◌≡◌, ◌⊎◌, ℕ, ◌+◌, ◌-◌, ◌==◌, ◌&&◌, Bool, true, false, length, take, drop, refl, ap, ◌∙◌, sym, subst, inl, inr, nat_le, ⊤, if◌then◌else◌, Option, None, Some, Pid, PlainLink, first_empty, link_at, MsgId}
+use Rattle.dm_movelaws.proofs.Names.{PlainMessage, PlainWhat, direction_numbered, Direction, Row, instruction, switchboard, manager, Label, Reply, Why, reg, PlainProcess, PlainStatus, Waiting, Moving, Alive, OneKernel, with_process}
+use Rattle.dm_movelaws.proofs.Names.{with_sent, Called, Sends, Waits, CallNumber, Make, Copy, Drop, Send, Receive, Move, call_number, answer_to, first_failed, without_message, is_of_memory, pending_of, ServerSends, board_takes}
+use Rattle.dm_movelaws.proofs.Names.{manager_takes, lands-is, Sound, bind-is, KernelFits, by_step, Lives}
 use Rattle.dm_onekernel.specs.Calls as calls
-use Rattle.dm_onekernel.specs.Manager as manage
 use Rattle.dm_onekernel.specs.Pieces as pieces
-use Rattle.dm_onekernel.specs.Receiving as receiving
 use Rattle.dm_onekernel.specs.Service as service
 use Rattle.dm_onekernel.specs.Step as kernel
-use Rattle.dm_onekernel.specs.Switchboard as board
 use Rattle.dm_movelaws.proofs.Movers.Says.{other_end, AllSay, same_says, still_says, fresh_says, ended_says, out_says, other_says, no_end, answer_says, Requests, request_says}
 use Rattle.dm_movelaws.proofs.Movers.Says.{Begins}
 use Rattle.dm_rule.proofs.Names.{begun}
@@ -137,9 +132,9 @@ server_says u p (Some x) n after sends h = other_says u x (no_end x x.what sends
 pub step_says : (r e : MsgId → ℕ) (s t : OneKernel) (l : Label) → kernel.step s l ≡ Some t → Sound r e s → KernelFits t → AllSay s → AllSay t
 step_says r e s t l is_ sound =
     let answered : (id : MsgId) (m : PlainMessage) (x y : PlainProcess) (w : PlainWhat) → Lives s id m x → y.status ≡ x.status → other_end m m.what ≡ Some m.to → other_end (answer_to m w) w ≡ Some m.to → ((base left : ℕ) → Begins base left w) → AllSay s
-        → AllSay (with_sent (service.changed s id m y) (Some (answer_to m w))) = λ id m x y w v same asked end starts h. (
-      let on : AllSay (with_process s m.to (Alive y)) = same_says s m.to x y v.alive same h in
-      answer_says (service.changed s id m y) id m w (sound.entered.named id m v.there) (on id m m.to v.there asked) end starts (out_says (with_process s m.to (Alive y)) id on)
+    → AllSay (with_sent (service.changed s id m y) (Some (answer_to m w))) = λ id m x y w v same asked end starts h. (
+    let on : AllSay (with_process s m.to (Alive y)) = same_says s m.to x y v.alive same h in
+    answer_says (service.changed s id m y) id m w (sound.entered.named id m v.there) (on id m m.to v.there asked) end starts (out_says (with_process s m.to (Alive y)) id on)
     ) in
     by_step (λ u. KernelFits u → AllSay s → AllSay u) s t l (record {
       ran = λ p k x m is w fits h. same_says s p x (kernel.with_machine x m) w.alive refl h;

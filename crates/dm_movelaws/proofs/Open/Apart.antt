@@ -1,19 +1,14 @@
 -- Each line of a group leaves a process that moves alone, where it stands.
-use Rattle.dm_movelaws.proofs.Names.{◌≡◌, ◌≢◌, ℕ, ◌+◌, ◌==◌, ◌&&◌, ◌||◌, Bool, true, false, List, [], ◌∷◌, ◌++◌, length, refl, ap, ◌∙◌, sym, subst, ⊤, if◌then◌else◌, slice_get, Option, None, Some, false≢true, Pid, pid_of, pid_eq, MsgId}
-use Rattle.dm_movelaws.proofs.Names.{MessageKind, plain_kind, Load, PlainMessage, PlainWhat, Boot, Label, Why, first_number, switchboard, manager, Life, OneKernel, bind, bind-is, when-is, Step, Line, Receiver, IsOthers, Spares, migrates}
-use Rattle.dm_movelaws.proofs.Names.{Part, Says, Routes, Again, Owns, Transmits, Spelled, lines_of, puts, goes_out, packet_line, behind, spelled, Moves, knows, IsIn, Point, label_of, kernel_after, moved, after_line, after, group_of, Here}
-use Rattle.dm_movelaws.proofs.Names.{own_id, SparesPart, FirstApart, ApartOf, apart_first, turns_apart, net_apart, migrates_apart, arrives_net, resends_net, Rooted, nowhere_known, moves_away, is_server, is_fixed, IsAnothers, IsAnothersIf}
-use Rattle.dm_movelaws.proofs.Names.{moves_known, took_for, created_for, no_space_for}
+use Rattle.dm_movelaws.proofs.Names.{◌≡◌, ◌≢◌, ℕ, ◌+◌, ◌==◌, Bool, true, false, List, [], ◌∷◌, ◌++◌, length, refl, ap, ◌∙◌, sym, subst, ⊤, if◌then◌else◌, slice_get, Option, None, Some, false≢true, Pid, pid_of, MsgId, MessageKind}
+use Rattle.dm_movelaws.proofs.Names.{plain_kind, Load, PlainMessage, Boot, Label, Why, first_number, Life, OneKernel, bind, bind-is, Step, Line, Receiver, IsOthers, Spares, migrates, Part, Says, Routes, Again, Owns, Transmits, Spelled}
+use Rattle.dm_movelaws.proofs.Names.{lines_of, puts, goes_out, packet_line, spelled, Moves, knows, IsIn, Point, label_of, kernel_after, moved, after_line, after, group_of, Here, own_id, SparesPart, FirstApart, ApartOf, apart_first}
+use Rattle.dm_movelaws.proofs.Names.{turns_apart, net_apart, migrates_apart, arrives_net, resends_net, Rooted, nowhere_known, moves_away, is_fixed, IsAnothers, IsAnothersIf, moves_known, took_for, created_for, no_space_for, by_parts}
+use Rattle.dm_movelaws.proofs.Names.{by_group}
 use Rattle.dm_onekernel.specs.Kernel.{Ended}
-use Rattle.dm_onekernel.specs.Manager as manage
-use Rattle.dm_onekernel.specs.Service as service
 use Rattle.dm_onekernel.specs.Step as kernel
-use Rattle.dm_onekernel.specs.Switchboard as board
 use Rattle.dm_rule.specs.Rule as rule
 use Rattle.dm_movelaws.proofs.Open.Spares.{dropped_over}
 pub use Rattle.dm_rule.proofs.Apart.Groups.{kernel_same}
-use Rattle.dm_rule.proofs.Outcomes.{by_parts}
-use Rattle.dm_rule.proofs.Outcomes.{by_group}
 
 -- each of these lines spares the process where it stands
 abbrev pub AllAlone : Pid → Point → List Line → Type 0
@@ -49,9 +44,9 @@ part_alone y pt (Transmits a b l) ls h is = let f : packet_line pt.view a b l �
 
 parts_alone : (y : Pid) (ps : List Part) (pt : Point) (w : Spelled) → FirstApart pt.kernel y ps → spelled pt ps ≡ Some w → AllAlone y pt w.lines
 parts_alone y qs p w h is = by_parts (λ ps pt v. FirstApart pt.kernel y ps → AllAlone y pt v.lines) (λ pt h. tt) (λ x ps pt next ls z lines leads rest h. (
-  let others : AllAlone y next z.lines = rest (apart_first next.kernel y ps h.1) in
-  alone_append y ls z.lines pt (part_alone y pt x ls h.0 lines) (λ mid e. let g : next ≡ mid = (let k : Some next ≡ Some mid = sym leads ∙ e in cc) in subst (λ (q : Point). AllAlone y q z.lines) g others)
-  )) qs p w is h
+    let others : AllAlone y next z.lines = rest (apart_first next.kernel y ps h.1) in
+    alone_append y ls z.lines pt (part_alone y pt x ls h.0 lines) (λ mid e. let g : next ≡ mid = (let k : Some next ≡ Some mid = sym leads ∙ e in cc) in subst (λ (q : Point). AllAlone y q z.lines) g others)
+    )) qs p w is h
 
 -- a group
 apart_some : (z : OneKernel) (y : Pid) (o : Option (List Part)) (ps : List Part) → o ≡ Some ps → ApartOf z y o → FirstApart z y ps
@@ -59,10 +54,10 @@ apart_some z y o ps e h = subst (ApartOf z y) e h
 
 group_alone : (b : Boot) (pt : Point) (d : Step) (w : Spelled) (y : Pid) → ApartOf pt.kernel y (rule.outcome b pt d) → group_of b pt d ≡ Some w → AllAlone y pt w.lines
 group_alone b pt d w y h = by_group (λ v. AllAlone y pt v.lines) b pt d w (λ ps rest is said. (
-  let begun = moved pt (Line.Head d) pt.kernel in
-  let k : AllAlone y begun rest.lines = parts_alone y ps begun rest (apart_some pt.kernel y (rule.outcome b pt d) ps is h) said in
-  (tt, λ next n. let m : begun ≡ next = cc in subst (λ (q : Point). AllAlone y q rest.lines) m k)
-  ))
+    let begun = moved pt (Line.Head d) pt.kernel in
+    let k : AllAlone y begun rest.lines = parts_alone y ps begun rest (apart_some pt.kernel y (rule.outcome b pt d) ps is h) said in
+    (tt, λ next n. let m : begun ≡ next = cc in subst (λ (q : Point). AllAlone y q rest.lines) m k)
+    ))
 
 outcome_apart : (b : Boot) (pt : Point) (d : Step) (y : Pid) → Rooted pt → ((m : ℕ) → pid_of m (first_number + pt.kernel.made m) ≢ y) → ((m : ℕ) (p : Pid) → pt.view.known m p ≡ Here → p ≢ y) → ApartOf pt.kernel y (rule.outcome b pt d)
 outcome_apart b pt (Step.Turn m) y h child off = turns_apart y b pt m (pt.view.inbox m) (child m) (off m) (h.served m)

@@ -1,8 +1,6 @@
 -- Each step of a process or of its kernel keeps one message under each pending request's number.
-use Rattle.dm_movelaws.proofs.Names.{◌≡◌, ℕ, ◌==◌, ◌&&◌, Bool, true, false, refl, ap, ◌∙◌, subst, take, drop, if◌then◌else◌, slice_get, Option, None, Some, Pid, pid_eq, MsgId, id_eq, Called, PlainMessage, PlainWhat, manager, Label, Reply}
-use Rattle.dm_movelaws.proofs.Names.{Why, reply_eq, why_eq, bind, PlainProcess, PlainStatus, Waiting, Alive, OneKernel, with_process, with_sent, answer_to, without_message, is_dropped, is_of_memory, LandsSo, lands-is, Sound, not_server}
-use Rattle.dm_movelaws.proofs.Names.{bind-is, when-is, alive-is, Nexts, nexts, if_some, length, id_of, by_step, is_served}
-use Rattle.dm_onekernel.specs.Kernel.{Ended}
+use Rattle.dm_movelaws.proofs.Names.{◌≡◌, ℕ, Bool, true, false, refl, ap, ◌∙◌, take, drop, if◌then◌else◌, None, Some, Pid, pid_eq, MsgId, PlainMessage, PlainWhat, manager, Label, bind, PlainProcess, PlainStatus, Waiting, Alive, OneKernel}
+use Rattle.dm_movelaws.proofs.Names.{with_sent, answer_to, without_message, is_dropped, is_of_memory, lands-is, Sound, not_server, bind-is, length, id_of, by_step, is_served}
 use Rattle.dm_onekernel.specs.Pieces as pieces
 use Rattle.dm_onekernel.specs.Receiving as receiving
 use Rattle.dm_onekernel.specs.Service as service

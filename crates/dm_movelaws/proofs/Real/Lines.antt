@@ -1,14 +1,13 @@
 -- Each line keeps that whoever is told of is somebody.
-use Rattle.dm_movelaws.proofs.Names.{◌≡◌, ◌⊎◌, ℕ, ◌<◌, true, false, List, [], ◌∷◌, is_some, refl, ap, ◌∙◌, sym, subst, inl, inr, arith, Option, None, Some, cases_Bool, false≢true, nat_tests, Pid, MsgId, MessageKind, id_eq, plain_kind}
-use Rattle.dm_movelaws.proofs.Names.{Stage, PlainMessage, PlainWhat, Label, Life, OneKernel, bind, id_eq-is, LifeGrows, after_step, Sound, bind-is, Line, Receiver, Part, Says, Routes, Again, Owns, Transmits, Spelled, lines_of, puts}
-use Rattle.dm_movelaws.proofs.Names.{packet_line, behind, spelled, Point, label_of, kernel_after, moved, after, View, Told, About, Of, Known, Forward, view_after, after_put, handled, receiver_of, own_id, is_kernels, is_put, not_kernels}
-use Rattle.dm_movelaws.proofs.Names.{grown_none, put_at, PacketsKeep, put_told_off, Sane, AllSayable, part_sane, label_topic, Within, HeadIn, line_within, has_bytes, is_server, awaits, WhatFits, KernelFits, step_constant, said_by}
-use Rattle.dm_movelaws.proofs.Names.{fits_step, IsReal, Kernel, Server, Made, IsAboutReal, or_cases, queued_topic, held_topic, taken_topic, told_kept}
+use Rattle.dm_movelaws.proofs.Names.{◌≡◌, ◌⊎◌, ℕ, ◌<◌, true, false, List, is_some, refl, ap, ◌∙◌, sym, subst, inl, inr, arith, Option, None, Some, cases_Bool, false≢true, nat_tests, Pid, MsgId, MessageKind, id_eq, plain_kind, Stage}
+use Rattle.dm_movelaws.proofs.Names.{PlainMessage, PlainWhat, Label, Life, OneKernel, id_eq-is, LifeGrows, after_step, Sound, bind-is, Line, Receiver, Part, Says, Routes, Again, Owns, Transmits, Spelled, lines_of, puts, packet_line}
+use Rattle.dm_movelaws.proofs.Names.{spelled, Point, label_of, kernel_after, moved, after, View, Told, About, Of, Known, Forward, view_after, after_put, handled, receiver_of, own_id, is_kernels, is_put, not_kernels, grown_none, put_at}
+use Rattle.dm_movelaws.proofs.Names.{PacketsKeep, put_told_off, Sane, AllSayable, part_sane, label_topic, Within, HeadIn, line_within, has_bytes, is_server, awaits, WhatFits, KernelFits, step_constant, said_by, fits_step, IsReal, Kernel}
+use Rattle.dm_movelaws.proofs.Names.{Server, Made, IsAboutReal, or_cases, queued_topic, held_topic, taken_topic, told_kept, by_parts}
 use Rattle.dm_rule.specs.View as view
 use Rattle.dm_movelaws.proofs.Ends.Sends.{puts_lead}
 use Rattle.dm_movelaws.proofs.Ends.Smooth.{told_by}
 use Rattle.dm_movelaws.proofs.Real.Rows.{LineReal, AllReal, PartReal}
-use Rattle.dm_rule.proofs.Outcomes.{by_parts}
 
 -- who was made stays so, and there are as many machines
 pub record Rises (s t : OneKernel) : Type 0 where

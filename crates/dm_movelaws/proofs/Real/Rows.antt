@@ -1,14 +1,9 @@
 -- The processes that the parts of a group are about are somebody's.
-use Rattle.dm_movelaws.proofs.Names.{◌≡◌, ℕ, ◌==◌, Bool, true, false, List, [], ◌∷◌, ◌++◌, is_some, refl, ap, ◌∙◌, sym, subst, ⊤, if◌then◌else◌, slice_get, Option, None, Some, false≢true, Pid, pid_eq, MsgId, MessageKind, Stage}
-use Rattle.dm_movelaws.proofs.Names.{PlainMessage, Boot, switchboard, manager, pid_eq-same, alive-is, Step, Line, to_kernel, sends_on, process_told, server_told, migrates, Part, Says, Routes, Again, Owns, Transmits, Point, Told, About}
-use Rattle.dm_movelaws.proofs.Names.{Known, Here, IsNetLine, IsNet, arrives_net, resends_net, IsReal, Made, by_migrates, by_kernel}
+use Rattle.dm_movelaws.proofs.Names.{◌≡◌, ℕ, true, false, List, [], ◌∷◌, ◌++◌, is_some, refl, ap, ◌∙◌, sym, subst, ⊤, Option, None, Some, false≢true, Pid, pid_eq, MsgId, MessageKind, Stage, Boot, manager, pid_eq-same, alive-is, Step, Line}
+use Rattle.dm_movelaws.proofs.Names.{to_kernel, sends_on, migrates, Part, Says, Routes, Again, Owns, Transmits, Point, Told, Here, IsNetLine, IsNet, IsReal, Made, by_migrates, by_net, by_outcome, by_forwards, by_hears}
 use Rattle.dm_rule.specs.Rule as rule
 use Rattle.dm_movelaws.proofs.Stages.Lines.{MildLine, AllMild}
 use Rattle.dm_movelaws.proofs.Stages.Turns.{round_mild, handles_mild}
-use Rattle.dm_movelaws.proofs.Stages.Hears.{Hears, Calms, Freezes, server_mild, process_hears}
-use Rattle.dm_rule.proofs.Outcomes.{by_net, by_outcome}
-use Rattle.dm_rule.proofs.Serving.{by_forwards}
-use Rattle.dm_movelaws.proofs.Names.{by_hears}
 
 -- a row a line, seen from where its group begins
 abbrev pub LineReal : Point → Line → Type 0

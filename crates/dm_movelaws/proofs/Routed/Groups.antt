@@ -1,15 +1,14 @@
 -- Wherever the rule leads, each message that its sender counts was put.
 use Rattle.dm_movelaws.proofs.Names.{◌≡◌, ◌⊎◌, ℕ, Bool, true, false, is_some, List, [], ◌∷◌, refl, ap, ◌∙◌, sym, subst, inl, inr, arith, if◌then◌else◌, Option, None, Some, cases_Bool, false≢true, Pid, MsgId, MessageKind, id_eq, plain_kind}
-use Rattle.dm_movelaws.proofs.Names.{PlainMessage, Boot, Label, OneKernel, bind, id_eq-is, Sound, bind-is, Step, Line, Receiver, Part, Says, Routes, Again, Owns, Transmits, Spelled, lines_of, puts, packet_line, behind, spelled, Point}
-use Rattle.dm_movelaws.proofs.Names.{label_of, kernel_after, moved, after, group_of, Inbox, Queue, StandsRight, standing, View, Told, view_after, own_id, BagStep, out_of, bag_sends, bag_ran, bag_call, bag_wait, bag_out, bag_end, bag_refuse}
-use Rattle.dm_movelaws.proofs.Names.{bag_receive, bag_dropped, bag_gone, bag_no_space, bag_created, bag_served, bag_took, group_is, stands_right, is_put, hushed, hidden, put_told_off, Sane, AllSayable, part_sane, outcome_sayable, Rides}
-use Rattle.dm_movelaws.proofs.Names.{Steps, said_by, again_rides, begun, begun_sane, Run}
+use Rattle.dm_movelaws.proofs.Names.{PlainMessage, Boot, Label, OneKernel, id_eq-is, Sound, bind-is, Step, Line, Receiver, Part, Says, Routes, Again, Owns, Transmits, Spelled, puts, packet_line, spelled, Point, label_of, kernel_after}
+use Rattle.dm_movelaws.proofs.Names.{moved, group_of, Inbox, Queue, StandsRight, standing, View, Told, view_after, own_id, BagStep, out_of, bag_sends, bag_ran, bag_call, bag_wait, bag_out, bag_end, bag_refuse, bag_receive, bag_dropped}
+use Rattle.dm_movelaws.proofs.Names.{bag_gone, bag_no_space, bag_created, bag_served, bag_took, group_is, stands_right, is_put, hushed, hidden, put_told_off, Sane, AllSayable, part_sane, outcome_sayable, Rides, Steps, said_by, again_rides}
+use Rattle.dm_movelaws.proofs.Names.{begun, begun_sane, Run, by_parts}
 use Rattle.dm_onekernel.specs.Step as kernel
 use Rattle.dm_rule.specs.View as view
 use Rattle.dm_movelaws.proofs.Ends.Sends.{puts_lead}
 use Rattle.dm_movelaws.proofs.Routed.Outs.{LineOuts, PartOuts, AllOuts, outcome_outs}
 use Rattle.dm_movelaws.proofs.Routed.Steps.{is_sent, step_counts}
-use Rattle.dm_rule.proofs.Outcomes.{by_parts}
 
 -- a message that was told of
 abbrev pub IsTold : View → MsgId → Type 0

@@ -1,14 +1,10 @@
 -- A step of the kernel without machines counts no message as sent that it doesn't put into the bag.
-use Rattle.dm_movelaws.proofs.Names.{◌≡◌, ◌⊎◌, ℕ, ◌+◌, Bool, true, false, is_some, nat_lt, List, length, refl, ap, ◌∙◌, sym, subst, inl, inr, arith, if◌then◌else◌, slice_get, take, drop, Option, None, Some, cases_Bool, false≢true}
-use Rattle.dm_movelaws.proofs.Names.{nat_tests, Pid, pid_eq, PlainLink, MsgId, id_eq, id_of, Called, PlainMessage, PlainWhat, BootImage, Label, Reply, Why, switchboard, manager, bind, PlainProcess, Life, Alive, OneKernel, with_process}
-use Rattle.dm_movelaws.proofs.Names.{with_sent, answer_to, without_message, pid_eq-is, id_eq-same, Sent, sent_at, ServerSends, board_takes, manager_takes, LandsSo, lands-is, bind-is, when-is, alive-is, Nexts, nexts, Completing, completing}
-use Rattle.dm_movelaws.proofs.Names.{Sent-from, running_is, if_some, name_is, by_step}
+use Rattle.dm_movelaws.proofs.Names.{◌≡◌, ◌⊎◌, ℕ, ◌+◌, Bool, true, false, is_some, nat_lt, length, refl, ap, ◌∙◌, sym, inl, inr, arith, if◌then◌else◌, take, drop, Option, None, Some, cases_Bool, false≢true, nat_tests, Pid, pid_eq, MsgId}
+use Rattle.dm_movelaws.proofs.Names.{id_eq, id_of, PlainMessage, PlainWhat, Label, Why, switchboard, manager, PlainProcess, Life, Alive, OneKernel, with_process, with_sent, answer_to, without_message, pid_eq-is, id_eq-same, Sent, sent_at}
+use Rattle.dm_movelaws.proofs.Names.{ServerSends, board_takes, manager_takes, lands-is, Sent-from, name_is, by_step}
 use Rattle.dm_onekernel.specs.Kernel.{Ended}
 use Rattle.dm_onekernel.specs.Kernel as kernels
-use Rattle.dm_onekernel.specs.Receiving as receiving
 use Rattle.dm_onekernel.specs.Pieces as pieces
-use Rattle.dm_onekernel.specs.Switchboard as board
-use Rattle.dm_onekernel.specs.Manager as manage
 use Rattle.dm_onekernel.specs.Service as service
 use Rattle.dm_onekernel.specs.Start.{begun}
 use Rattle.dm_onekernel.specs.Step as step

@@ -1,8 +1,8 @@
 -- Each group keeps the marks of each process in order, and so they are wherever the rule leads.
-use Rattle.dm_movelaws.proofs.Names.{◌≡◌, ℕ, ◌==◌, Bool, true, false, List, [], ◌∷◌, refl, ap, ◌∙◌, sym, subst, length, ◌/◌, if◌then◌else◌, slice_get, Option, None, Some, Pid, pid_eq, MsgId, PlainMessage, Boot, switchboard, manager, Step}
-use Rattle.dm_movelaws.proofs.Names.{Line, View, Told, About, Of, Known, first_view, target_of, is_between, Phase, Moves, is_due, IsIn, Point, first_point, Part, Says, Spelled, spelled, kernel_told, server_told, process_told, migrates}
-use Rattle.dm_movelaws.proofs.Names.{group_of, bind-is, IsNet, arrives_net, resends_net, not_true, front_way, Phased, phased_start, phased_group, due, Calm, calm_same, calm_in, told_some, head_calm, net_parts, migrates_quiet, Tame}
-use Rattle.dm_movelaws.proofs.Names.{plain_in_bag, parts_settle, InPhases, calm_phases, State, PairsFit, Sane, LeadsBy, begun, begun_sane, Mark, marks, in_order, StepsInOrder, plain_by, by_migrates}
+use Rattle.dm_movelaws.proofs.Names.{◌≡◌, ℕ, ◌==◌, Bool, true, false, List, [], ◌∷◌, refl, ap, ◌∙◌, sym, subst, length, ◌/◌, if◌then◌else◌, Option, None, Some, Pid, pid_eq, MsgId, PlainMessage, Boot, switchboard, manager, Step, Line, View}
+use Rattle.dm_movelaws.proofs.Names.{Told, About, Of, Known, first_view, target_of, is_between, Phase, Moves, is_due, IsIn, Point, first_point, Part, Spelled, spelled, kernel_told, server_told, process_told, migrates, group_of, bind-is}
+use Rattle.dm_movelaws.proofs.Names.{IsNet, not_true, front_way, Phased, phased_start, phased_group, due, Calm, calm_same, calm_in, told_some, head_calm, net_parts, migrates_quiet, Tame, plain_in_bag, parts_settle, InPhases, calm_phases}
+use Rattle.dm_movelaws.proofs.Names.{State, PairsFit, Sane, LeadsBy, begun, begun_sane, Mark, marks, in_order, StepsInOrder, plain_by, by_migrates, by_outcome}
 use Rattle.dm_onekernel.specs.Step as kernel
 use Rattle.dm_rule.specs.View as view
 use Rattle.dm_rule.specs.Rule as rule
@@ -16,7 +16,6 @@ use Rattle.dm_movelaws.proofs.Stages.Hears.{Hears, Calms, Freezes, freezes, serv
 use Rattle.dm_movelaws.proofs.Stages.Rows.{about_others, plain_others, row_marked}
 use Rattle.dm_movelaws.proofs.Stages.Steps.{freezes_row}
 use Rattle.dm_movelaws.proofs.Stages.Told.{told_marked}
-use Rattle.dm_rule.proofs.Outcomes.{by_outcome}
 
 -- where the parts of a turn begin
 pub record Turning (o pt : Point) (m : ℕ) : Type 0 where

@@ -1,9 +1,7 @@
 -- The marks of lines: of one list after another, and of the lines that parts say.
-use Rattle.dm_movelaws.proofs.Names.{◌≡◌, ℕ, ◌==◌, Bool, true, false, List, [], ◌∷◌, ◌++◌, refl, ap, ◌∙◌, sym, length, if◌then◌else◌, Option, Some, Pid, pid_eq, MsgId, MessageKind, plain_kind, Boot, bind, pid_eq-same, bind-is, Step, Line}
-use Rattle.dm_movelaws.proofs.Names.{Load, own_id, Receiver, Point, moved, after_line, after, Part, Says, Routes, Again, Owns, Transmits, Spelled, lines_of, puts, goes_out, packet_line, behind, spelled, sends_on, group_of, outcome, headed}
-use Rattle.dm_movelaws.proofs.Names.{Mark, mark_for, with_mark, marks, follows, left_open, in_order, left_true, right_true, both_true}
-use Rattle.dm_rule.proofs.Outcomes.{by_parts}
-use Rattle.dm_rule.proofs.Groups.{group_is}
+use Rattle.dm_movelaws.proofs.Names.{◌≡◌, ℕ, ◌==◌, Bool, true, false, List, [], ◌∷◌, ◌++◌, refl, ap, ◌∙◌, sym, length, if◌then◌else◌, Option, Some, Pid, pid_eq, MsgId, MessageKind, plain_kind, Boot, pid_eq-same, bind-is, Step, Line, Load}
+use Rattle.dm_movelaws.proofs.Names.{own_id, Receiver, Point, moved, Part, Says, Routes, Again, Owns, Transmits, Spelled, lines_of, puts, goes_out, packet_line, spelled, sends_on, group_of, outcome, Mark, mark_for, with_mark, marks}
+use Rattle.dm_movelaws.proofs.Names.{follows, left_open, in_order, left_true, right_true, both_true, by_parts, group_is}
 
 -- the mark that is last behind these marks, if its migration isn't over
 abbrev pub open_after : Option Mark → List Mark → Option Mark

@@ -1,13 +1,10 @@
 -- What a turn says of a kernel's own message fits the trails.
-use Rattle.dm_movelaws.proofs.Names.{◌≡◌, ℕ, ◌+◌, ◌/◌, ◌==◌, ◌≤◌, Bool, true, false, List, [], ◌∷◌, ◌++◌, length, refl, ap, ◌∙◌, sym, subst, false≢true, if◌then◌else◌, Option, None, Some, Pid, pid_eq, MsgId, MessageKind, Line, Stage, Boot}
-use Rattle.dm_movelaws.proofs.Names.{switchboard, manager, bind, PlainProcess, pid_eq-same, Told, About, Of, Known, Unknown, Here, Frozen, Incoming, Forward, Ended, target_of, front_told, front_of, view_after, Receiver, Point, Part, Says}
-use Rattle.dm_movelaws.proofs.Names.{to_kernel, forwards_on, accepts, takes_chunk, takes_block, chunks_of, pieces_of, kernel_told, here_told, ended_told, process_told, server_told, updates, Moves, IsIn, is_between, receiver_in, sender_in}
-use Rattle.dm_movelaws.proofs.Names.{times, Trails, both_lists, Sane, Named, source_holds, destination_expects, by_hears, place_told, behind_count, left_parts}
-use Rattle.dm_rule.proofs.Names.{leaves}
-use Rattle.dm_onekernel.specs.Step as kernel
+use Rattle.dm_movelaws.proofs.Names.{◌≡◌, ℕ, ◌+◌, ◌≤◌, Bool, true, List, [], ◌∷◌, ◌++◌, refl, ap, ◌∙◌, sym, subst, false≢true, if◌then◌else◌, Option, Some, Pid, MsgId, MessageKind, Line, Stage, Boot, manager, pid_eq-same, Told, Of, Here}
+use Rattle.dm_movelaws.proofs.Names.{Frozen, Incoming, Forward, target_of, front_told, front_of, view_after, Receiver, Point, Part, Says, to_kernel, forwards_on, Moves, IsIn, is_between, receiver_in, sender_in, times, Trails, both_lists}
+use Rattle.dm_movelaws.proofs.Names.{Sane, Named, source_holds, destination_expects, by_hears, place_told, behind_count, left_parts}
 use Rattle.dm_rule.specs.Rule as rule
 use Rattle.dm_movelaws.proofs.Trail.Placed.{is_held, Places, placed_comes, placed_restarts, places_set, places_held, moves_held, moves_comes, moves_forward}
-use Rattle.dm_movelaws.proofs.Trail.Walks.{Walks, WalksOf, first_walks, loose_walks}
+use Rattle.dm_movelaws.proofs.Trail.Walks.{Walks, first_walks, loose_walks}
 use Rattle.dm_movelaws.proofs.Trail.Loose.{to_ask, to_refuse, to_pullstate, to_state, to_pullblock, to_memory, to_alltaken, updated_loose, here_loose, no_move_loose, held_loose, lacks_loose, proto_loose, asked_loose, state_loose, memory_loose}
 use Rattle.dm_movelaws.proofs.Trail.Forwards.{leaves_walks}
 use Rattle.dm_rule.proofs.Hearing as hearing
@@ -76,33 +73,33 @@ hears_walks pt b o t m id u ps same known kernels forwards h =
     let proto : (k : MessageKind) → AllLoose (to_kernel k home ∷ []) → Walks pt t (Says (Line.Proto id) ∷ to_kernel k home ∷ []) = λ k loose. loose_walks (Says (Line.Proto id) ∷ to_kernel k home ∷ []) pt t (proto_loose id, loose) h in
     let one : (l : Line) → Loose (Says l) → Walks pt t (Says l ∷ []) = λ l loose. loose_walks (Says l ∷ []) pt t (loose, tt) h in
     by_hears (Walks pt t) b o m id (Some u) ps (λ v is. (
-      let e : u ≡ v = cc in
-      subst (AnotherHeard pt o t m id) e (record {
-        told = λ p x about alive. (
-            let at : (k : MessageKind) → u.kind ≡ k → is_between k ≡ true → Heard pt p k = λ k kind between. subst (Heard pt p) kind (kernels p about (ap is_between kind ∙ between)) in
-            record {
-              accepted = λ ask. accepts_walks pt t home p (at MessageKind.Ask ask refl) h;
-              lacks = λ slots blocks. loose_walks (Says (Line.Lacks p slots blocks) ∷ to_kernel MessageKind.Refuse home ∷ []) pt t (lacks_loose p slots blocks, to_refuse home) h;
-              stays = λ kind. stays_walks pt t p (at MessageKind.Refuse kind refl) h;
-              state = proto MessageKind.State (to_state home);
-              next_chunk = proto MessageKind.PullState (to_pullstate home);
-              last_chunk = loose_walks (Says (Line.Migration Stage.StateTaken p) ∷ to_kernel MessageKind.PullBlock home ∷ []) pt t (state_loose p, to_pullblock home) h;
-              memory = proto MessageKind.Memory (to_memory home);
-              next_block = proto MessageKind.PullBlock (to_pullblock home);
-              last_block = loose_walks (Says (Line.Migration Stage.MemoryTaken p) ∷ to_kernel MessageKind.AllTaken home ∷ []) pt t (memory_loose p, to_alltaken home) h;
-              left = λ ids to leaves.
-                  (let k = at MessageKind.AllTaken leaves.kind refl in
-                  subst (λ (js : List MsgId). Walks pt t (left_parts id p js to)) (same p ∙ sym leaves.lists) (leaves_walks pt t id p (Frozen to) k.s k.d k.o k.phase k.acts h k.for_it));
-              restarted = λ kind. restarts_walks pt t p (at MessageKind.Restart kind refl) h;
-            }
-            );
-        updated = λ kind. one (Line.Updated id (behind_count o.kernel o.addresses u.receiver (place_told u.about))) (updated_loose id (behind_count o.kernel o.addresses u.receiver (place_told u.about)));
-        updated_none = λ kind at_. one (Line.Updated id 0) (updated_loose id 0);
-        no_move = λ at_. one (Line.NoMove id) (no_move_loose id);
-        leaving = λ to at_. one (Line.Held id) (held_loose id);
-        coming = λ from at_. one (Line.Held id) (held_loose id);
-        forwarded = λ to moves at_. forwards to moves at_.known;
-        stays_here = λ at_. one (Line.Here id) (here_loose id);
-        frozen = λ to at_. freezes_walks pt t u.receiver to (known ∙ at_.known) h;
-      })
-      ))
+    let e : u ≡ v = cc in
+    subst (AnotherHeard pt o t m id) e (record {
+      told = λ p x about alive. (
+          let at : (k : MessageKind) → u.kind ≡ k → is_between k ≡ true → Heard pt p k = λ k kind between. subst (Heard pt p) kind (kernels p about (ap is_between kind ∙ between)) in
+          record {
+            accepted = λ ask. accepts_walks pt t home p (at MessageKind.Ask ask refl) h;
+            lacks = λ slots blocks. loose_walks (Says (Line.Lacks p slots blocks) ∷ to_kernel MessageKind.Refuse home ∷ []) pt t (lacks_loose p slots blocks, to_refuse home) h;
+            stays = λ kind. stays_walks pt t p (at MessageKind.Refuse kind refl) h;
+            state = proto MessageKind.State (to_state home);
+            next_chunk = proto MessageKind.PullState (to_pullstate home);
+            last_chunk = loose_walks (Says (Line.Migration Stage.StateTaken p) ∷ to_kernel MessageKind.PullBlock home ∷ []) pt t (state_loose p, to_pullblock home) h;
+            memory = proto MessageKind.Memory (to_memory home);
+            next_block = proto MessageKind.PullBlock (to_pullblock home);
+            last_block = loose_walks (Says (Line.Migration Stage.MemoryTaken p) ∷ to_kernel MessageKind.AllTaken home ∷ []) pt t (memory_loose p, to_alltaken home) h;
+            left = λ ids to leaves.
+                (let k = at MessageKind.AllTaken leaves.kind refl in
+                subst (λ (js : List MsgId). Walks pt t (left_parts id p js to)) (same p ∙ sym leaves.lists) (leaves_walks pt t id p (Frozen to) k.s k.d k.o k.phase k.acts h k.for_it));
+            restarted = λ kind. restarts_walks pt t p (at MessageKind.Restart kind refl) h;
+          }
+          );
+      updated = λ kind. one (Line.Updated id (behind_count o.kernel o.addresses u.receiver (place_told u.about))) (updated_loose id (behind_count o.kernel o.addresses u.receiver (place_told u.about)));
+      updated_none = λ kind at_. one (Line.Updated id 0) (updated_loose id 0);
+      no_move = λ at_. one (Line.NoMove id) (no_move_loose id);
+      leaving = λ to at_. one (Line.Held id) (held_loose id);
+      coming = λ from at_. one (Line.Held id) (held_loose id);
+      forwarded = λ to moves at_. forwards to moves at_.known;
+      stays_here = λ at_. one (Line.Here id) (here_loose id);
+      frozen = λ to at_. freezes_walks pt t u.receiver to (known ∙ at_.known) h;
+    })
+    ))

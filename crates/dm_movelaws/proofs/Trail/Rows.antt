@@ -1,18 +1,12 @@
 -- What each row of a turn says fits the trails: processes that run, and messages of the bag.
-use Rattle.dm_movelaws.proofs.Names.{◌≡◌, ℕ, ◌+◌, ◌==◌, Bool, true, false, List, [], ◌∷◌, length, refl, ap, ◌∙◌, sym, subst, arith, ◌||◌, if◌then◌else◌, slice_get, Option, None, Some, Pid, pid_of, pid_eq, MsgId, MessageKind, Label, Line}
-use Rattle.dm_movelaws.proofs.Names.{plain_kind, PlainMessage, PlainWhat, instruction, BootImage, Boot, Why, first_number, switchboard, manager, bind, PlainProcess, PlainStatus, Ready, Waiting, Moving, OneKernel, View, Told, Known, Unknown}
-use Rattle.dm_movelaws.proofs.Names.{Here, Forward, Ended, handled, kills, served_told, view_after, Receiver, Point, moved, Part, Says, Routes, Nowhere, forwards_on, Trails, Trail, ReceivedAt, ended_on, is_fixed, Unborn, said_by, or_last}
-use Rattle.dm_movelaws.proofs.Names.{Stops, by_round, by_handles}
-use Rattle.dm_onekernel.specs.Calls as calls
+use Rattle.dm_movelaws.proofs.Names.{◌≡◌, ℕ, ◌+◌, Bool, true, false, List, [], ◌∷◌, refl, ap, ◌∙◌, sym, subst, arith, ◌||◌, if◌then◌else◌, slice_get, Option, None, Some, Pid, pid_of, MsgId, MessageKind, Label, Line, plain_kind}
+use Rattle.dm_movelaws.proofs.Names.{PlainMessage, Boot, Why, first_number, View, Told, Unknown, Here, Forward, Ended, handled, kills, served_told, view_after, Receiver, Point, moved, Part, Says, Routes, Nowhere, forwards_on, Trails, Trail}
+use Rattle.dm_movelaws.proofs.Names.{ReceivedAt, ended_on, is_fixed, Unborn, said_by, Stops, by_round, by_handles}
 use Rattle.dm_onekernel.specs.Pieces as pieces
-use Rattle.dm_onekernel.specs.Receiving as receiving
-use Rattle.dm_onekernel.specs.Switchboard as board
-use Rattle.dm_onekernel.specs.Manager as manage
-use Rattle.dm_onekernel.specs.Step as kernel
 use Rattle.dm_rule.specs.Rule as rule
 use Rattle.dm_rule.specs.Trails.{Stood}
 use Rattle.dm_movelaws.proofs.Trail.Placed.{is_held, Placed, Places, Learnt, placed_held, places_set, places_held}
-use Rattle.dm_movelaws.proofs.Trail.Walks.{Walks, WalksOf, AllLoose, loose_walks}
+use Rattle.dm_movelaws.proofs.Trail.Walks.{Walks, AllLoose, loose_walks}
 use Rattle.dm_movelaws.proofs.Trail.Loose.{places_same, label_fits, label_walks, routes_loose, idle_loose, queued_loose, held_loose, dropped_loose, drops_loose}
 
 -- a process that runs

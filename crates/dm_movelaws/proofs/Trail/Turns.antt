@@ -1,17 +1,15 @@
 -- The lines of each group fit the trails, and behind them each process is placed on its trail.
-use Rattle.dm_movelaws.proofs.Names.{◌≡◌, ℕ, ◌≤◌, true, List, [], ◌∷◌, refl, ap, ◌∙◌, sym, subst, inl, inr, arith, slice_get, Option, None, Some, Pid, MsgId, plain_kind, PlainMessage, MessageKind, Line, PutFits, Boot, manager, bind, Step}
-use Rattle.dm_movelaws.proofs.Names.{bind-is, View, Told, Of, is_kernels, own_id, after_head, front_of, Child, Receiver, Sender, to_of, sender_of, forwards_on, Says, Spelled, spelled, IsIn, is_between, Point, after_line, group_of, Inbox}
-use Rattle.dm_movelaws.proofs.Names.{Queue, Held, times, standing, Trails, arrives_net, resends_net, both_lists, both_times, front_kernels, Phased, due, outcome_sayable, Named, Links, child_is, migrate_to, migrate_from, Treads, line_treads}
-use Rattle.dm_movelaws.proofs.Names.{KnownStands, Begins, begins, begun, begun_sane, turned, unborn, FoundBy, KnowsAt, moves_back, own_outside, own_fresh, told_there, about_same, stands_first, queued_for, told_for, either, fixed_home}
-use Rattle.dm_movelaws.proofs.Names.{by_migrates, migrates, by_outcome, Part}
+use Rattle.dm_movelaws.proofs.Names.{◌≡◌, ℕ, ◌≤◌, true, List, [], ◌∷◌, refl, ap, ◌∙◌, sym, subst, inl, inr, arith, None, Some, Pid, MsgId, plain_kind, PlainMessage, MessageKind, Line, PutFits, Boot, manager, Step, View, Told, Of}
+use Rattle.dm_movelaws.proofs.Names.{is_kernels, own_id, after_head, front_of, Child, Receiver, Sender, to_of, sender_of, forwards_on, Says, Spelled, IsIn, is_between, Point, group_of, Inbox, Queue, Held, times, standing, Trails}
+use Rattle.dm_movelaws.proofs.Names.{both_lists, both_times, front_kernels, Phased, due, outcome_sayable, Named, Links, child_is, migrate_to, migrate_from, Treads, line_treads, KnownStands, Begins, begins, begun, begun_sane, turned, unborn}
+use Rattle.dm_movelaws.proofs.Names.{FoundBy, KnowsAt, moves_back, own_outside, own_fresh, told_there, about_same, stands_first, queued_for, told_for, either, fixed_home, by_migrates, migrates, by_outcome, Part, by_group}
 use Rattle.dm_rule.specs.Rule as rule
 use Rattle.dm_movelaws.proofs.Trail.Placed.{Places}
-use Rattle.dm_movelaws.proofs.Trail.Walks.{AllGood, Walks, WalksOf, loose_walks, parts_good}
+use Rattle.dm_movelaws.proofs.Trail.Walks.{AllGood, Walks, loose_walks, parts_good}
 use Rattle.dm_movelaws.proofs.Trail.Loose.{places_same, owns_leave, no_child_loose, pinned_loose, net_loose}
 use Rattle.dm_movelaws.proofs.Trail.Rows.{Front, round_walks, handles_walks}
 use Rattle.dm_movelaws.proofs.Trail.Forwards.{forwards_walks}
 use Rattle.dm_movelaws.proofs.Trail.Hears.{Heard, hears_walks}
-use Rattle.dm_rule.proofs.Outcomes.{by_group}
 
 waits_for : (o : Point) (m : ℕ) (p : Pid) (i : MsgId) (q : Pid) → Begins o m → FoundBy o → 1 ≤ times i (both_lists (turned o m).view p) → Named (turned o m).kernel (turned o m).view (Receiver i) q → q ≡ p
 waits_for o m p i q start h least named =
@@ -98,7 +96,7 @@ outcome_walks b pt t d ps base known h at = by_outcome (λ x. Walks (begun pt x)
 -- a group
 pub group_good : (b : Boot) (pt : Point) (t : Trails) (d : Step) (w : Spelled) → group_of b pt d ≡ Some w → Phased pt → KnownStands pt.kernel pt.view → FoundBy pt → Places pt.view t → Treads pt t → AllGood pt t w.lines
 group_good b pt t d w e base known h at on = by_group (λ v. AllGood pt t v.lines) b pt d w (λ ps rest is said. (
-  let walks = outcome_walks b pt t d ps base known h at is in
-  let good : AllGood (begun pt d) t rest.lines = parts_good ps (begun pt d) t rest (outcome_sayable b pt d ps is) walks (begun_sane pt d base.sane) (line_treads pt (begun pt d) t (Line.Head d) refl tt on) said in
-  (tt, (λ next comes. let f : begun pt d ≡ next = cc in subst (λ (q : Point). AllGood q t rest.lines) f good))
-  )) e
+    let walks = outcome_walks b pt t d ps base known h at is in
+    let good : AllGood (begun pt d) t rest.lines = parts_good ps (begun pt d) t rest (outcome_sayable b pt d ps is) walks (begun_sane pt d base.sane) (line_treads pt (begun pt d) t (Line.Head d) refl tt on) said in
+    (tt, (λ next comes. let f : begun pt d ≡ next = cc in subst (λ (q : Point). AllGood q t rest.lines) f good))
+    )) e

@@ -1,12 +1,9 @@
 -- A group that says that an update was handled says nothing else, and where it leads.
-use Rattle.dm_movelaws.proofs.Names.{◌≡◌, ℕ, ◌==◌, ◌||◌, Bool, true, false, List, [], ◌∷◌, ◌++◌, length, refl, ap, ◌∙◌, sym, subst, if◌then◌else◌, false≢true, Option, None, Some, Pid, MsgId, MessageKind, plain_kind, Boot, bind, bind-is}
-use Rattle.dm_movelaws.proofs.Names.{Step, Line, Load, Receiver, Part, Says, Routes, Again, Owns, Transmits, Spelled, lines_of, puts, goes_out, packet_line, behind, spelled, Point, moved, after_line, after, group_of, View}
-use Rattle.dm_rule.specs.Rule as rule
+use Rattle.dm_movelaws.proofs.Names.{◌≡◌, ℕ, ◌==◌, ◌||◌, Bool, true, false, List, [], ◌∷◌, ◌++◌, length, refl, ap, ◌∙◌, sym, subst, if◌then◌else◌, false≢true, Option, None, Some, Pid, MsgId, MessageKind, plain_kind, Boot, bind-is, Step}
+use Rattle.dm_movelaws.proofs.Names.{Line, Load, Receiver, Part, Says, Routes, Again, Owns, Transmits, Spelled, lines_of, puts, goes_out, packet_line, spelled, Point, moved, group_of, View, GroupIs, group_is, by_parts}
 use Rattle.dm_rule.specs.View as view
 use Rattle.dm_movelaws.proofs.Updates.Rows.{Handles, is_updated, PartQuiet, AllQuiet, Shape, Quiet, Updates}
 use Rattle.dm_movelaws.proofs.Updates.Shapes.{outcome_shape}
-use Rattle.dm_rule.proofs.Groups.{GroupIs, group_is}
-use Rattle.dm_rule.proofs.Outcomes.{by_parts}
 
 abbrev begun : Point → Step → Point
 begun pt d = moved pt (Line.Head d) pt.kernel

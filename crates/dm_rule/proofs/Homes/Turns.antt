@@ -1,7 +1,7 @@
 -- A turn keeps all of it.
-use Rattle.dm_rule.proofs.Names.{◌≡◌, ℕ, ◌+◌, ◌==◌, ◌&&◌, Bool, true, false, List, [], ◌∷◌, length, refl, ap, ◌∙◌, sym, subst, inl, inr, arith, nat_le, ⊤, if◌then◌else◌, Option, None, Some, nat_tests, Pid, MsgId, PlainMessage, Boot, Label}
-use Rattle.dm_rule.proofs.Names.{OneKernel, bind, after_step, Point, first_point, Part, Routes, Spelled, Homes, is_for_home, are_home, slice_get, IsStill, AreStill, Leads, LeadHomeAlways, ◌≤◌, false≢true, is_kernels, Step, PlainProcess}
-use Rattle.dm_rule.proofs.Names.{PlainStatus, Ready, Waiting, Moving, actor, instruction, group_of, pid_of, pid_eq, PlainWhat, BootImage, switchboard, manager, first_number, Known, Unknown, Here, Ended}
+use Rattle.dm_rule.proofs.Names.{◌≡◌, ℕ, ◌+◌, ◌==◌, ◌&&◌, Bool, true, false, List, [], ◌∷◌, refl, ap, ◌∙◌, sym, subst, inl, inr, arith, nat_le, ⊤, if◌then◌else◌, Option, None, Some, nat_tests, Pid, MsgId, PlainMessage, Boot, Label}
+use Rattle.dm_rule.proofs.Names.{OneKernel, after_step, Point, first_point, Part, Routes, Spelled, Homes, is_for_home, are_home, IsStill, AreStill, Leads, LeadHomeAlways, ◌≤◌, false≢true, is_kernels, Step, actor, group_of, pid_of}
+use Rattle.dm_rule.proofs.Names.{first_number, Known, Frozen, Incoming, Forward}
 use Rattle.dm_onekernel.specs.Step as kernel
 use Rattle.dm_rule.proofs.Homes.Labels.{SaidAt}
 use Rattle.dm_rule.proofs.Homes.Lists.{stands, all_stand}
@@ -12,16 +12,11 @@ use Rattle.dm_rule.proofs.Moves.States.{inbox_way, kernels_by}
 use Rattle.dm_rule.proofs.Pairs.{Pairs, Pairs-start, Pairs-group}
 use Rattle.dm_rule.proofs.Groups.{State-start, State-group, fits}
 use Rattle.dm_rule.proofs.Homes.Lines.{NoneReplaced, homes_of, home_start, Home, Kept}
-use Rattle.dm_onekernel.specs.Calls as calls
 use Rattle.dm_rule.specs.Rule as rule
 use Rattle.dm_rule.proofs.Homes.Parts.{PartsAnywhere}
 use Rattle.dm_onekernel.specs.Pieces as pieces
-use Rattle.dm_onekernel.specs.Receiving as receiving
-use Rattle.dm_onekernel.specs.Switchboard as board
-use Rattle.dm_onekernel.specs.Manager as manage
 use Rattle.dm_rule.proofs.Homes.Serves.{ReceivedAt}
-use Rattle.dm_rule.proofs.Homes.Groups.{PartsGood, group_keeps, if_parts, tick_keeps, deliver_keeps}
-use Rattle.dm_rule.proofs.Names.{Frozen, Incoming, Forward}
+use Rattle.dm_rule.proofs.Homes.Groups.{PartsGood, group_keeps, tick_keeps, deliver_keeps}
 use Rattle.dm_rule.proofs.Serving.{by_round, by_handles}
 
 abbrev pub GoodOf : OneKernel → (MsgId → ℕ) → ℕ → Option (List Part) → Type 0

@@ -1,16 +1,7 @@
 -- The parts of turns and ticks keep the pairs of machines wherever they stand.
-use Rattle.dm_rule.proofs.Names.{◌≡◌, ℕ, zero, suc, ◌+◌, ◌-◌, ◌≤◌, ◌==◌, Bool, true, false, List, [], ◌∷◌, refl, subst, arith, length, if◌then◌else◌, slice_get, Option, None, Some, Pid, pid_of, pid_eq, MsgId, plain_kind, Label, Line}
-use Rattle.dm_rule.proofs.Names.{PlainMessage, PlainWhat, instruction, BootImage, Boot, first_number, switchboard, manager, bind, PlainProcess, PlainStatus, Ready, Waiting, Moving, OneKernel, answer_id, machine_of, with_machine, View, Pair}
-use Rattle.dm_rule.proofs.Names.{Known, Unknown, Here, Forward, Ended, Point, Part, Says, Routes, Ran, Room, says, drops, called, stops, executes, ran, completes, receives, first_awaited, first_runnable, serves_status, goes_round, has_room}
-use Rattle.dm_rule.proofs.Names.{free_room, creates, kernel_handles, routes, board_took, manager_took, here_handles, ended_handles, process_handles, comes_to, turns, numbers_from, repeats, resends, forwards_on}
-use Rattle.dm_onekernel.specs.Calls as calls
-use Rattle.dm_onekernel.specs.Pieces as pieces
-use Rattle.dm_onekernel.specs.Receiving as receiving
-use Rattle.dm_onekernel.specs.Switchboard as board
-use Rattle.dm_onekernel.specs.Manager as manage
-use Rattle.dm_onekernel.specs.Step as kernel
-use Rattle.dm_rule.specs.Rule.{lands}
-use Rattle.dm_rule.proofs.Pairs.Lines.{bind-is, Fits, AllFit, AllFit-both}
+use Rattle.dm_rule.proofs.Names.{◌≡◌, ℕ, zero, suc, ◌+◌, ◌-◌, ◌≤◌, ◌==◌, Bool, true, false, List, [], ◌∷◌, refl, arith, if◌then◌else◌, Option, None, Some, MsgId, plain_kind, PlainMessage, Boot, View, Pair, Point, Part, first_runnable}
+use Rattle.dm_rule.proofs.Names.{comes_to, turns, numbers_from, repeats, resends}
+use Rattle.dm_rule.proofs.Pairs.Lines.{AllFit, AllFit-both}
 use Rattle.dm_rule.proofs.Pairs.Migrating.{forwards_fit, hears_fit}
 use Rattle.dm_rule.proofs.Serving.{Loose, loose_round, loose_handles}
 

@@ -1,13 +1,5 @@
 -- What the first line of a group needs, and that the others need nothing.
-use Rattle.dm_rule.proofs.Names.{◌≡◌, ℕ, ◌+◌, ◌==◌, Bool, true, false, List, [], ◌∷◌, length, refl, ⊤, if◌then◌else◌, slice_get, Option, None, Some, Pid, pid_of, pid_eq, MsgId, MessageKind, Label, plain_kind, PlainMessage, PlainWhat}
-use Rattle.dm_rule.proofs.Names.{instruction, BootImage, Boot, first_number, switchboard, manager, bind, PlainProcess, PlainStatus, Ready, Waiting, Moving, OneKernel, machine_of, with_machine, Known, Unknown, Here, Forward, Ended}
-use Rattle.dm_rule.proofs.Names.{Addresses, Sender, is_told_back, Point, Part, Says, Owns, forwards_on}
-use Rattle.dm_onekernel.specs.Calls as calls
-use Rattle.dm_onekernel.specs.Pieces as pieces
-use Rattle.dm_onekernel.specs.Receiving as receiving
-use Rattle.dm_onekernel.specs.Switchboard as board
-use Rattle.dm_onekernel.specs.Manager as manage
-use Rattle.dm_onekernel.specs.Step as kernel
+use Rattle.dm_rule.proofs.Names.{◌≡◌, ℕ, List, [], ◌∷◌, refl, ⊤, Option, None, Some, Pid, MsgId, MessageKind, plain_kind, PlainMessage, Boot, Here, Addresses, Point, Part, Says, forwards_on}
 use Rattle.dm_rule.specs.Rule as rule
 use Rattle.dm_rule.proofs.Rooted.Lines.{Needs}
 use Rattle.dm_rule.proofs.Serving.{by_round, by_handles, by_forwards}

@@ -1,17 +1,14 @@
 -- The format, the images and the number of machines of the kernel without machines never change, and the manager's pending
-use Rattle.dm_rulelaws.proofs.Names.{take, drop, by_step, ◌≡◌, ℕ, ◌+◌, ◌*◌, ◌==◌, ◌&&◌, Bool, true, false, nat_lt, List, [], ◌∷◌, ◌++◌, length, refl, ◌∙◌, subst, if◌then◌else◌, slice_get, Option, None, Some, Pid, pid_eq, pid_of, MsgId}
-use Rattle.dm_rulelaws.proofs.Names.{id_eq, Called, PlainMessage, PlainWhat, Label, Reply, Why, first_number, manager, switchboard, reply_eq, why_eq, bind, PlainLink, Ended, Life, OneKernel, Manager, Pending, replay, Step, Boot, ascends}
-use Rattle.dm_rulelaws.proofs.Names.{Spelled, Point, labels, group_of, ascends_more, ascends_last, ascends_without, PlainProcess, answer_to, without_message, bind-is, when-is}
-
+use Rattle.dm_rulelaws.proofs.Names.{take, drop, by_step, ◌≡◌, ℕ, ◌+◌, ◌*◌, ◌==◌, ◌&&◌, Bool, true, false, nat_lt, List, [], ◌∷◌, ◌++◌, length, refl, ◌∙◌, subst, if◌then◌else◌, Option, None, Some, Pid, MsgId, PlainMessage, PlainWhat, Label}
+use Rattle.dm_rulelaws.proofs.Names.{Why, PlainLink, Ended, Life, OneKernel, Manager, Pending, replay, Step, Boot, ascends, Spelled, Point, labels, group_of, ascends_more, ascends_last, ascends_without, PlainProcess, answer_to}
+use Rattle.dm_rulelaws.proofs.Names.{without_message, bind-is}
 -- requests stay in order.
 use Rattle.dm_onekernel.specs.Kernel as kernels
 use Rattle.dm_rulelaws.proofs.RunLabels.{group_replay}
 use Rattle.dm_onekernel.specs.Manager as manage
 use Rattle.dm_onekernel.specs.Pieces as pieces
-use Rattle.dm_onekernel.specs.Receiving as receiving
 use Rattle.dm_onekernel.specs.Service as service
 use Rattle.dm_onekernel.specs.Step as kernel
-use Rattle.dm_onekernel.specs.Switchboard as board
 
 -- the manager's pending requests stand in the order in which it sent them
 abbrev pub InOrder : Manager → Type 0

@@ -1,8 +1,8 @@
 -- What a turn says of a kernel's own message has what its lines need; so each group keeps what each line keeps.
-use Rattle.dm_rulelaws.proofs.Names.{◌≡◌, ℕ, ◌==◌, Bool, true, false, not, List, [], ◌∷◌, ◌++◌, length, refl, ap, ◌∙◌, sym, subst, if◌then◌else◌, slice_get, Option, None, Some, arith, false≢true, nat_tests, Pid, MsgId, MessageKind, Stage}
-use Rattle.dm_rulelaws.proofs.Names.{PlainMessage, Boot, manager, Life, Alive, OneKernel, Step, Line, View, Told, Of, Known, Unknown, Here, Frozen, Incoming, Forward, after_head, Point, moved, Part, Says, Transmits, Spelled, is_between}
-use Rattle.dm_rulelaws.proofs.Names.{is_apart, is_away, is_here, comes, Phase, Moves, knows, receiver_in, to_kernel, sends_on, updates, migrates, group_of, at_record_at, IsNetLine, IsNet, arrives_net, resends_net, front_way, Sane, InPhases}
-use Rattle.dm_rulelaws.proofs.Names.{calm_phases, due, head_calm, told_some, Rooted, Phased, rooted, moves_away, State, is_server, has_nothing_held, agrees, KnownStands, right_true, by_migrates, by_hears, left_parts, by_net, by_outcome}
+use Rattle.dm_rulelaws.proofs.Names.{◌≡◌, ℕ, ◌==◌, Bool, true, false, not, List, [], ◌∷◌, ◌++◌, length, refl, ap, ◌∙◌, sym, subst, if◌then◌else◌, Option, None, Some, arith, false≢true, nat_tests, Pid, MsgId, MessageKind, Stage, Boot}
+use Rattle.dm_rulelaws.proofs.Names.{manager, Life, Alive, OneKernel, Step, Line, View, Told, Of, Known, Unknown, Here, Frozen, Incoming, Forward, after_head, Point, moved, Part, Says, Spelled, is_between, is_apart, is_away, is_here, comes}
+use Rattle.dm_rulelaws.proofs.Names.{Phase, Moves, knows, receiver_in, to_kernel, sends_on, updates, migrates, group_of, at_record_at, IsNetLine, IsNet, front_way, Sane, InPhases, calm_phases, due, head_calm, told_some, Rooted, Phased}
+use Rattle.dm_rulelaws.proofs.Names.{rooted, moves_away, State, is_server, has_nothing_held, agrees, KnownStands, right_true, by_migrates, by_hears, left_parts, by_net, by_outcome}
 use Rattle.dm_rule.specs.Phases as phases
 use Rattle.dm_rule.specs.Rule as rule
 use Rattle.dm_rule.proofs.Groups as groups

@@ -1,14 +1,10 @@
 -- What each step of the kernel without machines does to lives: most leave who is alive, one ends, one is made.
-use Rattle.dm_rulelaws.proofs.Names.{◌≡◌, ℕ, ◌+◌, ◌==◌, ◌&&◌, Bool, true, false, length, refl, ap, ◌∙◌, sym, subst, inl, inr, if◌then◌else◌, slice_get, Option, None, Some, cases_Bool, false≢true, Pid, pid_eq, pid_of, MsgId, id_eq}
-use Rattle.dm_rulelaws.proofs.Names.{plain_kind, Called, PlainMessage, PlainWhat, Label, Reply, Why, first_number, manager, switchboard, reply_eq, why_eq, bind, Alive, Ended, Life, OneKernel, PlainProcess, answer_to, without_message, begun}
-use Rattle.dm_rulelaws.proofs.Names.{pid_eq-is, pid_eq-same, bind-is, when-is, alive-is, nexts, completing, is_kill, take, drop, by_step}
+use Rattle.dm_rulelaws.proofs.Names.{◌≡◌, Bool, true, false, refl, ap, ◌∙◌, sym, subst, inl, inr, if◌then◌else◌, Option, None, Some, cases_Bool, false≢true, Pid, pid_eq, MsgId, plain_kind, PlainMessage, PlainWhat, Label, Why, Alive, Ended}
+use Rattle.dm_rulelaws.proofs.Names.{Life, OneKernel, PlainProcess, answer_to, without_message, begun, pid_eq-is, pid_eq-same, is_kill, take, drop, by_step}
 use Rattle.dm_onekernel.specs.Kernel as kernels
-use Rattle.dm_onekernel.specs.Manager as manage
 use Rattle.dm_onekernel.specs.Pieces as pieces
-use Rattle.dm_onekernel.specs.Receiving as receiving
 use Rattle.dm_onekernel.specs.Service as service
 use Rattle.dm_onekernel.specs.Step as kernel
-use Rattle.dm_onekernel.specs.Switchboard as board
 use Rattle.dm_rule.proofs.Changes.{Lives}
 
 -- nobody was made, alive or ended
@@ -37,10 +33,6 @@ set_life s u p life e = record {
   at_ = ap (λ (c : Bool). life_sort (if c then Some life else u.processes p)) (pid_eq-same p);
   off = λ q apart. ap (λ (c : Bool). life_sort (if c then Some life else u.processes q)) apart ∙ ap (λ (f : Pid → Option Life). life_sort (f q)) e;
 }
-
-set_sent : (s u : OneKernel) (p : Pid) (sort : Option Bool) (o : Option PlainMessage) → SetLife s u p sort → SetLife s (kernels.with_sent u o) p sort
-set_sent s u p sort None h = h
-set_sent s u p sort (Some m) h = record { at_ = h.at_; off = h.off }
 
 alike_goes : (s u : OneKernel) (p : Pid) (x y : PlainProcess) → s.processes p ≡ Some (Alive x) → u.processes ≡ s.processes → Alike s (kernels.with_process u p (Alive y))
 alike_goes s u p x y is e q = elim (cases_Bool (pid_eq p q)) [
@@ -90,7 +82,7 @@ step_lives : (s t : OneKernel) (l : Label) → kernel.step s l ≡ Some t → Li
 step_lives s t l =
     let by : (u : OneKernel) (k : Label) → l ≡ k → LivesBy s k u → LivesBy s l u = λ u k is h. subst (λ (x : Label). LivesBy s x u) (sym is) h in
     let served : (u : OneKernel) (id : MsgId) (m : PlainMessage) (x : PlainProcess) → l ≡ Label.Served id → Lives s id m x → is_kill (plain_kind m.what) ≡ false → Alike s u → LivesBy s l u =
-        λ u id m x is w mild h. by u (Label.Served id) is (record { message = m; there = w.there; process = x; alive = w.alive; served = spared s u m.to m.what mild h }) in
+    λ u id m x is w mild h. by u (Label.Served id) is (record { message = m; there = w.there; process = x; alive = w.alive; served = spared s u m.to m.what mild h }) in
     by_step (LivesBy s l) s t l (record {
       ran = λ p k x m is w. by (kernel.goes_on s p (kernel.with_machine x m)) (Label.Ran p k) is (goes_life s p x (kernel.with_machine x m) w.alive);
       replies = λ p n k c d y is w. by (kernel.goes_on s p y) (Label.Call p n c) is (goes_life s p w.so.x y w.so.is.alive);

@@ -1,9 +1,8 @@
 -- What a line of a group needs, so that each line keeps what is known of processes; and a walk over a group's parts.
-use Rattle.dm_rulelaws.proofs.Names.{◌≡◌, ℕ, ◌==◌, Bool, true, false, List, [], ◌∷◌, length, refl, ap, ◌∙◌, subst, ⊤, if◌then◌else◌, Option, None, Some, Pid, MsgId, MessageKind, Stage, plain_kind, Boot, Label, bind, PlainProcess, Alive}
+use Rattle.dm_rulelaws.proofs.Names.{◌≡◌, ℕ, ◌==◌, Bool, true, false, List, [], ◌∷◌, length, refl, ap, ◌∙◌, subst, ⊤, if◌then◌else◌, Option, None, Some, Pid, MsgId, MessageKind, Stage, plain_kind, Boot, Label, PlainProcess, Alive}
 use Rattle.dm_rulelaws.proofs.Names.{OneKernel, bind-is, Step, Line, Load, View, Told, Unknown, Here, Frozen, is_kernels, own_id, Receiver, Point, label_of, kernel_after, moved, after_line, after, Part, Says, Routes, Again, Owns, Transmits}
-use Rattle.dm_rulelaws.proofs.Names.{Spelled, lines_of, puts, goes_out, packet_line, behind, spelled, is_away, is_here, group_of, group_is, is_kill, Sane, AllSayable, sane_line, part_sane, outcome_sayable, is_server, has_nothing_held}
+use Rattle.dm_rulelaws.proofs.Names.{Spelled, lines_of, puts, goes_out, packet_line, spelled, is_away, is_here, group_of, group_is, is_kill, Sane, AllSayable, sane_line, part_sane, outcome_sayable, is_server, has_nothing_held, by_parts}
 use Rattle.dm_rule.specs.Rule as rule
-use Rattle.dm_rule.proofs.Outcomes.{by_parts}
 
 -- a process is here, and away from every other machine
 pub record Resting (v : View) (p : Pid) : Type 0 where
@@ -166,9 +165,9 @@ part_keeps P keeps pt next (Transmits a b l) need sane s h =
 
 pub parts_keep : (P : Point → Type 0) (keeps : Keeps P) (ps : List Part) (pt : Point) (w : Spelled) → AllSayable ps → Walks pt ps → Sane pt → spelled pt ps ≡ Some w → P pt → P w.point
 parts_keep P keeps qs q w ok need sane is h = by_parts (λ ps pt v. AllSayable ps → Walks pt ps → Sane pt → P pt → P v.point) (λ pt ok need sane h. h) (λ p ps pt next ls z lines leads rest ok need sane h. (
-  let s : Steps pt p next = record { lines = ls; are = lines; leads = leads } in
-  rest ok.1 (need.1 next s) (part_sane pt next p ls ok.0 lines leads sane) (part_keeps P keeps pt next p need.0 sane s h)
-  )) qs q w is ok need sane h
+    let s : Steps pt p next = record { lines = ls; are = lines; leads = leads } in
+    rest ok.1 (need.1 next s) (part_sane pt next p ls ok.0 lines leads sane) (part_keeps P keeps pt next p need.0 sane s h)
+    )) qs q w is ok need sane h
 
 -- a group
 abbrev pub begun : Point → Step → Point

@@ -1,18 +1,12 @@
 -- What a turn says of a message of the bag, and of a process that is served, has what its lines need.
-use Rattle.dm_rulelaws.proofs.Names.{◌≡◌, ℕ, ◌+◌, ◌==◌, ◌||◌, Bool, true, false, List, [], ◌∷◌, length, refl, ap, ◌∙◌, sym, subst, if◌then◌else◌, slice_get, Option, None, Some, arith, nat_tests, Pid, pid_of, pid_eq, MsgId, MessageKind}
-use Rattle.dm_rulelaws.proofs.Names.{Label, Why, Step, Line, plain_kind, PlainMessage, PlainWhat, instruction, BootImage, Boot, first_number, switchboard, manager, bind, PlainProcess, PlainStatus, Ready, Waiting, Moving, Alive, OneKernel}
-use Rattle.dm_rulelaws.proofs.Names.{with_machine, not_server, alive-is, View, Told, Known, Unknown, Here, Forward, Addresses, Sender, is_told_back, Point, moved, Part, Says, Routes, Owns, is_away, is_here, Phase, Rests, knows, forwards_on}
-use Rattle.dm_rulelaws.proofs.Names.{not_kernels, Sane, InPhases, rests_here, Rooted, has_nothing_held, Stops, by_round, by_handles, by_forwards}
-use Rattle.dm_onekernel.specs.Calls as calls
+use Rattle.dm_rulelaws.proofs.Names.{◌≡◌, ℕ, ◌+◌, ◌==◌, ◌||◌, Bool, true, false, List, [], ◌∷◌, refl, ap, ◌∙◌, sym, subst, if◌then◌else◌, Option, None, Some, arith, nat_tests, Pid, pid_of, pid_eq, MsgId, MessageKind, Label, Step, Line}
+use Rattle.dm_rulelaws.proofs.Names.{plain_kind, PlainMessage, Boot, first_number, switchboard, manager, PlainProcess, Alive, not_server, alive-is, View, Told, Known, Here, Addresses, Point, moved, Part, Says, Routes, is_away, is_here}
+use Rattle.dm_rulelaws.proofs.Names.{Phase, Rests, knows, forwards_on, not_kernels, Sane, InPhases, rests_here, Rooted, has_nothing_held, Stops, by_round, by_handles, by_forwards}
 use Rattle.dm_onekernel.specs.Pieces as pieces
-use Rattle.dm_onekernel.specs.Receiving as receiving
-use Rattle.dm_onekernel.specs.Switchboard as board
-use Rattle.dm_onekernel.specs.Manager as manage
 use Rattle.dm_onekernel.specs.Step as kernel
 use Rattle.dm_onekernel.specs.Step.{machine_of}
-use Rattle.dm_rule.specs.View.{Ended}
 use Rattle.dm_rule.specs.Rule as rule
-use Rattle.dm_rulelaws.proofs.Based.Needs.{Resting, Serves, Unborn, Living, Queues, NeedsPart, Walks, WalksOf, AllLoose, loose_walks, first_walks, said_by, begun}
+use Rattle.dm_rulelaws.proofs.Based.Needs.{Resting, Serves, Unborn, Living, Queues, Walks, WalksOf, AllLoose, loose_walks, first_walks, said_by, begun}
 
 -- the point behind the head of a turn
 abbrev pub turned : Point → ℕ → Point
@@ -56,19 +50,19 @@ runs_stops pt p queue h = record {
 
 pub round_walks : (pt : Point) (b : Boot) (o : Point) (m : ℕ) (q : Option Pid) → ((p : Pid) → q ≡ Some p → Resting pt.view p) → WalksOf pt (rule.goes_round b o m q)
 round_walks pt b o m q h = walks_of pt (rule.goes_round b o m q) (λ ps. by_round (Walks pt) b o m q ps (loose_walks (Says (Line.Idle m) ∷ []) pt (λ q. tt, tt)) (λ p x is alive. (
-  let rests = h p is in
-  record {
-    runs = λ k rest stops. (
-      rests.here,
-      (λ next s.
-          let g = said_by pt next (Line.Label (Label.Ran p k)) s in
-          let mid = moved pt (Line.Label (Label.Ran p k)) g.kernel in
-          subst (λ (z : Point). Walks z rest) g.is (stops (Walks mid) (runs_stops mid p (o.view.queue m p) (record { here = rests.here; away = rests.away })))),
-    );
-    takes = λ mask id first. first_walks (rule.says (Label.Receive p id)) [] pt rests.here tt;
-    refuses = λ id r. first_walks (rule.says (Label.Refuse p id r)) [] pt rests.here tt;
-  }
-  )))
+    let rests = h p is in
+    record {
+      runs = λ k rest stops. (
+        rests.here,
+        (λ next s.
+            let g = said_by pt next (Line.Label (Label.Ran p k)) s in
+            let mid = moved pt (Line.Label (Label.Ran p k)) g.kernel in
+            subst (λ (z : Point). Walks z rest) g.is (stops (Walks mid) (runs_stops mid p (o.view.queue m p) (record { here = rests.here; away = rests.away })))),
+      );
+      takes = λ mask id first. first_walks (rule.says (Label.Receive p id)) [] pt rests.here tt;
+      refuses = λ id r. first_walks (rule.says (Label.Refuse p id r)) [] pt rests.here tt;
+    }
+    )))
 
 -- a message of the bag, and what was told of it
 pub record Front (pt : Point) (id : MsgId) (msg : PlainMessage) : Type 0 where

@@ -1,10 +1,10 @@
 -- Each group keeps where addresses lead, what machines know, and where messages stand.
-use Rattle.dm_rulelaws.proofs.Names.{◌≡◌, ℕ, ◌<◌, ◌≤◌, ◌==◌, not, Bool, true, false, is_some, List, [], ◌∷◌, refl, ap, ◌∙◌, sym, subst, inl, inr, arith, if◌then◌else◌, slice_get, Option, None, Some, false≢true, Pid, Place, MsgId}
-use Rattle.dm_rulelaws.proofs.Names.{plain_kind, PlainMessage, MessageKind, Boot, manager, Step, id_eq-same, alive-is, Line, View, Told, About, Target, Of, Known, Unknown, Here, Frozen, Incoming, Forward, is_kernels, own_id, receiver_of}
-use Rattle.dm_rulelaws.proofs.Names.{target_in, target_of, front_told, front_of, Child, Receiver, Sender, given, child_number, place_of_child, unmoved, own_gives, names, sender_of, IsStep, forwards_on, migrates, Part, Says, Owns, Transmits}
-use Rattle.dm_rulelaws.proofs.Names.{Spelled, Moves, is_between, is_restart, is_early, knows, receiver_in, is_of_source, Point, moved, group_of, Inbox, Queue, Held, times, standing, IsNet, IsNetLine, arrives_net, resends_net, group_is}
-use Rattle.dm_rulelaws.proofs.Names.{turn_off, letters, eq_is, parts, both_lists, both_times, under_way, front_kernels, Phased, due, head_calm, InPhases, calm_phases, rooted, State, Sane, sane_line, outcome_sayable, Comes, Named, Links}
-use Rattle.dm_rulelaws.proofs.Names.{child_is, source_holds, destination_expects, is_fixed, eq_self, about_same, front_one, least_of, by_migrates, by_net, by_outcome}
+use Rattle.dm_rulelaws.proofs.Names.{◌≡◌, ℕ, ◌<◌, ◌≤◌, ◌==◌, not, Bool, true, false, is_some, List, [], ◌∷◌, refl, ap, ◌∙◌, sym, subst, inl, inr, arith, if◌then◌else◌, Option, None, Some, false≢true, Pid, Place, MsgId, plain_kind}
+use Rattle.dm_rulelaws.proofs.Names.{PlainMessage, MessageKind, Boot, manager, Step, id_eq-same, alive-is, Line, View, Told, About, Target, Of, Known, Unknown, Here, Frozen, Incoming, Forward, is_kernels, own_id, receiver_of, target_in}
+use Rattle.dm_rulelaws.proofs.Names.{target_of, front_told, front_of, Child, Receiver, Sender, given, child_number, place_of_child, unmoved, own_gives, names, sender_of, IsStep, forwards_on, migrates, Part, Says, Owns, Spelled, Moves}
+use Rattle.dm_rulelaws.proofs.Names.{is_between, is_restart, is_early, knows, receiver_in, is_of_source, Point, moved, group_of, Inbox, Queue, Held, times, standing, IsNet, IsNetLine, group_is, turn_off, letters, eq_is, parts, both_lists}
+use Rattle.dm_rulelaws.proofs.Names.{both_times, under_way, front_kernels, Phased, due, head_calm, InPhases, calm_phases, rooted, State, Sane, sane_line, outcome_sayable, Comes, Named, Links, child_is, source_holds, destination_expects}
+use Rattle.dm_rulelaws.proofs.Names.{is_fixed, eq_self, about_same, front_one, least_of, by_migrates, by_net, by_outcome}
 use Rattle.dm_rule.specs.Phases as phases
 use Rattle.dm_rule.specs.Rule as rule
 use Rattle.dm_rule.proofs.Groups.{begun}

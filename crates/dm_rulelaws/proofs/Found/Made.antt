@@ -1,11 +1,7 @@
 -- Which processes a step of the kernel without machines makes.
-use Rattle.dm_rulelaws.proofs.Names.{◌≡◌, ◌⊎◌, ℕ, ◌&&◌, Bool, true, false, length, refl, ap, ◌∙◌, sym, inl, inr, is_some, if◌then◌else◌, slice_get, ◌+◌, Option, None, Some, cases_Bool, false≢true, Pid, pid_of, pid_eq, MsgId, Called}
-use Rattle.dm_rulelaws.proofs.Names.{PlainMessage, PlainWhat, Label, Reply, Why, switchboard, manager, bind, begun, PlainProcess, Life, Alive, Ended, Switchboard, Manager, OneKernel, with_process, with_sent, answer_to, without_message}
-use Rattle.dm_rulelaws.proofs.Names.{is_dropped, is_of_memory, pid_eq-is, bind-is, when-is, alive-is, nexts, Nexts, completing, and-both, subst, take, drop, first_number, BootImage, by_step, Asked}
+use Rattle.dm_rulelaws.proofs.Names.{◌≡◌, ◌⊎◌, Bool, true, false, refl, ap, ◌∙◌, sym, inl, inr, is_some, if◌then◌else◌, ◌+◌, Option, None, Some, cases_Bool, false≢true, Pid, pid_of, pid_eq, MsgId, PlainMessage, PlainWhat, Label, Why, begun}
+use Rattle.dm_rulelaws.proofs.Names.{Life, Alive, Ended, OneKernel, with_process, with_sent, answer_to, without_message, pid_eq-is, subst, take, drop, first_number, BootImage, by_step}
 use Rattle.dm_onekernel.specs.Pieces as pieces
-use Rattle.dm_onekernel.specs.Receiving as receiving
-use Rattle.dm_onekernel.specs.Switchboard as board
-use Rattle.dm_onekernel.specs.Manager as manage
 use Rattle.dm_onekernel.specs.Service as service
 use Rattle.dm_onekernel.specs.Step as kernel
 

@@ -1,12 +1,11 @@
 -- The parts of a group keep where messages stand, where each has what it needs.
 use Rattle.dm_rulelaws.proofs.Names.{◌≡◌, ℕ, ◌+◌, ◌<◌, ◌==◌, Bool, true, false, List, [], ◌∷◌, length, refl, ap, ◌∙◌, sym, subst, inl, arith, ⊤, if◌then◌else◌, Option, None, Some, false≢true, Pid, pid_of, MsgId, MessageKind, plain_kind}
-use Rattle.dm_rulelaws.proofs.Names.{PlainMessage, PlainWhat, manager, bind, id_eq-same, bind-is, Line, Load, at_machine, View, Told, is_kernels, own_id, Holder, Receiver, Sender, Gets, given, unmoved, goes_between, own_gives, first_gives}
-use Rattle.dm_rulelaws.proofs.Names.{Point, label_of, kernel_after, moved, after_line, after, Part, Says, Routes, Again, Owns, Transmits, Spelled, lines_of, puts, goes_out, packet_line, behind, spelled, not_kernels, not_first, Sane}
-use Rattle.dm_rulelaws.proofs.Names.{AllSayable, part_sane, is_own}
+use Rattle.dm_rulelaws.proofs.Names.{PlainMessage, PlainWhat, manager, id_eq-same, bind-is, Line, Load, at_machine, View, Told, is_kernels, own_id, Holder, Receiver, Sender, Gets, given, unmoved, goes_between, own_gives, first_gives, Point}
+use Rattle.dm_rulelaws.proofs.Names.{label_of, kernel_after, moved, after_line, after, Part, Says, Routes, Again, Owns, Transmits, Spelled, lines_of, puts, goes_out, packet_line, spelled, not_kernels, not_first, Sane, AllSayable, part_sane}
+use Rattle.dm_rulelaws.proofs.Names.{is_own, by_parts}
 use Rattle.dm_rulelaws.proofs.Found.Core.{Knows, IsReal, Core}
 use Rattle.dm_rulelaws.proofs.Found.Puts.{NeedsPut, put_core}
 use Rattle.dm_rulelaws.proofs.Found.Lines.{NeedsLine, line_core, packet_core}
-use Rattle.dm_rule.proofs.Outcomes.{by_parts}
 
 -- the next message of the acting machine's kernel
 pub record NeedsOwn (n : ℕ) (pt : Point) (k : MessageKind) (q : Pid) (b : ℕ) : Type 0 where

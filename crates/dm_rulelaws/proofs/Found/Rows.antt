@@ -1,17 +1,11 @@
 -- What each row of a turn needs: processes that run, and messages of the bag.
-use Rattle.dm_rulelaws.proofs.Names.{◌≡◌, ℕ, ◌+◌, ◌==◌, Bool, true, false, List, [], ◌∷◌, length, refl, ap, ◌∙◌, subst, if◌then◌else◌, slice_get, Option, None, Some, Pid, pid_of, pid_eq, MsgId, plain_kind, Label, Why, PlainMessage}
-use Rattle.dm_rulelaws.proofs.Names.{PlainWhat, instruction, BootImage, Boot, first_number, switchboard, manager, bind, PlainProcess, PlainStatus, Ready, Waiting, Moving, OneKernel, bind-is, Line, Known, Unknown, Here, Forward, Point}
-use Rattle.dm_rulelaws.proofs.Names.{label_of, kernel_after, moved, after_line, after, Part, Says, Routes, lines_of, forwards_on, Stops, by_round, by_handles}
-use Rattle.dm_onekernel.specs.Calls as calls
+use Rattle.dm_rulelaws.proofs.Names.{◌≡◌, ℕ, ◌+◌, List, [], ◌∷◌, ap, ◌∙◌, subst, Option, None, Some, Pid, pid_of, MsgId, plain_kind, Label, PlainMessage, Boot, first_number, PlainProcess, OneKernel, bind-is, Line, Forward, Point, label_of}
+use Rattle.dm_rulelaws.proofs.Names.{kernel_after, moved, after_line, after, Part, Says, Routes, lines_of, forwards_on, Stops, by_round, by_handles}
 use Rattle.dm_onekernel.specs.Pieces as pieces
-use Rattle.dm_onekernel.specs.Receiving as receiving
-use Rattle.dm_onekernel.specs.Switchboard as board
-use Rattle.dm_onekernel.specs.Manager as manage
 use Rattle.dm_onekernel.specs.Step as kernel
-use Rattle.dm_rule.specs.View.{Ended}
 use Rattle.dm_rule.specs.Rule as rule
 use Rattle.dm_rulelaws.proofs.Found.Core.{KnowsAt, IsAt}
-use Rattle.dm_rulelaws.proofs.Found.Parts.{AllNeed, NeedOf, AllLoose, first_need}
+use Rattle.dm_rulelaws.proofs.Found.Parts.{AllNeed, AllLoose, first_need}
 
 -- behind a line
 pub said_next : (pt next : Point) (l : Line) (ls : List Line) → lines_of pt (Says l) ≡ Some ls → after pt ls ≡ Some next → (s : OneKernel) × (moved pt l s ≡ next)

@@ -1,12 +1,7 @@
 -- What a step of the kernel without machines leaves: how many machines there are, and who sends.
-use Rattle.dm_rulelaws.proofs.Names.{◌≡◌, ◌⊎◌, ℕ, ◌<◌, ◌==◌, ◌&&◌, Bool, true, false, List, [], ◌∷◌, length, refl, ap, ◌∙◌, sym, subst, inl, inr, arith, nat_lt, is_some, ⊤, if◌then◌else◌, slice_get, take, drop, ◌+◌, ◌*◌, ◌++◌, Option, None}
-use Rattle.dm_rulelaws.proofs.Names.{Some, false≢true, nat_tests, Pid, pid_of, pid_eq, PlainLink, MsgId, Called, PlainMessage, PlainWhat, Label, Reply, Why, switchboard, manager, bind, PlainProcess, Life, Alive, Ended, Switchboard, Manager}
-use Rattle.dm_rulelaws.proofs.Names.{Pending, OneKernel, with_process, with_sent, answer_to, without_message, is_dropped, is_of_memory, came, stayed, lands-is, ended-is, bind-is, when-is, alive-is, nexts, Nexts, is_fixed, if_some-is}
-use Rattle.dm_rulelaws.proofs.Names.{by_step}
+use Rattle.dm_rulelaws.proofs.Names.{◌≡◌, ◌⊎◌, ℕ, ◌<◌, true, length, refl, ap, ◌∙◌, sym, subst, inl, inr, arith, is_some, ⊤, take, drop, Option, None, Some, nat_tests, Pid, MsgId, PlainMessage, PlainWhat, Label, Why, switchboard, manager}
+use Rattle.dm_rulelaws.proofs.Names.{Life, Alive, Ended, Switchboard, Manager, OneKernel, with_process, with_sent, answer_to, without_message, came, stayed, lands-is, is_fixed, by_step}
 use Rattle.dm_onekernel.specs.Pieces as pieces
-use Rattle.dm_onekernel.specs.Receiving as receiving
-use Rattle.dm_onekernel.specs.Switchboard as board
-use Rattle.dm_onekernel.specs.Manager as manage
 use Rattle.dm_onekernel.specs.Service as service
 use Rattle.dm_onekernel.specs.Step as kernel
 use Rattle.dm_rulelaws.proofs.Own.Senders.{SentBy, board_sender, manager_sender}

@@ -1,8 +1,7 @@
 -- No kernel sends what is told back when it is forwarded.
-use Rattle.dm_rulelaws.proofs.Names.{◌≡◌, ◌⊎◌, ℕ, ◌+◌, ◌*◌, ◌==◌, ◌&&◌, Bool, true, false, List, [], ◌∷◌, ◌++◌, refl, ap, ◌∙◌, sym, subst, nat_lt, is_some, arith, length, inl, inr, ⊤, if◌then◌else◌, slice_get, take, drop, Option, None}
-use Rattle.dm_rulelaws.proofs.Names.{Some, cases_Bool, false≢true, nat_tests, Pid, pid_eq, PlainLink, MsgId, id_eq, plain_kind, Why, Called, PlainMessage, PlainWhat, Label, switchboard, manager, bind, PlainProcess, Alive, Ended, Pending}
-use Rattle.dm_rulelaws.proofs.Names.{Switchboard, Manager, OneKernel, with_process, with_sent, answer_to, without_message, is_of_memory, Made, came, stayed, LandsSo, lands-is, Sound, bind-is, when-is, alive-is, nexts, Nexts, is_told_back}
-use Rattle.dm_rulelaws.proofs.Names.{hidden, BagStep, bag_ran, bag_call, bag_wait, bag_out, bag_end, bag_refuse, bag_receive, bag_dropped, if_some-is, by_step}
+use Rattle.dm_rulelaws.proofs.Names.{◌≡◌, ◌⊎◌, ℕ, ◌+◌, ◌*◌, ◌==◌, ◌&&◌, Bool, true, false, List, [], ◌∷◌, ◌++◌, refl, ap, ◌∙◌, sym, subst, nat_lt, is_some, arith, length, inl, inr, ⊤, if◌then◌else◌, take, drop, Option, None, Some}
+use Rattle.dm_rulelaws.proofs.Names.{false≢true, nat_tests, Pid, PlainLink, MsgId, plain_kind, PlainMessage, PlainWhat, Label, switchboard, manager, PlainProcess, Alive, Pending, Switchboard, Manager, OneKernel, with_sent, answer_to}
+use Rattle.dm_rulelaws.proofs.Names.{without_message, Made, came, stayed, lands-is, Sound, is_told_back, by_step}
 use Rattle.dm_onekernel.specs.Pieces as pieces
 use Rattle.dm_onekernel.specs.Switchboard as board
 use Rattle.dm_onekernel.specs.Manager as manage
@@ -105,7 +104,7 @@ server_brings s t u id q (Some m) sends num is same = in_brings s t u m is (λ i
 brings : (r e : MsgId → ℕ) (s t : OneKernel) (l : Label) → step.step s l ≡ Some t → Sound r e s → Brings s t
 brings r e s t l is_ h =
     let answered : (u : OneKernel) (id : MsgId) (m : PlainMessage) (w : PlainWhat) → ((i : MsgId) → u.bag i ≡ (without_message s id).bag i) → is_told_back (plain_kind w) ≡ false → Brings s (with_sent u (Some (answer_to m w))) =
-        λ u id m w same off. answer_brings s (with_sent u (Some (answer_to m w))) u id m w refl same off in
+    λ u id m w same off. answer_brings s (with_sent u (Some (answer_to m w))) u id m w refl same off in
     by_step (Brings s) s t l (record {
       ran = λ p k x m is w i z there. inl there;
       replies = λ p n k c d y is w i z there. inl there;

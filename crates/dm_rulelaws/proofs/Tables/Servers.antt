@@ -1,12 +1,9 @@
 -- What the servers send encloses few links, and a process that is made has as many link slots as the format gives.
-use Rattle.dm_rulelaws.proofs.Names.{◌≡◌, ℕ, ◌+◌, ◌*◌, ◌-◌, ◌≤◌, ◌==◌, ◌&&◌, Bool, true, false, List, [], ◌∷◌, ◌++◌, length, map, replicate, subst, nat_lt, arith, ⊤, if◌then◌else◌, slice_get, Option, None, Some, length-append, length-map}
-use Rattle.dm_rulelaws.proofs.Names.{length-replicate, Pid, pid_eq, pid_of, PlainLink, MsgId, Label, PlainMessage, PlainWhat, BootImage, Format, first_number, slots_of, switchboard, manager, bind, Pending, Manager, OneKernel, with_sent}
-use Rattle.dm_rulelaws.proofs.Names.{answer_to, without_message, begun, slots_with, bind-is, when-is}
+use Rattle.dm_rulelaws.proofs.Names.{◌≡◌, ℕ, ◌+◌, ◌*◌, ◌-◌, ◌≤◌, ◌==◌, ◌&&◌, Bool, true, false, List, [], ◌∷◌, ◌++◌, length, map, replicate, subst, nat_lt, arith, ⊤, if◌then◌else◌, Option, None, Some, length-append, length-map}
+use Rattle.dm_rulelaws.proofs.Names.{length-replicate, Pid, PlainLink, PlainMessage, PlainWhat, BootImage, Format, slots_of, Pending, Manager, OneKernel, with_sent, begun, slots_with}
 use Rattle.dm_onekernel.specs.Switchboard as board
 use Rattle.dm_onekernel.specs.Manager as manage
-use Rattle.dm_onekernel.specs.Service as service
-use Rattle.dm_onekernel.specs.Step as kernel
-use Rattle.dm_rulelaws.proofs.Tables.{FewLinks, Tables, out_tables, put_tables, set_tables}
+use Rattle.dm_rulelaws.proofs.Tables.{FewLinks, Tables, put_tables}
 
 -- what a server sends
 abbrev pub SendsFew : Option PlainMessage → Type 0

@@ -1,7 +1,6 @@
 -- Each label of a process keeps the number of link slots, and so does what its kernel is asked.
-use Rattle.dm_rulelaws.proofs.Names.{◌≡◌, ℕ, ◌+◌, ◌-◌, ◌==◌, ◌&&◌, Bool, true, false, length, take, drop, refl, ap, ◌∙◌, subst, nat_le, ⊤, if◌then◌else◌, None, Some, Pid, MsgId, id_eq, Label, PlainMessage, PlainWhat, Direction, Row}
-use Rattle.dm_rulelaws.proofs.Names.{instruction, Reply, Why, reply_eq, why_eq, bind, PlainProcess, PlainStatus, Moving, Alive, Ended, OneKernel, with_process, with_sent, answer_to, without_message, is_of_memory, is_dropped, bind-is}
-use Rattle.dm_rulelaws.proofs.Names.{when-is, alive-is, if_some-is, begun, by_step}
+use Rattle.dm_rulelaws.proofs.Names.{◌≡◌, ℕ, ◌+◌, ◌-◌, ◌==◌, ◌&&◌, Bool, true, false, length, take, drop, refl, ap, ◌∙◌, subst, nat_le, ⊤, if◌then◌else◌, None, Some, Pid, MsgId, Label, PlainMessage, PlainWhat, Direction, Row, instruction}
+use Rattle.dm_rulelaws.proofs.Names.{Reply, Why, bind, PlainProcess, PlainStatus, Moving, Alive, OneKernel, answer_to, without_message, bind-is, alive-is, begun, by_step}
 use Rattle.dm_onekernel.specs.Calls as calls
 use Rattle.dm_onekernel.specs.Pieces as pieces
 use Rattle.dm_onekernel.specs.Receiving as receiving
