@@ -6,15 +6,16 @@ pub use Rattle.dm_linktable.proofs.Names.{Pid, first_empty, link_at, map, pid_eq
 pub use Rattle.dm_schedule.proofs.Names.{append-nil, append_assoc, drop-length, if◌then◌else◌, nat_lt, not}
 pub use Rattle.dm_process.proofs.Names.{slice_get}
 pub use Rattle.dm_onekernel.specs.Pieces.{piece_of}
+pub use Rattle.dm_onekernel.specs.Service.{manager_took}
 pub use Rattle.dm_laws.proofs.Counted.{Sent}
-pub use Rattle.dm_laws.proofs.Names.{Alive, Boot, BootImage, BootProcess, CallNumber, Called, Copy, Direction, Drop, Ends, IsValid, Label, Life, Make, Manager, Move, Moving, MsgId, None, OneKernel, Option, Out, Outputs, Pending, PlainLink}
-pub use Rattle.dm_laws.proofs.Names.{PlainMessage, PlainProcess, PlainStatus, PlainWhat, Ready, Receive, Replies, Reply, Send, Sends, Some, Waiting, Waits, Why, answer_id, answer_to, bind, bool_eq, call_number, cases_Bool}
-pub use Rattle.dm_laws.proofs.Names.{direction_numbered, entry, false≢true, first_failed, first_life, first_number, id_eq, id_of, in_bag, inl, inr, is_of_memory, is_some, life_at, manager, nat_le, option_map, pid_of, plain_link, reception}
-pub use Rattle.dm_laws.proofs.Names.{receptions, reg, replay, start, switchboard, with_process, with_sent, without_message, ⊤, ◌⊎◌}
+pub use Rattle.dm_laws.proofs.Names.{Alive, Boot, BootImage, BootProcess, CallNumber, Called, Copy, Direction, Drop, IsValid, Label, Life, Make, Manager, Move, Moving, MsgId, None, OneKernel, Option, Pending, PlainLink, PlainMessage}
+pub use Rattle.dm_laws.proofs.Names.{PlainProcess, PlainStatus, PlainWhat, Ready, Receive, Reply, Send, Sends, Some, Waiting, Waits, Why, answer_id, answer_to, bind, bool_eq, call_number, cases_Bool, direction_numbered, entry, false≢true}
+pub use Rattle.dm_laws.proofs.Names.{first_failed, first_life, first_number, id_eq, id_of, in_bag, inl, inr, is_of_memory, is_some, life_at, manager, nat_le, option_map, pid_of, plain_link, reception, receptions, reg, replay, start}
+pub use Rattle.dm_laws.proofs.Names.{switchboard, with_process, with_sent, without_message, ⊤, ◌⊎◌}
 pub use Rattle.dm_laws.proofs.Runs.{ended_stays, reached}
 pub use Rattle.dm_laws.proofs.Servers.{board_takes, manager_takes}
 pub use Rattle.dm_laws.proofs.Sound.{not_counted}
-pub use Rattle.dm_laws.proofs.Steps.{Completing, Sent-from}
+pub use Rattle.dm_laws.proofs.Steps.{Sent-from}
 pub use Rattle.dm_line.specs.Ends.{block_line, each_machine, home_with, list_line, memory_lines, trimmed}
 pub use Rattle.dm_line.specs.Todo.{or}
 pub use Rattle.dm_line.specs.declared.end_line.EndLine.{EndLine}
@@ -22,9 +23,10 @@ pub use Rattle.dm_line.specs.declared.end_line.Standing.{Standing}
 pub use Rattle.dm_rule.proofs.Apart.Groups.{moves_known, moving_stays_always}
 pub use Rattle.dm_rule.proofs.Apart.Rows.{ApartOf, FirstApart, SparesPart, apart_first}
 pub use Rattle.dm_rule.proofs.Apart.Turns.{migrates_apart, net_apart, turns_apart}
-pub use Rattle.dm_rule.proofs.Bags.{cases_zero, if_some-is as if_some, out_of}
-pub use Rattle.dm_rule.proofs.Groups.{acked_off, deliver_off, early_off, fits, migrate_off, tick_off}
-pub use Rattle.dm_rule.proofs.Hearing.{IsHeardLine, Kept, by_kernel, hears_kept, kept_forward, kernel_kept}
+pub use Rattle.dm_rule.proofs.Bags.{cases_zero, out_of}
+pub use Rattle.dm_rule.proofs.Changes.{Lives, is_served}
+pub use Rattle.dm_rule.proofs.Groups.{GroupIs, acked_off, deliver_off, early_off, fits, migrate_off, tick_off}
+pub use Rattle.dm_rule.proofs.Hearing.{IsHeardLine, Kept, hears_kept, kept_forward, kernel_kept}
 pub use Rattle.dm_rule.proofs.Homes.{HomesAre}
 pub use Rattle.dm_rule.proofs.Homes.Lines.{acting_label}
 pub use Rattle.dm_rule.proofs.Homes.Parts.{acting_taken}
@@ -35,24 +37,21 @@ pub use Rattle.dm_rule.proofs.Moves.Lists.{emptied}
 pub use Rattle.dm_rule.proofs.Moves.Rows.{accepted_off, frozen_off, home_again, home_off, lacks_off, left_off, memory_off, proto_off, restarted_off, state_off}
 pub use Rattle.dm_rule.proofs.Moves.Sent.{least_of as either, fits_packet, fits_put, line_next}
 pub use Rattle.dm_rule.proofs.Moves.States.{kernels_by, packet_off}
-pub use Rattle.dm_rule.proofs.Names.{About, Addresses, AddressesOn, Again, Answer, Child, Enclosed, Ended, Forward, Frozen, Gets, Held, Here, Holder, Inbox, Incoming, IsIn, IsOn, IsOthers, IsQuiet, IsStep, IsToken, Known, LandsSo, Leads}
-pub use Rattle.dm_rule.proofs.Names.{LifeGrows, Line, Load, MessageKind, Moves, Name, NamedLink, Nexts, NothingElse, Nowhere, Of, Over, Owner, Owns, Pair, Part, Phase, Place, Point, Queue, Ran, Receiver, Rests, Room, Routes, Says, Sender}
-pub use Rattle.dm_rule.proofs.Names.{ServerSends, Slot, Sort, Sound, Spares, Spelled, Spot, Stage, StandsNowhere, StandsOutside, StandsRight, Step, Told, Trail, Trails, TrailsAlways, Transmits, Trodden, Unknown, Untaken, View, accepts}
-pub use Rattle.dm_rule.proofs.Names.{actor, addresses_after, after, after_head, after_line, after_proto, after_put, after_step, alive-is, all_follow, along, answer_link, ascends, asks_on, at_machine, at_pair, at_record, behind}
-pub use Rattle.dm_rule.proofs.Names.{behind_count, belongs_to, bind-is, board_finds, board_keeps, board_took, both_true, called, child_links, child_number, chunks_of, comes, comes_to, completes, counts, counts_process, creates, destination}
-pub use Rattle.dm_rule.proofs.Names.{drops, enclosed_from, encloses, ended_handles, ended_told, executes, fills_by, filter, first_awaited, first_gives, first_point, first_runnable, first_trails, first_trodden, first_view, follows_up}
-pub use Rattle.dm_rule.proofs.Names.{forward_about, forwarded_for, forwards, forwards_on, free_room, front_of, front_told, gets, given, gives, gives_piece, goes_out, goes_round, gone_to, group_of, handled, handled_first, has_room, headed}
-pub use Rattle.dm_rule.proofs.Names.{hears, held_for, here, here_handles, here_told, holder_eq, id_eq-is, id_eq-same, ids_at, is_apart, is_away, is_behind, is_between, is_counted, is_due, is_early, is_here, is_kernels, is_over, is_pid}
-pub use Rattle.dm_rule.proofs.Names.{is_restart, is_told_back, kernel_after, kernel_handles, kernel_hears, kernel_told, kills, knowing, known_at, knows, label_of, lands-is, leads_to, leaves, left_true, length-append, lines_of, link_to}
-pub use Rattle.dm_rule.proofs.Names.{machine_of, made, manager_answers, manager_sends, manager_tells, manager_took, marked, migrates, migrates_child, moved, moves_to, name_link, names, nexts, not_server, outcome, own_given, own_gives}
-pub use Rattle.dm_rule.proofs.Names.{own_id, packet_line, pid_eq-is, pid_eq-same, pieces_of, place_of_child, place_told, plain_kind, process_handles, process_told, puts, ran, receiver_in, receiver_of, receives, receives_links}
-pub use Rattle.dm_rule.proofs.Names.{receives_what, released, reply_eq, right_true, routes, says, sender_in, sender_of, sends_on, sends_what, sent_at, sent_off, served_told, server_told, serves_status, serves_what, slice_get_cases}
-pub use Rattle.dm_rule.proofs.Names.{slice_get_within, slot_after, slot_of, sort_of, spelled, standing, stayed, stops, taken_id, takes_block, takes_chunk, target_of, tells_back, times, to_kernel, to_of, token_in, told_between, trails_after}
-pub use Rattle.dm_rule.proofs.Names.{turns, unmoved, untaken, updated, updated_to, updates, view_after, when-is, why_eq, with_machine, with_pair, with_ring, without_front, without_id, ◌||◌}
+pub use Rattle.dm_rule.proofs.Names.{About, Addresses, AddressesOn, Again, Answer, Child, Enclosed, Ended, Forward, Frozen, Gets, Held, Here, Holder, Inbox, Incoming, IsIn, IsOn, IsOthers, IsQuiet, IsStep, IsToken, Known, Leads, LifeGrows}
+pub use Rattle.dm_rule.proofs.Names.{Line, Load, MessageKind, Moves, Name, NamedLink, NothingElse, Nowhere, Of, Over, Owner, Owns, Pair, Part, Phase, Place, Point, Queue, Receiver, Rests, Routes, Says, Sender, ServerSends, Slot, Sort}
+pub use Rattle.dm_rule.proofs.Names.{Sound, Spares, Spelled, Spot, Stage, StandsNowhere, StandsOutside, StandsRight, Step, Told, Trail, Trails, TrailsAlways, Transmits, Trodden, Unknown, Untaken, View, accepts, actor, addresses_after}
+pub use Rattle.dm_rule.proofs.Names.{after, after_head, after_line, after_proto, after_put, after_step, alive-is, all_follow, along, answer_link, ascends, asks_on, at_machine, at_pair, at_record, behind, behind_count, belongs_to, bind-is}
+pub use Rattle.dm_rule.proofs.Names.{board_finds, board_keeps, both_true, child_links, child_number, chunks_of, comes, counts, counts_process, destination, enclosed_from, encloses, ended-is, ended_told, fills_by, filter, first_gives}
+pub use Rattle.dm_rule.proofs.Names.{first_point, first_trails, first_trodden, first_view, follows_up, forward_about, forwarded_for, forwards, forwards_on, free_room, front_of, front_told, gets, given, gives, gives_piece, goes_out}
+pub use Rattle.dm_rule.proofs.Names.{goes_round, gone_to, group_of, handled, handled_first, hears, held_for, here, here_told, holder_eq, id_eq-is, id_eq-same, ids_at, is_apart, is_away, is_behind, is_between, is_counted, is_dropped, is_due}
+pub use Rattle.dm_rule.proofs.Names.{is_early, is_here, is_kernels, is_over, is_pid, is_restart, is_told_back, kernel_after, kernel_hears, kernel_told, kills, knowing, known_at, knows, label_of, lands-is, leads_to, left_true, length-append}
+pub use Rattle.dm_rule.proofs.Names.{lines_of, link_to, made, manager_answers, manager_sends, manager_tells, marked, migrates, moved, name_link, names, not_server, outcome, own_given, own_gives, own_id, packet_line, pending_of, pid_eq-is}
+pub use Rattle.dm_rule.proofs.Names.{pid_eq-same, pieces_of, place_of_child, place_told, plain_kind, process_told, puts, receiver_in, receiver_of, receives_links, receives_what, released, right_true, sender_in, sender_of, sends_on}
+pub use Rattle.dm_rule.proofs.Names.{sends_what, sent_at, sent_off, served_told, server_told, serves_what, slice_get_cases, slice_get_within, slot_after, slot_of, sort_of, spelled, standing, stayed, taken_id, takes_block, takes_chunk}
+pub use Rattle.dm_rule.proofs.Names.{target_of, tells_back, times, to_kernel, to_of, token_in, told_between, trails_after, unmoved, untaken, updated, updated_to, updates, view_after, with_pair, with_ring, without_front, without_id, ◌||◌}
 pub use Rattle.dm_rule.proofs.Once.{one_of-same}
 pub use Rattle.dm_rule.proofs.Pairs.Lines.{AllFit, line_view, onward, pair_same, taken_pair, touches}
 pub use Rattle.dm_rule.proofs.Pairs.Migrating.{migrates_fit}
-pub use Rattle.dm_rule.proofs.Pairs.Moves.{or_first as or_last}
 pub use Rattle.dm_rule.proofs.Pairs.Stand.{set_is, set_other}
 pub use Rattle.dm_rule.proofs.Pairs.Turns.{turns_fit}
 pub use Rattle.dm_rule.proofs.Phases.Always.{phases_always}
@@ -69,6 +68,7 @@ pub use Rattle.dm_rule.proofs.Phases.Rests.{released_on}
 pub use Rattle.dm_rule.proofs.Phases.Stand.{held_plain, queued_plain}
 pub use Rattle.dm_rule.proofs.Phases.Start.{start_known, starts}
 pub use Rattle.dm_rule.proofs.Said.{fits_as}
+pub use Rattle.dm_rule.proofs.Serving.{Loose, loose_handles, loose_round}
 pub use Rattle.dm_rule.proofs.States.{PacketsKeep, PairsFit, said as last_point, puts_next, said, says_next, transmits_next}
 pub use Rattle.dm_rule.proofs.Trails.Along.{Carries, along_treads, trails_always_by}
 pub use Rattle.dm_rule.proofs.Trails.Found.{treads_start}
@@ -85,7 +85,7 @@ pub use Rattle.dm_rule.specs.Addresses.{creates_what}
 pub use Rattle.dm_rule.specs.Ends.{Stood, alive_lines, child_lines, doing_of, each_process, end_lines, first_with, has, holding_lines, homes_with, inbox_lines, link_lines, name_lines, pending_lines, process_lines, queue_at, queue_lines}
 pub use Rattle.dm_rule.specs.Ends.{server_lines, slot_line, state_lines, stood, stood_at, stream_lines}
 pub use Rattle.dm_rule.specs.Migrating.{answers_in, behind_among, holders_of, numbered, slots_from, slots_in}
-pub use Rattle.dm_rule.specs.Phases.{is_unknown}
+pub use Rattle.dm_rule.specs.Phases.{is_unknown, leaves}
 pub use Rattle.dm_rule.specs.Rule.{handles, lands}
 pub use Rattle.dm_rulelaws.proofs.Based.Always.{based_always, based_group, based_start}
 pub use Rattle.dm_rulelaws.proofs.Based.Constants.{constant_group, step_constant}
@@ -96,7 +96,6 @@ pub use Rattle.dm_rulelaws.proofs.Based.Queues.{told_kept, user_kind}
 pub use Rattle.dm_rulelaws.proofs.Based.Rows.{handles_walks, living, resting, round_walks, turned, unborn}
 pub use Rattle.dm_rulelaws.proofs.Based.Sets.{killed_or, set_all}
 pub use Rattle.dm_rulelaws.proofs.Based.Unmoved.{dropped_moves, held_moves, queued_moves}
-pub use Rattle.dm_rulelaws.proofs.Fits.Receives.{running_is}
 pub use Rattle.dm_rulelaws.proofs.Fits.Rises.{both, set_at, set_if}
 pub use Rattle.dm_rulelaws.proofs.Fits.Serves.{name_is}
 pub use Rattle.dm_rulelaws.proofs.Fits.Start.{fits_step}
@@ -108,20 +107,21 @@ pub use Rattle.dm_rulelaws.proofs.Found.Labels.{fixed_home}
 pub use Rattle.dm_rulelaws.proofs.Found.Lists.{more_front}
 pub use Rattle.dm_rulelaws.proofs.Found.Parts.{again_same, own_fresh, own_outside, plain_own}
 pub use Rattle.dm_rulelaws.proofs.Found.Real.{made_free, named_real, or_cases, server_fixed}
+pub use Rattle.dm_rulelaws.proofs.Found.Steps.{created_for, no_space_for, took_for}
 pub use Rattle.dm_rulelaws.proofs.Goes.Always.{front, front_own, own_by, stands_first, told_of}
 pub use Rattle.dm_rulelaws.proofs.Goes.Own.{apart_is, destination_knows, server_leaves, source_knows}
 pub use Rattle.dm_rulelaws.proofs.Goes.Parts.{some_is}
 pub use Rattle.dm_rulelaws.proofs.Goes.Runs.{Both, both_group, both_start}
 pub use Rattle.dm_rulelaws.proofs.Goes.Serves.{first_is}
 pub use Rattle.dm_rulelaws.proofs.Goes.Turns.{times_more, times_self}
-pub use Rattle.dm_rulelaws.proofs.Names.{AllSayable, AtHome, BagStep, Grown, InPhases, IsNet, IsNetLine, IsPending, KernelFits, KnownStands, LeadsBy, Links, Lives, Named, One, Outside, Phased, ReceivedAt, Rooted, SaidOn, Sane, Sayable}
-pub use Rattle.dm_rulelaws.proofs.Names.{State, Target, WhatFits, about_same, agrees, arrives_net, at_home, at_machine_at, at_place, at_record_at, awaits, bag_call, bag_created, bag_dropped, bag_end, bag_gone, bag_no_space, bag_out}
-pub use Rattle.dm_rulelaws.proofs.Names.{bag_ran, bag_receive, bag_refuse, bag_sends, bag_served, bag_took, bag_wait, both_lists, both_times, by_hears, by_migrates, calm_phases, came, child_is, completing, destination_expects}
-pub use Rattle.dm_rulelaws.proofs.Names.{dropped_known, due, ended-is, eq_is, eq_self, first_off, first_told, forwarded_back, forwarded_known, front_gone, front_kernels, front_way, goes_between, group_is, grown_none, has_bytes}
-pub use Rattle.dm_rulelaws.proofs.Names.{has_no_queue, has_nothing_held, head_calm, held_known, hidden, homes_are, hushed, is_dropped, is_fixed, is_kill, is_piece, is_put, is_server, kernels_fresh, label_on, label_topic, labels}
-pub use Rattle.dm_rulelaws.proofs.Names.{length-drop, length-take, letters, move_fits, moves_away, not_false, not_kernels, not_true, one_of, or_first, out_off, outcome_sayable, pair_keeps, part_sane, parts, pending_of, phased_group}
-pub use Rattle.dm_rulelaws.proofs.Names.{phased_start, pid_eq-swap, piece_fits, proto_acting, proto_known, put_at, put_told_off, queued_known, rejoins, resends_net, rests_here, rooted, sane_line, second, served_keeps, server_at}
-pub use Rattle.dm_rulelaws.proofs.Names.{source_holds, stands_right, status_awaits, times-append, token_is, told_some, turn_off, under_way, with_label}
+pub use Rattle.dm_rulelaws.proofs.Names.{AllSayable, AtHome, BagStep, Grown, InPhases, IsNet, IsNetLine, IsPending, KernelFits, KnownStands, LeadsBy, Links, Named, One, Outside, Phased, ReceivedAt, Rooted, SaidOn, Sane, Sayable, State}
+pub use Rattle.dm_rulelaws.proofs.Names.{Stops, Target, WhatFits, about_same, agrees, arrives_net, at_home, at_machine_at, at_place, at_record_at, awaits, bag_call, bag_created, bag_dropped, bag_end, bag_gone, bag_no_space, bag_out}
+pub use Rattle.dm_rulelaws.proofs.Names.{bag_ran, bag_receive, bag_refuse, bag_sends, bag_served, bag_took, bag_wait, both_lists, both_times, by_forwards, by_group, by_handles, by_hears, by_migrates, by_net, by_outcome, by_parts, by_round}
+pub use Rattle.dm_rulelaws.proofs.Names.{by_step, calm_phases, came, child_is, destination_expects, dropped_known, due, eq_is, eq_self, first_off, first_told, forwarded_back, forwarded_known, front_gone, front_kernels, front_way}
+pub use Rattle.dm_rulelaws.proofs.Names.{goes_between, group_is, grown_none, has_bytes, has_no_queue, has_nothing_held, head_calm, held_known, hidden, homes_are, hushed, is_fixed, is_kill, is_piece, is_put, is_server, kernels_fresh}
+pub use Rattle.dm_rulelaws.proofs.Names.{label_on, label_topic, labels, left_parts, length-drop, length-take, letters, machine_of, move_fits, moves_away, not_false, not_kernels, not_true, one_of, or_first, out_off, outcome_sayable}
+pub use Rattle.dm_rulelaws.proofs.Names.{pair_keeps, part_sane, parts, phased_group, phased_start, pid_eq-swap, piece_fits, proto_acting, proto_known, put_at, put_told_off, queued_known, rejoins, resends_net, rests_here, rooted, sane_line}
+pub use Rattle.dm_rulelaws.proofs.Names.{second, served_keeps, server_at, source_holds, stands_right, status_awaits, times-append, token_is, told_some, turn_off, under_way, with_label}
 pub use Rattle.dm_rulelaws.proofs.Own.Told.{is_place, own_sort}
 pub use Rattle.dm_rulelaws.proofs.Queued.{IsQueued}
 pub use Rattle.dm_rulelaws.proofs.RunLabels.{after_replay, group_replay, labels-append, replay-append}

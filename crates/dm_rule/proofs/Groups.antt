@@ -1,8 +1,8 @@
 -- What deliveries and ticks say keeps that each message stands once; and so does every group.
 use Rattle.dm_rule.proofs.Names.{◌≡◌, ◌≢◌, ℕ, zero, suc, ◌+◌, ◌-◌, ◌≤◌, ◌==◌, Bool, true, false, not, filter, List, [], ◌∷◌, ◌++◌, refl, ap, ◌∙◌, sym, subst, nat_lt, arith, length, ⊤, if◌then◌else◌, slice_get, Option, None, Some}
-use Rattle.dm_rule.proofs.Names.{false≢true, nat_tests, MsgId, bind, OneKernel, Step, Line, Load, View, Pair, view_after, Point, label_of, kernel_after, moved, after_line, Part, Says, Routes, Again, Owns, Transmits, Spelled, packet_line}
-use Rattle.dm_rule.proofs.Names.{spelled, Spot, Queue, Untaken, ids_at, standing, bind-is, Boot, group_of, IsValid, Sent, after_head, window, first_point, Leads, StandsOnceAlways, first_view, start-sound, inl, inr, Pid, PlainMessage, to_of}
-use Rattle.dm_rule.proofs.Names.{migrates, StandsAsBag, StandsOutside, StandsRight, is_kernels}
+use Rattle.dm_rule.proofs.Names.{false≢true, nat_tests, MsgId, bind, OneKernel, Step, Line, Load, View, Pair, view_after, Point, label_of, kernel_after, moved, after_line, Part, Says, Transmits, Spelled, packet_line, spelled, Spot, Queue}
+use Rattle.dm_rule.proofs.Names.{Untaken, ids_at, standing, bind-is, Boot, group_of, IsValid, Sent, after_head, window, first_point, Leads, StandsOnceAlways, first_view, start-sound, inl, inr, Pid, PlainMessage, to_of, migrates}
+use Rattle.dm_rule.proofs.Names.{StandsAsBag, StandsOutside, StandsRight, is_kernels}
 use Rattle.dm_rule.specs.View as view
 use Rattle.dm_rule.proofs.Lines.{Stands-stays, Stands-taken, pair_keeps}
 use Rattle.dm_rule.specs.Rule as rule
@@ -145,6 +145,7 @@ pub record GroupIs (b : Boot) (pt : Point) (d : Step) (w : Spelled) : Type 0 whe
   pub rest : Spelled
   pub said : spelled (moved pt (Line.Head d) pt.kernel) parts ≡ Some rest
   pub point : rest.point ≡ w.point
+  pub whole : rule.headed (Line.Head d) rest ≡ w
 
 pub group_is : (b : Boot) (pt : Point) (d : Step) (w : Spelled) → group_of b pt d ≡ Some w → GroupIs b pt d w
 group_is b pt d w e =
@@ -153,7 +154,7 @@ group_is b pt d w e =
     let (rest, told, end) = bind-is (spelled start parts) (λ w. Some (rule.headed (Line.Head d) w)) w last in
     let f : moved pt (Line.Head d) pt.kernel ≡ start = cc in
     let g : rule.headed (Line.Head d) rest ≡ w = cc in
-    record { parts = parts; is = is; rest = rest; said = ap (λ p. spelled p parts) f ∙ told; point = ap (λ (x : Spelled). x.point) g }
+    record { parts = parts; is = is; rest = rest; said = ap (λ p. spelled p parts) f ∙ told; point = ap (λ (x : Spelled). x.point) g; whole = g }
 
 -- every group keeps that each message stands once
 pub State-group : (b : Boot) (pt : Point) (d : Step) (w : Spelled) → group_of b pt d ≡ Some w → PairsFit pt.view → State None pt → State None w.point

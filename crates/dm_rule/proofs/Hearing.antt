@@ -1,13 +1,19 @@
 -- A kernel's own message is handled: what comes of it, row by row. Whatever holds of the parts of each row holds of what comes of the message.
-use Rattle.dm_rule.proofs.Names.{◌≡◌, ℕ, ◌==◌, ◌||◌, Bool, true, false, List, [], ◌∷◌, ◌++◌, refl, ap, ◌∙◌, sym, subst, length, ◌/◌, ⊤, if◌then◌else◌, Option, None, Some, Pid, pid_of, pid_eq, MsgId, MessageKind, Line, Stage, Boot}
-use Rattle.dm_rule.proofs.Names.{switchboard, manager, PlainProcess, Told, About, Of, Known, Unknown, Here, Frozen, Incoming, Forward, Ended, target_of, Point, Part, Says, Again, Owns, Addresses, Sender, is_told_back, place_told, to_kernel}
-use Rattle.dm_rule.proofs.Names.{forwards_on, moves_to, accepts, takes_chunk, takes_block, gives_piece, sends_on, leaves, kernel_told, chunks_of, pieces_of, updates, here_told, ended_told, process_told, server_told, fits, free_room}
-use Rattle.dm_rule.proofs.Names.{kernel_hears, hears, bind-is, behind_count}
+use Rattle.dm_rule.proofs.Names.{◌≡◌, ℕ, ◌==◌, ◌||◌, Bool, true, false, List, [], ◌∷◌, ◌++◌, refl, ap, ◌∙◌, subst, length, ◌/◌, ⊤, if◌then◌else◌, Option, None, Some, Pid, pid_of, pid_eq, MsgId, MessageKind, Line, Stage, Boot, switchboard}
+use Rattle.dm_rule.proofs.Names.{manager, PlainProcess, Told, About, Of, Known, Unknown, Here, Frozen, Incoming, Forward, Ended, target_of, Point, Part, Says, Again, Owns, Addresses, Sender, is_told_back, place_told, to_kernel, forwards_on}
+use Rattle.dm_rule.proofs.Names.{moves_to, accepts, takes_chunk, takes_block, gives_piece, sends_on, leaves, kernel_told, chunks_of, pieces_of, updates, here_told, ended_told, process_told, server_told, fits, free_room, kernel_hears, hears}
+use Rattle.dm_rule.proofs.Names.{bind-is, behind_count}
 use Rattle.dm_onekernel.specs.Step as kernel
 
 -- a process's messages go on, and it has left
 abbrev pub left_parts : MsgId → Pid → List MsgId → ℕ → List Part
 left_parts id p ids to = Says (Line.SentOn p (length ids)) ∷ sends_on to ids ++ Says (Line.Migration Stage.Left p) ∷ to_kernel MessageKind.Restart id.from.home ∷ []
+
+-- it is frozen there, and these are its messages
+pub record Leaves (o : Point) (m : ℕ) (k : MessageKind) (p : Pid) (ids : List MsgId) (to : ℕ) : Type 0 where
+  pub kind : k ≡ MessageKind.AllTaken
+  pub known : o.view.known m p ≡ Frozen to
+  pub lists : ids ≡ o.view.queue m p ++ o.view.held m p
 
 -- what the kernels of two machines tell each other of a process
 pub record Tells (P : List Part → Type 0) (o : Point) (m : ℕ) (id : MsgId) (k : MessageKind) (p : Pid) : Type 0 where
@@ -20,7 +26,7 @@ pub record Tells (P : List Part → Type 0) (o : Point) (m : ℕ) (id : MsgId) (
   pub memory : P (gives_piece id MessageKind.Memory)
   pub next_block : P (Says (Line.Proto id) ∷ to_kernel MessageKind.PullBlock id.from.home ∷ [])
   pub last_block : P (Says (Line.Migration Stage.MemoryTaken p) ∷ to_kernel MessageKind.AllTaken id.from.home ∷ [])
-  pub left : (ids : List MsgId) (to : ℕ) → o.view.known m p ≡ Frozen to → P (left_parts id p ids to)
+  pub left : (ids : List MsgId) (to : ℕ) → Leaves o m k p ids to → P (left_parts id p ids to)
   pub restarted : k ≡ MessageKind.Restart → P (Says (Line.Migration Stage.Restarted p) ∷ [])
 
 -- what a machine knows of a receiver that is a process
@@ -47,9 +53,9 @@ by_test : (P : List Part → Type 0) (c : Bool) (ps qs : List Part) → P ps →
 by_test P true ps qs h k = h
 by_test P false ps qs h k = k
 
-by_leaves : (P : List Part → Type 0) (o : Point) (m : ℕ) (id : MsgId) (p : Pid) (ids : List MsgId) (k : Known) (ps : List Part) → ((to : ℕ) → o.view.known m p ≡ Frozen to → P (left_parts id p ids to)) → o.view.known m p ≡ k → leaves id p ids k ≡ Some ps → P ps
-by_leaves P o m id p ids (Frozen to) ps h is e = given P (left_parts id p ids to) ps (h to is) e
-by_leaves P o m id p ids _ ps h is e = cc
+by_leaves : (P : List Part → Type 0) (o : Point) (m : ℕ) (id : MsgId) (p : Pid) (ids : List MsgId) (k : Known) (ps : List Part) → ids ≡ o.view.queue m p ++ o.view.held m p → ((to : ℕ) → Leaves o m MessageKind.AllTaken p ids to → P (left_parts id p ids to)) → o.view.known m p ≡ k → leaves id p ids k ≡ Some ps → P ps
+by_leaves P o m id p ids (Frozen to) ps lists h is e = given P (left_parts id p ids to) ps (h to (record { kind = refl; known = is; lists = lists })) e
+by_leaves P o m id p ids _ ps lists h is e = cc
 
 by_told : (P : List Part → Type 0) (o : Point) (m : ℕ) (id : MsgId) (p : Pid) (room : Bool × ℕ × ℕ) (x : PlainProcess) (k : MessageKind) (ps : List Part) → Tells P o m id k p → kernel_told o m id p room x k ≡ Some ps → P ps
 by_told P o m id p room x MessageKind.Ask ps h e =
@@ -64,7 +70,7 @@ by_told P o m id p room x MessageKind.PullBlock ps h e = given P (gives_piece id
 by_told P o m id p room x MessageKind.Memory ps h e =
     given P (takes_block id p (o.view.asked p == pieces_of x)) ps
     (by_test P (o.view.asked p == pieces_of x) (Says (Line.Migration Stage.MemoryTaken p) ∷ to_kernel MessageKind.AllTaken id.from.home ∷ []) (Says (Line.Proto id) ∷ to_kernel MessageKind.PullBlock id.from.home ∷ []) h.last_block h.next_block) e
-by_told P o m id p room x MessageKind.AllTaken ps h e = by_leaves P o m id p (o.view.queue m p ++ o.view.held m p) (o.view.known m p) ps (h.left (o.view.queue m p ++ o.view.held m p)) refl e
+by_told P o m id p room x MessageKind.AllTaken ps h e = by_leaves P o m id p (o.view.queue m p ++ o.view.held m p) (o.view.known m p) ps refl (h.left (o.view.queue m p ++ o.view.held m p)) refl e
 by_told P o m id p room x MessageKind.Restart ps h e = given P (Says (Line.Migration Stage.Restarted p) ∷ []) ps (h.restarted refl) e
 by_told P o m id p room x _ ps h e = cc
 

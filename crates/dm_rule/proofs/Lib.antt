@@ -13,10 +13,13 @@ pub mod States
 pub mod Turns
 pub mod Requests
 pub mod Hearing
+pub mod Serving
+pub mod Changes
 pub mod Said
 pub mod Moves
 pub mod Handled
 pub mod Groups
+pub mod Outcomes
 pub mod Pairs
 pub mod Homes
 pub mod Phases

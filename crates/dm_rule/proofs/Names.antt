@@ -26,9 +26,11 @@ pub use Rattle.dm_onekernel.specs.Boot.{is_general, slots_of}
 pub use Rattle.dm_onekernel.specs.Codes.{reply_code, reply_eq, why_eq}
 pub use Rattle.dm_onekernel.specs.Kernel.{NamedLink}
 pub use Rattle.dm_onekernel.specs.PlainProcess.{setting}
+pub use Rattle.dm_onekernel.specs.Service.{is_dropped}
 pub use Rattle.dm_onekernel.specs.Start.{slots_with}
 pub use Rattle.dm_onekernel.specs.Step.{machine_of, with_machine}
 pub use Rattle.dm_onekernel.specs.declared.boot.Format.TheVariants.{One}
+pub use Rattle.dm_laws.proofs.Counted.{pending_of}
 pub use Rattle.dm_laws.proofs.Entered.{Entered, Made, asks, counts, is_counted, request_id, unentered}
 pub use Rattle.dm_laws.proofs.Equal.{id_eq-is, id_eq-same, id_eq-swap, pid_eq-is, pid_eq-same}
 pub use Rattle.dm_laws.proofs.Grown.{LifeGrows}
@@ -38,10 +40,10 @@ pub use Rattle.dm_laws.proofs.Names.{PlainStatus, PlainWhat, Ready, Replies, Rep
 pub use Rattle.dm_laws.proofs.Names.{first_number, id_eq, id_of, in_bag, inl, inr, is_of_memory, is_some, life_at, manager, nat_le, option_map, pid_of, plain_link, processes_are_valid, reception, reg, start, starting_at, switchboard, when}
 pub use Rattle.dm_laws.proofs.Names.{with_process, with_sent, without_message, ⊤, ◌⊎◌}
 pub use Rattle.dm_laws.proofs.Runs.{after_step, start-sound}
-pub use Rattle.dm_laws.proofs.Servers.{ServerSends}
+pub use Rattle.dm_laws.proofs.Servers.{ServerSends, ended-is}
 pub use Rattle.dm_laws.proofs.Services.{LandsSo, lands-is}
 pub use Rattle.dm_laws.proofs.Sound.{Sound, counts_process, not_server}
-pub use Rattle.dm_laws.proofs.Steps.{Nexts, alive-is, bind-is, nexts, when-is}
+pub use Rattle.dm_laws.proofs.Steps.{Completing, Nexts, Runs, alive-is, bind-is, completing, nexts, when-is}
 pub use Rattle.dm_line.proofs.Below.{all_of_each, both_true, each_of_all, left_true, right_true}
 pub use Rattle.dm_line.proofs.Names.{all_below}
 pub use Rattle.dm_line.specs.Sets.{at_id, at_machine, at_pair, at_pid, at_record, moved_back, without, without_front, without_id}
@@ -65,7 +67,7 @@ pub use Rattle.dm_rule.specs.Phases.{Alone, HasToken, IsIn, IsToken, Moves, Nowh
 pub use Rattle.dm_rule.specs.Phases.{told_between}
 pub use Rattle.dm_rule.specs.Point.{Point, after, after_line, first_point, kernel_after, label_of, moved}
 pub use Rattle.dm_rule.specs.Quiet.{IsQuiet, has_mail, is_quiet, pair_is_quiet}
-pub use Rattle.dm_rule.specs.Rule.{Ran, Room, arrives, board_took, called, comes_to, completes, creates, drops, ended_handles, executes, first_awaited, first_runnable, fits, free_room, goes_round, group_of, has, has_room, headed, hears}
+pub use Rattle.dm_rule.specs.Rule.{Room, arrives, board_took, called, comes_to, completes, creates, drops, ended_handles, executes, first_awaited, first_runnable, fits, free_room, goes_round, group_of, has, has_room, headed, hears}
 pub use Rattle.dm_rule.specs.Rule.{here_handles, kept_from, kernel_handles, kernel_hears, less, let_go, manager_took, more, numbers_from, outcome, outstanding, process_handles, ran, receives, repeats, resends, routes, says, serves_status}
 pub use Rattle.dm_rule.specs.Rule.{stops, takes, takes_on, turns}
 pub use Rattle.dm_rule.specs.Spots.{Held, Inbox, Queue, Spot, StandsAsBag, StandsNowhere, StandsOnce, StandsOutside, StandsRight, Untaken, ids_at, standing, times, untaken}

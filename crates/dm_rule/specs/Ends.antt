@@ -1,14 +1,13 @@
 -- The lines at the end of a run: where everything stands then, by the kernel without machines, the view and the addresses.
-use Rattle.std.specs.Prelude.{ℕ, zero, suc, ◌+◌, ◌*◌, ◌/◌, ◌==◌, if◌then◌else◌, List, [], ◌∷◌, ◌++◌, length, take, drop}
+use Rattle.std.specs.Prelude.{ℕ, zero, suc, ◌+◌, ◌/◌, List, [], ◌∷◌, ◌++◌, length}
 use Rattle.std.specs.declared.option.Option.{Option}
 use Rattle.std.specs.declared.option.Option.TheVariants.{None, Some}
 use Rattle.dm_link.specs.declared.Link.{Link}
 use Rattle.dm_link.specs.declared.Pid.{Pid}
-use Rattle.dm_link.specs.Names.{Place, pid_of}
+use Rattle.dm_link.specs.Names.{Place}
 use Rattle.dm_link.specs.Plain.{PlainLink}
-use Rattle.dm_message.specs.declared.MsgId.{MsgId}
 use Rattle.dm_message.specs.Ids.{id_of}
-use Rattle.dm_onekernel.specs.Boot.{first_number, switchboard, manager}
+use Rattle.dm_onekernel.specs.Boot.{switchboard, manager}
 use Rattle.dm_onekernel.specs.PlainProcess.{PlainProcess, PlainStatus, Ready, Waiting, Moving}
 use Rattle.dm_onekernel.specs.Kernel.{Life, Alive, NamedLink, Pending}
 use Rattle.dm_onekernel.specs.Kernel as kernel
@@ -20,7 +19,7 @@ use Rattle.dm_line.specs.declared.end_line.Doing.{Doing}
 use Rattle.dm_line.specs.declared.end_line.Doing.TheVariants as doing
 use Rattle.dm_line.specs.Todo.{or}
 use Rattle.dm_line.specs.Ends.{memory_lines, home_with, each_machine, list_line}
-use Rattle.dm_rule.specs.View.{View, Known, Here, Frozen, Incoming, Ended}
+use Rattle.dm_rule.specs.View.{View, Known, Here, Frozen, Incoming}
 use Rattle.dm_rule.specs.Addresses.{Addresses, Slot, Child, Name}
 use Rattle.dm_rule.specs.Point.{Point}
 use Rattle.dm_rule.specs.Spots.{untaken}

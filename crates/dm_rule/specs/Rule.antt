@@ -37,7 +37,6 @@ use Rattle.dm_line.specs.declared.line.Load.{Load}
 use Rattle.dm_line.specs.declared.line.Load.TheVariants as load
 use Rattle.dm_rule.specs.Given as given
 use Rattle.dm_rule.specs.View.{View, Pair, Sent, Told, About, Of, Known, Unknown, Here, Frozen, Incoming, Forward, Ended}
-use Rattle.dm_rule.specs.View as view
 use Rattle.dm_rule.specs.Point.{Point, after_line}
 use Rattle.dm_rule.specs.Parts.{Part, Says, Routes, Transmits, Spelled, spelled, window}
 use Rattle.dm_rule.specs.Migrating.{forwards_on, kernel_told, server_told, process_told, migrates}

@@ -1,6 +1,6 @@
 -- The labels of a run's lines replay as steps of the kernel without machines; so all fits wherever the rule leads.
-use Rattle.dm_rulelaws.proofs.Names.{◌≡◌, ℕ, ◌+◌, List, [], ◌∷◌, ◌++◌, refl, ap, ◌∙◌, sym, subst, Option, None, Some, MsgId, Boot, Label, OneKernel, bind, replay, entry, reception, after_step, start-sound, Sound, bind-is, Step, Line, Point}
-use Rattle.dm_rulelaws.proofs.Names.{first_point, label_of, labels, with_label, kernel_after, after_line, after, moved, Part, Spelled, lines_of, behind, spelled, group_of, outcome, headed, Leads, KernelFits, FitsAlways}
+use Rattle.dm_rulelaws.proofs.Names.{◌≡◌, ℕ, ◌+◌, List, [], ◌∷◌, ◌++◌, refl, ap, ◌∙◌, subst, Option, None, Some, MsgId, Boot, Label, OneKernel, bind, replay, entry, reception, after_step, start-sound, Sound, bind-is, Step, Line, Point}
+use Rattle.dm_rulelaws.proofs.Names.{first_point, label_of, labels, with_label, kernel_after, after_line, after, moved, Part, Spelled, spelled, group_of, Leads, KernelFits, FitsAlways, by_parts, by_group}
 use Rattle.dm_onekernel.specs.Step as kernel
 use Rattle.dm_rulelaws.proofs.Fits.Start.{fits_step, start_fits}
 
@@ -32,28 +32,12 @@ replay-append (x ∷ xs) ys s t u e f =
     ap (λ (o : Option OneKernel). bind o (λ (w : OneKernel). replay w (xs ++ ys))) first ∙ replay-append xs ys v t u rest f
 
 pub spelled_replay : (ps : List Part) (pt : Point) (w : Spelled) → spelled pt ps ≡ Some w → replay pt.kernel (labels w.lines) ≡ Some w.point.kernel
-spelled_replay [] pt w e =
-    let z : Spelled = record { lines = []; point = pt } in
-    let f : z ≡ w = cc in
-    subst (λ (v : Spelled). replay pt.kernel (labels v.lines) ≡ Some v.point.kernel) f refl
-spelled_replay (p ∷ ps) pt w e =
-    let (ls, lines, rest) = bind-is (lines_of pt p) (λ (xs : List Line). bind (after pt xs) (λ (q : Point). bind (spelled q ps) (λ (z : Spelled). Some (behind xs z)))) w e in
-    let (next, comes, last) = bind-is (after pt ls) (λ (q : Point). bind (spelled q ps) (λ (z : Spelled). Some (behind ls z))) w rest in
-    let (z, more, end) = bind-is (spelled next ps) (λ (y : Spelled). Some (behind ls y)) w last in
-    let f : behind ls z ≡ w = cc in
-    let g : replay pt.kernel (labels ls ++ labels z.lines) ≡ Some z.point.kernel = replay-append (labels ls) (labels z.lines) pt.kernel next.kernel z.point.kernel (after_replay ls pt next comes) (spelled_replay ps next z more) in
-    subst (λ (v : Spelled). replay pt.kernel (labels v.lines) ≡ Some v.point.kernel) f (ap (replay pt.kernel) (labels-append ls z.lines) ∙ g)
+spelled_replay = by_parts (λ ps pt w. replay pt.kernel (labels w.lines) ≡ Some w.point.kernel) (λ pt. refl)
+    (λ p ps pt next ls z lines leads rest. ap (replay pt.kernel) (labels-append ls z.lines) ∙ replay-append (labels ls) (labels z.lines) pt.kernel next.kernel z.point.kernel (after_replay ls pt next leads) rest)
 
 -- a group
 pub group_replay : (b : Boot) (pt : Point) (d : Step) (w : Spelled) → group_of b pt d ≡ Some w → replay pt.kernel (labels w.lines) ≡ Some w.point.kernel
-group_replay b pt d w e =
-    let (parts, is, more) = bind-is (outcome b pt d) (λ (parts : List Part). bind (after_line pt (Line.Head d)) (λ (begun : Point). bind (spelled begun parts) (λ (w : Spelled). Some (headed (Line.Head d) w)))) w e in
-    let (start, head, last) = bind-is (after_line pt (Line.Head d)) (λ (begun : Point). bind (spelled begun parts) (λ (w : Spelled). Some (headed (Line.Head d) w))) w more in
-    let (rest, told, end) = bind-is (spelled start parts) (λ (w : Spelled). Some (headed (Line.Head d) w)) w last in
-    let f : moved pt (Line.Head d) pt.kernel ≡ start = cc in
-    let g : headed (Line.Head d) rest ≡ w = cc in
-    let same : start.kernel ≡ pt.kernel = sym (ap (λ (v : Point). v.kernel) f) in
-    subst (λ (v : Spelled). replay pt.kernel (labels v.lines) ≡ Some v.point.kernel) g (ap (λ (s : OneKernel). replay s (labels rest.lines)) (sym same) ∙ spelled_replay parts start rest told)
+group_replay b pt d w = by_group (λ v. replay pt.kernel (labels v.lines) ≡ Some v.point.kernel) b pt d w (λ ps rest is said. spelled_replay ps (moved pt (Line.Head d) pt.kernel) rest said)
 
 -- all fits wherever a run comes
 pub replay_fits : (ls : List Label) (r e : MsgId → ℕ) (s t : OneKernel) → replay s ls ≡ Some t → Sound r e s → KernelFits s → (r' : MsgId → ℕ) × (e' : MsgId → ℕ) × Sound r' e' t × KernelFits t

@@ -1,8 +1,7 @@
 -- A process ends only where a group says so.
-use Rattle.dm_movelaws.proofs.Names.{◌≡◌, ℕ, ◌+◌, ◌==◌, Bool, true, false, not, filter, List, [], ◌∷◌, length, refl, ap, ◌∙◌, sym, subst, if◌then◌else◌, false≢true, Option, None, Some, Pid, pid_eq, MsgId, MessageKind, Load, plain_kind}
-use Rattle.dm_movelaws.proofs.Names.{Label, bind, bind-is, Step, Line, Stage, Addresses, Receiver, child_number, migrates, migrates_child, Part, Says, Routes, Again, Owns, Transmits, Spelled, lines_of, puts, goes_out, packet_line, behind}
-use Rattle.dm_movelaws.proofs.Names.{spelled, Point, after_line, after, at_record, View, Told, About, NothingElse, Known, Here, Frozen, Incoming, Ended, view_after, handled, receiver_of, IsNetLine, IsNet, line_view, set_all, by_migrates}
-use Rattle.dm_onekernel.specs.Boot as boot
+use Rattle.dm_movelaws.proofs.Names.{◌≡◌, ℕ, ◌+◌, ◌==◌, Bool, true, false, not, filter, List, [], ◌∷◌, length, refl, ap, ◌∙◌, sym, subst, if◌then◌else◌, false≢true, Option, None, Some, Pid, MsgId, MessageKind, Load, plain_kind, Label}
+use Rattle.dm_movelaws.proofs.Names.{bind-is, Step, Line, Stage, Receiver, migrates, Part, Says, Routes, Again, Owns, Transmits, Spelled, lines_of, puts, goes_out, packet_line, spelled, Point, after_line, after, at_record, View, Told}
+use Rattle.dm_movelaws.proofs.Names.{About, NothingElse, Known, Here, Frozen, Incoming, Ended, view_after, handled, receiver_of, IsNetLine, IsNet, line_view, set_all, by_migrates, by_parts}
 use Rattle.dm_rule.specs.View as view
 use Rattle.dm_movelaws.proofs.At.RestBuried.{Knows}
 use Rattle.dm_movelaws.proofs.At.RestEnds.{is_ending, PartStays, AllStay}
@@ -143,13 +142,7 @@ part_only before pt next (Transmits a b l) ls stays is leads h =
     subst (Only before) (sym (one_view pt next (packet_line pt.view a b l) (ap (after pt) f ∙ leads))) (line_only before pt.view (packet_line pt.view a b l) refl h)
 
 pub parts_only : (before : Knows) (ps : List Part) (pt : Point) (w : Spelled) → AllStay ps → spelled pt ps ≡ Some w → Only before pt.view → Only before w.point.view
-parts_only before [] pt w stays is h = let f : record { lines = []; point = pt } ≡ w = cc in subst (λ (x : Spelled). Only before x.point.view) f h
-parts_only before (p ∷ ps) pt w stays is h =
-    let (ls, lines, rest) = bind-is (lines_of pt p) (λ (xs : List Line). bind (after pt xs) (λ (q : Point). bind (spelled q ps) (λ (z : Spelled). Some (behind xs z)))) w is in
-    let (next, leads, last) = bind-is (after pt ls) (λ (q : Point). bind (spelled q ps) (λ (z : Spelled). Some (behind ls z))) w rest in
-    let (z, more, end) = bind-is (spelled next ps) (λ (y : Spelled). Some (behind ls y)) w last in
-    let f : behind ls z ≡ w = cc in
-    subst (λ (x : Spelled). Only before x.point.view) f (parts_only before ps next z stays.1 more (part_only before pt next p ls stays.0 lines leads h))
+parts_only before qs q w stays is h = by_parts (λ ps pt v. AllStay ps → Only before pt.view → Only before v.point.view) (λ pt stays h. h) (λ p ps pt next ls z lines leads rest stays h. rest stays.1 (part_only before pt next p ls stays.0 lines leads h)) qs q w is stays h
 
 -- all directives but turns are so
 net_stays : (l : Line) → IsNetLine l → is_ending l ≡ false

@@ -1,9 +1,9 @@
 -- No message goes from a machine that there isn't.
 use Rattle.dm_movelaws.proofs.Names.{◌≡◌, ℕ, ◌+◌, ◌<◌, ◌≤◌, ◌==◌, ◌&&◌, Bool, true, false, not, filter, List, [], ◌∷◌, ◌++◌, length, refl, ap, ◌∙◌, sym, subst, arith, ⊤, if◌then◌else◌, slice_get, false≢true, nat_tests, Some, Pid, MsgId}
-use Rattle.dm_movelaws.proofs.Names.{MessageKind, plain_kind, Boot, IsValid, bind, bind-is, Step, Line, Load, Stage, Receiver, IsStep, Leads, migrates, Part, Says, Routes, Again, Owns, Transmits, Spelled, lines_of, puts, goes_out}
-use Rattle.dm_movelaws.proofs.Names.{packet_line, behind, spelled, Point, first_point, moved, after_line, after, group_of, at_pair, View, Pair, NothingElse, view_after, after_head, after_put, with_pair, handled, receiver_of, IsNetLine}
-use Rattle.dm_movelaws.proofs.Names.{IsNet, group_is, arrives_net, resends_net, acting_label, AllFit, touches, pair_same, taken_pair, line_view, migrates_fit, turns_fit, constant_group, acting_taken, proto_acting, queued_acting}
-use Rattle.dm_movelaws.proofs.Names.{held_acting, forwarded_acting}
+use Rattle.dm_movelaws.proofs.Names.{MessageKind, plain_kind, Boot, IsValid, bind-is, Step, Line, Load, Stage, Receiver, IsStep, Leads, migrates, Part, Says, Routes, Again, Owns, Transmits, Spelled, lines_of, puts, goes_out, packet_line}
+use Rattle.dm_movelaws.proofs.Names.{spelled, Point, first_point, moved, after_line, after, group_of, at_pair, View, Pair, NothingElse, view_after, after_head, after_put, with_pair, handled, receiver_of, IsNetLine, IsNet, group_is}
+use Rattle.dm_movelaws.proofs.Names.{arrives_net, resends_net, acting_label, AllFit, touches, pair_same, taken_pair, line_view, migrates_fit, turns_fit, constant_group, acting_taken, proto_acting, queued_acting, held_acting}
+use Rattle.dm_movelaws.proofs.Names.{forwarded_acting, by_parts}
 use Rattle.dm_rule.specs.Rule as rule
 use Rattle.dm_rule.specs.View as view
 
@@ -161,13 +161,7 @@ part_routed n pt next (Transmits a b l) ls calm is leads h =
     subst (Routed n) (sym (one_view pt next (packet_line pt.view a b l) (ap (after pt) f ∙ leads))) (packet_routed n pt.view a b (length (pt.view.pair a b).wire) l h)
 
 parts_routed : (n : ℕ) (ps : List Part) (pt : Point) (w : Spelled) → AllCalm ps → spelled pt ps ≡ Some w → Routed n pt.view → Routed n w.point.view
-parts_routed n [] pt w calm is h = let f : record { lines = []; point = pt } ≡ w = cc in subst (λ (x : Spelled). Routed n x.point.view) f h
-parts_routed n (p ∷ ps) pt w calm is h =
-    let (ls, lines, rest) = bind-is (lines_of pt p) (λ (xs : List Line). bind (after pt xs) (λ (q : Point). bind (spelled q ps) (λ (z : Spelled). Some (behind xs z)))) w is in
-    let (next, leads, last) = bind-is (after pt ls) (λ (q : Point). bind (spelled q ps) (λ (z : Spelled). Some (behind ls z))) w rest in
-    let (z, more, end) = bind-is (spelled next ps) (λ (y : Spelled). Some (behind ls y)) w last in
-    let f : behind ls z ≡ w = cc in
-    subst (λ (x : Spelled). Routed n x.point.view) f (parts_routed n ps next z calm.1 more (part_routed n pt next p ls calm.0 lines leads h))
+parts_routed n qs q w calm is h = by_parts (λ ps pt v. AllCalm ps → Routed n pt.view → Routed n v.point.view) (λ pt calm h. h) (λ p ps pt next ls z lines leads rest calm h. rest calm.1 (part_routed n pt next p ls calm.0 lines leads h)) qs q w is calm h
 
 -- a group
 head_routed : (n : ℕ) (v : View) (d : Step) → IsStep n d → Routed n v → Routed n (after_head v d)

@@ -1,14 +1,14 @@
 -- Where a process has ended no message is queued for it.
 use Rattle.dm_movelaws.proofs.Names.{◌≡◌, ◌⊎◌, ℕ, ◌≤◌, ◌==◌, ◌&&◌, Bool, true, false, List, [], ◌∷◌, refl, ap, ◌∙◌, sym, subst, inl, inr, arith, if◌then◌else◌, slice_get, cases_Bool, false≢true, nat_tests, Option, None, Some, Pid, pid_eq}
-use Rattle.dm_movelaws.proofs.Names.{MsgId, MessageKind, Boot, Label, id_eq-same, pid_eq-same, Step, Line, migrates, Part, Says, Routes, Again, Owns, Transmits, Spelled, spelled, Point, moved, group_of, at_record, without_front, times}
-use Rattle.dm_movelaws.proofs.Names.{View, Told, Ended, view_after, handled, receiver_of, PlainMessage, IsValid, Leads, first_point, Spot, Queue, Inbox, standing, StandsNowhere, StandsOutside, StandsRight, is_kernels, group_is, arrives_net}
-use Rattle.dm_movelaws.proofs.Names.{resends_net, stands_right, kernels_fresh, not_true, is_kill, says_next, DropsAlways, killed_or, stands_first, Both, both_start, both_group, Run, run_start, run_group, times_self, told_of, more_front}
+use Rattle.dm_movelaws.proofs.Names.{MsgId, MessageKind, Boot, Label, id_eq-same, pid_eq-same, Step, Line, migrates, Part, Says, Spelled, spelled, Point, moved, group_of, at_record, without_front, times, View, Told, Ended, view_after}
+use Rattle.dm_movelaws.proofs.Names.{handled, receiver_of, PlainMessage, IsValid, Leads, first_point, Spot, Queue, Inbox, standing, StandsNowhere, StandsOutside, StandsRight, is_kernels, group_is, arrives_net, resends_net, stands_right}
+use Rattle.dm_movelaws.proofs.Names.{kernels_fresh, not_true, is_kill, says_next, DropsAlways, killed_or, stands_first, Both, both_start, both_group, Run, run_start, run_group, times_self, told_of, more_front}
 use Rattle.dm_laws.proofs.Equal as equal
 use Rattle.dm_rule.specs.Rule as rule
 use Rattle.dm_rule.specs.View as view
 use Rattle.dm_rule.proofs.Lines as lines
 use Rattle.dm_movelaws.proofs.At.RestBuried.{Knows, buried_group}
-use Rattle.dm_movelaws.proofs.At.RestEnds.{AllStay, LineEnds, LastEnds, Ends, Once, Runs, EndsOf, turns_ends}
+use Rattle.dm_movelaws.proofs.At.RestEnds.{AllStay, LineEnds, LastEnds, Ends, Once, Runs, turns_ends}
 use Rattle.dm_movelaws.proofs.At.RestOnly.{Only, only_as, parts_only, nets_stay, migrates_stay}
 
 -- what is left of the queue of a process that has ended
@@ -169,7 +169,7 @@ receivers b pt a p i h least =
 group_cleared : (b : Boot) (pt : Point) (d : Step) (w : Spelled) → group_of b pt d ≡ Some w → Run b pt → Cleared pt.view.known w.point.view
 group_cleared b pt (Step.Turn m) w is h =
     let g = group_is b pt (Step.Turn m) w is in
-    let ends : Ends pt m g.parts = subst (EndsOf pt m) g.is (turns_ends b pt m (pt.view.inbox m) h.based.phased.sane (λ i js box. told_of (pt.view.told i) (h.found.told i (Inbox m) (stands_first pt.view m i js box)))) in
+    let ends : Ends pt m g.parts = turns_ends b pt m (pt.view.inbox m) g.parts h.based.phased.sane (λ i js box. told_of (pt.view.told i) (h.found.told i (Inbox m) (stands_first pt.view m i js box))) g.is in
     let start : Starts pt m (moved pt (Line.Head (Step.Turn m)) pt.kernel).view = record { acting = refl; known = refl; queue = refl; told = refl; receivers = λ p i least. receivers b pt m p i h least } in
     subst (λ (q : Point). Cleared pt.view.known q.view) g.point (ends_cleared pt m g.parts (moved pt (Line.Head (Step.Turn m)) pt.kernel) g.rest start ends g.said)
 group_cleared b pt (Step.Tick m) w is h =

@@ -1,56 +1,31 @@
 -- What each group does with requests to move a process: directives and ends are counted against those that are under way.
-use Rattle.dm_movelaws.proofs.Names.{◌≡◌, ℕ, ◌+◌, Bool, true, false, List, [], ◌∷◌, length, refl, ap, ◌∙◌, sym, subst, inl, inr, arith, if◌then◌else◌, slice_get, Option, None, Some, cases_Bool, Pid, pid_eq, MsgId, MessageKind, PlainMessage}
-use Rattle.dm_movelaws.proofs.Names.{Boot, switchboard, manager, bind, Step, bind-is, Line, Addresses, Child, child_number, migrates, migrates_child, View, Told, after_head, after_put, view_after, own_id, Point, moved, after_line, after}
-use Rattle.dm_movelaws.proofs.Names.{Part, Says, Owns, Spelled, lines_of, behind, spelled, group_of, IsNet, arrives_net, resends_net, front_way, Phased, told_some, put_spots, put_at, head_calm, put_there, put_spot, InPhases, calm_phases}
-use Rattle.dm_movelaws.proofs.Names.{PairsFit, PacketsKeep, put_told_off, said, Sane, KnownStands, Begins, begins, WalksOf, loose_walks, begun, begun_sane, turned, resting, round_walks, handles_walks, asks, ends, count, first_none}
-use Rattle.dm_movelaws.proofs.Names.{by_migrates}
+use Rattle.dm_movelaws.proofs.Names.{◌≡◌, ℕ, ◌+◌, Bool, true, List, [], ◌∷◌, length, refl, ap, ◌∙◌, sym, subst, inl, inr, arith, if◌then◌else◌, Option, Some, cases_Bool, Pid, pid_eq, MsgId, MessageKind, Boot, bind, Step, bind-is, Line}
+use Rattle.dm_movelaws.proofs.Names.{Child, migrates, View, Told, after_head, after_put, view_after, own_id, Point, moved, after, Part, Says, Owns, Spelled, lines_of, behind, spelled, group_of, IsNet, front_way, Phased, told_some}
+use Rattle.dm_movelaws.proofs.Names.{put_spots, put_at, head_calm, put_there, put_spot, InPhases, calm_phases, PairsFit, PacketsKeep, put_told_off, said, Sane, KnownStands, Begins, begins, WalksOf, loose_walks, begun, begun_sane, turned}
+use Rattle.dm_movelaws.proofs.Names.{resting, round_walks, handles_walks, asks, ends, count, first_none, by_migrates, by_outcome, group_is}
 use Rattle.dm_rule.specs.Rule as rule
 use Rattle.dm_movelaws.proofs.Ends.Smooth.{is_migrate, Extends, Smooth, Still, plain_in_bag, own_untold, smooth_same}
 use Rattle.dm_movelaws.proofs.Ends.Lines.{Tame}
 use Rattle.dm_movelaws.proofs.Ends.Still.{still_same}
 use Rattle.dm_movelaws.proofs.Ends.Net.{head_smooth, net_level, net_asks, net_ends}
 use Rattle.dm_movelaws.proofs.Ends.Parts.{packet_smooth, one_if, zero_if, parts_count, asks_silent, ends_silent}
-use Rattle.dm_movelaws.proofs.Ends.Turns.{QuietOf, round_quiet, handles_quiet}
 use Rattle.dm_movelaws.proofs.Ends.Moving.{moving_in, still_moves}
 use Rattle.dm_movelaws.proofs.Ends.Open.{Opens, Adds, Balance, level_balance, smooth_opens, add_opens}
 use Rattle.dm_movelaws.proofs.Ends.Rows.{Turn, Comes, line_alone, quiet_row, and_off}
 use Rattle.dm_movelaws.proofs.Ends.Sends.{puts_lead}
 use Rattle.dm_movelaws.proofs.Ends.Steps.{ComesOf}
 use Rattle.dm_movelaws.proofs.Ends.Hears.{hears_comes}
-
--- a turn
-quiet_comes : (p : Pid) (pt : Point) (h : InPhases pt.view) (o : Option (List Part)) → Sane pt → PairsFit pt.view → QuietOf p pt.view o → WalksOf pt o → ComesOf p pt h o
-quiet_comes p pt h None sane fits quiet walks = tt
-quiet_comes p pt h (Some ps) sane fits quiet walks = λ w e. quiet_row p pt h ps w sane fits quiet walks e
+use Rattle.dm_movelaws.proofs.Ends.Turns.{round_quiet, handles_quiet}
 
 abbrev begun_phases : (pt : Point) (d : Step) → InPhases pt.view → InPhases (begun pt d).view
 begun_phases pt d h = calm_phases pt.view (after_head pt.view d) (head_calm pt.view d) h
 
-begun_fits : (pt : Point) (m : ℕ) → PairsFit pt.view → PairsFit (turned pt m).view
-begun_fits pt m h = record { within = h.within; home = h.home }
-
-front_comes : (p : Pid) (b : Boot) (o : Point) (m : ℕ) (i : MsgId) (is : List MsgId) (x : Option PlainMessage) (h : InPhases o.view) → Begins o m → PairsFit o.view → o.view.inbox m ≡ i ∷ is → o.kernel.bag i ≡ x → ComesOf p (turned o m) (begun_phases o (Step.Turn m) h) (rule.comes_to b o m i x)
-front_comes p b o m i is None h s fits front there =
-    let pt = turned o m in
-    let phases = begun_phases o (Step.Turn m) h in
-    let (q, way) = front_way pt i is s.state front in
+-- what a turn begins with, at the message at the front of the inbox
+abbrev front_turn : (o : Point) (m : ℕ) (i : MsgId) (is : List MsgId) → InPhases o.view → Begins o m → PairsFit o.view → o.view.inbox m ≡ i ∷ is → (t : Told) × Turn (turned o m) i is t
+front_turn o m i is h s fits front =
+    let (q, way) = front_way (turned o m) i is s.state front in
     let (t, told) = told_some (o.view.told i) q (s.state.stands.told i q way) in
-    let turn : Turn pt i is t = record { front = front; told = told; state = s.state; sane = s.sane; fits = begun_fits o m fits; phases = phases } in
-    subst (λ (u : Option Told). ComesOf p pt phases (rule.hears b o m i u)) (sym told) (hears_comes p b o m i is t turn)
-front_comes p b o m i is (Some msg) h s fits front there =
-    let pt = turned o m in
-    let phases = begun_phases o (Step.Turn m) h in
-    let (q, way) = front_way pt i is s.state front in
-    let (t, told) = told_some (o.view.told i) q (s.state.stands.told i q way) in
-    let tame : Tame p pt.view i = record { what = t; told = told; plain = plain_in_bag p pt i msg s.sane there t told } in
-    quiet_comes p pt phases (rule.handles b o m i msg) s.sane (begun_fits o m fits) (handles_quiet p pt.view b o m i msg tame) (handles_walks b o m i msg s.sane s.phases s.rooted (record { there = there; told = t; is = told }))
-
-turn_comes : (p : Pid) (b : Boot) (o : Point) (m : ℕ) (inbox : List MsgId) (h : InPhases o.view) → Begins o m → PairsFit o.view → o.view.inbox m ≡ inbox → ComesOf p (turned o m) (begun_phases o (Step.Turn m) h) (rule.turns b o m inbox)
-turn_comes p b o m [] h s fits front =
-    let pt = turned o m in
-    let q = rule.first_runnable o.kernel (o.view.queue m) (o.view.ring m) in
-    quiet_comes p pt (begun_phases o (Step.Turn m) h) (rule.goes_round b o m q) s.sane (begun_fits o m fits) (round_quiet p pt.view b o m q) (round_walks pt b o m q (λ r is. resting pt.view r s.phases (s.rooted.served m r is)))
-turn_comes p b o m (i ∷ is) h s fits front = front_comes p b o m i is (o.kernel.bag i) h s fits front refl
+    (t, record { front = front; told = told; state = s.state; sane = s.sane; fits = record { within = fits.within; home = fits.home }; phases = begun_phases o (Step.Turn m) h })
 
 -- a delivery or a tick
 net_comes : (p : Pid) (pt : Point) (h : InPhases pt.view) (ps : List Part) (w : Spelled) → IsNet ps → spelled pt ps ≡ Some w → Comes p pt h ps w
@@ -135,44 +110,28 @@ migrates_comes p q m o pt h w sane fits =
     by_migrates (λ (ps : List Part). spelled pt ps ≡ Some w → Directed p (Step.Migrate q m) pt h ps w) o q (pinned_comes p q m pt h w) (no_child_comes p q m pt h w)
     (λ n off is. owns_comes p q m (o.addresses (Child n)).at pt h w sane fits)
 
--- a group, its lines included
-record GroupIs (b : Boot) (pt : Point) (d : Step) (w : Spelled) : Type 0 where
-  parts : List Part
-  is : rule.outcome b pt d ≡ Some parts
-  rest : Spelled
-  said : spelled (begun pt d) parts ≡ Some rest
-  whole : rule.headed (Line.Head d) rest ≡ w
-
-group_is : (b : Boot) (pt : Point) (d : Step) (w : Spelled) → group_of b pt d ≡ Some w → GroupIs b pt d w
-group_is b pt d w e =
-    let (parts, is, more) = bind-is (rule.outcome b pt d) (λ parts. bind (after_line pt (Line.Head d)) (λ begun. bind (spelled begun parts) (λ w. Some (rule.headed (Line.Head d) w)))) w e in
-    let (start, head, last) = bind-is (after_line pt (Line.Head d)) (λ begun. bind (spelled begun parts) (λ w. Some (rule.headed (Line.Head d) w))) w more in
-    let (rest, told, end) = bind-is (spelled start parts) (λ w. Some (rule.headed (Line.Head d) w)) w last in
-    let f : moved pt (Line.Head d) pt.kernel ≡ start = cc in
-    let g : rule.headed (Line.Head d) rest ≡ w = cc in
-    record { parts = parts; is = is; rest = rest; said = ap (λ p. spelled p parts) f ∙ told; whole = g }
-
 -- what comes of a directive
 directed : (p : Pid) (b : Boot) (pt : Point) (d : Step) (parts : List Part) (w : Spelled) (h : InPhases pt.view) → Phased pt → KnownStands pt.kernel pt.view → PairsFit pt.view → rule.outcome b pt d ≡ Some parts → spelled (begun pt d) parts ≡ Some w → Directed p d (begun pt d) (begun_phases pt d h) parts w
-directed p b pt (Step.Turn m) parts w h phased known fits is e =
-    let start = begun pt (Step.Turn m) in
-    let phases = begun_phases pt (Step.Turn m) h in
-    let all : ComesOf p start phases (Some parts) = subst (ComesOf p start phases) is (turn_comes p b pt m (pt.view.inbox m) h (begins pt m phased known) fits refl) in
-    all w e
-directed p b pt (Step.Tick m) parts w h phased known fits is e =
-    let qs = Says (Line.Resent m (rule.outstanding pt.view m pt.kernel.machines)) ∷ rule.resends pt.view m pt.kernel.machines in
-    let f : qs ≡ parts = cc in
-    net_comes p (begun pt (Step.Tick m)) (begun_phases pt (Step.Tick m) h) parts w (subst IsNet f (tt, resends_net pt.view m pt.kernel.machines)) e
-directed p b pt (Step.Deliver a c k) parts w h phased known fits is e =
-    let qs = rule.arrives a c (pt.view.pair a c) (pt.view.pair c a) (slice_get (pt.view.pair a c).wire k) in
-    let f : qs ≡ parts = cc in
-    net_comes p (begun pt (Step.Deliver a c k)) (begun_phases pt (Step.Deliver a c k) h) parts w (subst IsNet f (arrives_net a c (pt.view.pair a c) (pt.view.pair c a) (slice_get (pt.view.pair a c).wire k))) e
-directed p b pt (Step.Migrate q m) parts w h phased known fits is e =
-    let start = begun pt (Step.Migrate q m) in
-    let phases = begun_phases pt (Step.Migrate q m) h in
-    let f : migrates pt q ≡ parts = cc in
-    subst (λ (ps : List Part). Directed p (Step.Migrate q m) start phases ps w) f
-    (migrates_comes p q m pt start phases w (begun_sane pt (Step.Migrate q m) phased.sane) (record { within = fits.within; home = fits.home }) (ap (spelled start) f ∙ e))
+directed p b pt d parts w h phased known fits is =
+    by_outcome (λ x ps. (u : Spelled) → spelled (begun pt x) ps ≡ Some u → Directed p x (begun pt x) (begun_phases pt x h) ps u) b pt d parts (record {
+      round = λ m ps box e u.
+          (let s = begins pt m phased known in
+          let q = rule.first_runnable pt.kernel (pt.view.queue m) (pt.view.ring m) in
+          quiet_row p (turned pt m) (begun_phases pt (Step.Turn m) h) ps u s.sane (record { within = fits.within; home = fits.home }) (round_quiet p (turned pt m).view b pt m q ps e)
+          (subst (WalksOf (turned pt m)) e (round_walks (turned pt m) b pt m q (λ r is. resting (turned pt m).view r s.phases (s.rooted.served m r is)))));
+      handles = λ m i is msg ps box there e u.
+          (let s = begins pt m phased known in
+          let (t, turn) = front_turn pt m i is h s fits box in
+          let tame : Tame p (turned pt m).view i = record { what = t; told = turn.told; plain = plain_in_bag p (turned pt m) i msg s.sane there t turn.told } in
+          quiet_row p (turned pt m) (begun_phases pt (Step.Turn m) h) ps u s.sane turn.fits (handles_quiet p (turned pt m).view b pt m i msg ps tame e)
+          (subst (WalksOf (turned pt m)) e (handles_walks b pt m i msg s.sane s.phases s.rooted (record { there = there; told = t; is = turn.told }))));
+      hears = λ m i is ps box none e.
+          (let (t, turn) = front_turn pt m i is h (begins pt m phased known) fits box in
+          subst (ComesOf p (turned pt m) turn.phases) (ap (rule.hears b pt m i) (sym turn.told) ∙ e) (hears_comes p b pt m i is t turn));
+      ticks = λ m ps net u. net_comes p (begun pt (Step.Tick m)) (begun_phases pt (Step.Tick m) h) ps u net;
+      delivers = λ a c k ps net u. net_comes p (begun pt (Step.Deliver a c k)) (begun_phases pt (Step.Deliver a c k) h) ps u net;
+      asks = λ q m u. migrates_comes p q m pt (begun pt (Step.Migrate q m)) (begun_phases pt (Step.Migrate q m) h) u (begun_sane pt (Step.Migrate q m) phased.sane) (record { within = fits.within; home = fits.home });
+    }) is w
 
 -- what comes of a group
 pub record GroupBalance (p : Pid) (w : Spelled) (ids : List MsgId) (before behind : ℕ) : Type 0 where

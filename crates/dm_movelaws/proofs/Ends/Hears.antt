@@ -2,8 +2,8 @@
 use Rattle.dm_movelaws.proofs.Names.{◌≡◌, ℕ, ◌==◌, ◌&&◌, Bool, true, false, List, [], ◌∷◌, length, refl, ap, ◌∙◌, sym, subst, inl, inr, arith, ◌/◌, if◌then◌else◌, Option, None, Some, cases_Bool, Pid, pid_eq, MsgId, MessageKind, Stage, Boot}
 use Rattle.dm_movelaws.proofs.Names.{switchboard, manager, bind, pid_eq-is, bind-is, Line, Addresses, Sender, is_told_back, to_kernel, forwards_on, kernel_told, here_told, ended_told, process_told, server_told, View, Told, About, Of, Known}
 use Rattle.dm_movelaws.proofs.Names.{Unknown, Here, Frozen, Forward, Ended, view_after, handled, handled_first, receiver_of, target_of, front_told, Point, moved, after, Part, Says, Again, Owns, Spelled, lines_of, puts, behind, spelled}
-use Rattle.dm_movelaws.proofs.Names.{free_room, kernel_hears, hears, Spot, Held, Inbox, ids_at, first_off, line_next, fits_put, fits_packet, pair_same, handled_spots, held_known, forwarded_spots, forwarded_known, put_spots, put_there}
-use Rattle.dm_movelaws.proofs.Names.{put_spot, InPhases, fits_as, PairsFit, PacketsKeep, sane_line, part_sane, AllLoose, loose_walks, turned, is_moving, is_for, frozen_off}
+use Rattle.dm_movelaws.proofs.Names.{free_room, kernel_hears, hears, Spot, Inbox, ids_at, first_off, line_next, fits_put, fits_packet, pair_same, handled_spots, held_known, forwarded_spots, forwarded_known, put_spots, put_there, put_spot}
+use Rattle.dm_movelaws.proofs.Names.{InPhases, fits_as, PairsFit, PacketsKeep, sane_line, part_sane, AllLoose, loose_walks, turned, is_moving, is_for, frozen_off}
 use Rattle.dm_onekernel.specs.Step as kernel
 use Rattle.dm_rule.specs.View as view
 use Rattle.dm_rule.specs.Rule.{fits}

@@ -1,7 +1,6 @@
 -- A process moves where some machine waits for it to leave or to come.
 use Rattle.dm_movelaws.proofs.Names.{◌≡◌, ◌⊎◌, ℕ, ◌==◌, ◌&&◌, Bool, true, false, not, refl, ap, ◌∙◌, sym, inl, inr, if◌then◌else◌, Option, false≢true, Pid, MsgId, MessageKind, View, Known, Here, Frozen, Incoming, Forward, Ended, Phase}
-use Rattle.dm_movelaws.proofs.Names.{Nowhere, Rests, Over, Moves, knows, comes, is_away, is_unknown, is_here, is_over, is_restart, is_early, is_between, IsIn, parts, InPhases, rests_here, is_moving, source_knows}
-use Rattle.dm_rule.specs.Phases.{leaves}
+use Rattle.dm_movelaws.proofs.Names.{Nowhere, Rests, Over, Moves, knows, comes, is_away, is_unknown, is_here, is_over, is_restart, is_early, is_between, IsIn, parts, InPhases, rests_here, is_moving, source_knows, leaves}
 use Rattle.dm_movelaws.proofs.Ends.Smooth.{Still}
 pub use Rattle.dm_rulelaws.proofs.Goes.Own.{destination_knows as knows_target}
 pub use Rattle.dm_rule.proofs.Phases.Pieces.{not_false}

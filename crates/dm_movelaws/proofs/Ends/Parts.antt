@@ -1,8 +1,8 @@
 -- Parts that leave all requests to move a process where they stand, and end none; and the lines of parts, counted.
 use Rattle.dm_movelaws.proofs.Names.{◌≡◌, ℕ, ◌+◌, ◌==◌, ◌&&◌, Bool, true, false, List, [], ◌∷◌, ◌++◌, length, refl, ap, ◌∙◌, sym, subst, arith, ⊤, if◌then◌else◌, Option, None, Some, Pid, pid_eq, MsgId, MessageKind, plain_kind, bind}
 use Rattle.dm_movelaws.proofs.Names.{bind-is, Line, Stage, Load, View, Told, view_after, own_id, after_put, Receiver, Point, moved, after, Part, Says, Routes, Again, Owns, Transmits, Spelled, lines_of, puts, goes_out, packet_line, behind}
-use Rattle.dm_movelaws.proofs.Names.{spelled, Held, is_put, touches, pair_same, PairsFit, put_told_off, fits_as, fits_put, fits_packet, Sane, Sayable, part_sane, put_spots, put_at, Needs, NeedsPart, Walks, Steps, Said, said_by, asks, ends}
-use Rattle.dm_movelaws.proofs.Names.{count, packet_off}
+use Rattle.dm_movelaws.proofs.Names.{spelled, is_put, touches, pair_same, PairsFit, put_told_off, fits_as, fits_put, fits_packet, Sane, Sayable, part_sane, put_spots, put_at, Needs, NeedsPart, Walks, Steps, Said, said_by, asks, ends, count}
+use Rattle.dm_movelaws.proofs.Names.{packet_off, by_parts}
 use Rattle.dm_rule.specs.View as view
 use Rattle.dm_movelaws.proofs.Ends.Smooth.{asks_for, is_migrate, plain_not, Extends, Smooth, Still, Plain, smooth_same, smooth_trans, smooth_others, moves_none, plain_in_bag, own_untold}
 use Rattle.dm_movelaws.proofs.Ends.Lines.{Tame, QuietLine, Foreign, tame_plain, line_smooth}
@@ -224,13 +224,7 @@ lines_count f pt (Transmits a b l) ps ls h is =
     omega (arith, e, z)
 
 pub parts_count : (f : Line → Bool) → Silent f → (ps : List Part) (pt : Point) (w : Spelled) → spelled pt ps ≡ Some w → count f w.lines ≡ part_count f ps
-parts_count f h [] pt w is = let g : record { lines = []; point = pt } ≡ w = cc in sym (ap (λ (x : Spelled). count f x.lines) g)
-parts_count f h (x ∷ ps) pt w is =
-    let (ls, lines, rest) = bind-is (lines_of pt x) (λ (xs : List Line). bind (after pt xs) (λ (q : Point). bind (spelled q ps) (λ (z : Spelled). Some (behind xs z)))) w is in
-    let (next, leads, last) = bind-is (after pt ls) (λ (q : Point). bind (spelled q ps) (λ (z : Spelled). Some (behind ls z))) w rest in
-    let (z, more, end) = bind-is (spelled next ps) (λ (y : Spelled). Some (behind ls y)) w last in
-    let g : behind ls z ≡ w = cc in
-    sym (ap (λ (y : Spelled). count f y.lines) g) ∙ count-append f ls z.lines ∙ ap (λ n. count f ls + n) (parts_count f h ps next z more) ∙ lines_count f pt x ps ls h lines
+parts_count f h = by_parts (λ ps pt w. count f w.lines ≡ part_count f ps) (λ pt. refl) (λ x ps pt next ls z lines leads rest. count-append f ls z.lines ∙ ap (λ n. count f ls + n) rest ∙ lines_count f pt x ps ls h lines)
 
 -- quiet parts end none, and are no directive
 pub quiet_count : (p : Pid) (v : View) (ps : List Part) (f : MsgId → Option Told) → AllQuiet p v ps → Extends v.told f → part_count (ends f p) ps ≡ 0

@@ -1,12 +1,11 @@
 -- Where a group that sends a message on leads: the update for its sender is under way.
 use Rattle.dm_movelaws.proofs.Names.{◌≡◌, ℕ, ◌==◌, Bool, true, false, List, [], ◌∷◌, ◌++◌, length, refl, ap, ◌∙◌, sym, subst, if◌then◌else◌, Option, None, Some, Pid, Place, MsgId, MessageKind, Load, plain_kind, PlainMessage, PlainWhat}
-use Rattle.dm_movelaws.proofs.Names.{Boot, manager, bind, bind-is, Step, Line, Receiver, Sender, is_told_back, Part, Says, Routes, Again, Owns, Transmits, Spelled, lines_of, puts, goes_out, packet_line, behind, spelled, Point, after_line}
-use Rattle.dm_movelaws.proofs.Names.{after, group_of, View, Told, About, Known, Forward, own_id, handled, receiver_of, actor, view_after, fits, fits_put, fits_packet, pair_same, put_at, fits_as, PairsFit, Sane, part_sane, Steps, begun}
-use Rattle.dm_movelaws.proofs.Names.{begun_sane, said_by, again_rides, again_same, own_fresh, front, Run, Tells, ForwardsTell, RequestsTell, update_of, IsUnderWay, run_always, last_point, first_none, forwarded_own}
-use Rattle.dm_rule.specs.Rule as rule
+use Rattle.dm_movelaws.proofs.Names.{Boot, manager, bind-is, Step, Line, Receiver, Sender, is_told_back, Part, Says, Routes, Again, Owns, Transmits, Spelled, lines_of, puts, goes_out, packet_line, spelled, Point, View, Told, About, Known}
+use Rattle.dm_movelaws.proofs.Names.{Forward, own_id, handled, receiver_of, actor, view_after, fits, fits_put, fits_packet, pair_same, put_at, fits_as, PairsFit, Sane, part_sane, Steps, begun, begun_sane, said_by, again_rides, again_same}
+use Rattle.dm_movelaws.proofs.Names.{own_fresh, front, Run, Tells, ForwardsTell, RequestsTell, update_of, IsUnderWay, run_always, last_point, first_none, forwarded_own, GroupIs, group_is, by_parts}
 use Rattle.dm_rule.specs.View as view
 use Rattle.dm_movelaws.proofs.Ends.Sends.{puts_lead}
-use Rattle.dm_movelaws.proofs.Forwards.Rows.{Onward, with_forward, part_forwards, forwards_of, goes_on, GoesOn, GoesOnOwn, Form, Nothing, Plain, Own, FormOf, outcome_form}
+use Rattle.dm_movelaws.proofs.Forwards.Rows.{Onward, with_forward, part_forwards, forwards_of, goes_on, GoesOn, GoesOnOwn, Form, Nothing, Plain, Own, outcome_form}
 use Rattle.dm_movelaws.proofs.Promise.Parts.{next_of}
 use Rattle.dm_movelaws.proofs.Promise.Spots.{Stands}
 use Rattle.dm_movelaws.proofs.Promise.Stands.{put_this, packet_stands}
@@ -51,30 +50,7 @@ part_sends pt (Owns k q b) ls fs is = then_none ls fs (puts_none pt.view b (own_
 part_sends pt (Transmits a b l) ls fs is = let f : packet_line pt.view a b l ∷ [] ≡ ls = cc in then_none ls fs (sym (ap sent_on f))
 
 parts_send : (ps : List Part) (pt : Point) (w : Spelled) → spelled pt ps ≡ Some w → sent_on w.lines ≡ forwards_of ps
-parts_send [] pt w is = let f : record { lines = []; point = pt } ≡ w = cc in sym (ap (λ (x : Spelled). sent_on x.lines) f)
-parts_send (p ∷ ps) pt w is =
-    let (ls, lines, rest) = bind-is (lines_of pt p) (λ (xs : List Line). bind (after pt xs) (λ (q : Point). bind (spelled q ps) (λ (z : Spelled). Some (behind xs z)))) w is in
-    let (next, leads, last) = bind-is (after pt ls) (λ (q : Point). bind (spelled q ps) (λ (z : Spelled). Some (behind ls z))) w rest in
-    let (z, more, end) = bind-is (spelled next ps) (λ (y : Spelled). Some (behind ls y)) w last in
-    let f : behind ls z ≡ w = cc in
-    sym (ap (λ (x : Spelled). sent_on x.lines) f) ∙ sent_append ls z.lines ∙ ap (λ (fs : List Onward). sent_on ls ++ fs) (parts_send ps next z more) ∙ part_sends pt p ls (forwards_of ps) lines
-
--- a group by its parts
-record Grouped (b : Boot) (o : Point) (d : Step) (w : Spelled) : Type 0 where
-  parts : List Part
-  is : rule.outcome b o d ≡ Some parts
-  rest : Spelled
-  said : spelled (begun o d) parts ≡ Some rest
-  whole : rule.headed (Line.Head d) rest ≡ w
-
-grouped : (b : Boot) (o : Point) (d : Step) (w : Spelled) → group_of b o d ≡ Some w → Grouped b o d w
-grouped b o d w e =
-    let (parts, is, more) = bind-is (rule.outcome b o d) (λ parts. bind (after_line o (Line.Head d)) (λ begun. bind (spelled begun parts) (λ w. Some (rule.headed (Line.Head d) w)))) w e in
-    let (start, head, last) = bind-is (after_line o (Line.Head d)) (λ begun. bind (spelled begun parts) (λ w. Some (rule.headed (Line.Head d) w))) w more in
-    let (rest, told, end) = bind-is (spelled start parts) (λ w. Some (rule.headed (Line.Head d) w)) w last in
-    let f : begun o d ≡ start = cc in
-    let g : rule.headed (Line.Head d) rest ≡ w = cc in
-    record { parts = parts; is = is; rest = rest; said = ap (λ (x : Point). spelled x parts) f ∙ told; whole = g }
+parts_send = by_parts (λ ps pt w. sent_on w.lines ≡ forwards_of ps) (λ pt. refl) (λ p ps pt next ls z lines leads rest. sent_append ls z.lines ∙ ap (λ (fs : List Onward). sent_on ls ++ fs) rest ∙ part_sends pt p ls (forwards_of ps) lines)
 
 -- the only one of a list
 none_there : (xs ys : List Onward) (f : Onward) → xs ++ f ∷ ys ≡ [] → ⊥
@@ -85,13 +61,13 @@ one_there : (xs ys : List Onward) (f g : Onward) → xs ++ f ∷ ys ≡ g ∷ []
 one_there [] ys f g e = cc
 one_there (x ∷ xs) ys f g e = let h : xs ++ f ∷ ys ≡ [] = cc in absurd (none_there xs ys f h)
 
-there_in : (b : Boot) (o : Point) (d : Step) (w : Spelled) (g : Grouped b o d w) (id : MsgId) (to : ℕ) (xs ys : List Line) → w.lines ≡ xs ++ Line.Forwarded id to ∷ ys → sent_on xs ++ (id, to) ∷ sent_on ys ≡ forwards_of g.parts
+there_in : (b : Boot) (o : Point) (d : Step) (w : Spelled) (g : GroupIs b o d w) (id : MsgId) (to : ℕ) (xs ys : List Line) → w.lines ≡ xs ++ Line.Forwarded id to ∷ ys → sent_on xs ++ (id, to) ∷ sent_on ys ≡ forwards_of g.parts
 there_in b o d w g id to xs ys e =
     sym (sent_append xs (Line.Forwarded id to ∷ ys)) ∙ sym (ap sent_on e) ∙ sym (ap (λ (x : Spelled). sent_on x.lines) g.whole) ∙ parts_send g.parts (begun o d) g.rest g.said
 
 -- a group that says that a message of the bag is sent on
 record Sent (b : Boot) (o : Point) (d : Step) (w : Spelled) (id : MsgId) (to : ℕ) : Type 0 where
-  group : Grouped b o d w
+  group : GroupIs b o d w
   goes : GoesOn o d group.parts
   id_is : goes.id ≡ id
   to_is : goes.to ≡ to
@@ -102,7 +78,7 @@ same_id f g e = ap (λ (h : Onward). h.0) e
 same_to : (f g : Onward) → f ≡ g → f.1 ≡ g.1
 same_to f g e = ap (λ (h : Onward). h.1) e
 
-sent_by : (b : Boot) (o : Point) (d : Step) (w : Spelled) (g : Grouped b o d w) (id : MsgId) (message : PlainMessage) (to : ℕ) (xs ys : List Line) → o.kernel.bag id ≡ Some message → w.lines ≡ xs ++ Line.Forwarded id to ∷ ys → Form o d g.parts → Sent b o d w id to
+sent_by : (b : Boot) (o : Point) (d : Step) (w : Spelled) (g : GroupIs b o d w) (id : MsgId) (message : PlainMessage) (to : ℕ) (xs ys : List Line) → o.kernel.bag id ≡ Some message → w.lines ≡ xs ++ Line.Forwarded id to ∷ ys → Form o d g.parts → Sent b o d w id to
 sent_by b o d w g id message to xs ys there says (Nothing none) = absurd (none_there (sent_on xs) (sent_on ys) (id, to) (there_in b o d w g id to xs ys says ∙ none))
 sent_by b o d w g id message to xs ys there says (Own h) =
     let same = one_there (sent_on xs) (sent_on ys) (id, to) (h.id, h.to) (there_in b o d w g id to xs ys says ∙ ap forwards_of h.are ∙ goes_on o.addresses h.id h.told.kind manager h.to) in
@@ -114,7 +90,7 @@ sent_by b o d w g id message to xs ys there says (Plain h) =
 
 -- a group that says that a request to move a process is sent on
 record SentOwn (b : Boot) (o : Point) (d : Step) (w : Spelled) (id : MsgId) (to : ℕ) : Type 0 where
-  group : Grouped b o d w
+  group : GroupIs b o d w
   goes : GoesOnOwn o d group.parts
   id_is : goes.id ≡ id
   to_is : goes.to ≡ to
@@ -123,7 +99,7 @@ no_request : (w : PlainWhat) → plain_kind w ≡ MessageKind.Migrate → ⊥
 no_request (PlainWhat.User code channel body links) e = cc
 no_request w e = cc
 
-own_by : (b : Boot) (o : Point) (d : Step) (w : Spelled) (g : Grouped b o d w) (id : MsgId) (t : Told) (to : ℕ) (xs ys : List Line) → Sane o → o.view.told id ≡ Some t → t.kind ≡ MessageKind.Migrate → w.lines ≡ xs ++ Line.Forwarded id to ∷ ys → Form o d g.parts → SentOwn b o d w id to
+own_by : (b : Boot) (o : Point) (d : Step) (w : Spelled) (g : GroupIs b o d w) (id : MsgId) (t : Told) (to : ℕ) (xs ys : List Line) → Sane o → o.view.told id ≡ Some t → t.kind ≡ MessageKind.Migrate → w.lines ≡ xs ++ Line.Forwarded id to ∷ ys → Form o d g.parts → SentOwn b o d w id to
 own_by b o d w g id t to xs ys sane told request says (Nothing none) = absurd (none_there (sent_on xs) (sent_on ys) (id, to) (there_in b o d w g id to xs ys says ∙ none))
 own_by b o d w g id t to xs ys sane told request says (Plain h) =
     let same = one_there (sent_on xs) (sent_on ys) (id, to) (h.id, h.to) (there_in b o d w g id to xs ys says ∙ ap forwards_of h.are ∙ goes_on o.addresses h.id (plain_kind h.message.what) h.message.sender h.to) in
@@ -213,7 +189,7 @@ told_parts o d ps h back =
 turn_fits : (v : View) (m : ℕ) → PairsFit v → PairsFit (view.after_head v (Step.Turn m))
 turn_fits v m h = record { within = h.within; home = h.home }
 
-sent_tells : (b : Boot) (o : Point) (d : Step) (w : Spelled) (g : Grouped b o d w) (h : GoesOn o d g.parts) → Run b o → is_told_back (plain_kind h.message.what) ≡ true → Tells d o w.point h.message.sender h.message.to h.to
+sent_tells : (b : Boot) (o : Point) (d : Step) (w : Spelled) (g : GroupIs b o d w) (h : GoesOn o d g.parts) → Run b o → is_told_back (plain_kind h.message.what) ≡ true → Tells d o w.point h.message.sender h.message.to h.to
 sent_tells b o d w g h run back =
     let p = h.message.sender in
     let q = h.message.to in
@@ -239,8 +215,8 @@ sent_tells b o d w g h run back =
 pub forwards_tell : ForwardsTell
 forwards_tell b es pt d w p q to valid leads f =
     let run = (run_always b es pt valid leads).run in
-    let g = grouped b pt d w f.is in
-    let s = sent_by b pt d w g f.id f.message to f.earlier f.later f.there f.says (subst (FormOf pt d) g.is (outcome_form b pt d)) in
+    let g = group_is b pt d w f.is in
+    let s = sent_by b pt d w g f.id f.message to f.earlier f.later f.there f.says (outcome_form b pt d g.parts g.is) in
     let h = s.goes in
     let same : Some h.message ≡ Some f.message = sym h.there ∙ ap pt.kernel.bag s.id_is ∙ f.there in
     let message : h.message ≡ f.message = cc in
@@ -256,7 +232,7 @@ forwards_tell b es pt d w p q to valid leads f =
 own_parts : (o : Point) (d : Step) (ps : List Part) (h : GoesOnOwn o d ps) → is_told_back h.told.kind ≡ true → ps ≡ Says (Line.Forwarded h.id h.to) ∷ Again h.id h.to ∷ Owns MessageKind.Update manager (o.addresses (Sender h.id)).at ∷ []
 own_parts o d ps h back = h.are ∙ ap (λ (c : Bool). Says (Line.Forwarded h.id h.to) ∷ Again h.id h.to ∷ (if c then Owns MessageKind.Update manager (o.addresses (Sender h.id)).at ∷ [] else [])) back
 
-own_tells : (b : Boot) (o : Point) (d : Step) (w : Spelled) (g : Grouped b o d w) (h : GoesOnOwn o d g.parts) → Run b o → is_told_back h.told.kind ≡ true → Tells d o w.point manager h.told.receiver h.to
+own_tells : (b : Boot) (o : Point) (d : Step) (w : Spelled) (g : GroupIs b o d w) (h : GoesOnOwn o d g.parts) → Run b o → is_told_back h.told.kind ≡ true → Tells d o w.point manager h.told.receiver h.to
 own_tells b o d w g h run back =
     let q = h.told.receiver in
     let place : Place = record { at = h.to; moves = h.moves } in
@@ -280,8 +256,8 @@ own_tells b o d w g h run back =
 pub requests_tell : RequestsTell
 requests_tell b es pt d w q to valid leads f =
     let run = (run_always b es pt valid leads).run in
-    let g = grouped b pt d w f.is in
-    let s = own_by b pt d w g f.id f.told to f.earlier f.later run.based.phased.sane f.there f.request f.says (subst (FormOf pt d) g.is (outcome_form b pt d)) in
+    let g = group_is b pt d w f.is in
+    let s = own_by b pt d w g f.id f.told to f.earlier f.later run.based.phased.sane f.there f.request f.says (outcome_form b pt d g.parts g.is) in
     let h = s.goes in
     let same : Some h.told ≡ Some f.told = sym h.told_is ∙ ap pt.view.told s.id_is ∙ f.there in
     let told : h.told ≡ f.told = cc in

@@ -1,12 +1,12 @@
 -- Messages wait only where a machine has a list for them.
-use Rattle.dm_movelaws.proofs.Names.{◌≡◌, ℕ, ◌+◌, ◌≤◌, Bool, true, false, List, [], ◌∷◌, refl, ap, ◌∙◌, subst, arith, if◌then◌else◌, slice_get, Some, Pid, MsgId, PlainMessage, Boot, IsValid, bind, id_eq-same, bind-is, Step, Line, Leads}
-use Rattle.dm_movelaws.proofs.Names.{migrates, Part, Says, Spelled, spelled, Point, first_point, moved, after_line, group_of, Inbox, times, View, arrives_net, resends_net, is_server, Both, both_start, both_group, Run, run_start, run_group}
-use Rattle.dm_movelaws.proofs.Names.{ListsAlways, some_is}
+use Rattle.dm_movelaws.proofs.Names.{◌≡◌, ℕ, ◌+◌, ◌≤◌, Bool, true, false, List, [], ◌∷◌, refl, ap, ◌∙◌, subst, arith, if◌then◌else◌, Some, Pid, MsgId, PlainMessage, Boot, IsValid, id_eq-same, Step, Line, Leads, Part, Spelled, Point}
+use Rattle.dm_movelaws.proofs.Names.{first_point, moved, group_of, Inbox, times, View, is_server, Both, both_start, both_group, Run, run_start, run_group, ListsAlways, some_is, by_outcome, by_group}
 use Rattle.dm_rule.specs.Rule as rule
 use Rattle.dm_movelaws.proofs.At.RestQueues.{drops_always}
 use Rattle.dm_movelaws.proofs.Lists.Hears.{migrates_ok}
 use Rattle.dm_movelaws.proofs.Lists.Parts.{ForProcess, NoQueues, AllOk, nets_ok, line_queues, parts_queues}
-use Rattle.dm_movelaws.proofs.Lists.Turns.{turns_ok}
+use Rattle.dm_movelaws.proofs.Lists.Hears.{hears_ok}
+use Rattle.dm_movelaws.proofs.Lists.Turns.{round_ok, handles_ok}
 
 at_front : (xs is : List MsgId) (i : MsgId) → xs ≡ i ∷ is → 1 ≤ times i xs
 at_front xs is i e =
@@ -20,29 +20,23 @@ front_process b pt m i is msg h box there process =
     record { what = t; told = told; process = ap is_server (h.based.phased.sane.tells.receiver i msg t there told) ∙ process }
 
 outcome_ok : (b : Boot) (pt : Point) (d : Step) (ps : List Part) → Run b pt → rule.outcome b pt d ≡ Some ps → AllOk (ForProcess pt.view) ps
-outcome_ok b pt (Step.Turn m) ps h is = turns_ok (ForProcess pt.view) b pt m (pt.view.inbox m) ps (λ i js msg box there process. front_process b pt m i js msg h box there process) is
-outcome_ok b pt (Step.Tick m) ps h is =
-    let qs = Says (Line.Resent m (rule.outstanding pt.view m pt.kernel.machines)) ∷ rule.resends pt.view m pt.kernel.machines in
-    let f : qs ≡ ps = cc in
-    subst (AllOk (ForProcess pt.view)) f (nets_ok (ForProcess pt.view) qs (tt, resends_net pt.view m pt.kernel.machines))
-outcome_ok b pt (Step.Deliver a c k) ps h is =
-    let qs = rule.arrives a c (pt.view.pair a c) (pt.view.pair c a) (slice_get (pt.view.pair a c).wire k) in
-    let f : qs ≡ ps = cc in
-    subst (AllOk (ForProcess pt.view)) f (nets_ok (ForProcess pt.view) qs (arrives_net a c (pt.view.pair a c) (pt.view.pair c a) (slice_get (pt.view.pair a c).wire k)))
-outcome_ok b pt (Step.Migrate p m) ps h is = let f : migrates pt p ≡ ps = cc in subst (AllOk (ForProcess pt.view)) f (migrates_ok (ForProcess pt.view) pt p)
+outcome_ok b pt d ps h is = by_outcome (λ x. AllOk (ForProcess pt.view)) b pt d ps (record {
+  round = λ m qs box e. round_ok (ForProcess pt.view) b pt m (rule.first_runnable pt.kernel (pt.view.queue m) (pt.view.ring m)) qs e;
+  handles = λ m i is msg qs box there e. handles_ok (ForProcess pt.view) b pt m i msg qs (front_process b pt m i is msg h box there) e;
+  hears = λ m i is qs box none e. hears_ok (ForProcess pt.view) b pt m i (pt.view.told i) qs e;
+  ticks = λ m. nets_ok (ForProcess pt.view);
+  delivers = λ a c k. nets_ok (ForProcess pt.view);
+  asks = λ p m. migrates_ok (ForProcess pt.view) pt p;
+}) is
 
 abbrev NoneQueued : View → Type 0
 NoneQueued v = (m : ℕ) (p : Pid) → is_server p ≡ true → v.queue m p ≡ []
 
 queues_group : (b : Boot) (pt : Point) (d : Step) (w : Spelled) → group_of b pt d ≡ Some w → Run b pt → NoneQueued pt.view → NoneQueued w.point.view
-queues_group b pt d w e h none =
-    let (ps, is, more) = bind-is (rule.outcome b pt d) (λ ps. bind (after_line pt (Line.Head d)) (λ start. bind (spelled start ps) (λ w. Some (rule.headed (Line.Head d) w)))) w e in
-    let begun : Point = moved pt (Line.Head d) pt.kernel in
-    let (rest, said, end) = bind-is (spelled begun ps) (λ w. Some (rule.headed (Line.Head d) w)) w more in
-    let g : rule.headed (Line.Head d) rest ≡ w = cc in
+queues_group b pt d w e h none = by_group (λ v. NoneQueued v.point.view) b pt d w (λ ps rest is said. (
     let first : NoQueues pt.view pt.view = record { told = λ i t f. f; none = none } in
-    let last = parts_queues pt.view ps begun rest (outcome_ok b pt d ps h is) said (line_queues pt.view pt.view (Line.Head d) tt first) in
-    subst (λ (x : Spelled). NoneQueued x.point.view) g last.none
+    (parts_queues pt.view ps (moved pt (Line.Head d) pt.kernel) rest (outcome_ok b pt d ps h is) said (line_queues pt.view pt.view (Line.Head d) tt first)).none
+    )) e
 
 -- wherever the rule leads
 record Kept (b : Boot) (pt : Point) : Type 0 where

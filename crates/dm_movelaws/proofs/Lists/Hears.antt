@@ -1,10 +1,5 @@
 -- No message is queued by what a kernel does with another kernel's message.
-use Rattle.dm_movelaws.proofs.Names.{◌≡◌, ℕ, ◌==◌, Bool, true, false, List, [], ◌∷◌, ◌++◌, subst, length, ◌/◌, if◌then◌else◌, Option, None, Some, Pid, pid_eq, MsgId, MessageKind, Line, Stage, Boot, switchboard, manager, PlainProcess, Told}
-use Rattle.dm_movelaws.proofs.Names.{About, Of, Known, Unknown, Here, Frozen, Forward, Ended, target_of, Addresses, Sender, is_told_back, child_number, Point, Part, Says, Owns, to_kernel, forwards_on, moves_to, accepts, takes_chunk}
-use Rattle.dm_movelaws.proofs.Names.{takes_block, gives_piece, sends_on, leaves, kernel_told, chunks_of, pieces_of, updates, here_told, ended_told, process_told, server_told, migrates_child, migrates, free_room, kernel_hears, hears}
-use Rattle.dm_movelaws.proofs.Names.{bind-is, by_migrates, IsHeardLine, Kept, kept_forward, hears_kept}
-use Rattle.dm_onekernel.specs.Step as kernel
-use Rattle.dm_rule.specs.Rule.{fits}
+use Rattle.dm_movelaws.proofs.Names.{◌≡◌, ℕ, List, Option, Some, Pid, MsgId, MessageKind, Line, Boot, Told, Addresses, Point, Part, forwards_on, migrates, hears, by_migrates, IsHeardLine, Kept, kept_forward, hears_kept}
 use Rattle.dm_movelaws.proofs.Lists.Parts.{LineOk, AllOk}
 
 ok_line : (ok : MsgId → Type 0) (l : Line) → IsHeardLine l → LineOk ok l

@@ -1,7 +1,7 @@
 -- No message is queued for a server: each line keeps it, where what it queues is for a process.
 use Rattle.dm_movelaws.proofs.Names.{◌≡◌, ℕ, ◌+◌, ◌==◌, Bool, true, false, not, filter, List, [], ◌∷◌, ◌++◌, length, refl, ap, ◌∙◌, sym, subst, ⊤, if◌then◌else◌, false≢true, Option, None, Some, Pid, MsgId, MessageKind, plain_kind, Label}
-use Rattle.dm_movelaws.proofs.Names.{bind, bind-is, Step, Line, Load, Stage, Receiver, Part, Says, Routes, Again, Owns, Transmits, Spelled, lines_of, puts, goes_out, packet_line, behind, spelled, Point, after_line, after, at_record}
-use Rattle.dm_movelaws.proofs.Names.{without_id, without_front, View, Told, About, NothingElse, view_after, handled, receiver_of, IsNetLine, IsNet, is_put, hushed, line_view, is_server, set_all, killed_or, told_kept}
+use Rattle.dm_movelaws.proofs.Names.{bind-is, Step, Line, Load, Stage, Receiver, Part, Says, Routes, Again, Owns, Transmits, Spelled, lines_of, puts, goes_out, packet_line, spelled, Point, after_line, after, at_record, without_id}
+use Rattle.dm_movelaws.proofs.Names.{without_front, View, Told, About, NothingElse, view_after, handled, receiver_of, IsNetLine, IsNet, is_put, hushed, line_view, is_server, set_all, killed_or, told_kept, by_parts}
 use Rattle.dm_rule.specs.View as view
 
 -- what is queued is so
@@ -176,10 +176,5 @@ part_ok ok pt (Owns k q b) ls h is = puts_ok ok pt.view b (view.own_id pt.view) 
 part_ok ok pt (Transmits a b l) ls h is = let f : packet_line pt.view a b l ∷ [] ≡ ls = cc in subst (LinesOk ok) f (tt, tt)
 
 pub parts_queues : (before : View) (ps : List Part) (pt : Point) (w : Spelled) → AllOk (ForProcess before) ps → spelled pt ps ≡ Some w → NoQueues before pt.view → NoQueues before w.point.view
-parts_queues before [] pt w ok is h = let f : record { lines = []; point = pt } ≡ w = cc in subst (λ (x : Spelled). NoQueues before x.point.view) f h
-parts_queues before (p ∷ ps) pt w ok is h =
-    let (ls, lines, rest) = bind-is (lines_of pt p) (λ (xs : List Line). bind (after pt xs) (λ (q : Point). bind (spelled q ps) (λ (z : Spelled). Some (behind xs z)))) w is in
-    let (next, leads, last) = bind-is (after pt ls) (λ (q : Point). bind (spelled q ps) (λ (z : Spelled). Some (behind ls z))) w rest in
-    let (z, more, end) = bind-is (spelled next ps) (λ (y : Spelled). Some (behind ls y)) w last in
-    let f : behind ls z ≡ w = cc in
-    subst (λ (x : Spelled). NoQueues before x.point.view) f (parts_queues before ps next z ok.1 more (lines_queues before ls pt next (part_ok (ForProcess before) pt p ls ok.0 lines) leads h))
+parts_queues before qs q w ok is h = by_parts (λ ps pt v. AllOk (ForProcess before) ps → NoQueues before pt.view → NoQueues before v.point.view) (λ pt ok h. h)
+    (λ p ps pt next ls z lines leads rest ok h. rest ok.1 (lines_queues before ls pt next (part_ok (ForProcess before) pt p ls ok.0 lines) leads h)) qs q w is ok h

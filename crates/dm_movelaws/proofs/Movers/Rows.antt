@@ -1,18 +1,15 @@
 -- Each step keeps what the messages of data moves say.
-use Rattle.dm_movelaws.proofs.Names.{◌≡◌, ◌⊎◌, ℕ, ◌+◌, ◌-◌, ◌==◌, ◌&&◌, Bool, true, false, length, take, drop, refl, ap, ◌∙◌, sym, subst, inl, inr, nat_le, ⊤, if◌then◌else◌, slice_get, Option, None, Some, Pid, pid_eq, PlainLink}
-use Rattle.dm_movelaws.proofs.Names.{first_empty, link_at, MsgId, id_eq, PlainMessage, PlainWhat, direction_numbered, Direction, Row, instruction, switchboard, manager, Label, Reply, Why, reply_eq, why_eq, bind, reg, PlainProcess}
-use Rattle.dm_movelaws.proofs.Names.{PlainStatus, Ready, Waiting, Moving, Alive, OneKernel, with_process, with_sent, Called, Replies, Sends, Waits, Outputs, Ends, CallNumber, Out, Make, Copy, Drop, Send, Receive, Move, call_number}
-use Rattle.dm_movelaws.proofs.Names.{answer_to, first_failed, without_message, is_dropped, is_of_memory, pending_of, ServerSends, board_takes, manager_takes, LandsSo, lands-is, Sound, bind-is, when-is, alive-is, Nexts, nexts, Completing}
-use Rattle.dm_movelaws.proofs.Names.{completing, KernelFits, if_some}
-use Rattle.dm_onekernel.specs.Kernel.{Ended}
+use Rattle.dm_movelaws.proofs.Names.{◌≡◌, ◌⊎◌, ℕ, ◌+◌, ◌-◌, ◌==◌, ◌&&◌, Bool, true, false, length, take, drop, refl, ap, ◌∙◌, sym, subst, inl, inr, nat_le, ⊤, if◌then◌else◌, Option, None, Some, Pid, PlainLink, first_empty, link_at, MsgId}
+use Rattle.dm_movelaws.proofs.Names.{PlainMessage, PlainWhat, direction_numbered, Direction, Row, instruction, switchboard, manager, Label, Reply, Why, reg, PlainProcess, PlainStatus, Waiting, Moving, Alive, OneKernel, with_process}
+use Rattle.dm_movelaws.proofs.Names.{with_sent, Called, Sends, Waits, CallNumber, Make, Copy, Drop, Send, Receive, Move, call_number, answer_to, first_failed, without_message, is_of_memory, pending_of, ServerSends, board_takes}
+use Rattle.dm_movelaws.proofs.Names.{manager_takes, lands-is, Sound, bind-is, KernelFits, by_step, Lives}
 use Rattle.dm_onekernel.specs.Calls as calls
-use Rattle.dm_onekernel.specs.Manager as manage
 use Rattle.dm_onekernel.specs.Pieces as pieces
-use Rattle.dm_onekernel.specs.Receiving as receiving
 use Rattle.dm_onekernel.specs.Service as service
 use Rattle.dm_onekernel.specs.Step as kernel
-use Rattle.dm_onekernel.specs.Switchboard as board
 use Rattle.dm_movelaws.proofs.Movers.Says.{other_end, AllSay, same_says, still_says, fresh_says, ended_says, out_says, other_says, no_end, answer_says, Requests, request_says}
+use Rattle.dm_movelaws.proofs.Movers.Says.{Begins}
+use Rattle.dm_rule.proofs.Names.{begun}
 
 -- what a call sends: no message of a data move, or the request for its first piece
 abbrev CallSends : Pid → Called → Type 0
@@ -121,186 +118,64 @@ lands_sends : (p : Pid) (x : PlainProcess) (m : PlainMessage) (st : PlainStatus)
 lands_sends p x m (Moving dir owner base own left pending) c e = if_lands_what p x (m.id.n == pending) dir owner base own left m.what c e
 lands_sends p x m _ c e = cc
 
--- a process goes on
-ran_says : (s t : OneKernel) (p : Pid) (k : ℕ) → kernel.step s (Label.Ran p k) ≡ Some t → AllSay s → AllSay t
-ran_says s t p k is h =
-    let (x, running, rest) = bind-is (kernel.running s p) (λ (w : PlainProcess). bind (kernel.plain_steps k (kernel.machine_of w)) (λ (m : kernel.Machine). Some (kernel.goes_on s p (kernel.with_machine w m)))) t is in
-    let (m, plain, last) = bind-is (kernel.plain_steps k (kernel.machine_of x)) (λ (m : kernel.Machine). Some (kernel.goes_on s p (kernel.with_machine x m))) t rest in
-    let f : kernel.goes_on s p (kernel.with_machine x m) ≡ t = cc in
-    let (z, there, ready) = bind-is (kernel.alive (s.processes p)) (λ (v : PlainProcess). kernel.if_ready v v.status) x running in
-    let same : z ≡ x = ready_is z z.status x ready in
-    subst AllSay f (same_says s p x (kernel.with_machine x m) (alive-is (s.processes p) x (there ∙ ap Some same)) refl h)
-  where
-    stopped_is : (y : PlainProcess) (b : Bool) (x : PlainProcess) → (if b then None else Some y) ≡ Some x → y ≡ x
-    stopped_is y true x e = cc
-    stopped_is y false x e = cc
-
-    ready_is : (y : PlainProcess) (st : PlainStatus) (x : PlainProcess) → kernel.if_ready y st ≡ Some x → y ≡ x
-    ready_is y Ready x e = stopped_is y y.stopped x e
-    ready_is y _ x e = cc
-
-reply_says : (s t : OneKernel) (p : Pid) (n : ℕ) (c : Reply) (next : kernel.Next) → Nexts s p next → kernel.replies s p n c next ≡ Some t → AllSay s → AllSay t
-reply_says s t p n c (kernel.Calls number (calls.Replies d y)) v is h =
-    let (z, sent, pending, counted) = v.counts in
-    subst AllSay (when-is ((n == number) && reply_eq c d) (kernel.goes_on s p y) t is).1 (still_says s p y (counted.1 ∙ pending ∙ v.is.still) h)
-reply_says s t p n c next v is h = cc
-
-wait_says : (s t : OneKernel) (p : Pid) (next : kernel.Next) → Nexts s p next → kernel.waits s p next ≡ Some t → AllSay s → AllSay t
-wait_says s t p (kernel.Calls number (calls.Waits y)) v is h =
-    let (z, sent, pending, counted) = v.counts in
-    let f : kernel.goes_on s p y ≡ t = cc in
-    subst AllSay f (still_says s p y counted.1 h)
-wait_says s t p next v is h = cc
-
-output_says : (s t : OneKernel) (p : Pid) (word : ℕ) (next : kernel.Next) → Nexts s p next → kernel.outputs s p word next ≡ Some t → AllSay s → AllSay t
-output_says s t p word (kernel.Calls number (calls.Outputs other y)) v is h =
-    let (z, sent, pending, counted) = v.counts in
-    subst AllSay (when-is (word == other) (kernel.goes_on s p y) t is).1 (still_says s p y (counted.1 ∙ pending ∙ v.is.still) h)
-output_says s t p word next v is h = cc
-
-end_says : (s t : OneKernel) (p : Pid) (y : Why) (next : kernel.Next) → kernel.ends s p y next ≡ Some t → AllSay s → AllSay t
-end_says s t p y (kernel.Calls number (calls.Ends because)) is h = subst AllSay (when-is (why_eq y because) (with_process s p (Ended y)) t is).1 (ended_says s p y h)
-end_says s t p y (kernel.Faults fault) is h = subst AllSay (when-is (why_eq y (Why.Fault fault)) (with_process s p (Ended y)) t is).1 (ended_says s p y h)
-end_says s t p y next is h = cc
-
--- it sends
-send_says : (r e : MsgId → ℕ) (s t : OneKernel) (p : Pid) (id : MsgId) (next : kernel.Next) → Nexts s p next → NextSends p next → kernel.sends s p id next ≡ Some t → Sound r e s → KernelFits t → AllSay s → AllSay t
-send_says r e s t p id (kernel.Calls number (calls.Sends m y)) v w is sound fits h =
-    let (z, sent, pending, counted) = v.counts in
-    let k = when-is (id_eq id m.id) (with_sent (kernel.goes_on s p y) (Some m)) t is in
-    let from : m.id.from ≡ p = ap (λ (i : MsgId). i.from) counted.id in
-    let before : KernelFits (with_sent (kernel.goes_on s p y) (Some m)) = subst KernelFits (sym k.1) fits in
-    let on : AllSay (kernel.goes_on s p y) = elim counted.is [
-      | inl a ↦ still_says s p y (a.1 ∙ pending ∙ v.is.still) h
-      | inr a ↦ fresh_says r e s p v.x y v.is.alive (a.1 ∙ ap Some sent) sound h
-    ] in
-    subst AllSay k.1 (elim w [
-      | inl none ↦ other_says (kernel.goes_on s p y) m none on
-      | inr asks ↦ request_says s p m y asks from before on
-    ])
-send_says r e s t p id next v w is sound fits h = cc
-
-receive_says : (s t : OneKernel) (p : Pid) (id : MsgId) (c : receiving.Completed) → Completing s p id c → kernel.receives s p id c ≡ Some t → AllSay s → AllSay t
-receive_says s t p id (receiving.Receives y) w is h = let f : kernel.goes_on (without_message s id) p y ≡ t = cc in subst AllSay f (still_says (without_message s id) p y w.is.1 (out_says s id h))
-receive_says s t p id (receiving.Refuses d y) w is h = cc
-
-refuse_says : (s t : OneKernel) (p : Pid) (id : MsgId) (d : Reply) (c : receiving.Completed) → Completing s p id c → kernel.refuses s p d c ≡ Some t → AllSay s → AllSay t
-refuse_says s t p id d (receiving.Receives y) w is h = cc
-refuse_says s t p id d (receiving.Refuses c y) w is h = subst AllSay (when-is (reply_eq d c) (kernel.goes_on s p y) t is).1 (still_says s p y w.is.1 h)
-
--- its kernel serves a message
-landed_says : (r e : MsgId → ℕ) (s t : OneKernel) (id : MsgId) (m : PlainMessage) (x : PlainProcess) (c : pieces.Landed) → service.landed s id m c ≡ t → s.processes m.to ≡ Some (Alive x) → LandsSo m.to x c → LandsSends m.to c → Sound r e s → KernelFits t → AllSay s → AllSay t
-landed_says r e s t id m x (pieces.Next request y) is alive so sends sound fits h =
-    let u = with_process s m.to (Alive y) in
-    let from : request.id.from ≡ m.to = ap (λ (i : MsgId). i.from) so.0.id in
-    let before : KernelFits (with_sent (service.changed s id m y) (Some request)) = subst KernelFits (sym is) fits in
-    let waits : pending_of y.status ≡ Some x.sent = elim so.0.is [
-      | inl a ↦ let f : false ≡ true = sym a.0 ∙ so.1 in cc
-      | inr a ↦ a.1
-    ] in
-    let on : AllSay u = fresh_says r e s m.to x y alive waits sound h in
-    subst AllSay is (request_says (without_message s id) m.to request y sends from before (out_says u id on))
-landed_says r e s t id m x (pieces.Done d y) is alive so sends sound fits h = subst AllSay is (still_says (without_message s id) m.to y so.1 (out_says s id h))
-
-lands_says : (r e : MsgId → ℕ) (s t : OneKernel) (id : MsgId) (m : PlainMessage) (x : PlainProcess) → bind (pieces.lands m.to x m x.status) (λ c. Some (service.landed s id m c)) ≡ Some t → s.processes m.to ≡ Some (Alive x) → Sound r e s → KernelFits t → AllSay s → AllSay t
-lands_says r e s t id m x is alive sound fits h =
-    let (c, lands, last) = bind-is (pieces.lands m.to x m x.status) (λ v. Some (service.landed s id m v)) t is in
-    landed_says r e s t id m x c (let f : service.landed s id m c ≡ t = cc in f) alive (lands-is m.to x m x.status c lands) (lands_sends m.to x m x.status c lands) sound fits h
-
-serves_says : (r e : MsgId → ℕ) (s t : OneKernel) (id : MsgId) (m : PlainMessage) (x : PlainProcess) (w : PlainWhat) → m.what ≡ w → service.serves s id m x w ≡ Some t → s.bag id ≡ Some m → s.processes m.to ≡ Some (Alive x) → Sound r e s → KernelFits t → AllSay s → AllSay t
-serves_says r e s t id m x PlainWhat.Stop w is there alive sound fits h =
-    let f : service.changed s id m (record x { stopped = true }) ≡ t = cc in subst AllSay f (same_says (without_message s id) m.to x (record x { stopped = true }) alive refl (out_says s id h))
-serves_says r e s t id m x PlainWhat.Resume w is there alive sound fits h =
-    let f : service.changed s id m (record x { stopped = false }) ≡ t = cc in subst AllSay f (same_says (without_message s id) m.to x (record x { stopped = false }) alive refl (out_says s id h))
-serves_says r e s t id m x PlainWhat.Kill w is there alive sound fits h =
-    let f : with_process (without_message s id) m.to (Ended Why.Killed) ≡ t = cc in subst AllSay f (ended_says (without_message s id) m.to Why.Killed (out_says s id h))
-serves_says r e s t id m x (PlainWhat.Read base len) w is there alive sound fits h =
-    let (c, served, last) = bind-is (pieces.reads x m base len) (λ v. Some (service.answered s id m v)) t is in
-    let block = PlainWhat.Block (take len (drop base x.memory)) in
-    let k = if_some (nat_le (base + len) (length x.memory)) (record { process = x; answer = answer_to m block }) c served in
-    let f : service.answered s id m c ≡ t = cc in
-    let v = with_process s m.to (Alive x) in
-    let on : AllSay v = same_says s m.to x x alive refl h in
-    subst AllSay (ap (service.answered s id m) k ∙ f)
-    (answer_says (service.changed s id m x) id m block (sound.entered.named id m there) (on id m m.to there (ap (other_end m) w)) refl (λ a b. tt) (out_says v id on))
-serves_says r e s t id m x (PlainWhat.Write base bytes) w is there alive sound fits h =
-    let (c, served, last) = bind-is (pieces.writes x m base bytes) (λ v. Some (service.answered s id m v)) t is in
-    let y = record x { memory = pieces.written_at x.memory base bytes } in
-    let k = if_some (nat_le (base + length bytes) (length x.memory)) (record { process = y; answer = answer_to m PlainWhat.Written }) c served in
-    let f : service.answered s id m c ≡ t = cc in
-    let v = with_process s m.to (Alive y) in
-    let on : AllSay v = same_says s m.to x y alive refl h in
-    subst AllSay (ap (service.answered s id m) k ∙ f)
-    (answer_says (service.changed s id m y) id m PlainWhat.Written (sound.entered.named id m there) (on id m m.to there (ap (other_end m) w)) refl (λ a b. tt) (out_says v id on))
-serves_says r e s t id m x (PlainWhat.Block bytes) w is there alive sound fits h = lands_says r e s t id m x is alive sound fits h
-serves_says r e s t id m x PlainWhat.Written w is there alive sound fits h = lands_says r e s t id m x is alive sound fits h
-serves_says r e s t id m x PlainWhat.Gone w is there alive sound fits h = lands_says r e s t id m x is alive sound fits h
-serves_says r e s t id m x k w is there alive sound fits h = cc
-
--- its receiver has ended
 pub memory_end : (m : PlainMessage) (w : PlainWhat) → is_of_memory w ≡ true → other_end m w ≡ Some m.to
 memory_end m (PlainWhat.Read base len) e = refl
 memory_end m (PlainWhat.Write base bytes) e = refl
 memory_end m w e = cc
 
--- a kernel makes a process, or has no room for it
-creates_says : (s t : OneKernel) (id : MsgId) (m : PlainMessage) (child : Pid) (w : PlainWhat) → service.creates s id m child w ≡ Some t → AllSay s → AllSay t
-creates_says s t id m child (PlainWhat.Create image links) is h =
-    let (i, found, rest) = bind-is (slice_get s.images image) (service.creates_of s id m child links) t is in
-    let u = service.with_child (without_message s id) child i links in
-    let k = when-is (service.is_kernel s m.to && pid_eq child (_)) (with_sent u (Some (answer_to m (PlainWhat.Created child)))) t rest in
-    subst AllSay k.1 (other_says u (answer_to m (PlainWhat.Created child)) refl (still_says (without_message s id) child _ refl (out_says s id h)))
-creates_says s t id m child w is h = cc
-
-no_room_says : (s t : OneKernel) (id : MsgId) (m : PlainMessage) (w : PlainWhat) → service.has_no_room s id m w ≡ Some t → AllSay s → AllSay t
-no_room_says s t id m (PlainWhat.Create image links) is h =
-    let k = when-is (service.is_kernel s m.to) (with_sent (without_message s id) (Some (answer_to m PlainWhat.NoRoom))) t is in
-    subst AllSay k.1 (other_says (without_message s id) (answer_to m PlainWhat.NoRoom) refl (out_says s id h))
-no_room_says s t id m w is h = cc
-
--- a server takes a message
+-- what a server sends
 server_says : (u : OneKernel) (p : Pid) (o : Option PlainMessage) (n after : ℕ) → ServerSends p n o after → AllSay u → AllSay (with_sent u o)
 server_says u p None n after sends h = h
 server_says u p (Some x) n after sends h = other_says u x (no_end x x.what sends.2 sends.3) h
 
-took_if : (s t : OneKernel) (id : MsgId) (m : PlainMessage) (c d : Bool)
-    → (if c then bind (board.takes s.switchboard m m.what) (λ k. Some (service.switchboard_took s id k)) else if d then bind (manage.takes s.manager s.machines (length s.images) m m.what) (λ k. Some (service.manager_took s id k)) else None) ≡ Some t
-    → AllSay s → AllSay t
-took_if s t id m true d is h =
-    let (k, took, last) = bind-is (board.takes s.switchboard m m.what) (λ v. Some (service.switchboard_took s id v)) t is in
-    let f : service.switchboard_took s id k ≡ t = cc in
-    subst AllSay f (server_says (record (without_message s id) { switchboard = k.switchboard }) switchboard k.answer s.switchboard.sent k.switchboard.sent (board_takes s.switchboard m m.what k took).2 (out_says s id h))
-took_if s t id m false true is h =
-    let (k, took, last) = bind-is (manage.takes s.manager s.machines (length s.images) m m.what) (λ v. Some (service.manager_took s id v)) t is in
-    let f : service.manager_took s id k ≡ t = cc in
-    subst AllSay f (server_says (record (without_message s id) { manager = k.manager }) manager k.message s.manager.sent k.manager.sent (manager_takes s.manager s.machines (length s.images) m m.what k took).2.sends (out_says s id h))
-took_if s t id m false false is h = cc
-
 -- every step
 pub step_says : (r e : MsgId → ℕ) (s t : OneKernel) (l : Label) → kernel.step s l ≡ Some t → Sound r e s → KernelFits t → AllSay s → AllSay t
-step_says r e s t (Label.Ran p k) is sound fits h = ran_says s t p k is h
-step_says r e s t (Label.Call p n c) is sound fits h = let (x, next, rest) = bind-is (kernel.next s p) (kernel.replies s p n c) t is in reply_says s t p n c x (nexts s p x next) rest h
-step_says r e s t (Label.Send p id) is sound fits h = let (x, next, rest) = bind-is (kernel.next s p) (kernel.sends s p id) t is in send_says r e s t p id x (nexts s p x next) (next_sends s p x next) rest sound fits h
-step_says r e s t (Label.Wait p) is sound fits h = let (x, next, rest) = bind-is (kernel.next s p) (kernel.waits s p) t is in wait_says s t p x (nexts s p x next) rest h
-step_says r e s t (Label.Out p w) is sound fits h = let (x, next, rest) = bind-is (kernel.next s p) (kernel.outputs s p w) t is in output_says s t p w x (nexts s p x next) rest h
-step_says r e s t (Label.End p y) is sound fits h = let (x, next, rest) = bind-is (kernel.next s p) (kernel.ends s p y) t is in end_says s t p y x rest h
-step_says r e s t (Label.Receive p id) is sound fits h = let (c, done, rest) = bind-is (kernel.completing s p id) (kernel.receives s p id) t is in receive_says s t p id c (completing s p id c done) rest h
-step_says r e s t (Label.Refuse p id d) is sound fits h = let (c, done, rest) = bind-is (kernel.completing s p id) (kernel.refuses s p d) t is in refuse_says s t p id d c (completing s p id c done) rest h
-step_says r e s t (Label.Dropped id) is sound fits h =
-    let (m, there, rest) = bind-is (s.bag id) (λ v. bind (kernel.ended (s.processes v.to)) (kernel.drops s id v)) t is in
-    let (y, gone, last) = bind-is (kernel.ended (s.processes m.to)) (kernel.drops s id m) t rest in
-    subst AllSay (when-is (is_dropped m.what) (without_message s id) t last).1 (out_says s id h)
-step_says r e s t (Label.Served id) is sound fits h =
-    let (m, there, rest) = bind-is (s.bag id) (λ v. bind (kernel.alive (s.processes v.to)) (λ p. service.serves s id v p v.what)) t is in
-    let (x, alive, last) = bind-is (kernel.alive (s.processes m.to)) (λ p. service.serves s id m p m.what) t rest in
-    serves_says r e s t id m x m.what refl last there (alive-is (s.processes m.to) x alive) sound fits h
-step_says r e s t (Label.Gone id) is sound fits h =
-    let (m, there, rest) = bind-is (s.bag id) (λ v. bind (kernel.ended (s.processes v.to)) (kernel.says_gone s id v)) t is in
-    let (y, gone, last) = bind-is (kernel.ended (s.processes m.to)) (kernel.says_gone s id m) t rest in
-    let k = when-is (is_of_memory m.what) (with_sent (without_message s id) (Some (answer_to m PlainWhat.Gone))) t last in
-    subst AllSay k.1 (answer_says (without_message s id) id m PlainWhat.Gone (sound.entered.named id m there) (h id m m.to there (memory_end m m.what k.0)) refl (λ a b. tt) (out_says s id h))
-step_says r e s t (Label.Took id) is sound fits h =
-    let (m, there, rest) = bind-is (s.bag id) (service.takes s id) t is in
-    took_if s t id m (pid_eq m.to switchboard) (pid_eq m.to manager) rest h
-step_says r e s t (Label.Created id child) is sound fits h = let (m, there, rest) = bind-is (s.bag id) (λ v. service.creates s id v child v.what) t is in creates_says s t id m child m.what rest h
-step_says r e s t (Label.NoSpace id a b) is sound fits h = let (m, there, rest) = bind-is (s.bag id) (λ v. service.has_no_room s id v v.what) t is in no_room_says s t id m m.what rest h
+step_says r e s t l is_ sound =
+    let answered : (id : MsgId) (m : PlainMessage) (x y : PlainProcess) (w : PlainWhat) → Lives s id m x → y.status ≡ x.status → other_end m m.what ≡ Some m.to → other_end (answer_to m w) w ≡ Some m.to → ((base left : ℕ) → Begins base left w) → AllSay s
+    → AllSay (with_sent (service.changed s id m y) (Some (answer_to m w))) = λ id m x y w v same asked end starts h. (
+    let on : AllSay (with_process s m.to (Alive y)) = same_says s m.to x y v.alive same h in
+    answer_says (service.changed s id m y) id m w (sound.entered.named id m v.there) (on id m m.to v.there asked) end starts (out_says (with_process s m.to (Alive y)) id on)
+    ) in
+    by_step (λ u. KernelFits u → AllSay s → AllSay u) s t l (record {
+      ran = λ p k x m is w fits h. same_says s p x (kernel.with_machine x m) w.alive refl h;
+      replies = λ p n k c d y is w fits h. (let (z, sent, pending, counted) = w.so.counts in still_says s p y (counted.1 ∙ pending ∙ w.so.is.still) h);
+      sends = λ p id k m y is same w fits h.
+          (let (z, sent, pending, counted) = w.so.counts in
+          let from : m.id.from ≡ p = ap (λ (i : MsgId). i.from) counted.id in
+          let on : AllSay (kernel.goes_on s p y) = elim counted.is [
+            | inl a ↦ still_says s p y (a.1 ∙ pending ∙ w.so.is.still) h
+            | inr a ↦ fresh_says r e s p w.so.x y w.so.is.alive (a.1 ∙ ap Some sent) sound h
+          ] in
+          elim (next_sends s p (kernel.Calls k (calls.Sends m y)) w.is) [
+            | inl none ↦ other_says (kernel.goes_on s p y) m none on
+            | inr asks ↦ request_says s p m y asks from fits on
+          ]);
+      waits = λ p k y is w fits h. (let (z, sent, pending, counted) = w.so.counts in still_says s p y counted.1 h);
+      outputs = λ p word k v y is w fits h. (let (z, sent, pending, counted) = w.so.counts in still_says s p y (counted.1 ∙ pending ∙ w.so.is.still) h);
+      ends = λ p y next is w fits h. ended_says s p y h;
+      receives = λ p id y is w c fits h. still_says (without_message s id) p y w.is.1 (out_says s id h);
+      refuses = λ p id c d y is w f fits h. still_says s p y w.is.1 h;
+      dropped = λ id m y is w f fits h. out_says s id h;
+      gone = λ id m y is w f fits h. answer_says (without_message s id) id m PlainWhat.Gone (sound.entered.named id m w.there) (h id m m.to w.there (memory_end m m.what f)) refl (λ a b. tt) (out_says s id h);
+      stops = λ id m x b is w f fits h. same_says (without_message s id) m.to x (record x { stopped = b }) w.alive refl (out_says s id h);
+      kills = λ id m x is w f fits h. ended_says (without_message s id) m.to Why.Killed (out_says s id h);
+      reads = λ id m x base len is w f fits h. answered id m x x (PlainWhat.Block (take len (drop base x.memory))) w refl (ap (other_end m) f) refl (λ a b. tt) h;
+      writes = λ id m x base bytes is w f fits h. answered id m x (record x { memory = pieces.written_at x.memory base bytes }) PlainWhat.Written w refl (ap (other_end m) f) refl (λ a b. tt) h;
+      lands = λ id m x r_ y is w f c fits h.
+          (let so = lands-is m.to x m x.status (pieces.Next r_ y) c in
+          let from : r_.id.from ≡ m.to = ap (λ (i : MsgId). i.from) so.0.id in
+          let waits : pending_of y.status ≡ Some x.sent = elim so.0.is [
+            | inl a ↦ let f : false ≡ true = sym a.0 ∙ so.1 in cc
+            | inr a ↦ a.1
+          ] in
+          let on : AllSay (with_process s m.to (Alive y)) = fresh_says r e s m.to x y w.alive waits sound h in
+          request_says (without_message s id) m.to r_ y (lands_sends m.to x m x.status (pieces.Next r_ y) c) from fits (out_says (with_process s m.to (Alive y)) id on));
+      done = λ id m x c y is w f g fits h. still_says (without_message s id) m.to y (lands-is m.to x m x.status (pieces.Done c y) g).1 (out_says s id h);
+      board = λ id m k is there c took fits h.
+          server_says (record (without_message s id) { switchboard = k.switchboard }) switchboard k.answer s.switchboard.sent k.switchboard.sent (board_takes s.switchboard m m.what k took).2 (out_says s id h);
+      manager = λ id m k is there c took fits h.
+          server_says (record (without_message s id) { manager = k.manager }) manager k.message s.manager.sent k.manager.sent (manager_takes s.manager s.machines (length s.images) m m.what k took).2.sends (out_says s id h);
+      creates = λ id child m image links i is w found name fits h.
+          other_says (service.with_child (without_message s id) child i links) (answer_to m (PlainWhat.Created child)) refl (still_says (without_message s id) child (begun s.format i links) refl (out_says s id h));
+      no_room = λ id a b m image links is w fits h. other_says (without_message s id) (answer_to m PlainWhat.NoRoom) refl (out_says s id h);
+    }) is_

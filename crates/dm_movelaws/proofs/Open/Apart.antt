@@ -1,14 +1,11 @@
 -- Each line of a group leaves a process that moves alone, where it stands.
-use Rattle.dm_movelaws.proofs.Names.{◌≡◌, ◌≢◌, ℕ, ◌+◌, ◌==◌, ◌&&◌, ◌||◌, Bool, true, false, List, [], ◌∷◌, ◌++◌, length, refl, ap, ◌∙◌, sym, subst, ⊤, if◌then◌else◌, slice_get, Option, None, Some, false≢true, Pid, pid_of, pid_eq, MsgId}
-use Rattle.dm_movelaws.proofs.Names.{MessageKind, plain_kind, Load, PlainMessage, PlainWhat, Boot, Label, Why, first_number, switchboard, manager, Life, Alive, OneKernel, bind, bind-is, when-is, Step, Line, Receiver, IsOthers, Spares}
-use Rattle.dm_movelaws.proofs.Names.{migrates, Part, Says, Routes, Again, Owns, Transmits, Spelled, lines_of, puts, goes_out, packet_line, behind, spelled, Moves, knows, IsIn, Point, label_of, kernel_after, moved, after_line, after}
-use Rattle.dm_movelaws.proofs.Names.{group_of, Here, own_id, SparesPart, FirstApart, ApartOf, apart_first, turns_apart, net_apart, migrates_apart, arrives_net, resends_net, Rooted, nowhere_known, moves_away, is_server, is_fixed, IsAnothers}
-use Rattle.dm_movelaws.proofs.Names.{IsAnothersIf, moves_known}
+use Rattle.dm_movelaws.proofs.Names.{◌≡◌, ◌≢◌, ℕ, ◌+◌, ◌==◌, Bool, true, false, List, [], ◌∷◌, ◌++◌, length, refl, ap, ◌∙◌, sym, subst, ⊤, if◌then◌else◌, slice_get, Option, None, Some, false≢true, Pid, pid_of, MsgId, MessageKind}
+use Rattle.dm_movelaws.proofs.Names.{plain_kind, Load, PlainMessage, Boot, Label, Why, first_number, Life, OneKernel, bind, bind-is, Step, Line, Receiver, IsOthers, Spares, migrates, Part, Says, Routes, Again, Owns, Transmits, Spelled}
+use Rattle.dm_movelaws.proofs.Names.{lines_of, puts, goes_out, packet_line, spelled, Moves, knows, IsIn, Point, label_of, kernel_after, moved, after_line, after, group_of, Here, own_id, SparesPart, FirstApart, ApartOf, apart_first}
+use Rattle.dm_movelaws.proofs.Names.{turns_apart, net_apart, migrates_apart, arrives_net, resends_net, Rooted, nowhere_known, moves_away, is_fixed, IsAnothers, IsAnothersIf, moves_known, took_for, created_for, no_space_for, by_parts}
+use Rattle.dm_movelaws.proofs.Names.{by_group}
 use Rattle.dm_onekernel.specs.Kernel.{Ended}
-use Rattle.dm_onekernel.specs.Manager as manage
-use Rattle.dm_onekernel.specs.Service as service
 use Rattle.dm_onekernel.specs.Step as kernel
-use Rattle.dm_onekernel.specs.Switchboard as board
 use Rattle.dm_rule.specs.Rule as rule
 use Rattle.dm_movelaws.proofs.Open.Spares.{dropped_over}
 pub use Rattle.dm_rule.proofs.Apart.Groups.{kernel_same}
@@ -46,30 +43,21 @@ part_alone y pt (Owns k q b) ls h is = puts_alone y pt b (own_id pt.view) k q ls
 part_alone y pt (Transmits a b l) ls h is = let f : packet_line pt.view a b l ∷ [] ≡ ls = cc in subst (AllAlone y pt) f (tt, λ next e. tt)
 
 parts_alone : (y : Pid) (ps : List Part) (pt : Point) (w : Spelled) → FirstApart pt.kernel y ps → spelled pt ps ≡ Some w → AllAlone y pt w.lines
-parts_alone y [] pt w h is = let f : record { lines = []; point = pt } ≡ w = cc in subst (λ (x : Spelled). AllAlone y pt x.lines) f tt
-parts_alone y (p ∷ ps) pt w h is =
-    let (ls, lines, rest) = bind-is (lines_of pt p) (λ (xs : List Line). bind (after pt xs) (λ (q : Point). bind (spelled q ps) (λ (z : Spelled). Some (behind xs z)))) w is in
-    let (next, leads, last) = bind-is (after pt ls) (λ (q : Point). bind (spelled q ps) (λ (z : Spelled). Some (behind ls z))) w rest in
-    let (z, more, end) = bind-is (spelled next ps) (λ (v : Spelled). Some (behind ls v)) w last in
-    let f : behind ls z ≡ w = cc in
-    let others : AllAlone y next z.lines = parts_alone y ps next z (apart_first next.kernel y ps h.1) more in
-    subst (λ (x : Spelled). AllAlone y pt x.lines) f
-    (alone_append y ls z.lines pt (part_alone y pt p ls h.0 lines) (λ mid e. let g : next ≡ mid = (let k : Some next ≡ Some mid = sym leads ∙ e in cc) in subst (λ (q : Point). AllAlone y q z.lines) g others))
+parts_alone y qs p w h is = by_parts (λ ps pt v. FirstApart pt.kernel y ps → AllAlone y pt v.lines) (λ pt h. tt) (λ x ps pt next ls z lines leads rest h. (
+    let others : AllAlone y next z.lines = rest (apart_first next.kernel y ps h.1) in
+    alone_append y ls z.lines pt (part_alone y pt x ls h.0 lines) (λ mid e. let g : next ≡ mid = (let k : Some next ≡ Some mid = sym leads ∙ e in cc) in subst (λ (q : Point). AllAlone y q z.lines) g others)
+    )) qs p w is h
 
 -- a group
 apart_some : (z : OneKernel) (y : Pid) (o : Option (List Part)) (ps : List Part) → o ≡ Some ps → ApartOf z y o → FirstApart z y ps
 apart_some z y o ps e h = subst (ApartOf z y) e h
 
 group_alone : (b : Boot) (pt : Point) (d : Step) (w : Spelled) (y : Pid) → ApartOf pt.kernel y (rule.outcome b pt d) → group_of b pt d ≡ Some w → AllAlone y pt w.lines
-group_alone b pt d w y h e =
-    let (parts, is, more) = bind-is (rule.outcome b pt d) (λ parts. bind (after_line pt (Line.Head d)) (λ begun. bind (spelled begun parts) (λ w. Some (rule.headed (Line.Head d) w)))) w e in
-    let (start, head, last) = bind-is (after_line pt (Line.Head d)) (λ begun. bind (spelled begun parts) (λ w. Some (rule.headed (Line.Head d) w))) w more in
-    let (rest, told, end) = bind-is (spelled start parts) (λ w. Some (rule.headed (Line.Head d) w)) w last in
-    let f : moved pt (Line.Head d) pt.kernel ≡ start = cc in
-    let g : rule.headed (Line.Head d) rest ≡ w = cc in
+group_alone b pt d w y h = by_group (λ v. AllAlone y pt v.lines) b pt d w (λ ps rest is said. (
     let begun = moved pt (Line.Head d) pt.kernel in
-    let k : AllAlone y begun rest.lines = parts_alone y parts begun rest (apart_some pt.kernel y (rule.outcome b pt d) parts is h) (ap (λ p. spelled p parts) f ∙ told) in
-    subst (λ (x : Spelled). AllAlone y pt x.lines) g (tt, λ next n. let m : begun ≡ next = cc in subst (λ (q : Point). AllAlone y q rest.lines) m k)
+    let k : AllAlone y begun rest.lines = parts_alone y ps begun rest (apart_some pt.kernel y (rule.outcome b pt d) ps is h) said in
+    (tt, λ next n. let m : begun ≡ next = cc in subst (λ (q : Point). AllAlone y q rest.lines) m k)
+    ))
 
 outcome_apart : (b : Boot) (pt : Point) (d : Step) (y : Pid) → Rooted pt → ((m : ℕ) → pid_of m (first_number + pt.kernel.made m) ≢ y) → ((m : ℕ) (p : Pid) → pt.view.known m p ≡ Here → p ≢ y) → ApartOf pt.kernel y (rule.outcome b pt d)
 outcome_apart b pt (Step.Turn m) y h child off = turns_apart y b pt m (pt.view.inbox m) (child m) (off m) (h.served m)
@@ -116,62 +104,15 @@ gone_over s t id m is there =
     ended_is (Some (Ended z)) y e = let f : z ≡ y = cc in ap (λ (v : Why). Some (Ended v)) f
     ended_is _ y e = cc
 
-took_by : (s t : OneKernel) (id : MsgId) (m : PlainMessage) (c d : Bool) → pid_eq m.to switchboard ≡ c → pid_eq m.to manager ≡ d
-    → (if c then bind (board.takes s.switchboard m m.what) (λ t. Some (service.switchboard_took s id t)) else if d then bind (manage.takes s.manager s.machines (length s.images) m m.what) (λ t. Some (service.manager_took s id t)) else None) ≡ Some t → is_fixed m.to ≡ true
-took_by s t id m true d x y e = or_right (m.to.num == 0) (is_server m.to) (ap (λ (v : Bool). v || pid_eq m.to manager) x)
-  where
-    or_right : (u v : Bool) → v ≡ true → (u || v) ≡ true
-    or_right true v e = refl
-    or_right false v e = e
-took_by s t id m false true x y e = or_right (m.to.num == 0) (is_server m.to) (ap (λ (v : Bool). v || pid_eq m.to manager) x ∙ y)
-  where
-    or_right : (u v : Bool) → v ≡ true → (u || v) ≡ true
-    or_right true v e = refl
-    or_right false v e = e
-took_by s t id m false false x y e = cc
-
-took_fixed : (s t : OneKernel) (id : MsgId) (m : PlainMessage) → kernel.step s (Label.Took id) ≡ Some t → s.bag id ≡ Some m → is_fixed m.to ≡ true
-took_fixed s t id m is there =
-    let (n, at, rest) = bind-is (s.bag id) (service.takes s id) t is in
-    ap (λ (x : PlainMessage). is_fixed x.to) (sym (message_is s id n m at there)) ∙ took_by s t id n (pid_eq n.to switchboard) (pid_eq n.to manager) refl refl rest
-
-kernel_fixed : (s : OneKernel) (q : Pid) (c : Bool) → (service.is_kernel s q && c) ≡ true → is_fixed q ≡ true
-kernel_fixed s q c e = let f : (q.num == 0) ≡ true = left (q.num == 0) _ (left (service.is_kernel s q) c e) in ap (λ (v : Bool). v || is_server q) f
-  where
-    left : (u v : Bool) → (u && v) ≡ true → u ≡ true
-    left true v e = refl
-    left false v e = absurd (false≢true e)
-
-creates_fixed : (s t : OneKernel) (id : MsgId) (m : PlainMessage) (child : Pid) (w : PlainWhat) → service.creates s id m child w ≡ Some t → is_fixed m.to ≡ true
-creates_fixed s t id m child (PlainWhat.Create image links) e =
-    let (x, found, rest) = bind-is (slice_get s.images image) (service.creates_of s id m child links) t e in
-    kernel_fixed s m.to _ (when-is _ _ t rest).0
-creates_fixed s t id m child w e = cc
-
-and_true : (c : Bool) → c ≡ true → (c && true) ≡ true
-and_true true e = refl
-and_true false e = e
-
-no_room_fixed : (s t : OneKernel) (id : MsgId) (m : PlainMessage) (w : PlainWhat) → service.has_no_room s id m w ≡ Some t → is_fixed m.to ≡ true
-no_room_fixed s t id m (PlainWhat.Create image links) e = kernel_fixed s m.to true (and_true (service.is_kernel s m.to) (when-is (service.is_kernel s m.to) _ t e).0)
-no_room_fixed s t id m w e = cc
-
 fixed_off : (y q : Pid) → is_fixed y ≡ false → is_fixed q ≡ true → q ≢ y
 fixed_off y q free fixed e = false≢true (sym free ∙ ap is_fixed (sym e) ∙ fixed)
 
 pub anothers_is : (s t : OneKernel) (y : Pid) (l : Label) → is_fixed y ≡ false → ((z : Why) → s.processes y ≡ Some (Ended z) → ⊥) → IsOthers s y l → kernel.step s l ≡ Some t → IsAnothers s y l
 anothers_is s t y (Label.Dropped id) free lives h e = λ m there to. let (z, over) = dropped_over s t id m e there in lives z (ap s.processes (sym to) ∙ over)
 anothers_is s t y (Label.Gone id) free lives h e = λ m there to. let (z, over) = gone_over s t id m e there in lives z (ap s.processes (sym to) ∙ over)
-anothers_is s t y (Label.Took id) free lives h e = λ m there. fixed_off y m.to free (took_fixed s t id m e there)
-anothers_is s t y (Label.Created id q) free lives h e = (
-  h,
-  λ m there.
-      let (n, at, rest) = bind-is (s.bag id) (λ n. service.creates s id n q n.what) t e in
-      fixed_off y m.to free (ap (λ (x : PlainMessage). is_fixed x.to) (sym (message_is s id n m at there)) ∙ creates_fixed s t id n q n.what rest),
-)
-anothers_is s t y (Label.NoSpace id a b) free lives h e = λ m there.
-    let (n, at, rest) = bind-is (s.bag id) (λ n. service.has_no_room s id n n.what) t e in
-    fixed_off y m.to free (ap (λ (x : PlainMessage). is_fixed x.to) (sym (message_is s id n m at there)) ∙ no_room_fixed s t id n n.what rest)
+anothers_is s t y (Label.Took id) free lives h e = λ m there. fixed_off y m.to free (took_for s t id e m there)
+anothers_is s t y (Label.Created id q) free lives h e = (h, λ m there. fixed_off y m.to free (created_for s t id q e m there))
+anothers_is s t y (Label.NoSpace id a b) free lives h e = λ m there. fixed_off y m.to free (no_space_for s t id a b e m there)
 anothers_is s t y _ free lives h e = h
 
 pub anothers_if : (s t : OneKernel) (y : Pid) (o : Option Label) → is_fixed y ≡ false → ((z : Why) → s.processes y ≡ Some (Ended z) → ⊥) → Spares s y o → kernel_after s o ≡ Some t → IsAnothersIf s y o

@@ -1,9 +1,7 @@
 -- A group that marks a process says no label.
-use Rattle.dm_movelaws.proofs.Names.{◌≡◌, ◌⊎◌, ℕ, ◌==◌, Bool, true, false, List, [], ◌∷◌, ◌++◌, length, refl, ap, ◌∙◌, sym, subst, inl, inr, ⊤, ◌/◌, if◌then◌else◌, slice_get, Option, None, Some, Pid, pid_eq, MsgId, MessageKind, Stage}
-use Rattle.dm_movelaws.proofs.Names.{plain_kind, PlainMessage, Boot, switchboard, manager, bind, PlainProcess, bind-is, Step, Line, Receiver, Addresses, child_number, to_kernel, sends_on, accepts, takes_chunk, takes_block, leaves}
-use Rattle.dm_movelaws.proofs.Names.{kernel_told, chunks_of, pieces_of, process_told, server_told, migrates, migrates_child, Part, Says, Routes, Again, Owns, Transmits, Spelled, lines_of, puts, goes_out, packet_line, behind, spelled, Point}
-use Rattle.dm_movelaws.proofs.Names.{label_of, after_line, after, group_of, Told, About, Of, Known, Frozen, own_id, arrives_net, resends_net, marks, by_migrates, IsHeardLine, kernel_kept}
-use Rattle.dm_onekernel.specs.Step as kernel
+use Rattle.dm_movelaws.proofs.Names.{◌≡◌, ◌⊎◌, ℕ, ◌==◌, Bool, true, false, List, [], ◌∷◌, ◌++◌, refl, ◌∙◌, sym, subst, inl, inr, ⊤, if◌then◌else◌, Option, None, Some, Pid, pid_eq, MsgId, MessageKind, plain_kind, Boot, switchboard, manager}
+use Rattle.dm_movelaws.proofs.Names.{bind-is, Step, Line, Receiver, process_told, server_told, migrates, Part, Says, Routes, Again, Owns, Transmits, Spelled, lines_of, puts, goes_out, packet_line, spelled, Point, label_of, group_of, Told}
+use Rattle.dm_movelaws.proofs.Names.{About, Known, own_id, marks, by_migrates, IsHeardLine, kernel_kept, by_parts, by_group, by_outcome, moved}
 use Rattle.dm_rule.specs.Rule as rule
 use Rattle.dm_movelaws.proofs.Stages.Marks.{marks_of, spelled_marks}
 use Rattle.dm_movelaws.proofs.Stages.Lines.{AllMild, mild_marks, net_marks}
@@ -23,9 +21,6 @@ QuietPart _ = ⊤
 abbrev QuietParts : List Part → Type 0
 QuietParts [] = ⊤
 QuietParts (p ∷ ps) = QuietPart p × QuietParts ps
-
-given : (qs ps : List Part) → QuietParts qs → Some qs ≡ Some ps → QuietParts ps
-given qs ps h e = let f : qs ≡ ps = cc in subst QuietParts f h
 
 -- what kernels tell each other of a process
 quiet_line : (l : Line) → IsHeardLine l → label_of l ≡ None
@@ -58,29 +53,18 @@ hears_or : (p : Pid) (b : Boot) (o : Point) (m : ℕ) (i : MsgId) (q : Option To
 hears_or p b o m i None ps e = cc
 hears_or p b o m i (Some t) ps e = hears_by p b o m i t (t.receiver.num == 0) (pid_eq t.receiver switchboard) (pid_eq t.receiver manager) ps e
 
-comes_or : (p : Pid) (b : Boot) (o : Point) (m : ℕ) (i : MsgId) (q : Option PlainMessage) (ps : List Part) → rule.comes_to b o m i q ≡ Some ps → OrQuiet p ps
-comes_or p b o m i None ps e = hears_or p b o m i (o.view.told i) ps e
-comes_or p b o m i (Some msg) ps e = mild_or p (Some i) ps (handles_mild p b o m i msg ps e)
-
-turns_or : (p : Pid) (b : Boot) (o : Point) (m : ℕ) (inbox : List MsgId) (ps : List Part) → rule.turns b o m inbox ≡ Some ps → OrQuiet p ps
-turns_or p b o m [] ps e = mild_or p None ps (round_mild p None b o m (rule.first_runnable o.kernel (o.view.queue m) (o.view.ring m)) ps e)
-turns_or p b o m (i ∷ is) ps e = comes_or p b o m i (o.kernel.bag i) ps e
-
 migrates_quiet : (o : Point) (q : Pid) → QuietParts (migrates o q)
 migrates_quiet o q = by_migrates QuietParts o q (refl, tt) (refl, tt) (λ n off is. (tt, tt))
 
-net_or : (p : Pid) (qs ps : List Part) → marks_of p qs ≡ [] → Some qs ≡ Some ps → OrQuiet p ps
-net_or p qs ps none e = let f : qs ≡ ps = cc in inl (ap (marks_of p) (sym f) ∙ none)
-
 outcome_or : (p : Pid) (b : Boot) (o : Point) (d : Step) (ps : List Part) → rule.outcome b o d ≡ Some ps → OrQuiet p ps
-outcome_or p b o (Step.Turn m) ps e = turns_or p b o m (o.view.inbox m) ps e
-outcome_or p b o (Step.Tick m) ps e =
-    let qs = Says (Line.Resent m (rule.outstanding o.view m o.kernel.machines)) ∷ rule.resends o.view m o.kernel.machines in
-    net_or p qs ps (net_marks p qs (tt, resends_net o.view m o.kernel.machines)) e
-outcome_or p b o (Step.Deliver a c k) ps e =
-    let qs = rule.arrives a c (o.view.pair a c) (o.view.pair c a) (slice_get (o.view.pair a c).wire k) in
-    net_or p qs ps (net_marks p qs (arrives_net a c (o.view.pair a c) (o.view.pair c a) (slice_get (o.view.pair a c).wire k))) e
-outcome_or p b o (Step.Migrate q m) ps e = inr (given (migrates o q) ps (migrates_quiet o q) e)
+outcome_or p b o d ps = by_outcome (λ x. OrQuiet p) b o d ps (record {
+  round = λ m xs box e. mild_or p None xs (round_mild p None b o m (rule.first_runnable o.kernel (o.view.queue m) (o.view.ring m)) xs e);
+  handles = λ m i is msg xs box there e. mild_or p (Some i) xs (handles_mild p b o m i msg xs e);
+  hears = λ m i is xs box none e. hears_or p b o m i (o.view.told i) xs e;
+  ticks = λ m xs net. inl (net_marks p xs net);
+  delivers = λ a c k xs net. inl (net_marks p xs net);
+  asks = λ q m. inr (migrates_quiet o q);
+})
 
 -- the lines of parts
 quiet_append : (xs ys : List Line) → AllQuiet xs → AllQuiet ys → AllQuiet (xs ++ ys)
@@ -109,21 +93,10 @@ part_quiet pt (Owns k q b) ls h is = puts_quiet pt b (own_id pt.view) k q ls is
 part_quiet pt (Transmits a b l) ls h is = let f : packet_line pt.view a b l ∷ [] ≡ ls = cc in subst AllQuiet f (refl, tt)
 
 parts_quiet : (ps : List Part) (pt : Point) (w : Spelled) → QuietParts ps → spelled pt ps ≡ Some w → AllQuiet w.lines
-parts_quiet [] pt w h is = let f : record { lines = []; point = pt } ≡ w = cc in subst (λ (x : Spelled). AllQuiet x.lines) f tt
-parts_quiet (p ∷ ps) pt w h is =
-    let (ls, lines, rest) = bind-is (lines_of pt p) (λ (xs : List Line). bind (after pt xs) (λ (q : Point). bind (spelled q ps) (λ (z : Spelled). Some (behind xs z)))) w is in
-    let (next, leads, last) = bind-is (after pt ls) (λ (q : Point). bind (spelled q ps) (λ (z : Spelled). Some (behind ls z))) w rest in
-    let (z, more, end) = bind-is (spelled next ps) (λ (y : Spelled). Some (behind ls y)) w last in
-    let f : behind ls z ≡ w = cc in
-    subst (λ (x : Spelled). AllQuiet x.lines) f (quiet_append ls z.lines (part_quiet pt p ls h.0 lines) (parts_quiet ps next z h.1 more))
+parts_quiet qs q w h is = by_parts (λ ps pt v. QuietParts ps → AllQuiet v.lines) (λ pt h. tt) (λ p ps pt next ls z lines leads rest h. quiet_append ls z.lines (part_quiet pt p ls h.0 lines) (rest h.1)) qs q w is h
 
 pub group_or : (p : Pid) (b : Boot) (pt : Point) (d : Step) (w : Spelled) → group_of b pt d ≡ Some w → (marks p w.lines ≡ []) ⊎ AllQuiet w.lines
-group_or p b pt d w e =
-    let (parts, is, more) = bind-is (rule.outcome b pt d) (λ parts. bind (after_line pt (Line.Head d)) (λ begun. bind (spelled begun parts) (λ w. Some (rule.headed (Line.Head d) w)))) w e in
-    let (start, head, last) = bind-is (after_line pt (Line.Head d)) (λ begun. bind (spelled begun parts) (λ w. Some (rule.headed (Line.Head d) w))) w more in
-    let (rest, told, end) = bind-is (spelled start parts) (λ w. Some (rule.headed (Line.Head d) w)) w last in
-    let g : rule.headed (Line.Head d) rest ≡ w = cc in
-    elim (outcome_or p b pt d parts is) [
-      | inl none ↦ inl (ap (λ (x : Spelled). marks p x.lines) (sym g) ∙ spelled_marks p parts start rest told ∙ none)
-      | inr quiet ↦ inr (subst (λ (x : Spelled). AllQuiet x.lines) g (refl, parts_quiet parts start rest quiet told))
-    ]
+group_or p b pt d w = by_group (λ v. (marks p v.lines ≡ []) ⊎ AllQuiet v.lines) b pt d w (λ ps rest is said. elim (outcome_or p b pt d ps is) [
+  | inl none ↦ inl (spelled_marks p ps (moved pt (Line.Head d) pt.kernel) rest said ∙ none)
+  | inr quiet ↦ inr (refl, parts_quiet ps (moved pt (Line.Head d) pt.kernel) rest quiet said)
+])

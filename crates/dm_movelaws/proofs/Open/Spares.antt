@@ -2,10 +2,9 @@
 use Rattle.dm_movelaws.proofs.Names.{◌≡◌, ◌≢◌, ℕ, ◌==◌, ◌&&◌, Bool, true, false, List, [], ◌∷◌, ◌++◌, is_some, refl, ap, ◌∙◌, sym, Option, Some, false≢true, Pid, MsgId, MessageKind, PlainMessage, Boot, Label, Why, IsValid, OneKernel, bind}
 use Rattle.dm_movelaws.proofs.Names.{start, replay, ended_stays, bind-is, Step, Line, Spelled, Phase, Moves, is_between, is_restart, is_early, comes, IsIn, Point, first_point, label_of, labels, kernel_after, moved, after_line, after}
 use Rattle.dm_movelaws.proofs.Names.{group_of, Known, Unknown, Frozen, Incoming, Forward, moving_stays_always, is_server, agrees, LeadsBy, after_replay, Run, run_always, mark_while, IsSpared, OpenSpares, apart_is, destination_knows}
-use Rattle.dm_movelaws.proofs.Names.{server_leaves, ended-is}
+use Rattle.dm_movelaws.proofs.Names.{server_leaves, ended-is, leaves}
 use Rattle.dm_onekernel.specs.Kernel.{Ended}
 use Rattle.dm_onekernel.specs.Step as kernel
-use Rattle.dm_rule.specs.Phases.{leaves}
 use Rattle.dm_movelaws.proofs.After.{after-append, group_after}
 use Rattle.dm_movelaws.proofs.Open.Moves.{leads_of, run_after, open_moves}
 use Rattle.dm_movelaws.proofs.Stages.Spares.{restart_late}

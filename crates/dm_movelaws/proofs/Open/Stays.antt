@@ -1,8 +1,7 @@
 -- Each line between a process's step 1 and its step 8 or `stays` is another's, and leaves its plain value.
 use Rattle.dm_movelaws.proofs.Names.{◌≡◌, ℕ, true, false, List, [], ◌∷◌, ◌++◌, is_some, refl, ap, ◌∙◌, sym, subst, inl, inr, Option, None, Some, false≢true, Pid, MsgId, MessageKind, Boot, Label, IsValid, OneKernel, bind, bind-is, Step}
 use Rattle.dm_movelaws.proofs.Names.{Line, Spelled, Phase, Moves, IsIn, Point, label_of, kernel_after, moved, after_line, after, first_point, group_of, View, Known, Frozen, Forward, first_view, rooted, is_fixed, LeadsBy, KnownIs, Both}
-use Rattle.dm_movelaws.proofs.Names.{both_start, both_group, after_replay, Run, run_start, run_group, IsAnothersIf, OpenStays, Mark, marks}
-use Rattle.dm_rule.specs.Phases.{leaves}
+use Rattle.dm_movelaws.proofs.Names.{both_start, both_group, after_replay, Run, run_start, run_group, IsAnothersIf, OpenStays, Mark, marks, leaves}
 use Rattle.dm_movelaws.proofs.After.{after-append, group_after}
 use Rattle.dm_movelaws.proofs.Open.Apart.{AllAlone, moving_alone, kernel_same, alone_rest, anothers_if}
 use Rattle.dm_movelaws.proofs.Open.Moves.{open_is, none_due, start_mark}

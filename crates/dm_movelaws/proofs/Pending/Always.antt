@@ -1,6 +1,6 @@
 -- Wherever the rule leads, each pending request of the manager's has one message under its number.
 use Rattle.dm_movelaws.proofs.Names.{◌≡◌, ◌⊎◌, ℕ, ◌+◌, ◌*◌, ◌<◌, ◌≤◌, ◌==◌, ◌&&◌, Bool, true, false, List, [], ◌∷◌, ◌++◌, length, is_some, refl, ap, ◌∙◌, sym, subst, inl, inr, arith, if◌then◌else◌, nat_lt, Option, None, Some, cases_Bool}
-use Rattle.dm_movelaws.proofs.Names.{false≢true, nat_tests, Pid, pid_eq, PlainLink, MsgId, MessageKind, id_of, bool_eq, plain_kind, PlainMessage, PlainWhat, switchboard, manager, Boot, Label, bind, Manager, Pending, OneKernel, with_sent}
+use Rattle.dm_movelaws.proofs.Names.{false≢true, nat_tests, Pid, pid_eq, PlainLink, MsgId, MessageKind, id_of, bool_eq, plain_kind, PlainMessage, PlainWhat, switchboard, manager, Boot, Label, Manager, Pending, OneKernel, with_sent}
 use Rattle.dm_movelaws.proofs.Names.{without_message, replay, entry, reception, in_bag, after_step, ServerSends, board_takes, manager_takes, Sound, bind-is, Step, ascends, Leads, Point, first_point, labels, View, still_pending, IsPending}
 use Rattle.dm_movelaws.proofs.Names.{WhatFits, KernelFits, based_start, based_group, based_always, fits_step, group_replay, Based, makes, is_pending, HasOne, IsOfPending, PendingHasOne}
 use Rattle.dm_onekernel.specs.Manager as manage
@@ -20,12 +20,9 @@ board_put : (u : OneKernel) (o : Option PlainMessage) (n after : ℕ) → Server
 board_put u None n after sends h = h
 board_put u (Some x) n after sends h = put_ones u x (λ k p. from_other x.id k (ap (λ (i : MsgId). pid_eq i.from manager) sends.0)) h
 
-board_ones : (s t : OneKernel) (id : MsgId) (m : PlainMessage) (o : Option board.Took) → board.takes s.switchboard m m.what ≡ o → bind o (λ k. Some (service.switchboard_took s id k)) ≡ Some t → s.bag id ≡ Some m → Ones s → Ones t
-board_ones s t id m None is last there h = cc
-board_ones s t id m (Some k) is last there h =
-    let f : service.switchboard_took s id k ≡ t = cc in
-    subst Ones f
-    (board_put (record (without_message s id) { switchboard = k.switchboard }) k.answer s.switchboard.sent k.switchboard.sent (board_takes s.switchboard m m.what k is).2 (out_ones s id m there (board_neither s.switchboard m m.what k refl is) h))
+board_ones : (s : OneKernel) (id : MsgId) (m : PlainMessage) (k : board.Took) → s.bag id ≡ Some m → board.takes s.switchboard m m.what ≡ Some k → Ones s → Ones (service.switchboard_took s id k)
+board_ones s id m k there is h =
+    board_put (record (without_message s id) { switchboard = k.switchboard }) k.answer s.switchboard.sent k.switchboard.sent (board_takes s.switchboard m m.what k is).2 (out_ones s id m there (board_neither s.switchboard m m.what k refl is) h)
 
 -- the manager takes a user message: its requests stay, or there is one more, which it sends
 record Asked (g : Manager) (k : manage.Took) : Type 0 where
@@ -177,26 +174,12 @@ manager_kind r e s id m k PlainWhat.NoRoom w is there fits sends up sound h =
     answered_took s id m k (sound.entered.named id m there) fits.1 (no_room_pending s.manager m.id.n (manage.pending_numbered m.id.n s.manager.pending) k is) sends up h
 manager_kind r e s id m k v w is there fits sends up sound h = cc
 
-manager_ones : (r e : MsgId → ℕ) (s t : OneKernel) (id : MsgId) (m : PlainMessage) (o : Option manage.Took) → manage.takes s.manager s.machines (length s.images) m m.what ≡ o → bind o (λ k. Some (service.manager_took s id k)) ≡ Some t → s.bag id ≡ Some m → KernelFits s
-    → ascends 0 s.manager.pending s.manager.sent ≡ true → Sound r e s → Ones s → Ones t
-manager_ones r e s t id m None is last there fits up sound h = cc
-manager_ones r e s t id m (Some k) is last there fits up sound h =
-    let f : service.manager_took s id k ≡ t = cc in
-    subst Ones f (manager_kind r e s id m k m.what refl is there (fits.messages id m there) (manager_takes s.manager s.machines (length s.images) m m.what k is).2.sends up sound h)
-
--- a server takes a message
-took_if : (r e : MsgId → ℕ) (s t : OneKernel) (id : MsgId) (m : PlainMessage) (c d : Bool)
-    → (if c then bind (board.takes s.switchboard m m.what) (λ k. Some (service.switchboard_took s id k)) else if d then bind (manage.takes s.manager s.machines (length s.images) m m.what) (λ k. Some (service.manager_took s id k)) else None) ≡ Some t
-    → s.bag id ≡ Some m → KernelFits s → ascends 0 s.manager.pending s.manager.sent ≡ true → Sound r e s → Ones s → Ones t
-took_if r e s t id m true d is there fits up sound h = board_ones s t id m (board.takes s.switchboard m m.what) refl is there h
-took_if r e s t id m false true is there fits up sound h = manager_ones r e s t id m (manage.takes s.manager s.machines (length s.images) m m.what) refl is there fits up sound h
-took_if r e s t id m false false is there fits up sound h = cc
-
 step_ones : (r e : MsgId → ℕ) (s t : OneKernel) (l : Label) → kernel.step s l ≡ Some t → KernelFits s → ascends 0 s.manager.pending s.manager.sent ≡ true → Sound r e s → Ones s → Ones t
-step_ones r e s t (Label.Took id) is fits up sound h =
-    let (m, there, rest) = bind-is (s.bag id) (service.takes s id) t is in
-    took_if r e s t id m (pid_eq m.to switchboard) (pid_eq m.to manager) rest there fits up sound h
-step_ones r e s t l is fits up sound h = label_ones r e s t l refl is sound h
+step_ones r e s t l is fits up sound h =
+    label_ones r e s t l sound h (record {
+      board = λ id m k there took. board_ones s id m k there took h;
+      manager = λ id m k there took. manager_kind r e s id m k m.what refl took there (fits.messages id m there) (manager_takes s.manager s.machines (length s.images) m m.what k took).2.sends up sound h;
+    }) is
 
 -- a run
 replay_ones : (ls : List Label) (r e : MsgId → ℕ) (s t : OneKernel) (v : View) → replay s ls ≡ Some t → KernelFits s → ascends 0 s.manager.pending s.manager.sent ≡ true → Sound r e s → Ones s → Ones t

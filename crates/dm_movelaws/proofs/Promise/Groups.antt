@@ -1,8 +1,7 @@
 -- Each group leaves an update that is under way standing somewhere, or says that it was handled, and nothing else.
-use Rattle.dm_movelaws.proofs.Names.{◌≡◌, ◌⊎◌, ℕ, ◌≤◌, Bool, true, false, List, [], ◌∷◌, ◌==◌, ◌&&◌, length, refl, ap, ◌∙◌, sym, subst, inl, inr, if◌then◌else◌, slice_get, Option, None, Some, cases_Bool, false≢true, Pid, Place, pid_eq}
-use Rattle.dm_movelaws.proofs.Names.{MsgId, MessageKind, id_eq, plain_kind, PlainMessage, PlainWhat, Boot, switchboard, manager, bind, id_eq-is, bind-is, Step, Line, View, Pair, marked, Told, is_kernels, after_head, Addresses, child_number}
-use Rattle.dm_movelaws.proofs.Names.{Point, after_line, moved, Part, Says, Routes, Again, Owns, Transmits, Spelled, packet_line, spelled, standing, migrates, migrates_child, group_of, letters, not_kernels, eq_is, not_true, parts, IsNet}
-use Rattle.dm_movelaws.proofs.Names.{arrives_net, resends_net, fits, under_way, kernels_by, Phased, set_is, set_other, PairsFit, Sane, begun, begun_sane, said_by, update_of, by_migrates}
+use Rattle.dm_movelaws.proofs.Names.{◌≡◌, ◌⊎◌, ℕ, ◌≤◌, Bool, true, false, List, [], ◌∷◌, ◌==◌, ◌&&◌, length, refl, ap, ◌∙◌, sym, subst, inl, inr, Option, None, Some, cases_Bool, false≢true, Pid, Place, MsgId, MessageKind, id_eq, plain_kind}
+use Rattle.dm_movelaws.proofs.Names.{PlainMessage, PlainWhat, Boot, id_eq-is, Step, Line, View, Pair, marked, Told, is_kernels, after_head, Point, Part, Says, Transmits, Spelled, packet_line, spelled, standing, migrates, group_of, letters}
+use Rattle.dm_movelaws.proofs.Names.{not_kernels, eq_is, not_true, parts, IsNet, fits, under_way, kernels_by, Phased, set_is, set_other, PairsFit, Sane, begun, begun_sane, said_by, update_of, by_migrates, by_outcome, group_is}
 use Rattle.dm_rule.specs.Rule as rule
 use Rattle.dm_movelaws.proofs.Promise.Kept.{told_stays}
 use Rattle.dm_movelaws.proofs.Promise.Spots.{Stands}
@@ -10,6 +9,7 @@ use Rattle.dm_movelaws.proofs.Promise.Stands.{packet_stands, head_stands, net_st
 use Rattle.dm_movelaws.proofs.Promise.Parts.{all_loose, GoesOf, next_of}
 use Rattle.dm_movelaws.proofs.Promise.Rows.{Waits, loose_row, round_goes, handles_goes}
 use Rattle.dm_movelaws.proofs.Promise.Told.{hears_goes, hears_this}
+use Rattle.dm_movelaws.proofs.Promise.Parts.{Goes}
 
 -- no message of the bag is an update
 no_update : (k : PlainWhat) → plain_kind k ≡ MessageKind.Update → ⊥
@@ -25,27 +25,16 @@ update_own pt j t None there update told h phased =
     kernels_by s.own pt.kernel.bag j q (is_kernels j) refl there way
 
 -- a turn
-turned_by : (b : Boot) (o : Point) (m : ℕ) (j : MsgId) (p q : Pid) (place : Place) (i : MsgId) (is : List MsgId) (c : Bool) → id_eq i j ≡ c → o.view.inbox m ≡ i ∷ is → Waits j (update_of p q place) (begun o (Step.Turn m)) → GoesOf j (begun o (Step.Turn m)) (rule.hears b o m i (o.view.told i))
-turned_by b o m j p q place i is true e front h =
+turned_by : (b : Boot) (o : Point) (m : ℕ) (j : MsgId) (p q : Pid) (place : Place) (i : MsgId) (is : List MsgId) (ps : List Part) (c : Bool) → id_eq i j ≡ c → o.view.inbox m ≡ i ∷ is → Waits j (update_of p q place) (begun o (Step.Turn m)) → rule.hears b o m i (o.view.told i) ≡ Some ps → Goes j (begun o (Step.Turn m)) ps
+turned_by b o m j p q place i is ps true e front h said =
     let same : i ≡ j = id_eq-is i j e in
     let pt = begun o (Step.Turn m) in
-    subst (λ (x : MsgId). GoesOf j pt (rule.hears b o m x (o.view.told x))) (sym same)
-    (subst (λ (t : Option Told). GoesOf j pt (rule.hears b o m j t)) (sym h.base.told) (hears_this j pt b o m p q place h))
-turned_by b o m j p q place i is false e front h =
-    hears_goes j (update_of p q place) (begun o (Step.Turn m)) b o m i (o.view.told i) (λ r. refl) h (record { front = record { first = i; rest = is; is = front; apart = e }; apart = e })
+    subst (GoesOf j pt) (ap (rule.hears b o m j) (sym h.base.told) ∙ ap (λ (x : MsgId). rule.hears b o m x (o.view.told x)) (sym same) ∙ said) (hears_this j pt b o m p q place h)
+turned_by b o m j p q place i is ps false e front h said =
+    hears_goes j (update_of p q place) (begun o (Step.Turn m)) b o m i (o.view.told i) ps (λ r. refl) h (record { front = record { first = i; rest = is; is = front; apart = e }; apart = e }) said
 
 bag_apart : (pt : Point) (i j : MsgId) (x : PlainMessage) → Sane pt → pt.kernel.bag i ≡ Some x → is_kernels j ≡ true → id_eq i j ≡ false
 bag_apart pt i j x h there own = not_true (id_eq i j) (λ f. false≢true (sym (not_kernels h.r h.e pt.kernel i x there h.sound) ∙ ap is_kernels (id_eq-is i j f) ∙ own))
-
-comes_goes : (b : Boot) (o : Point) (m : ℕ) (j : MsgId) (p q : Pid) (place : Place) (i : MsgId) (is : List MsgId) (x : Option PlainMessage) → o.kernel.bag i ≡ x → o.view.inbox m ≡ i ∷ is → Waits j (update_of p q place) (begun o (Step.Turn m)) → GoesOf j (begun o (Step.Turn m)) (rule.comes_to b o m i x)
-comes_goes b o m j p q place i is None there front h = turned_by b o m j p q place i is (id_eq i j) refl front h
-comes_goes b o m j p q place i is (Some msg) there front h =
-    let pt = begun o (Step.Turn m) in
-    handles_goes j (update_of p q place) pt b o m i msg h (bag_apart pt i j msg h.base.sane there h.base.own)
-
-turns_goes : (b : Boot) (o : Point) (m : ℕ) (j : MsgId) (p q : Pid) (place : Place) (inbox : List MsgId) → o.view.inbox m ≡ inbox → Waits j (update_of p q place) (begun o (Step.Turn m)) → GoesOf j (begun o (Step.Turn m)) (rule.turns b o m inbox)
-turns_goes b o m j p q place [] front h = round_goes j (update_of p q place) (begun o (Step.Turn m)) b o m (rule.first_runnable o.kernel (o.view.queue m) (o.view.ring m)) h
-turns_goes b o m j p q place (i ∷ is) front h = comes_goes b o m j p q place i is (o.kernel.bag i) refl front h
 
 -- packets and what they bring
 net_goes : (ps : List Part) (j : MsgId) (pt : Point) (w : Spelled) → IsNet ps → Stands pt.view j → spelled pt ps ≡ Some w → Stands w.point.view j
@@ -64,13 +53,17 @@ net_goes _ j pt w net h is = absurd net.0
 migrates_loose : (o : Point) (p : Pid) → all_loose (migrates o p) ≡ true
 migrates_loose o p = by_migrates (λ (ps : List Part). all_loose ps ≡ true) o p refl refl (λ n off is. refl)
 
-outcome_goes : (b : Boot) (o : Point) (d : Step) (j : MsgId) (p q : Pid) (place : Place) → Waits j (update_of p q place) (begun o d) → GoesOf j (begun o d) (rule.outcome b o d)
-outcome_goes b o (Step.Turn m) j p q place h = turns_goes b o m j p q place (o.view.inbox m) refl h
-outcome_goes b o (Step.Tick m) j p q place h = λ w is.
-    inl (net_goes (Says (Line.Resent m (rule.outstanding o.view m o.kernel.machines)) ∷ rule.resends o.view m o.kernel.machines) j (begun o (Step.Tick m)) w (tt, resends_net o.view m o.kernel.machines) h.stands is)
-outcome_goes b o (Step.Deliver a c k) j p q place h = λ w is.
-    inl (net_goes (rule.arrives a c (o.view.pair a c) (o.view.pair c a) (slice_get (o.view.pair a c).wire k)) j (begun o (Step.Deliver a c k)) w (arrives_net a c (o.view.pair a c) (o.view.pair c a) (slice_get (o.view.pair a c).wire k)) h.stands is)
-outcome_goes b o (Step.Migrate r m) j p q place h = loose_row j (update_of p q place) (begun o (Step.Migrate r m)) (migrates o r) h (migrates_loose o r)
+outcome_goes : (b : Boot) (o : Point) (d : Step) (ps : List Part) (j : MsgId) (p q : Pid) (place : Place) → ((e : Step) → Waits j (update_of p q place) (begun o e)) → rule.outcome b o d ≡ Some ps → Goes j (begun o d) ps
+outcome_goes b o d ps j p q place h = by_outcome (λ e. Goes j (begun o e)) b o d ps (record {
+  round = λ m xs box e. round_goes j (update_of p q place) (begun o (Step.Turn m)) b o m (rule.first_runnable o.kernel (o.view.queue m) (o.view.ring m)) xs (h (Step.Turn m)) e;
+  handles = λ m i is msg xs box there e.
+      (let w = h (Step.Turn m) in
+      handles_goes j (update_of p q place) (begun o (Step.Turn m)) b o m i msg xs w (bag_apart (begun o (Step.Turn m)) i j msg w.base.sane there w.base.own) e);
+  hears = λ m i is xs box none e. turned_by b o m j p q place i is xs (id_eq i j) refl box (h (Step.Turn m)) e;
+  ticks = λ m xs net w is. inl (net_goes xs j (begun o (Step.Tick m)) w net (h (Step.Tick m)).stands is);
+  delivers = λ a c k xs net w is. inl (net_goes xs j (begun o (Step.Deliver a c k)) w net (h (Step.Deliver a c k)).stands is);
+  asks = λ r m. loose_row j (update_of p q place) (begun o (Step.Migrate r m)) (migrates o r) (h (Step.Migrate r m)) (migrates_loose o r);
+})
 
 -- a head leaves the streams as they are
 delivered_fits : (v : View) (a b k : ℕ) → PairsFit v → PairsFit (after_head v (Step.Deliver a b k))
@@ -99,29 +92,10 @@ waits_begun o d j t update told h phased = record {
   stands = head_stands o.view d j h;
 }
 
--- a group is its head and what is spelled behind it
-record Grouped (b : Boot) (o : Point) (d : Step) (w : Spelled) : Type 0 where
-  parts : List Part
-  is : rule.outcome b o d ≡ Some parts
-  rest : Spelled
-  said : spelled (begun o d) parts ≡ Some rest
-  lines : Line.Head d ∷ rest.lines ≡ w.lines
-  point : rest.point ≡ w.point
-
-grouped : (b : Boot) (o : Point) (d : Step) (w : Spelled) → group_of b o d ≡ Some w → Grouped b o d w
-grouped b o d w e =
-    let (parts, is, more) = bind-is (rule.outcome b o d) (λ parts. bind (after_line o (Line.Head d)) (λ begun. bind (spelled begun parts) (λ w. Some (rule.headed (Line.Head d) w)))) w e in
-    let (start, head, last) = bind-is (after_line o (Line.Head d)) (λ begun. bind (spelled begun parts) (λ w. Some (rule.headed (Line.Head d) w))) w more in
-    let (rest, told, end) = bind-is (spelled start parts) (λ w. Some (rule.headed (Line.Head d) w)) w last in
-    let f : moved o (Line.Head d) o.kernel ≡ start = cc in
-    let g : rule.headed (Line.Head d) rest ≡ w = cc in
-    record { parts = parts; is = is; rest = rest; said = ap (λ (x : Point). spelled x parts) f ∙ told; lines = ap (λ (x : Spelled). x.lines) g; point = ap (λ (x : Spelled). x.point) g }
-
 pub group_ends : (b : Boot) (o : Point) (d : Step) (w : Spelled) (j : MsgId) (p q : Pid) (place : Place) → group_of b o d ≡ Some w → Phased o → o.view.told j ≡ Some (update_of p q place) → Stands o.view j → Stands w.point.view j ⊎ ((n : ℕ) × (w.lines ≡ Line.Head d ∷ Line.Updated j n ∷ []))
 group_ends b o d w j p q place e phased told h =
-    let g = grouped b o d w e in
-    let go : GoesOf j (begun o d) (Some g.parts) = subst (λ (x : Option (List Part)). GoesOf j (begun o d) x) g.is (outcome_goes b o d j p q place (waits_begun o d j (update_of p q place) refl told h phased)) in
-    elim (go g.rest g.said) [
+    let g = group_is b o d w e in
+    elim (outcome_goes b o d g.parts j p q place (λ e. waits_begun o e j (update_of p q place) refl told h phased) g.is g.rest g.said) [
       | inl there ↦ inl (subst (λ (x : Point). Stands x.view j) g.point there)
-      | inr says ↦ let (n, is) = says in inr (n, sym g.lines ∙ ap (λ (ls : List Line). Line.Head d ∷ ls) is)
+      | inr says ↦ let (n, is) = says in inr (n, sym (ap (λ (x : Spelled). x.lines) g.whole) ∙ ap (λ (ls : List Line). Line.Head d ∷ ls) is)
     ]

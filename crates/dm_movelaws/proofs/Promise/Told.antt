@@ -1,33 +1,17 @@
 -- A turn that handles a kernel's own message leaves another standing; an update that it handles goes on, or that is said alone.
-use Rattle.dm_movelaws.proofs.Names.{◌≡◌, ◌⊎◌, ℕ, ◌≤◌, ◌==◌, Bool, true, false, List, [], ◌∷◌, ◌++◌, length, refl, ap, ◌∙◌, sym, subst, inl, inr, ◌/◌, if◌then◌else◌, Option, None, Some, Pid, Place, pid_eq, MsgId, MessageKind, Stage, id_eq}
-use Rattle.dm_movelaws.proofs.Names.{Boot, switchboard, manager, PlainProcess, Line, Told, About, Of, Known, Unknown, Here, Frozen, Forward, Ended, target_of, Point, Says, Again, Spelled, spelled, times, to_kernel, sends_on, accepts}
-use Rattle.dm_movelaws.proofs.Names.{takes_chunk, takes_block, gives_piece, leaves, kernel_told, chunks_of, pieces_of, here_told, ended_told, process_told, server_told, both_lists, said_by, update_of, last_point}
-use Rattle.dm_onekernel.specs.Step as kernel
+use Rattle.dm_movelaws.proofs.Names.{◌≡◌, ◌⊎◌, ℕ, ◌≤◌, ◌==◌, Bool, true, false, List, [], ◌∷◌, ◌++◌, length, refl, ap, ◌∙◌, sym, subst, inl, inr, if◌then◌else◌, Option, None, Some, Pid, Place, pid_eq, MsgId, MessageKind, Stage, id_eq, Boot}
+use Rattle.dm_movelaws.proofs.Names.{switchboard, manager, Line, Told, Known, Unknown, Here, Forward, Ended, Point, Part, Says, Again, Spelled, spelled, times, to_kernel, sends_on, process_told, server_told, both_lists, said_by, update_of}
+use Rattle.dm_movelaws.proofs.Names.{last_point, by_hears, behind_count, place_told}
 use Rattle.dm_rule.specs.Rule as rule
-use Rattle.dm_movelaws.proofs.Promise.Spots.{Stands, Front}
+use Rattle.dm_movelaws.proofs.Promise.Spots.{Stands, Front, Spares}
 use Rattle.dm_movelaws.proofs.Promise.Stands.{sent_stands, held_this}
 use Rattle.dm_movelaws.proofs.Promise.Parts.{Goes, GoesOf, base_says, again_this, next_of, loose_stands, sends_stand}
-use Rattle.dm_movelaws.proofs.Promise.Rows.{Waits, first_row, of_bind, of_if, forwards_goes}
+use Rattle.dm_movelaws.proofs.Promise.Rows.{Waits, first_row, forwards_goes}
 
 -- another is at the front of the acting machine's inbox
 pub record Other (j : MsgId) (pt : Point) (i : MsgId) : Type 0 where
   pub front : Front pt.view j
   pub apart : id_eq i j ≡ false
-
-accepts_goes : (j : MsgId) (t : Told) (pt : Point) (i : MsgId) (from : ℕ) (p : Pid) (c : Bool) (slots blocks : ℕ) → Waits j t pt → Other j pt i → Goes j pt (accepts from p c slots blocks)
-accepts_goes j t pt i from p true slots blocks h k = first_row j t pt (Says (Line.Migration Stage.Accepted p)) (to_kernel MessageKind.PullState from ∷ []) h k.front refl
-accepts_goes j t pt i from p false slots blocks h k = first_row j t pt (Says (Line.Lacks p slots blocks)) (to_kernel MessageKind.Refuse from ∷ []) h k.front refl
-
-chunk_goes : (j : MsgId) (t : Told) (pt : Point) (i : MsgId) (p : Pid) (c : Bool) → Waits j t pt → Other j pt i → Goes j pt (takes_chunk i p c)
-chunk_goes j t pt i p true h k = first_row j t pt (Says (Line.Migration Stage.StateTaken p)) (to_kernel MessageKind.PullBlock i.from.home ∷ []) h k.front refl
-chunk_goes j t pt i p false h k = first_row j t pt (Says (Line.Proto i)) (to_kernel MessageKind.PullState i.from.home ∷ []) h k.apart refl
-
-block_goes : (j : MsgId) (t : Told) (pt : Point) (i : MsgId) (p : Pid) (c : Bool) → Waits j t pt → Other j pt i → Goes j pt (takes_block i p c)
-block_goes j t pt i p true h k = first_row j t pt (Says (Line.Migration Stage.MemoryTaken p)) (to_kernel MessageKind.AllTaken i.from.home ∷ []) h k.front refl
-block_goes j t pt i p false h k = first_row j t pt (Says (Line.Proto i)) (to_kernel MessageKind.PullBlock i.from.home ∷ []) h k.apart refl
-
-piece_goes : (j : MsgId) (t : Told) (pt : Point) (i : MsgId) (c : MessageKind) → Waits j t pt → Other j pt i → Goes j pt (gives_piece i c)
-piece_goes j t pt i c h k = first_row j t pt (Says (Line.Proto i)) (to_kernel c i.from.home ∷ []) h k.apart refl
 
 -- a process leaves
 sent_goes : (j : MsgId) (t : Told) (pt : Point) (i : MsgId) (p : Pid) (ids : List MsgId) (to : ℕ) → both_lists pt.view p ≡ ids → Waits j t pt → Other j pt i → Goes j pt (Says (Line.SentOn p (length ids)) ∷ sends_on to ids ++ Says (Line.Migration Stage.Left p) ∷ to_kernel MessageKind.Restart i.from.home ∷ [])
@@ -42,65 +26,34 @@ sent_goes j t pt i p ids to are h k w is =
     ] in
     inl (subst (λ (x : Point). Stands x.view j) n.point (sends_stand ids j t to last n.next n.rest refl (base_says j t pt n.next l refl refl h.base n.steps) on n.more))
 
-leaves_goes : (j : MsgId) (t : Told) (pt : Point) (i : MsgId) (p : Pid) (ids : List MsgId) (c : Known) → both_lists pt.view p ≡ ids → Waits j t pt → Other j pt i → GoesOf j pt (leaves i p ids c)
-leaves_goes j t pt i p ids (Frozen to) are h k = sent_goes j t pt i p ids to are h k
-leaves_goes j t pt i p ids _ are h k = tt
-
-kernel_told_goes : (j : MsgId) (t : Told) (pt o : Point) (m : ℕ) (i : MsgId) (p : Pid) (room : Bool × ℕ × ℕ) (x : PlainProcess) (c : MessageKind) → both_lists pt.view p ≡ o.view.queue m p ++ o.view.held m p → Waits j t pt → Other j pt i → GoesOf j pt (kernel_told o m i p room x c)
-kernel_told_goes j t pt o m i p room x MessageKind.Ask are h k = accepts_goes j t pt i i.from.home p room.0 room.1 room.2 h k
-kernel_told_goes j t pt o m i p room x MessageKind.Refuse are h k = first_row j t pt (Says (Line.Stays p)) [] h k.front refl
-kernel_told_goes j t pt o m i p room x MessageKind.PullState are h k = piece_goes j t pt i MessageKind.State h k
-kernel_told_goes j t pt o m i p room x MessageKind.State are h k = chunk_goes j t pt i p (o.view.asked p == chunks_of x) h k
-kernel_told_goes j t pt o m i p room x MessageKind.PullBlock are h k = piece_goes j t pt i MessageKind.Memory h k
-kernel_told_goes j t pt o m i p room x MessageKind.Memory are h k = block_goes j t pt i p (o.view.asked p == pieces_of x) h k
-kernel_told_goes j t pt o m i p room x MessageKind.AllTaken are h k = leaves_goes j t pt i p (o.view.queue m p ++ o.view.held m p) (o.view.known m p) are h k
-kernel_told_goes j t pt o m i p room x MessageKind.Restart are h k = first_row j t pt (Says (Line.Migration Stage.Restarted p)) [] h k.front refl
-kernel_told_goes j t pt o m i p room x _ are h k = tt
-
--- at a process or a server
-moves_goes : (j : MsgId) (t : Told) (pt : Point) (i : MsgId) (p : Pid) (to : ℕ) (c : Bool) → Waits j t pt → Other j pt i
-    → Goes j pt (if c then Says (Line.Here i) ∷ [] else Says (Line.Migration Stage.Frozen p) ∷ Says (Line.Migration Stage.Asked p) ∷ to_kernel MessageKind.Ask to ∷ [])
-moves_goes j t pt i p to true h k = first_row j t pt (Says (Line.Here i)) [] h k.apart refl
-moves_goes j t pt i p to false h k = first_row j t pt (Says (Line.Migration Stage.Frozen p)) (Says (Line.Migration Stage.Asked p) ∷ to_kernel MessageKind.Ask to ∷ []) h k.front refl
-
-updates_goes : (j : MsgId) (t : Told) (pt : Point) (i : MsgId) (n : ℕ) → Waits j t pt → Other j pt i → Goes j pt (Says (Line.Updated i n) ∷ [])
-updates_goes j t pt i n h k = first_row j t pt (Says (Line.Updated i n)) [] h k.apart refl
-
-here_told_goes : (j : MsgId) (t : Told) (pt o : Point) (m : ℕ) (i : MsgId) (u : Told) (c : MessageKind) → Waits j t pt → Other j pt i → GoesOf j pt (here_told o m i u c)
-here_told_goes j t pt o m i u MessageKind.Migrate h k = moves_goes j t pt i u.receiver (target_of (Some u)) (m == target_of (Some u)) h k
-here_told_goes j t pt o m i u MessageKind.Update h k = updates_goes j t pt i _ h k
-here_told_goes j t pt o m i u _ h k = tt
-
-ended_told_goes : (j : MsgId) (t : Told) (pt : Point) (i : MsgId) (c : MessageKind) → Waits j t pt → Other j pt i → GoesOf j pt (ended_told i c)
-ended_told_goes j t pt i MessageKind.Migrate h k = first_row j t pt (Says (Line.NoMove i)) [] h k.apart refl
-ended_told_goes j t pt i MessageKind.Update h k = updates_goes j t pt i 0 h k
-ended_told_goes j t pt i _ h k = tt
-
-server_told_goes : (j : MsgId) (t : Told) (pt o : Point) (i : MsgId) (u : Told) (c : MessageKind) → Waits j t pt → Other j pt i → GoesOf j pt (server_told o i u c)
-server_told_goes j t pt o i u MessageKind.Update h k = updates_goes j t pt i _ h k
-server_told_goes j t pt o i u _ h k = tt
-
-process_told_goes : (j : MsgId) (t : Told) (pt o : Point) (m : ℕ) (i : MsgId) (u : Told) (c : Known) → Waits j t pt → Other j pt i → GoesOf j pt (process_told o m i u c)
-process_told_goes j t pt o m i u Unknown h k = tt
-process_told_goes j t pt o m i u Here h k = here_told_goes j t pt o m i u u.kind h k
-process_told_goes j t pt o m i u (Forward at moves) h k = forwards_goes j t pt o.addresses i u.kind manager at h k.apart
-process_told_goes j t pt o m i u Ended h k = ended_told_goes j t pt i u.kind h k
-process_told_goes j t pt o m i u _ h k = first_row j t pt (Says (Line.Held i)) [] h k.apart refl
-
-kernel_hears_goes : (j : MsgId) (t : Told) (pt : Point) (b : Boot) (o : Point) (m : ℕ) (i : MsgId) (c : MessageKind) (a : About) → ((p : Pid) → both_lists pt.view p ≡ o.view.queue m p ++ o.view.held m p) → Waits j t pt → Other j pt i → GoesOf j pt (rule.kernel_hears b o m i c a)
-kernel_hears_goes j t pt b o m i c (Of p) are h k =
-    of_bind j pt (kernel.alive (o.kernel.processes p)) (λ x. kernel_told o m i p (rule.fits (rule.free_room b o m) (length x.memory / 256)) x c)
-    (λ x. kernel_told_goes j t pt o m i p (rule.fits (rule.free_room b o m) (length x.memory / 256)) x c (are p) h k)
-kernel_hears_goes j t pt b o m i c _ are h k = tt
-
-pub hears_goes : (j : MsgId) (t : Told) (pt : Point) (b : Boot) (o : Point) (m : ℕ) (i : MsgId) (q : Option Told) → ((p : Pid) → both_lists pt.view p ≡ o.view.queue m p ++ o.view.held m p) → Waits j t pt → Other j pt i → GoesOf j pt (rule.hears b o m i q)
-hears_goes j t pt b o m i None are h k = tt
-hears_goes j t pt b o m i (Some u) are h k =
-    let to_server = server_told o i u u.kind in
-    let to_process = process_told o m i u (o.view.known m u.receiver) in
-    of_if j pt (u.receiver.num == 0) (rule.kernel_hears b o m i u.kind u.about) (if pid_eq u.receiver switchboard then to_server else if pid_eq u.receiver manager then to_server else to_process) (kernel_hears_goes j t pt b o m i u.kind u.about are h k)
-    (of_if j pt (pid_eq u.receiver switchboard) to_server (if pid_eq u.receiver manager then to_server else to_process) (server_told_goes j t pt o i u u.kind h k)
-    (of_if j pt (pid_eq u.receiver manager) to_server to_process (server_told_goes j t pt o i u u.kind h k) (process_told_goes j t pt o m i u (o.view.known m u.receiver) h k)))
+pub hears_goes : (j : MsgId) (t : Told) (pt : Point) (b : Boot) (o : Point) (m : ℕ) (i : MsgId) (q : Option Told) (ps : List Part) → ((p : Pid) → both_lists pt.view p ≡ o.view.queue m p ++ o.view.held m p) → Waits j t pt → Other j pt i → rule.hears b o m i q ≡ Some ps → Goes j pt ps
+hears_goes j t pt b o m i q ps are h k =
+    let home = i.from.home in
+    let proto : (c : MessageKind) → Goes j pt (Says (Line.Proto i) ∷ to_kernel c home ∷ []) = λ c. first_row j t pt (Says (Line.Proto i)) (to_kernel c home ∷ []) h k.apart refl in
+    let about : (l : Line) → Spares j pt.view l → Goes j pt (Says l ∷ []) = λ l spares. first_row j t pt (Says l) [] h spares refl in
+    by_hears (Goes j pt) b o m i q ps (λ u is. record {
+      told = λ p x is_about alive. record {
+        accepted = λ ask. first_row j t pt (Says (Line.Migration Stage.Accepted p)) (to_kernel MessageKind.PullState home ∷ []) h k.front refl;
+        lacks = λ slots blocks. first_row j t pt (Says (Line.Lacks p slots blocks)) (to_kernel MessageKind.Refuse home ∷ []) h k.front refl;
+        stays = λ kind. about (Line.Stays p) k.front;
+        state = proto MessageKind.State;
+        next_chunk = proto MessageKind.PullState;
+        last_chunk = first_row j t pt (Says (Line.Migration Stage.StateTaken p)) (to_kernel MessageKind.PullBlock home ∷ []) h k.front refl;
+        memory = proto MessageKind.Memory;
+        next_block = proto MessageKind.PullBlock;
+        last_block = first_row j t pt (Says (Line.Migration Stage.MemoryTaken p)) (to_kernel MessageKind.AllTaken home ∷ []) h k.front refl;
+        left = λ ids to leaves. sent_goes j t pt i p ids to (are p ∙ sym leaves.lists) h k;
+        restarted = λ kind. about (Line.Migration Stage.Restarted p) k.front;
+      };
+      updated = λ kind. about (Line.Updated i (behind_count o.kernel o.addresses u.receiver (place_told u.about))) k.apart;
+      updated_none = λ kind at_. about (Line.Updated i 0) k.apart;
+      no_move = λ at_. about (Line.NoMove i) k.apart;
+      leaving = λ to at_. about (Line.Held i) k.apart;
+      coming = λ from at_. about (Line.Held i) k.apart;
+      forwarded = λ to moves at_. forwards_goes j t pt o.addresses i u.kind manager to h k.apart;
+      stays_here = λ at_. about (Line.Here i) k.apart;
+      frozen = λ to at_. first_row j t pt (Says (Line.Migration Stage.Frozen u.receiver)) (Says (Line.Migration Stage.Asked u.receiver) ∷ to_kernel MessageKind.Ask to ∷ []) h k.front refl;
+    })
 
 -- the update itself
 one_line : (xs ys zs : List Line) (l : Line) → Some (l ∷ []) ≡ Some xs → ys ≡ [] → xs ++ ys ≡ zs → zs ≡ l ∷ []
@@ -131,6 +84,10 @@ forwarded_goes j t pt to h w is =
     let last : k.next ≡ k.rest.point = last_point k.next k.rest k.more in
     inl (subst (λ (x : Point). Stands x.view j) (last ∙ end) there)
 
+goes_if : (j : MsgId) (pt : Point) (c : Bool) (x y : Option (List Part)) → GoesOf j pt x → GoesOf j pt y → GoesOf j pt (if c then x else y)
+goes_if j pt true x y h k = h
+goes_if j pt false x y h k = k
+
 process_this : (j : MsgId) (pt o : Point) (m : ℕ) (p q : Pid) (place : Place) (c : Known) → Waits j (update_of p q place) pt → GoesOf j pt (process_told o m j (update_of p q place) c)
 process_this j pt o m p q place Unknown h = tt
 process_this j pt o m p q place Here h = updates_this j pt _
@@ -143,6 +100,6 @@ hears_this j pt b o m p q place h =
     let u = update_of p q place in
     let to_server = server_told o j u MessageKind.Update in
     let to_process = process_told o m j u (o.view.known m p) in
-    of_if j pt (p.num == 0) None (if pid_eq p switchboard then to_server else if pid_eq p manager then to_server else to_process) tt
-    (of_if j pt (pid_eq p switchboard) to_server (if pid_eq p manager then to_server else to_process) (updates_this j pt _)
-    (of_if j pt (pid_eq p manager) to_server to_process (updates_this j pt _) (process_this j pt o m p q place (o.view.known m p) h)))
+    goes_if j pt (p.num == 0) None (if pid_eq p switchboard then to_server else if pid_eq p manager then to_server else to_process) tt
+    (goes_if j pt (pid_eq p switchboard) to_server (if pid_eq p manager then to_server else to_process) (updates_this j pt _)
+    (goes_if j pt (pid_eq p manager) to_server to_process (updates_this j pt _) (process_this j pt o m p q place (o.view.known m p) h)))

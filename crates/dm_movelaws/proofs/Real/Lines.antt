@@ -1,9 +1,9 @@
 -- Each line keeps that whoever is told of is somebody.
-use Rattle.dm_movelaws.proofs.Names.{◌≡◌, ◌⊎◌, ℕ, ◌<◌, true, false, List, [], ◌∷◌, is_some, refl, ap, ◌∙◌, sym, subst, inl, inr, arith, Option, None, Some, cases_Bool, false≢true, nat_tests, Pid, MsgId, MessageKind, id_eq, plain_kind}
-use Rattle.dm_movelaws.proofs.Names.{Stage, PlainMessage, PlainWhat, Label, Life, OneKernel, bind, id_eq-is, LifeGrows, after_step, Sound, bind-is, Line, Receiver, Part, Says, Routes, Again, Owns, Transmits, Spelled, lines_of, puts}
-use Rattle.dm_movelaws.proofs.Names.{packet_line, behind, spelled, Point, label_of, kernel_after, moved, after, View, Told, About, Of, Known, Frozen, Forward, view_after, after_put, handled, receiver_of, own_id, is_kernels, is_put}
-use Rattle.dm_movelaws.proofs.Names.{not_kernels, grown_none, put_at, PacketsKeep, put_told_off, Sane, AllSayable, part_sane, label_topic, Within, HeadIn, line_within, has_bytes, is_server, awaits, WhatFits, KernelFits, step_constant}
-use Rattle.dm_movelaws.proofs.Names.{said_by, fits_step, IsReal, Kernel, Server, Made, IsAboutReal, or_cases, queued_topic, held_topic, taken_topic, told_kept}
+use Rattle.dm_movelaws.proofs.Names.{◌≡◌, ◌⊎◌, ℕ, ◌<◌, true, false, List, is_some, refl, ap, ◌∙◌, sym, subst, inl, inr, arith, Option, None, Some, cases_Bool, false≢true, nat_tests, Pid, MsgId, MessageKind, id_eq, plain_kind, Stage}
+use Rattle.dm_movelaws.proofs.Names.{PlainMessage, PlainWhat, Label, Life, OneKernel, id_eq-is, LifeGrows, after_step, Sound, bind-is, Line, Receiver, Part, Says, Routes, Again, Owns, Transmits, Spelled, lines_of, puts, packet_line}
+use Rattle.dm_movelaws.proofs.Names.{spelled, Point, label_of, kernel_after, moved, after, View, Told, About, Of, Known, Forward, view_after, after_put, handled, receiver_of, own_id, is_kernels, is_put, not_kernels, grown_none, put_at}
+use Rattle.dm_movelaws.proofs.Names.{PacketsKeep, put_told_off, Sane, AllSayable, part_sane, label_topic, Within, HeadIn, line_within, has_bytes, is_server, awaits, WhatFits, KernelFits, step_constant, said_by, fits_step, IsReal, Kernel}
+use Rattle.dm_movelaws.proofs.Names.{Server, Made, IsAboutReal, or_cases, queued_topic, held_topic, taken_topic, told_kept, by_parts}
 use Rattle.dm_rule.specs.View as view
 use Rattle.dm_movelaws.proofs.Ends.Sends.{puts_lead}
 use Rattle.dm_movelaws.proofs.Ends.Smooth.{told_by}
@@ -226,11 +226,5 @@ part_reals o pt next (Transmits a b l) ls known need is leads sane h =
     subst (Reals o) k.is (line_reals o pt k.kernel x known tt k.step sane h)
 
 pub parts_reals : (o : Point) (ps : List Part) (pt : Point) (w : Spelled) → Receivers o → AllReal o ps → AllSayable ps → Sane pt → spelled pt ps ≡ Some w → Reals o pt → Reals o w.point
-parts_reals o [] pt w known need ok sane is h = let f : record { lines = []; point = pt } ≡ w = cc in subst (λ (x : Spelled). Reals o x.point) f h
-parts_reals o (p ∷ ps) pt w known need ok sane is h =
-    let (ls, lines, rest) = bind-is (lines_of pt p) (λ (xs : List Line). bind (after pt xs) (λ (q : Point). bind (spelled q ps) (λ (z : Spelled). Some (behind xs z)))) w is in
-    let (next, leads, last) = bind-is (after pt ls) (λ (q : Point). bind (spelled q ps) (λ (z : Spelled). Some (behind ls z))) w rest in
-    let (z, more, end) = bind-is (spelled next ps) (λ (y : Spelled). Some (behind ls y)) w last in
-    let f : behind ls z ≡ w = cc in
-    subst (λ (x : Spelled). Reals o x.point) f
-    (parts_reals o ps next z known need.1 ok.1 (part_sane pt next p ls ok.0 lines leads sane) more (part_reals o pt next p ls known need.0 lines leads sane h))
+parts_reals o qs q w known need ok sane is h = by_parts (λ ps pt v. AllReal o ps → AllSayable ps → Sane pt → Reals o pt → Reals o v.point) (λ pt need ok sane h. h)
+    (λ p ps pt next ls z lines leads rest need ok sane h. rest need.1 ok.1 (part_sane pt next p ls ok.0 lines leads sane) (part_reals o pt next p ls known need.0 lines leads sane h)) qs q w is need ok sane h

@@ -1,14 +1,13 @@
 -- Wherever the rule leads, each message that its sender counts was put.
 use Rattle.dm_movelaws.proofs.Names.{◌≡◌, ◌⊎◌, ℕ, Bool, true, false, is_some, List, [], ◌∷◌, refl, ap, ◌∙◌, sym, subst, inl, inr, arith, if◌then◌else◌, Option, None, Some, cases_Bool, false≢true, Pid, MsgId, MessageKind, id_eq, plain_kind}
-use Rattle.dm_movelaws.proofs.Names.{PlainMessage, Boot, Label, OneKernel, bind, id_eq-is, Sound, bind-is, Step, Line, Receiver, Part, Says, Routes, Again, Owns, Transmits, Spelled, lines_of, puts, packet_line, behind, spelled, Point}
-use Rattle.dm_movelaws.proofs.Names.{label_of, kernel_after, moved, after, group_of, Inbox, Queue, StandsRight, standing, View, Told, view_after, own_id, BagStep, out_of, bag_sends, bag_ran, bag_call, bag_wait, bag_out, bag_end, bag_refuse}
-use Rattle.dm_movelaws.proofs.Names.{bag_receive, bag_dropped, bag_gone, bag_no_space, bag_created, bag_served, bag_took, group_is, stands_right, is_put, hushed, hidden, put_told_off, Sane, AllSayable, part_sane, outcome_sayable, Rides}
-use Rattle.dm_movelaws.proofs.Names.{Steps, said_by, again_rides, begun, begun_sane, Run}
+use Rattle.dm_movelaws.proofs.Names.{PlainMessage, Boot, Label, OneKernel, id_eq-is, Sound, bind-is, Step, Line, Receiver, Part, Says, Routes, Again, Owns, Transmits, Spelled, puts, packet_line, spelled, Point, label_of, kernel_after}
+use Rattle.dm_movelaws.proofs.Names.{moved, group_of, Inbox, Queue, StandsRight, standing, View, Told, view_after, own_id, BagStep, out_of, bag_sends, bag_ran, bag_call, bag_wait, bag_out, bag_end, bag_refuse, bag_receive, bag_dropped}
+use Rattle.dm_movelaws.proofs.Names.{bag_gone, bag_no_space, bag_created, bag_served, bag_took, group_is, stands_right, is_put, hushed, hidden, put_told_off, Sane, AllSayable, part_sane, outcome_sayable, Rides, Steps, said_by, again_rides}
+use Rattle.dm_movelaws.proofs.Names.{begun, begun_sane, Run, by_parts}
 use Rattle.dm_onekernel.specs.Step as kernel
-use Rattle.dm_rule.specs.Rule as rule
 use Rattle.dm_rule.specs.View as view
 use Rattle.dm_movelaws.proofs.Ends.Sends.{puts_lead}
-use Rattle.dm_movelaws.proofs.Routed.Outs.{LineOuts, PartOuts, AllOuts, OutsOf, outcome_outs}
+use Rattle.dm_movelaws.proofs.Routed.Outs.{LineOuts, PartOuts, AllOuts, outcome_outs}
 use Rattle.dm_movelaws.proofs.Routed.Steps.{is_sent, step_counts}
 
 -- a message that was told of
@@ -130,15 +129,8 @@ counted_part v pt next (Transmits a b l) ok outs sane s h =
     subst (Counted v) k.is (counted_quiet v pt (packet_line pt.view a b l) k.kernel refl k.step h)
 
 counted_parts : (v : View) (ps : List Part) (pt : Point) (w : Spelled) → AllSayable ps → AllOuts (IsTold v) ps → Sane pt → spelled pt ps ≡ Some w → Counted v pt → Counted v w.point
-counted_parts v [] pt w ok outs sane is h = let f : record { lines = []; point = pt } ≡ w = cc in subst (λ (x : Spelled). Counted v x.point) f h
-counted_parts v (p ∷ ps) pt w ok outs sane is h =
-    let (ls, lines, rest) = bind-is (lines_of pt p) (λ (xs : List Line). bind (after pt xs) (λ (q : Point). bind (spelled q ps) (λ (z : Spelled). Some (behind xs z)))) w is in
-    let (next, leads, last) = bind-is (after pt ls) (λ (q : Point). bind (spelled q ps) (λ (z : Spelled). Some (behind ls z))) w rest in
-    let (z, more, end) = bind-is (spelled next ps) (λ (y : Spelled). Some (behind ls y)) w last in
-    let f : behind ls z ≡ w = cc in
-    let s : Steps pt p next = record { lines = ls; are = lines; leads = leads } in
-    subst (λ (x : Spelled). Counted v x.point) f
-    (counted_parts v ps next z ok.1 outs.1 (part_sane pt next p ls ok.0 lines leads sane) more (counted_part v pt next p (ok.0, tt) outs.0 sane s h))
+counted_parts v qs q w ok outs sane is h = by_parts (λ ps pt u. AllSayable ps → AllOuts (IsTold v) ps → Sane pt → Counted v pt → Counted v u.point) (λ pt ok outs sane h. h) (λ p ps pt next ls z lines leads rest ok outs sane h.
+    rest ok.1 outs.1 (part_sane pt next p ls ok.0 lines leads sane) (counted_part v pt next p (ok.0, tt) outs.0 sane (record { lines = ls; are = lines; leads = leads }) h)) qs q w is ok outs sane h
 
 -- between groups
 abbrev pub AllTold : Point → Type 0
@@ -156,8 +148,8 @@ told_group b pt d w e run next h i ask sent =
     let g = group_is b pt d w e in
     let sane = run.based.phased.sane in
     let first : Counted pt.view (begun pt d) = counted_quiet pt.view pt (Line.Head d) pt.kernel refl refl (record { kept = λ j k. k; each = λ j a s. inl (h j a s) }) in
-    let outs : OutsOf (IsTold pt.view) (rule.outcome b pt d) = outcome_outs (IsTold pt.view) b pt d (λ m j least. run.found.told j (Inbox m) least) (λ m p j least. run.found.told j (Queue m p) least) in
-    let last = counted_parts pt.view g.parts (begun pt d) g.rest (outcome_sayable b pt d g.parts g.is) (subst (OutsOf (IsTold pt.view)) g.is outs) (begun_sane pt d sane) g.said first in
+    let outs = outcome_outs (IsTold pt.view) b pt d g.parts (λ m j least. run.found.told j (Inbox m) least) (λ m p j least. run.found.told j (Queue m p) least) g.is in
+    let last = counted_parts pt.view g.parts (begun pt d) g.rest (outcome_sayable b pt d g.parts g.is) outs (begun_sane pt d sane) g.said first in
     elim ((subst (Counted pt.view) g.point last).each i ask sent) [
       | inl told ↦ told
       | inr there ↦ stands_told b w.point i (w.point.kernel.bag i) next refl there

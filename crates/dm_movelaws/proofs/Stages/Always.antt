@@ -1,8 +1,8 @@
 -- Each group keeps the marks of each process in order, and so they are wherever the rule leads.
-use Rattle.dm_movelaws.proofs.Names.{◌≡◌, ℕ, ◌==◌, Bool, true, false, List, [], ◌∷◌, refl, ap, ◌∙◌, sym, subst, length, ◌/◌, if◌then◌else◌, slice_get, Option, None, Some, Pid, pid_eq, MsgId, PlainMessage, Boot, switchboard, manager, Step}
-use Rattle.dm_movelaws.proofs.Names.{Line, View, Told, About, Of, Known, first_view, target_of, Addresses, child_number, is_between, Phase, Moves, is_due, IsIn, Point, first_point, Part, Says, Spelled, spelled, kernel_told, server_told}
-use Rattle.dm_movelaws.proofs.Names.{process_told, migrates, migrates_child, group_of, bind-is, IsNet, arrives_net, resends_net, not_true, front_way, Phased, phased_start, phased_group, due, Calm, calm_same, calm_in, told_some, head_calm}
-use Rattle.dm_movelaws.proofs.Names.{net_parts, migrates_quiet, Tame, plain_in_bag, parts_settle, InPhases, calm_phases, State, PairsFit, Sane, LeadsBy, begun, begun_sane, Mark, marks, in_order, StepsInOrder, plain_by, by_migrates}
+use Rattle.dm_movelaws.proofs.Names.{◌≡◌, ℕ, ◌==◌, Bool, true, false, List, [], ◌∷◌, refl, ap, ◌∙◌, sym, subst, length, ◌/◌, if◌then◌else◌, Option, None, Some, Pid, pid_eq, MsgId, PlainMessage, Boot, switchboard, manager, Step, Line, View}
+use Rattle.dm_movelaws.proofs.Names.{Told, About, Of, Known, first_view, target_of, is_between, Phase, Moves, is_due, IsIn, Point, first_point, Part, Spelled, spelled, kernel_told, server_told, process_told, migrates, group_of, bind-is}
+use Rattle.dm_movelaws.proofs.Names.{IsNet, not_true, front_way, Phased, phased_start, phased_group, due, Calm, calm_same, calm_in, told_some, head_calm, net_parts, migrates_quiet, Tame, plain_in_bag, parts_settle, InPhases, calm_phases}
+use Rattle.dm_movelaws.proofs.Names.{State, PairsFit, Sane, LeadsBy, begun, begun_sane, Mark, marks, in_order, StepsInOrder, plain_by, by_migrates, by_outcome}
 use Rattle.dm_onekernel.specs.Step as kernel
 use Rattle.dm_rule.specs.View as view
 use Rattle.dm_rule.specs.Rule as rule
@@ -77,18 +77,6 @@ front_tame pt i is msg sane state front there =
     let (t, told) = told_some (pt.view.told i) q (state.stands.told i q way) in
     record { what = t; told = told; plain = plain_in_bag pt i msg sane there t told }
 
-comes_marked : (b : Boot) (o : Point) (m : ℕ) (i : MsgId) (is : List MsgId) (q : Option PlainMessage) (ps : List Part) (w : Spelled) → Turning o (begun o (Step.Turn m)) m → o.view.inbox m ≡ i ∷ is → o.kernel.bag i ≡ q → rule.comes_to b o m i q ≡ Some ps → spelled (begun o (Step.Turn m)) ps ≡ Some w
-    → MarkedBy (begun o (Step.Turn m)) w ps
-comes_marked b o m i is None ps w h front there e n = hears_marked b o (begun o (Step.Turn m)) m i is (o.view.told i) ps w h front refl e n
-comes_marked b o m i is (Some msg) ps w h front there e n =
-    let pt = begun o (Step.Turn m) in
-    mild_marked pt (Some i) ps w h.sane h.fits (tame_front pt.view i (front_tame pt i is msg h.sane h.state front there)) (λ p. handles_mild p b o m i msg ps e) n
-
-turns_marked : (b : Boot) (o : Point) (m : ℕ) (inbox : List MsgId) (ps : List Part) (w : Spelled) → Turning o (begun o (Step.Turn m)) m → o.view.inbox m ≡ inbox → rule.turns b o m inbox ≡ Some ps → spelled (begun o (Step.Turn m)) ps ≡ Some w → MarkedBy (begun o (Step.Turn m)) w ps
-turns_marked b o m [] ps w h front e n =
-    mild_marked (begun o (Step.Turn m)) None ps w h.sane h.fits (λ i k. cc) (λ p. round_mild p None b o m (rule.first_runnable o.kernel (o.view.queue m) (o.view.ring m)) ps e) n
-turns_marked b o m (i ∷ is) ps w h front e n = comes_marked b o m i is (o.kernel.bag i) ps w h front refl e n
-
 turning : (o : Point) (m : ℕ) → Phased o → Turning o (begun o (Step.Turn m)) m
 turning o m h =
     let fits = groups.fits o.view h.pairs in
@@ -104,27 +92,31 @@ turning o m h =
 migrates_marks : (p : Pid) (o : Point) (q : Pid) → marks_of p (migrates o q) ≡ []
 migrates_marks p o q = by_migrates (λ (ps : List Part). marks_of p ps ≡ []) o q refl refl (λ n off is. refl)
 
+net_marked : (pt : Point) (ps : List Part) (w : Spelled) → IsNet ps → spelled pt ps ≡ Some w → MarkedBy pt w ps
+net_marked pt ps w net n p = none_marked pt.view w.point.view p (marks_of p ps) (net_marks p ps net) (spares_calm pt.view w.point.view p (net_parts ps pt w net n))
+
 -- behind the head of a group
 outcome_marked : (b : Boot) (pt : Point) (d : Step) (ps : List Part) (w : Spelled) → Phased pt → rule.outcome b pt d ≡ Some ps → spelled (begun pt d) ps ≡ Some w → MarkedBy (begun pt d) w ps
-outcome_marked b pt (Step.Turn m) ps w h e n p = turns_marked b pt m (pt.view.inbox m) ps w (turning pt m h) refl e n p
-outcome_marked b pt (Step.Tick m) ps w h e n p =
-    let qs = Says (Line.Resent m (rule.outstanding pt.view m pt.kernel.machines)) ∷ rule.resends pt.view m pt.kernel.machines in
-    let f : ps ≡ qs = cc in
-    let start = begun pt (Step.Tick m) in
-    let net : IsNet qs = (tt, resends_net pt.view m pt.kernel.machines) in
-    none_marked start.view w.point.view p (marks_of p ps) (ap (marks_of p) f ∙ net_marks p qs net) (spares_calm start.view w.point.view p (net_parts qs start w net (ap (spelled start) (sym f) ∙ n)))
-outcome_marked b pt (Step.Deliver a c k) ps w h e n p =
-    let qs = rule.arrives a c (pt.view.pair a c) (pt.view.pair c a) (slice_get (pt.view.pair a c).wire k) in
-    let f : ps ≡ qs = cc in
-    let start = begun pt (Step.Deliver a c k) in
-    let net = arrives_net a c (pt.view.pair a c) (pt.view.pair c a) (slice_get (pt.view.pair a c).wire k) in
-    none_marked start.view w.point.view p (marks_of p ps) (ap (marks_of p) f ∙ net_marks p qs net) (spares_calm start.view w.point.view p (net_parts qs start w net (ap (spelled start) (sym f) ∙ n)))
-outcome_marked b pt (Step.Migrate q m) ps w h e n p =
-    let f : ps ≡ migrates pt q = cc in
-    let start = begun pt (Step.Migrate q m) in
-    let fits = groups.fits pt.view h.pairs in
-    let settled = parts_settle (migrates pt q) start.view start w (migrates_quiet start.view pt q) (record { calm = calm_same start.view; sane = begun_sane pt (Step.Migrate q m) h.sane; fits = record { within = fits.within; home = fits.home } }) (ap (spelled start) (sym f) ∙ n) in
-    none_marked start.view w.point.view p (marks_of p ps) (ap (marks_of p) f ∙ migrates_marks p pt q) (spares_calm start.view w.point.view p settled.calm)
+outcome_marked b pt d ps w h is = by_outcome (λ x xs. (u : Spelled) → spelled (begun pt x) xs ≡ Some u → MarkedBy (begun pt x) u xs) b pt d ps (record {
+  round = λ m xs box e u. (
+      let t = turning pt m h in
+      mild_marked (begun pt (Step.Turn m)) None xs u t.sane t.fits (λ i k. cc) (λ p. round_mild p None b pt m (rule.first_runnable pt.kernel (pt.view.queue m) (pt.view.ring m)) xs e)
+      );
+  handles = λ m i is msg xs box there e u. (
+      let start = begun pt (Step.Turn m) in
+      let t = turning pt m h in
+      mild_marked start (Some i) xs u t.sane t.fits (tame_front start.view i (front_tame start i is msg t.sane t.state box there)) (λ p. handles_mild p b pt m i msg xs e)
+      );
+  hears = λ m i is xs box none e u. hears_marked b pt (begun pt (Step.Turn m)) m i is (pt.view.told i) xs u (turning pt m h) box refl e;
+  ticks = λ m xs net u. net_marked (begun pt (Step.Tick m)) xs u net;
+  delivers = λ a c k xs net u. net_marked (begun pt (Step.Deliver a c k)) xs u net;
+  asks = λ q m u n p. (
+      let start = begun pt (Step.Migrate q m) in
+      let fits = groups.fits pt.view h.pairs in
+      let settled = parts_settle (migrates pt q) start.view start u (migrates_quiet start.view pt q) (record { calm = calm_same start.view; sane = begun_sane pt (Step.Migrate q m) h.sane; fits = record { within = fits.within; home = fits.home } }) n in
+      none_marked start.view u.point.view p (marks_of p (migrates pt q)) (migrates_marks p pt q) (spares_calm start.view u.point.view p settled.calm)
+      );
+}) is w
 
 -- a group
 head_marked : (u v w : View) (p : Pid) (ms : List Mark) → Calm u v → Marked v w p ms → Marked u w p ms

@@ -1,6 +1,6 @@
 -- What a process or a server says of a kernel's own message leaves all migrations as they are, or freezes the process.
-use Rattle.dm_movelaws.proofs.Names.{◌≡◌, ℕ, ◌==◌, Bool, true, false, List, [], ◌∷◌, refl, subst, if◌then◌else◌, Some, Pid, MsgId, MessageKind, Line, Stage, manager, Told, Known, Unknown, Here, Frozen, Forward, Ended, target_of, Point}
-use Rattle.dm_movelaws.proofs.Names.{Part, Says, to_kernel, forwards_on, updates, here_told, ended_told, process_told, server_told}
+use Rattle.dm_movelaws.proofs.Names.{◌≡◌, ℕ, ◌==◌, Bool, true, false, List, [], ◌∷◌, refl, subst, if◌then◌else◌, Some, Pid, MsgId, MessageKind, Line, Stage, manager, Told, Known, Unknown, Here, Forward, Ended, target_of, Point, Part, Says}
+use Rattle.dm_movelaws.proofs.Names.{to_kernel, forwards_on, updates, here_told, ended_told, process_told, server_told}
 use Rattle.dm_movelaws.proofs.Stages.Lines.{AllMild}
 use Rattle.dm_movelaws.proofs.Stages.Turns.{forwards_mild}
 

@@ -1,7 +1,7 @@
 -- The marks of lines: of one list after another, and of the lines that parts say.
-use Rattle.dm_movelaws.proofs.Names.{◌≡◌, ℕ, ◌==◌, Bool, true, false, List, [], ◌∷◌, ◌++◌, refl, ap, ◌∙◌, sym, length, if◌then◌else◌, Option, Some, Pid, pid_eq, MsgId, MessageKind, plain_kind, Boot, bind, pid_eq-same, bind-is, Step, Line}
-use Rattle.dm_movelaws.proofs.Names.{Load, own_id, Receiver, Point, moved, after_line, after, Part, Says, Routes, Again, Owns, Transmits, Spelled, lines_of, puts, goes_out, packet_line, behind, spelled, sends_on, group_of, outcome, headed}
-use Rattle.dm_movelaws.proofs.Names.{Mark, mark_for, with_mark, marks, follows, left_open, in_order, left_true, right_true, both_true}
+use Rattle.dm_movelaws.proofs.Names.{◌≡◌, ℕ, ◌==◌, Bool, true, false, List, [], ◌∷◌, ◌++◌, refl, ap, ◌∙◌, sym, length, if◌then◌else◌, Option, Some, Pid, pid_eq, MsgId, MessageKind, plain_kind, Boot, pid_eq-same, bind-is, Step, Line, Load}
+use Rattle.dm_movelaws.proofs.Names.{own_id, Receiver, Point, moved, Part, Says, Routes, Again, Owns, Transmits, Spelled, lines_of, puts, goes_out, packet_line, spelled, sends_on, group_of, outcome, Mark, mark_for, with_mark, marks}
+use Rattle.dm_movelaws.proofs.Names.{follows, left_open, in_order, left_true, right_true, both_true, by_parts, group_is}
 
 -- the mark that is last behind these marks, if its migration isn't over
 abbrev pub open_after : Option Mark → List Mark → Option Mark
@@ -65,13 +65,7 @@ part_marks p pt (Owns k q b) ls zs is = puts_marks p pt b (own_id pt.view) k q l
 part_marks p pt (Transmits a b l) ls zs is = let f : packet_line pt.view a b l ∷ [] ≡ ls = cc in ap (λ (xs : List Line). marks p (xs ++ zs)) (sym f)
 
 pub spelled_marks : (p : Pid) (ps : List Part) (pt : Point) (w : Spelled) → spelled pt ps ≡ Some w → marks p w.lines ≡ marks_of p ps
-spelled_marks p [] pt w is = let f : record { lines = []; point = pt } ≡ w = cc in ap (λ (x : Spelled). marks p x.lines) (sym f)
-spelled_marks p (q ∷ ps) pt w is =
-    let (ls, lines, rest) = bind-is (lines_of pt q) (λ (xs : List Line). bind (after pt xs) (λ (n : Point). bind (spelled n ps) (λ (z : Spelled). Some (behind xs z)))) w is in
-    let (next, leads, last) = bind-is (after pt ls) (λ (n : Point). bind (spelled n ps) (λ (z : Spelled). Some (behind ls z))) w rest in
-    let (z, more, end) = bind-is (spelled next ps) (λ (y : Spelled). Some (behind ls y)) w last in
-    let f : behind ls z ≡ w = cc in
-    ap (λ (x : Spelled). marks p x.lines) (sym f) ∙ part_marks p pt q ls z.lines lines ∙ ap (mark_part p q) (spelled_marks p ps next z more)
+spelled_marks p = by_parts (λ ps pt w. marks p w.lines ≡ marks_of p ps) (λ pt. refl) (λ q ps pt next ls z lines leads rest. part_marks p pt q ls z.lines lines ∙ ap (mark_part p q) rest)
 
 -- a group, its head and its parts
 pub record GroupSays (b : Boot) (pt : Point) (d : Step) (w : Spelled) : Type 0 where
@@ -84,19 +78,8 @@ pub record GroupSays (b : Boot) (pt : Point) (d : Step) (w : Spelled) : Type 0 w
 
 pub group_says : (b : Boot) (pt : Point) (d : Step) (w : Spelled) → group_of b pt d ≡ Some w → GroupSays b pt d w
 group_says b pt d w e =
-    let (parts, is, more) = bind-is (outcome b pt d) (λ parts. bind (after_line pt (Line.Head d)) (λ begun. bind (spelled begun parts) (λ w. Some (headed (Line.Head d) w)))) w e in
-    let (start, head, last) = bind-is (after_line pt (Line.Head d)) (λ begun. bind (spelled begun parts) (λ w. Some (headed (Line.Head d) w))) w more in
-    let (rest, told, end) = bind-is (spelled start parts) (λ w. Some (headed (Line.Head d) w)) w last in
-    let f : moved pt (Line.Head d) pt.kernel ≡ start = cc in
-    let g : headed (Line.Head d) rest ≡ w = cc in
-    record {
-      parts = parts;
-      is = is;
-      rest = rest;
-      said = ap (λ p. spelled p parts) f ∙ told;
-      point = ap (λ (x : Spelled). x.point) g;
-      marked = λ p. ap (λ (x : Spelled). marks p x.lines) (sym g) ∙ spelled_marks p parts start rest told;
-    }
+    let g = group_is b pt d w e in
+    record { parts = g.parts; is = g.is; rest = g.rest; said = g.said; point = g.point; marked = λ p. ap (λ (x : Spelled). marks p x.lines) (sym g.whole) ∙ spelled_marks p g.parts (moved pt (Line.Head d) pt.kernel) g.rest g.said }
 
 -- a line about one process marks it, and no other
 pub mark_same : (p : Pid) (m : Mark) (ms : List Mark) → mark_for p p m ms ≡ m ∷ ms

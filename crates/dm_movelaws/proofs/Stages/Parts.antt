@@ -1,7 +1,7 @@
 -- Parts that leave the migration of a process as it is.
-use Rattle.dm_movelaws.proofs.Names.{◌≡◌, ℕ, ◌==◌, Bool, true, false, List, [], ◌∷◌, refl, ap, ◌∙◌, subst, length, if◌then◌else◌, Option, Some, Pid, MsgId, MessageKind, plain_kind, bind, Line, Stage, Load, View, own_id, view_after}
-use Rattle.dm_movelaws.proofs.Names.{Receiver, Point, label_of, kernel_after, moved, after_line, after, Part, Says, Routes, Again, Owns, Transmits, Spelled, lines_of, puts, goes_out, packet_line, behind, spelled, bind-is, is_put, fits_put}
-use Rattle.dm_movelaws.proofs.Names.{fits_packet, touches, pair_same, packet_calm, fits_as, PairsFit, Sane, Sayable, part_sane}
+use Rattle.dm_movelaws.proofs.Names.{◌≡◌, ℕ, ◌==◌, Bool, true, false, List, [], ◌∷◌, refl, ap, ◌∙◌, subst, length, if◌then◌else◌, Option, Some, Pid, MsgId, MessageKind, plain_kind, Line, Stage, Load, View, own_id, view_after, Receiver}
+use Rattle.dm_movelaws.proofs.Names.{Point, label_of, kernel_after, moved, after_line, after, Part, Says, Routes, Again, Owns, Transmits, Spelled, lines_of, puts, goes_out, packet_line, spelled, bind-is, is_put, fits_put, fits_packet}
+use Rattle.dm_movelaws.proofs.Names.{touches, pair_same, packet_calm, fits_as, PairsFit, Sane, Sayable, part_sane, by_parts}
 use Rattle.dm_movelaws.proofs.Stages.Spares.{Spares, spares_trans, spares_same, spares_calm, spares_put}
 use Rattle.dm_movelaws.proofs.Stages.Lines.{MildLine, Mild, AllMild, TameAt, line_spares}
 
@@ -85,12 +85,7 @@ sayable_of p o (Says l) h = mild_put p o l h
 sayable_of p o _ h = tt
 
 pub parts_spare : (p : Pid) (o : Option MsgId) (ps : List Part) (v : View) (pt : Point) (w : Spelled) → AllMild p o ps → Kept v p o pt → spelled pt ps ≡ Some w → Kept v p o w.point
-parts_spare p o [] v pt w mild h is = let f : record { lines = []; point = pt } ≡ w = cc in subst (λ (x : Spelled). Kept v p o x.point) f h
-parts_spare p o (q ∷ ps) v pt w mild h is =
-    let (ls, lines, rest) = bind-is (lines_of pt q) (λ (xs : List Line). bind (after pt xs) (λ (n : Point). bind (spelled n ps) (λ (z : Spelled). Some (behind xs z)))) w is in
-    let (next, leads, last) = bind-is (after pt ls) (λ (n : Point). bind (spelled n ps) (λ (z : Spelled). Some (behind ls z))) w rest in
-    let (z, more, end) = bind-is (spelled next ps) (λ (y : Spelled). Some (behind ls y)) w last in
-    let f : behind ls z ≡ w = cc in
+parts_spare p o qs v x w mild h is = by_parts (λ ps pt u. AllMild p o ps → Kept v p o pt → Kept v p o u.point) (λ pt mild h. h) (λ q ps pt next ls z lines leads rest mild h. (
     let c = part_spares p o pt next q ls h.sane h.fits (tame_on v pt.view p o h.spares h.tame) mild.0 lines leads in
-    let there : Kept v p o next = record { spares = spares_trans v pt.view next.view p h.spares c.0; sane = part_sane pt next q ls (sayable_of p o q mild.0) lines leads h.sane; fits = c.1; tame = h.tame } in
-    subst (λ (x : Spelled). Kept v p o x.point) f (parts_spare p o ps v next z mild.1 there more)
+    rest mild.1 (record { spares = spares_trans v pt.view next.view p h.spares c.0; sane = part_sane pt next q ls (sayable_of p o q mild.0) lines leads h.sane; fits = c.1; tame = h.tame })
+    )) qs x w is mild h

@@ -1,9 +1,8 @@
 -- How far the marks of a process have come by its phase; and what leaves that as it is.
 use Rattle.dm_movelaws.proofs.Names.{◌≡◌, ℕ, ◌≤◌, ◌==◌, ◌&&◌, Bool, true, false, not, List, [], refl, ap, ◌∙◌, sym, subst, inl, inr, if◌then◌else◌, Option, None, Some, cases_Bool, false≢true, Pid, MsgId, MessageKind, id_eq, View, Told, Of}
-use Rattle.dm_movelaws.proofs.Names.{Known, Unknown, Here, Frozen, Incoming, Forward, Ended, after_put, Spot, standing, is_between, is_restart, is_early, is_away, is_here, is_over, comes, knows, Phase, Nowhere, Rests, Over, Moves, is_due}
+use Rattle.dm_movelaws.proofs.Names.{Known, Unknown, Here, Frozen, Incoming, Forward, after_put, Spot, standing, is_between, is_restart, is_early, is_away, is_here, is_over, comes, knows, Phase, Nowhere, Rests, Over, Moves, is_due}
 use Rattle.dm_movelaws.proofs.Names.{token_in, told_between, IsIn, id_eq-is, PairsFit, put_told_off, Calm, between_of, put_spots, put_at, put_there, put_spot, rests_here, Mark, Reached, Lacking, in_order, eq_self, not_false, right_true}
-use Rattle.dm_movelaws.proofs.Names.{first_kept}
-use Rattle.dm_rule.specs.Phases.{leaves}
+use Rattle.dm_movelaws.proofs.Names.{first_kept, leaves}
 use Rattle.dm_movelaws.proofs.Stages.Marks.{open_after}
 
 -- the last mark, by the message that is under way

@@ -1,9 +1,9 @@
 -- Lines, puts and packets that fit the trails anywhere, and leave each process where it is.
 use Rattle.dm_movelaws.proofs.Names.{◌≡◌, ℕ, ◌+◌, ◌==◌, not, Bool, true, false, List, [], ◌∷◌, filter, length, refl, ap, ◌∙◌, sym, subst, if◌then◌else◌, Option, None, Some, Pid, pid_of, MsgId, MessageKind, Stage, plain_kind, Label}
 use Rattle.dm_movelaws.proofs.Names.{OneKernel, entry, reception, id_eq-same, after_step, bind-is, Line, Load, View, Told, About, NothingElse, own_id, view_after, handled, after_proto, follows_up, asks_on, taken_id, receiver_of, Receiver}
-use Rattle.dm_movelaws.proofs.Names.{Gets, given, unmoved, goes_between, own_gives, Point, moved, after, Part, Says, Routes, Again, Owns, Transmits, puts, goes_out, packet_line, to_kernel, Trails, IsOn, trails_after, IsNet, IsNetLine}
-use Rattle.dm_movelaws.proofs.Names.{SaidOn, not_kernels, queued_known, held_known, dropped_known, proto_known, Sane, Outside, Treads, LineFits, LabelFits, KnownFits, PutFits, Rides, Steps, said_by, own_outside, own_fresh, queued_moves}
-use Rattle.dm_movelaws.proofs.Names.{held_moves, dropped_moves}
+use Rattle.dm_movelaws.proofs.Names.{Gets, given, unmoved, goes_between, own_gives, Point, moved, after, Part, Says, Routes, Owns, Transmits, puts, goes_out, packet_line, to_kernel, Trails, IsOn, trails_after, IsNet, IsNetLine, SaidOn}
+use Rattle.dm_movelaws.proofs.Names.{not_kernels, queued_known, held_known, dropped_known, proto_known, Sane, Outside, Treads, LineFits, LabelFits, KnownFits, PutFits, Rides, Steps, said_by, own_outside, own_fresh, queued_moves, held_moves}
+use Rattle.dm_movelaws.proofs.Names.{dropped_moves}
 use Rattle.dm_onekernel.specs.Step as kernel
 use Rattle.dm_rule.specs.View as view
 use Rattle.dm_rule.specs.Rule as rule

@@ -1,12 +1,11 @@
 -- The lines of each group fit the trails, and behind them each process is placed on its trail.
-use Rattle.dm_movelaws.proofs.Names.{◌≡◌, ℕ, ◌≤◌, Bool, true, false, List, [], ◌∷◌, refl, ap, ◌∙◌, sym, subst, inl, inr, arith, if◌then◌else◌, slice_get, Option, None, Some, Pid, pid_eq, MsgId, plain_kind, PlainMessage, MessageKind, Line}
-use Rattle.dm_movelaws.proofs.Names.{PutFits, Boot, switchboard, manager, bind, Step, bind-is, View, Told, Of, is_kernels, own_id, after_head, front_of, Child, Receiver, Sender, child_number, to_of, sender_of, forwards_on, migrates_child}
-use Rattle.dm_movelaws.proofs.Names.{Part, Says, Spelled, spelled, IsIn, is_between, Point, after_line, group_of, Inbox, Queue, Held, times, standing, Trails, arrives_net, resends_net, both_lists, both_times, front_kernels, Phased, due}
-use Rattle.dm_movelaws.proofs.Names.{outcome_sayable, Named, Links, child_is, migrate_to, migrate_from, Treads, line_treads, KnownStands, Begins, begins, begun, begun_sane, turned, unborn, FoundBy, KnowsAt, moves_back, own_outside}
-use Rattle.dm_movelaws.proofs.Names.{own_fresh, told_there, about_same, stands_first, queued_for, told_for, either, fixed_home, by_migrates, migrates}
+use Rattle.dm_movelaws.proofs.Names.{◌≡◌, ℕ, ◌≤◌, true, List, [], ◌∷◌, refl, ap, ◌∙◌, sym, subst, inl, inr, arith, None, Some, Pid, MsgId, plain_kind, PlainMessage, MessageKind, Line, PutFits, Boot, manager, Step, View, Told, Of}
+use Rattle.dm_movelaws.proofs.Names.{is_kernels, own_id, after_head, front_of, Child, Receiver, Sender, to_of, sender_of, forwards_on, Says, Spelled, IsIn, is_between, Point, group_of, Inbox, Queue, Held, times, standing, Trails}
+use Rattle.dm_movelaws.proofs.Names.{both_lists, both_times, front_kernels, Phased, due, outcome_sayable, Named, Links, child_is, migrate_to, migrate_from, Treads, line_treads, KnownStands, Begins, begins, begun, begun_sane, turned, unborn}
+use Rattle.dm_movelaws.proofs.Names.{FoundBy, KnowsAt, moves_back, own_outside, own_fresh, told_there, about_same, stands_first, queued_for, told_for, either, fixed_home, by_migrates, migrates, by_outcome, Part, by_group}
 use Rattle.dm_rule.specs.Rule as rule
 use Rattle.dm_movelaws.proofs.Trail.Placed.{Places}
-use Rattle.dm_movelaws.proofs.Trail.Walks.{AllGood, Walks, WalksOf, loose_walks, parts_good}
+use Rattle.dm_movelaws.proofs.Trail.Walks.{AllGood, Walks, loose_walks, parts_good}
 use Rattle.dm_movelaws.proofs.Trail.Loose.{places_same, owns_leave, no_child_loose, pinned_loose, net_loose}
 use Rattle.dm_movelaws.proofs.Trail.Rows.{Front, round_walks, handles_walks}
 use Rattle.dm_movelaws.proofs.Trail.Forwards.{forwards_walks}
@@ -37,9 +36,9 @@ heard o m i is u p start h front told about between =
     } in
     subst (λ (q : Pid). Heard pt q u.kind) pq (subst (λ (k : MessageKind). Heard pt w.p k) kk first)
 
--- a turn
-comes_walks : (b : Boot) (o : Point) (t : Trails) (m : ℕ) (i : MsgId) (is : List MsgId) (x : Option PlainMessage) → Begins o m → FoundBy o → Places o.view t → o.view.inbox m ≡ i ∷ is → o.kernel.bag i ≡ x → WalksOf (turned o m) t (rule.comes_to b o m i x)
-comes_walks b o t m i is (Some k) start h at front there =
+-- a message of the bag at the front of the inbox
+front_walks : (b : Boot) (o : Point) (t : Trails) (m : ℕ) (i : MsgId) (is : List MsgId) (k : PlainMessage) (ps : List Part) → Begins o m → FoundBy o → Places o.view t → o.view.inbox m ≡ i ∷ is → o.kernel.bag i ≡ Some k → rule.handles b o m i k ≡ Some ps → Walks (turned o m) t ps
+front_walks b o t m i is k ps start h at front there =
     let pt = turned o m in
     let stands = h.places i (Inbox m) (stands_first o.view m i is front) in
     let (u, told) = told_there (o.view.told i) stands.1 in
@@ -53,23 +52,20 @@ comes_walks b o t m i is (Some k) start h at front there =
       fixed = λ e. fixed_home o.view k.to m e (subst (KnowsAt o.view k.to) stands.0 (h.all (Receiver i) k.to (Links (ap to_of there))));
       places = placed;
     } in
-    handles_walks pt b o t m i k f (unborn o m start.rooted) refl
+    handles_walks pt b o t m i k ps f (unborn o m start.rooted) refl
     (λ to c e. subst (λ (y : MessageKind). Walks pt t (forwards_on o.addresses i y k.sender to)) kind_same
     (forwards_walks pt t i u k.sender to c told (ap (o.view.known m) to_same ∙ e) placed (λ yes_ on. on.links (Sender i) k.sender (ap sender_of there))))
-comes_walks b o t m i is None start h at front there =
+
+-- one that kernels sent
+own_walks : (b : Boot) (o : Point) (t : Trails) (m : ℕ) (i : MsgId) (is : List MsgId) (ps : List Part) → Begins o m → FoundBy o → Places o.view t → o.view.inbox m ≡ i ∷ is → o.kernel.bag i ≡ None → rule.hears b o m i (o.view.told i) ≡ Some ps → Walks (turned o m) t ps
+own_walks b o t m i is ps start h at front there e =
     let pt = turned o m in
     let stands = h.places i (Inbox m) (stands_first o.view m i is front) in
     let (u, told) = told_there (o.view.told i) stands.1 in
     let own : is_kernels i ≡ true = front_kernels pt i is start.state front there in
     let placed : Places pt.view t = places_same o.view pt.view t (λ n q. refl) (λ q. refl) at in
-    subst (λ (y : Option Told). WalksOf pt t (rule.hears b o m i y)) (sym told)
-    (hears_walks pt b o t m i u (λ p. refl) refl (λ p about between. heard o m i is u p start h front told about between)
-    (λ to c e. forwards_walks pt t i u manager to c told e placed (λ yes_ on. on.own.sender i u own told (moves_back u.kind (h.real i u told own).1 yes_))) placed)
-
-turns_walks : (b : Boot) (o : Point) (t : Trails) (m : ℕ) (inbox : List MsgId) → Begins o m → FoundBy o → Places o.view t → o.view.inbox m ≡ inbox → WalksOf (turned o m) t (rule.turns b o m inbox)
-turns_walks b o t m [] start h at front =
-    round_walks (turned o m) t b o m (rule.first_runnable o.kernel (o.view.queue m) (o.view.ring m)) (λ p is. start.rooted.served m p is) (places_same o.view (turned o m).view t (λ n q. refl) (λ q. refl) at)
-turns_walks b o t m (i ∷ is) start h at front = comes_walks b o t m i is (o.kernel.bag i) start h at front refl
+    hears_walks pt b o t m i u ps (λ p. refl) refl (λ p about between. heard o m i is u p start h front told about between)
+    (λ to c e. forwards_walks pt t i u manager to c told e placed (λ yes_ on. on.own.sender i u own told (moves_back u.kind (h.real i u told own).1 yes_))) placed (ap (rule.hears b o m i) (sym told) ∙ e)
 
 -- a directive to move a process
 migrates_walks : (pt : Point) (t : Trails) (p : Pid) → pt.view.acting ≡ 0 → Places pt.view t → Walks pt t (migrates pt p)
@@ -84,25 +80,23 @@ head_places : (v : View) (t : Trails) (d : Step) → Places v t → Places (afte
 head_places v t (Step.Turn m) h = places_same v (after_head v (Step.Turn m)) t (λ n q. refl) (λ q. refl) h
 head_places v t any_ h = places_same v (after_head v any_) t (λ n q. refl) (λ q. refl) h
 
-outcome_walks : (b : Boot) (pt : Point) (t : Trails) (d : Step) → Phased pt → KnownStands pt.kernel pt.view → FoundBy pt → Places pt.view t → WalksOf (begun pt d) t (rule.outcome b pt d)
-outcome_walks b pt t (Step.Turn m) base known h at = turns_walks b pt t m (pt.view.inbox m) (begins pt m base known) h at refl
-outcome_walks b pt t (Step.Tick m) base known h at =
-    let qs = Says (Line.Resent m (rule.outstanding pt.view m pt.kernel.machines)) ∷ rule.resends pt.view m pt.kernel.machines in
-    loose_walks qs (begun pt (Step.Tick m)) t (net_loose qs (tt, resends_net pt.view m pt.kernel.machines)) (head_places pt.view t (Step.Tick m) at)
-outcome_walks b pt t (Step.Deliver a c k) base known h at =
-    let qs = rule.arrives a c (pt.view.pair a c) (pt.view.pair c a) (slice_get (pt.view.pair a c).wire k) in
-    loose_walks qs (begun pt (Step.Deliver a c k)) t (net_loose qs (arrives_net a c (pt.view.pair a c) (pt.view.pair c a) (slice_get (pt.view.pair a c).wire k))) (head_places pt.view t (Step.Deliver a c k) at)
-outcome_walks b pt t (Step.Migrate p m) base known h at =
-    let start = begun pt (Step.Migrate p m) in
-    let placed = head_places pt.view t (Step.Migrate p m) at in
-    migrates_walks start t p refl placed
+outcome_walks : (b : Boot) (pt : Point) (t : Trails) (d : Step) (ps : List Part) → Phased pt → KnownStands pt.kernel pt.view → FoundBy pt → Places pt.view t → rule.outcome b pt d ≡ Some ps → Walks (begun pt d) t ps
+outcome_walks b pt t d ps base known h at = by_outcome (λ x. Walks (begun pt x) t) b pt d ps (record {
+  round = λ m xs box e. (
+      let start = begins pt m base known in
+      round_walks (turned pt m) t b pt m (rule.first_runnable pt.kernel (pt.view.queue m) (pt.view.ring m)) xs (λ p is. start.rooted.served m p is) (head_places pt.view t (Step.Turn m) at) e
+      );
+  handles = λ m i is k xs box there e. front_walks b pt t m i is k xs (begins pt m base known) h at box there e;
+  hears = λ m i is xs box none e. own_walks b pt t m i is xs (begins pt m base known) h at box none e;
+  ticks = λ m xs net. loose_walks xs (begun pt (Step.Tick m)) t (net_loose xs net) (head_places pt.view t (Step.Tick m) at);
+  delivers = λ a c k xs net. loose_walks xs (begun pt (Step.Deliver a c k)) t (net_loose xs net) (head_places pt.view t (Step.Deliver a c k) at);
+  asks = λ p m. migrates_walks (begun pt (Step.Migrate p m)) t p refl (head_places pt.view t (Step.Migrate p m) at);
+})
 
 -- a group
 pub group_good : (b : Boot) (pt : Point) (t : Trails) (d : Step) (w : Spelled) → group_of b pt d ≡ Some w → Phased pt → KnownStands pt.kernel pt.view → FoundBy pt → Places pt.view t → Treads pt t → AllGood pt t w.lines
-group_good b pt t d w e base known h at on =
-    let (ps, is, more) = bind-is (rule.outcome b pt d) (λ ps. bind (after_line pt (Line.Head d)) (λ start. bind (spelled start ps) (λ w. Some (rule.headed (Line.Head d) w)))) w e in
-    let (rest, said, end) = bind-is (spelled (begun pt d) ps) (λ w. Some (rule.headed (Line.Head d) w)) w more in
-    let g : rule.headed (Line.Head d) rest ≡ w = cc in
-    let walks : WalksOf (begun pt d) t (Some ps) = subst (WalksOf (begun pt d) t) is (outcome_walks b pt t d base known h at) in
+group_good b pt t d w e base known h at on = by_group (λ v. AllGood pt t v.lines) b pt d w (λ ps rest is said. (
+    let walks = outcome_walks b pt t d ps base known h at is in
     let good : AllGood (begun pt d) t rest.lines = parts_good ps (begun pt d) t rest (outcome_sayable b pt d ps is) walks (begun_sane pt d base.sane) (line_treads pt (begun pt d) t (Line.Head d) refl tt on) said in
-    subst (λ (x : Spelled). AllGood pt t x.lines) g (tt, (λ next comes. let f : begun pt d ≡ next = cc in subst (λ (q : Point). AllGood q t rest.lines) f good))
+    (tt, (λ next comes. let f : begun pt d ≡ next = cc in subst (λ (q : Point). AllGood q t rest.lines) f good))
+    )) e

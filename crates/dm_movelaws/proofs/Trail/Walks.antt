@@ -1,7 +1,7 @@
 -- A walk over the parts of a group: their lines fit the trails, and behind the last each process is placed on its trail.
 use Rattle.dm_movelaws.proofs.Names.{◌≡◌, ℕ, ◌==◌, Bool, true, false, List, [], ◌∷◌, ◌++◌, length, refl, ap, ◌∙◌, sym, subst, ⊤, if◌then◌else◌, Option, None, Some, Pid, MsgId, MessageKind, plain_kind, Load, PlainMessage, bind, bind-is}
-use Rattle.dm_movelaws.proofs.Names.{Line, View, Told, own_id, Receiver, Point, moved, after_line, after, Part, Says, Routes, Again, Owns, Transmits, Spelled, lines_of, puts, goes_out, packet_line, behind, spelled, Trails, Trodden, along}
-use Rattle.dm_movelaws.proofs.Names.{trails_after, not_kernels, Sane, AllSayable, part_sane, Treads, LineFits, PutFits, line_treads, Rides, Steps, Said, said_by, plain_own}
+use Rattle.dm_movelaws.proofs.Names.{Line, View, Told, own_id, Receiver, Point, moved, after_line, after, Part, Says, Routes, Again, Owns, Transmits, Spelled, lines_of, puts, goes_out, packet_line, spelled, Trails, Trodden, along}
+use Rattle.dm_movelaws.proofs.Names.{trails_after, not_kernels, Sane, AllSayable, part_sane, Treads, LineFits, PutFits, line_treads, Rides, Steps, Said, said_by, plain_own, by_parts}
 use Rattle.dm_rule.proofs.Trails.Along.{AllFit}
 use Rattle.dm_movelaws.proofs.Trail.Placed.{Places, placed_same}
 
@@ -95,16 +95,10 @@ part_good pt next t (Transmits a b l) ls more fits sane is leads h rest =
     subst (λ (xs : List Line). AllGood pt t (xs ++ more)) f (one_good pt next t (packet_line pt.view a b l) more tt (ap (after pt) f ∙ leads) h rest)
 
 pub parts_good : (ps : List Part) (pt : Point) (t : Trails) (w : Spelled) → AllSayable ps → Walks pt t ps → Sane pt → Treads pt t → spelled pt ps ≡ Some w → AllGood pt t w.lines
-parts_good [] pt t w ok walks sane h is = let f : record { lines = []; point = pt } ≡ w = cc in subst (λ (x : Spelled). AllGood pt t x.lines) f walks
-parts_good (p ∷ ps) pt t w ok walks sane h is =
-    let (ls, lines, rest) = bind-is (lines_of pt p) (λ (xs : List Line). bind (after pt xs) (λ (q : Point). bind (spelled q ps) (λ (z : Spelled). Some (behind xs z)))) w is in
-    let (next, leads, last) = bind-is (after pt ls) (λ (q : Point). bind (spelled q ps) (λ (z : Spelled). Some (behind ls z))) w rest in
-    let (z, more, end) = bind-is (spelled next ps) (λ (y : Spelled). Some (behind ls y)) w last in
-    let f : behind ls z ≡ w = cc in
+parts_good qs q u w ok walks sane h is = by_parts (λ ps pt v. (t : Trails) → AllSayable ps → Walks pt t ps → Sane pt → Treads pt t → AllGood pt t v.lines) (λ pt t ok walks sane h. walks) (λ p ps pt next ls z lines leads rest t ok walks sane h. (
     let k = walks sane h in
-    subst (λ (x : Spelled). AllGood pt t x.lines) f
-    (part_good pt next t p ls z.lines k.0 sane lines leads h
-    (λ on. parts_good ps next (behind_part pt.view t p) z ok.1 (k.1 next (record { lines = ls; are = lines; leads = leads })) (part_sane pt next p ls ok.0 lines leads sane) on more))
+    part_good pt next t p ls z.lines k.0 sane lines leads h (λ on. rest (behind_part pt.view t p) ok.1 (k.1 next (record { lines = ls; are = lines; leads = leads })) (part_sane pt next p ls ok.0 lines leads sane) on)
+    )) qs q w is u ok walks sane h
 
 -- parts that fit anywhere, and leave each process where it is
 pub record Loose (p : Part) : Type 0 where

@@ -1,30 +1,12 @@
 -- A group that says that an update was handled says nothing else, and where it leads.
-use Rattle.dm_movelaws.proofs.Names.{◌≡◌, ℕ, ◌==◌, ◌||◌, Bool, true, false, List, [], ◌∷◌, ◌++◌, length, refl, ap, ◌∙◌, sym, subst, if◌then◌else◌, false≢true, Option, None, Some, Pid, MsgId, MessageKind, plain_kind, Boot, bind, bind-is}
-use Rattle.dm_movelaws.proofs.Names.{Step, Line, Load, Receiver, Part, Says, Routes, Again, Owns, Transmits, Spelled, lines_of, puts, goes_out, packet_line, behind, spelled, Point, moved, after_line, after, group_of, View}
-use Rattle.dm_rule.specs.Rule as rule
+use Rattle.dm_movelaws.proofs.Names.{◌≡◌, ℕ, ◌==◌, ◌||◌, Bool, true, false, List, [], ◌∷◌, ◌++◌, length, refl, ap, ◌∙◌, sym, subst, if◌then◌else◌, false≢true, Option, None, Some, Pid, MsgId, MessageKind, plain_kind, Boot, bind-is, Step}
+use Rattle.dm_movelaws.proofs.Names.{Line, Load, Receiver, Part, Says, Routes, Again, Owns, Transmits, Spelled, lines_of, puts, goes_out, packet_line, spelled, Point, moved, group_of, View, GroupIs, group_is, by_parts}
 use Rattle.dm_rule.specs.View as view
-use Rattle.dm_movelaws.proofs.Updates.Rows.{Handles, is_updated, PartQuiet, AllQuiet, Shape, Quiet, Updates, ShapeOf}
+use Rattle.dm_movelaws.proofs.Updates.Rows.{Handles, is_updated, PartQuiet, AllQuiet, Shape, Quiet, Updates}
 use Rattle.dm_movelaws.proofs.Updates.Shapes.{outcome_shape}
 
 abbrev begun : Point → Step → Point
 begun pt d = moved pt (Line.Head d) pt.kernel
-
--- a group by its parts and lines
-record GroupSays (b : Boot) (pt : Point) (d : Step) (w : Spelled) : Type 0 where
-  parts : List Part
-  is : rule.outcome b pt d ≡ Some parts
-  rest : Spelled
-  said : spelled (begun pt d) parts ≡ Some rest
-  whole : rule.headed (Line.Head d) rest ≡ w
-
-group_says : (b : Boot) (pt : Point) (d : Step) (w : Spelled) → group_of b pt d ≡ Some w → GroupSays b pt d w
-group_says b pt d w e =
-    let (parts, is, more) = bind-is (rule.outcome b pt d) (λ parts. bind (after_line pt (Line.Head d)) (λ begun. bind (spelled begun parts) (λ w. Some (rule.headed (Line.Head d) w)))) w e in
-    let (start, head, last) = bind-is (after_line pt (Line.Head d)) (λ begun. bind (spelled begun parts) (λ w. Some (rule.headed (Line.Head d) w))) w more in
-    let (rest, told, end) = bind-is (spelled start parts) (λ w. Some (rule.headed (Line.Head d) w)) w last in
-    let f : begun pt d ≡ start = cc in
-    let g : rule.headed (Line.Head d) rest ≡ w = cc in
-    record { parts = parts; is = is; rest = rest; said = ap (λ p. spelled p parts) f ∙ told; whole = g }
 
 -- whether one of the lines says so
 abbrev has : List Line → Bool
@@ -70,13 +52,7 @@ part_has pt (Owns k q b) ls quiet is = let f : puts pt.view b (view.own_id pt.vi
 part_has pt (Transmits a b l) ls quiet is = let f : packet_line pt.view a b l ∷ [] ≡ ls = cc in sym (ap has f)
 
 parts_have : (ps : List Part) (pt : Point) (w : Spelled) → AllQuiet ps → spelled pt ps ≡ Some w → has w.lines ≡ false
-parts_have [] pt w quiet is = let f : record { lines = []; point = pt } ≡ w = cc in sym (ap (λ (x : Spelled). has x.lines) f)
-parts_have (p ∷ ps) pt w quiet is =
-    let (ls, lines, rest) = bind-is (lines_of pt p) (λ (xs : List Line). bind (after pt xs) (λ (q : Point). bind (spelled q ps) (λ (z : Spelled). Some (behind xs z)))) w is in
-    let (next, leads, last) = bind-is (after pt ls) (λ (q : Point). bind (spelled q ps) (λ (z : Spelled). Some (behind ls z))) w rest in
-    let (z, more, end) = bind-is (spelled next ps) (λ (y : Spelled). Some (behind ls y)) w last in
-    let f : behind ls z ≡ w = cc in
-    sym (ap (λ (x : Spelled). has x.lines) f) ∙ neither ls z.lines (part_has pt p ls quiet.0 lines) (parts_have ps next z quiet.1 more)
+parts_have ps pt w quiet is = by_parts (λ qs q v. AllQuiet qs → has v.lines ≡ false) (λ q h. refl) (λ x qs q next ls z lines leads rest h. neither ls z.lines (part_has q x ls h.0 lines) (rest h.1)) ps pt w is quiet
 
 -- what was handled, and where it leads
 pub record Handled (b : Boot) (pt : Point) (d : Step) (w : Spelled) (id : MsgId) (n : ℕ) : Type 0 where
@@ -108,7 +84,7 @@ handled_line b pt d w m k n i id handles lines point same =
     let first : Handled b pt d w i k = record { machine = m; handles = handles; lines = lines; point = point } in
     subst (λ (j : MsgId). Handled b pt d w j n) names (subst (λ (c : ℕ). Handled b pt d w i c) counts first)
 
-by_shape : (b : Boot) (pt : Point) (d : Step) (w : Spelled) (id : MsgId) (n : ℕ) (xs ys : List Line) (g : GroupSays b pt d w) → w.lines ≡ xs ++ Line.Updated id n ∷ ys → Shape pt g.parts → Handled b pt d w id n
+by_shape : (b : Boot) (pt : Point) (d : Step) (w : Spelled) (id : MsgId) (n : ℕ) (xs ys : List Line) (g : GroupIs b pt d w) → w.lines ≡ xs ++ Line.Updated id n ∷ ys → Shape pt g.parts → Handled b pt d w id n
 by_shape b pt d w id n xs ys g there (Quiet quiet) =
     absurd (false≢true (sym (parts_have g.parts (begun pt d) g.rest quiet g.said) ∙ ap (λ (x : Spelled). has x.lines) g.whole ∙ ap has there ∙ has_in xs ys id n))
 by_shape b pt d w id n xs ys g there (Updates m i k form handles) =
@@ -118,4 +94,4 @@ by_shape b pt d w id n xs ys g there (Updates m i k form handles) =
     handled_line b pt d w m k n i id handles (sym all) point (same_line d xs ys id i n k (sym there ∙ sym all))
 
 pub handled_by : (b : Boot) (pt : Point) (d : Step) (w : Spelled) (id : MsgId) (n : ℕ) (xs ys : List Line) → group_of b pt d ≡ Some w → w.lines ≡ xs ++ Line.Updated id n ∷ ys → Handled b pt d w id n
-handled_by b pt d w id n xs ys is there = let g = group_says b pt d w is in by_shape b pt d w id n xs ys g there (subst (ShapeOf pt) g.is (outcome_shape b pt d))
+handled_by b pt d w id n xs ys is there = let g = group_is b pt d w is in by_shape b pt d w id n xs ys g there (outcome_shape b pt d g.parts g.is)

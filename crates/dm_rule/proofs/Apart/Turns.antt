@@ -1,26 +1,21 @@
 -- A kernel's own message, a turn, and the other directives: the labels of a group are other processes'.
-use Rattle.dm_rule.proofs.Names.{◌≡◌, ◌≢◌, ℕ, ◌+◌, ◌==◌, Bool, true, false, List, [], ◌∷◌, ◌++◌, length, refl, ap, ◌∙◌, sym, ◌/◌, if◌then◌else◌, Option, None, Some, Pid, pid_of, pid_eq, MsgId, MessageKind, Stage, PlainMessage, Boot}
-use Rattle.dm_rule.proofs.Names.{first_number, switchboard, manager, PlainProcess, OneKernel, Line, Told, About, Of, Known, Unknown, Here, Frozen, Forward, Ended, target_of, Addresses, child_number, Point, label_of, Part, Says, Routes}
-use Rattle.dm_rule.proofs.Names.{Again, Owns, Transmits, to_kernel, sends_on, accepts, takes_chunk, takes_block, leaves, kernel_told, chunks_of, pieces_of, here_told, ended_told, process_told, server_told, migrates, migrates_child, Spares}
-use Rattle.dm_onekernel.specs.Step as kernel
+use Rattle.dm_rule.proofs.Names.{◌≡◌, ◌≢◌, ℕ, ◌+◌, List, [], ◌∷◌, refl, ap, ◌∙◌, sym, Option, None, Some, Pid, pid_of, MsgId, PlainMessage, Boot, first_number, OneKernel, Line, Told, Here, Point, label_of, Part, Says, Transmits, migrates}
+use Rattle.dm_rule.proofs.Names.{Spares}
 use Rattle.dm_rule.specs.Rule as rule
 use Rattle.dm_rule.proofs.Groups.{IsNetLine, IsNet}
-use Rattle.dm_rule.proofs.Apart.Rows.{AllApart, FirstApart, ApartOf, apart_first, ForOther, of_bind, of_if, round_apart, forwards_apart, handles_apart}
+use Rattle.dm_rule.proofs.Apart.Rows.{AllApart, ApartOf, apart_first, ForOther, round_apart, handles_apart}
 use Rattle.dm_rule.proofs.Requests.{by_migrates}
 use Rattle.dm_rule.proofs.Hearing.{IsHeardLine, hears_kept}
+use Rattle.dm_rule.proofs.Apart.Rows.{apart_of}
 
 -- a kernel's own message is handled: no label
 apart_line : (y : Pid) (l : Line) → IsHeardLine l → (z : OneKernel) → Spares z y (label_of l)
 apart_line y (Line.Label l) h z = absurd h
 apart_line y _ h z = tt
 
-apart_of : (z : OneKernel) (y : Pid) (o : Option (List Part)) → ((ps : List Part) → o ≡ Some ps → AllApart y ps) → ApartOf z y o
-apart_of z y None h = tt
-apart_of z y (Some ps) h = apart_first z y ps (h ps refl)
-
 hears_apart : (z : OneKernel) (y : Pid) (b : Boot) (o : Point) (m : ℕ) (id : MsgId) (q : Option Told) → ApartOf z y (rule.hears b o m id q)
 hears_apart z y b o m id q =
-    apart_of z y (rule.hears b o m id q) (λ ps. hears_kept (AllApart y) (record { none = tt; says = λ l ps h k. (apart_line y l h, k); again = λ i to ps k. (λ s. tt, k); owns = λ k q to ps h. (λ s. tt, h) }) b o m id q ps)
+    apart_of z y (rule.hears b o m id q) (λ ps e. apart_first z y ps (hears_kept (AllApart y) (record { none = tt; says = λ l ps h k. (apart_line y l h, k); again = λ i to ps k. (λ s. tt, k); owns = λ k q to ps h. (λ s. tt, h) }) b o m id q ps e))
 
 -- a turn
 other_is : (z : OneKernel) (y : Pid) (id : MsgId) (msg : PlainMessage) → z.bag id ≡ Some msg → msg.to ≢ y → ForOther z y id

@@ -1,8 +1,8 @@
 -- Receives keep addresses where they may be.
 use Rattle.dm_rule.proofs.Names.{◌≡◌, ℕ, zero, suc, ◌+◌, ◌==◌, ◌&&◌, Bool, true, false, List, [], ◌∷◌, ◌++◌, refl, ap, ◌∙◌, sym, subst, inl, inr, arith, nat_lt, length, if◌then◌else◌, cond, slice_get, slice_set, is_none, position_or_len}
 use Rattle.dm_rule.proofs.Names.{Option, None, Some, cases_Bool, false≢true, nat_tests, Pid, Place, pid_eq, PlainLink, first_empty, link_at, MsgId, Label, PlainMessage, PlainWhat, on_mask, Regs, Reply, reply_eq, reply_code, bind}
-use Rattle.dm_rule.proofs.Names.{PlainProcess, PlainStatus, Ready, Waiting, Moving, setting, Alive, OneKernel, first_failed, without_message, pid_eq-same, bind-is, when-is, View, Addresses, Gets, given, gives, Slot, Enclosed, fills}
-use Rattle.dm_rule.proofs.Names.{receives_links, receives_what, slot_after, links_in}
+use Rattle.dm_rule.proofs.Names.{PlainProcess, PlainStatus, Ready, Waiting, setting, Alive, OneKernel, first_failed, without_message, pid_eq-same, bind-is, when-is, View, Addresses, Gets, given, gives, Slot, Enclosed, fills, receives_links}
+use Rattle.dm_rule.proofs.Names.{receives_what, slot_after, links_in}
 use Rattle.dm_onekernel.specs.Receiving as receiving
 use Rattle.dm_onekernel.specs.Step as kernel
 use Rattle.dm_rule.specs.Addresses as addresses

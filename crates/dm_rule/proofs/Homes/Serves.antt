@@ -1,8 +1,8 @@
 -- What kernels do with messages keeps addresses where they may be.
 use Rattle.dm_rule.proofs.Names.{◌≡◌, ℕ, zero, suc, ◌+◌, ◌==◌, ◌&&◌, Bool, true, false, List, [], ◌∷◌, ◌++◌, refl, ap, ◌∙◌, sym, subst, arith, nat_le, length, ⊤, if◌then◌else◌, map, slice_get, Option, None, Some, nat_tests, Pid, Place}
-use Rattle.dm_rule.proofs.Names.{pid_eq, PlainLink, link_at, MsgId, id_eq, Label, Why, PlainMessage, PlainWhat, Reply, bind, PlainProcess, PlainStatus, Ready, Waiting, Moving, Alive, OneKernel, with_process, with_sent, without_message}
-use Rattle.dm_rule.proofs.Names.{pid_eq-same, id_eq-same, bind-is, when-is, View, Addresses, Gets, gets, given, gives, Slot, Owner, Receiver, Sender, Enclosed, unmoved, here, made, owner_in, replicate, ◌-◌, take, drop, Direction, BootImage}
-use Rattle.dm_rule.proofs.Names.{slots_of, first_number, answer_id, answer_to, begun, pid_of, answers, serves_what, lands, child_links, links_in}
+use Rattle.dm_rule.proofs.Names.{pid_eq, PlainLink, link_at, MsgId, id_eq, Label, Why, PlainMessage, PlainWhat, Reply, bind, PlainProcess, PlainStatus, Moving, Alive, OneKernel, with_process, with_sent, without_message, pid_eq-same}
+use Rattle.dm_rule.proofs.Names.{id_eq-same, bind-is, when-is, View, Addresses, Gets, gets, given, gives, Slot, Owner, Receiver, Sender, Enclosed, unmoved, here, owner_in, replicate, ◌-◌, take, drop, Direction, BootImage, slots_of}
+use Rattle.dm_rule.proofs.Names.{first_number, answer_id, answer_to, begun, pid_of, answers, serves_what, lands, child_links, links_in}
 use Rattle.dm_onekernel.specs.Kernel.{Ended}
 use Rattle.dm_onekernel.specs.Step as kernel
 use Rattle.dm_rule.specs.Addresses as addresses

@@ -1,7 +1,7 @@
 -- A turn keeps all of it.
-use Rattle.dm_rule.proofs.Names.{◌≡◌, ℕ, ◌+◌, ◌==◌, ◌&&◌, Bool, true, false, List, [], ◌∷◌, length, refl, ap, ◌∙◌, sym, subst, inl, inr, arith, nat_le, ⊤, if◌then◌else◌, Option, None, Some, nat_tests, Pid, MsgId, PlainMessage, Boot, Label}
-use Rattle.dm_rule.proofs.Names.{OneKernel, bind, after_step, Point, first_point, Part, Routes, Spelled, Homes, is_for_home, are_home, slice_get, IsStill, AreStill, Leads, LeadHomeAlways, ◌≤◌, false≢true, is_kernels, Step, PlainProcess}
-use Rattle.dm_rule.proofs.Names.{PlainStatus, Ready, Waiting, Moving, actor, instruction, group_of, pid_of, pid_eq, PlainWhat, BootImage, switchboard, manager, first_number, Known, Unknown, Here, Ended}
+use Rattle.dm_rule.proofs.Names.{◌≡◌, ℕ, ◌+◌, ◌==◌, ◌&&◌, Bool, true, false, List, [], ◌∷◌, refl, ap, ◌∙◌, sym, subst, inl, inr, arith, nat_le, ⊤, if◌then◌else◌, Option, None, Some, nat_tests, Pid, MsgId, PlainMessage, Boot, Label}
+use Rattle.dm_rule.proofs.Names.{OneKernel, after_step, Point, first_point, Part, Routes, Spelled, Homes, is_for_home, are_home, IsStill, AreStill, Leads, LeadHomeAlways, ◌≤◌, false≢true, is_kernels, Step, actor, group_of, pid_of}
+use Rattle.dm_rule.proofs.Names.{first_number, Known, Frozen, Incoming, Forward}
 use Rattle.dm_onekernel.specs.Step as kernel
 use Rattle.dm_rule.proofs.Homes.Labels.{SaidAt}
 use Rattle.dm_rule.proofs.Homes.Lists.{stands, all_stand}
@@ -12,15 +12,12 @@ use Rattle.dm_rule.proofs.Moves.States.{inbox_way, kernels_by}
 use Rattle.dm_rule.proofs.Pairs.{Pairs, Pairs-start, Pairs-group}
 use Rattle.dm_rule.proofs.Groups.{State-start, State-group, fits}
 use Rattle.dm_rule.proofs.Homes.Lines.{NoneReplaced, homes_of, home_start, Home, Kept}
-use Rattle.dm_onekernel.specs.Calls as calls
 use Rattle.dm_rule.specs.Rule as rule
 use Rattle.dm_rule.proofs.Homes.Parts.{PartsAnywhere}
 use Rattle.dm_onekernel.specs.Pieces as pieces
-use Rattle.dm_onekernel.specs.Receiving as receiving
-use Rattle.dm_onekernel.specs.Switchboard as board
-use Rattle.dm_onekernel.specs.Manager as manage
 use Rattle.dm_rule.proofs.Homes.Serves.{ReceivedAt}
-use Rattle.dm_rule.proofs.Homes.Groups.{PartsGood, group_keeps, if_parts, tick_keeps, deliver_keeps}
+use Rattle.dm_rule.proofs.Homes.Groups.{PartsGood, group_keeps, tick_keeps, deliver_keeps}
+use Rattle.dm_rule.proofs.Serving.{by_round, by_handles}
 
 abbrev pub GoodOf : OneKernel → (MsgId → ℕ) → ℕ → Option (List Part) → Type 0
 GoodOf s e m None = ⊤
@@ -53,131 +50,52 @@ runnable_home s queue m (p ∷ ps) q h is =
     let first = k.0 in
     runnable_if m (rule.can_go s (queue p) (kernel.alive (s.processes p))) p (rule.first_runnable s queue ps) q (let f : p.home ≡ m = grind (arith, nat_tests) in f) (runnable_home s queue m ps q k.1) is
 
-called_good : (m : ℕ) (p : Pid) (n : ℕ) (queue : List MsgId) (c : calls.Called) → p.home ≡ m → PartsAnywhere m (rule.called p n queue c)
-called_good m p n queue (calls.Sends k x) at = (at, (tt, tt))
-called_good m p n queue (calls.Ends because) at = (at, drops_good m queue)
-called_good m p n queue _ at = (at, tt)
-
-stops_good : (m : ℕ) (p : Pid) (queue : List MsgId) (o : Option kernel.Next) → p.home ≡ m → PartsAnywhere m (rule.stops p queue o)
-stops_good m p queue None at = tt
-stops_good m p queue (Some (kernel.Calls n c)) at = called_good m p n queue c at
-stops_good m p queue (Some (kernel.Faults fault)) at = (at, drops_good m queue)
-
-executes_good : (s : OneKernel) (e : MsgId → ℕ) (m quantum : ℕ) (p : Pid) (queue : List MsgId) (x : PlainProcess) (r : rule.Ran) (o : Option kernel.Next) → p.home ≡ m
-    → PartsGood s e m (rule.says (Label.Ran p r.count) ∷ (if r.count == quantum then [] else rule.stops p queue o))
-executes_good s e m quantum p queue x r o at = says_first s e m (Label.Ran p r.count) (if r.count == quantum then [] else rule.stops p queue o) at (if_parts m (r.count == quantum) [] (rule.stops p queue o) tt (stops_good m p queue o at))
-
-completes_good : (s : OneKernel) (e : MsgId → ℕ) (m : ℕ) (p : Pid) (id : MsgId) (o : Option receiving.Completed) → p.home ≡ m → GoodOf s e m (bind o (λ (c : receiving.Completed). Some (rule.completes p id c)))
-completes_good s e m p id None at = tt
-completes_good s e m p id (Some (receiving.Receives x)) at = (inl at, tt)
-completes_good s e m p id (Some (receiving.Refuses reply x)) at = (inl at, tt)
-
-received_good : (s : OneKernel) (e : MsgId → ℕ) (m : ℕ) (p : Pid) (x : PlainProcess) (id : MsgId) (o : Option PlainMessage) → p.home ≡ m
-    → GoodOf s e m (bind o (λ (k : PlainMessage). bind (receiving.completes_with p x k) (λ (c : receiving.Completed). Some (rule.completes p id c))))
-received_good s e m p x id None at = tt
-received_good s e m p x id (Some k) at = completes_good s e m p id (receiving.completes_with p x k) at
-
-receives_good : (s : OneKernel) (e : MsgId → ℕ) (m : ℕ) (p : Pid) (x : PlainProcess) (o : Option MsgId) → p.home ≡ m → GoodOf s e m (rule.receives s p x o)
-receives_good s e m p x None at = tt
-receives_good s e m p x (Some id) at = received_good s e m p x id (s.bag id) at
-
-status_good : (s : OneKernel) (e : MsgId → ℕ) (m quantum : ℕ) (p : Pid) (queue : List MsgId) (x : PlainProcess) (st : PlainStatus) → p.home ≡ m → GoodOf s e m (rule.serves_status quantum s p queue x st)
-status_good s e m quantum p queue x Ready at =
-    let r = rule.ran quantum (kernel.machine_of x) in
-    executes_good s e m quantum p queue x r (kernel.next_row p (kernel.with_machine x r.machine) (instruction r.machine.regs r.machine.bytes)) at
-status_good s e m quantum p queue x (Waiting mask base size) at = receives_good s e m p x (rule.first_awaited s mask queue) at
-status_good s e m quantum p queue x (Moving dir owner base own left pending) at = tt
-
-alive_good : (s : OneKernel) (e : MsgId → ℕ) (m quantum : ℕ) (p : Pid) (queue : List MsgId) (o : Option PlainProcess) → p.home ≡ m → GoodOf s e m (bind o (λ (x : PlainProcess). rule.serves_status quantum s p queue x x.status))
-alive_good s e m quantum p queue None at = tt
-alive_good s e m quantum p queue (Some x) at = status_good s e m quantum p queue x x.status at
+some_good : (s : OneKernel) (e : MsgId → ℕ) (m : ℕ) (o : Option (List Part)) → ((ps : List Part) → o ≡ Some ps → PartsGood s e m ps) → GoodOf s e m o
+some_good s e m None h = tt
+some_good s e m (Some ps) h = h ps refl
 
 round_good : (b : Boot) (e : MsgId → ℕ) (pt : Point) (m : ℕ) (o : Option Pid) → ((p : Pid) → o ≡ Some p → p.home ≡ m) → GoodOf pt.kernel e m (rule.goes_round b pt m o)
-round_good b e pt m None at = (inl tt, tt)
-round_good b e pt m (Some p) at = alive_good pt.kernel e m b.quantum p (pt.view.queue m p) (kernel.alive (pt.kernel.processes p)) (at p refl)
+round_good b e pt m o at = some_good pt.kernel e m (rule.goes_round b pt m o) (λ ps. by_round (PartsGood pt.kernel e m) b pt m o ps (inl tt, tt) (λ p x is alive. record {
+  runs = λ k rest stops. says_first pt.kernel e m (Label.Ran p k) rest (at p is) (stops (PartsAnywhere m) (record {
+    over = tt;
+    replies = λ n r. (at p is, tt);
+    sends = λ id. (at p is, (tt, tt));
+    waits = (at p is, tt);
+    outputs = λ word. (at p is, tt);
+    ends = λ y. (at p is, drops_good m (pt.view.queue m p));
+  }));
+  takes = λ mask id first. (inl (at p is), tt);
+  refuses = λ id r. (inl (at p is), tt);
+}))
 
 -- the message at the front of the inbox
 abbrev Front : OneKernel → (MsgId → ℕ) → ℕ → MsgId → Type 0
 Front s e m id = ReceivedAt s m id × (stands s e m id ≡ true)
 
-creates_good : (e : MsgId → ℕ) (pt : Point) (m : ℕ) (id : MsgId) (r : rule.Room) (b : Bool) (blocks : ℕ) → Front pt.kernel e m id
-    → PartsGood pt.kernel e m ((if b then rule.says (Label.Created id (pid_of m (first_number + pt.kernel.made m))) else rule.says (Label.NoSpace id r.slots r.blocks)) ∷ Routes (pieces.answer_id id) ∷ [])
-creates_good e pt m id r true blocks f = says_first pt.kernel e m (Label.Created id (pid_of m (first_number + pt.kernel.made m))) (Routes (pieces.answer_id id) ∷ []) (f.0, refl) (tt, tt)
-creates_good e pt m id r false blocks f = says_first pt.kernel e m (Label.NoSpace id r.slots r.blocks) (Routes (pieces.answer_id id) ∷ []) f.0 (tt, tt)
-
-image_good : (e : MsgId → ℕ) (pt : Point) (m : ℕ) (id : MsgId) (r : rule.Room) (o : Option BootImage) → Front pt.kernel e m id → GoodOf pt.kernel e m (rule.creates pt m id r o)
-image_good e pt m id r None f = tt
-image_good e pt m id r (Some i) f = creates_good e pt m id r (rule.has_room r i.blocks) i.blocks f
-
 routes_good : (m : ℕ) (o : Option PlainMessage) → PartsAnywhere m (rule.routes o)
 routes_good m None = tt
 routes_good m (Some k) = (tt, tt)
-
-board_good : (s : OneKernel) (e : MsgId → ℕ) (m : ℕ) (id : MsgId) (o : Option board.Took) → Front s e m id → GoodOf s e m (rule.board_took id o)
-board_good s e m id None f = tt
-board_good s e m id (Some k) f = says_first s e m (Label.Took id) (rule.routes k.answer) f.0 (routes_good m k.answer)
-
-manager_good : (s : OneKernel) (e : MsgId → ℕ) (m : ℕ) (id : MsgId) (o : Option manage.Took) → Front s e m id → GoodOf s e m (rule.manager_took id o)
-manager_good s e m id None f = tt
-manager_good s e m id (Some k) f = says_first s e m (Label.Took id) (rule.routes k.message) f.0 (routes_good m k.message)
-
-lands_good : (s : OneKernel) (e : MsgId → ℕ) (m : ℕ) (id : MsgId) (o : Option pieces.Landed) → Front s e m id → GoodOf s e m (rule.lands id o)
-lands_good s e m id None f = tt
-lands_good s e m id (Some (pieces.Next request x)) f = says_first s e m (Label.Served id) (Routes request.id ∷ []) f.0 (tt, tt)
-lands_good s e m id (Some (pieces.Done reply x)) f = says_first s e m (Label.Served id) [] f.0 tt
-
-kernel_good : (b : Boot) (e : MsgId → ℕ) (pt : Point) (m : ℕ) (id : MsgId) (w : PlainWhat) → Front pt.kernel e m id → GoodOf pt.kernel e m (rule.kernel_handles b pt m id w)
-kernel_good b e pt m id (PlainWhat.Create image links) f = image_good e pt m id (rule.free_room b pt m) (slice_get b.images image) f
-kernel_good b e pt m id _ f = tt
-
-here_good : (e : MsgId → ℕ) (pt : Point) (m : ℕ) (id : MsgId) (k : PlainMessage) (x : PlainProcess) (w : PlainWhat) → Front pt.kernel e m id → GoodOf pt.kernel e m (rule.here_handles pt m id k x w)
-here_good e pt m id k x (PlainWhat.User x1 x2 x3 x4) f = (inr (inr (id, refl, f.1)), tt)
-here_good e pt m id k x PlainWhat.Stop f = says_first pt.kernel e m (Label.Served id) [] f.0 tt
-here_good e pt m id k x PlainWhat.Resume f = says_first pt.kernel e m (Label.Served id) [] f.0 tt
-here_good e pt m id k x PlainWhat.Kill f = says_first pt.kernel e m (Label.Served id) (rule.drops (pt.view.queue m k.to)) f.0 (drops_good m (pt.view.queue m k.to))
-here_good e pt m id k x (PlainWhat.Read x1 x2) f = says_first pt.kernel e m (Label.Served id) (Routes (pieces.answer_id id) ∷ []) f.0 (tt, tt)
-here_good e pt m id k x (PlainWhat.Write x1 x2) f = says_first pt.kernel e m (Label.Served id) (Routes (pieces.answer_id id) ∷ []) f.0 (tt, tt)
-here_good e pt m id k x (PlainWhat.Block x1) f = lands_good pt.kernel e m id (pieces.lands k.to x k x.status) f
-here_good e pt m id k x PlainWhat.Written f = lands_good pt.kernel e m id (pieces.lands k.to x k x.status) f
-here_good e pt m id k x PlainWhat.Gone f = lands_good pt.kernel e m id (pieces.lands k.to x k x.status) f
-here_good e pt m id k x _ f = tt
-
-ended_good : (s : OneKernel) (e : MsgId → ℕ) (m : ℕ) (id : MsgId) (w : PlainWhat) → Front s e m id → GoodOf s e m (rule.ended_handles id w)
-ended_good s e m id (PlainWhat.Read x1 x2) f = says_first s e m (Label.Gone id) (Routes (pieces.answer_id id) ∷ []) f.0 (tt, tt)
-ended_good s e m id (PlainWhat.Write x1 x2) f = says_first s e m (Label.Gone id) (Routes (pieces.answer_id id) ∷ []) f.0 (tt, tt)
-ended_good s e m id (PlainWhat.Create x1 x2) f = tt
-ended_good s e m id (PlainWhat.Created x1) f = tt
-ended_good s e m id PlainWhat.NoRoom f = tt
-ended_good s e m id (PlainWhat.Move x1) f = tt
-ended_good s e m id (PlainWhat.Moved x1) f = tt
-ended_good s e m id _ f = (inl tt, tt)
-
-alive_handles : (e : MsgId → ℕ) (pt : Point) (m : ℕ) (id : MsgId) (k : PlainMessage) (o : Option PlainProcess) → Front pt.kernel e m id → GoodOf pt.kernel e m (bind o (λ (x : PlainProcess). rule.here_handles pt m id k x k.what))
-alive_handles e pt m id k None f = tt
-alive_handles e pt m id k (Some x) f = here_good e pt m id k x k.what f
-
-process_good : (e : MsgId → ℕ) (pt : Point) (m : ℕ) (id : MsgId) (k : PlainMessage) (w : Known) → is_still w ≡ true → Front pt.kernel e m id → GoodOf pt.kernel e m (rule.process_handles pt m id k w)
-process_good e pt m id k Unknown s f = tt
-process_good e pt m id k Here s f = alive_handles e pt m id k (kernel.alive (pt.kernel.processes k.to)) f
-process_good e pt m id k Ended s f = ended_good pt.kernel e m id k.what f
-process_good e pt m id k _ s f = absurd (false≢true s)
-
-if_good : (s : OneKernel) (e : MsgId → ℕ) (m : ℕ) (b : Bool) (o p : Option (List Part)) → GoodOf s e m o → GoodOf s e m p → GoodOf s e m (if b then o else p)
-if_good s e m true o p h k = h
-if_good s e m false o p h k = k
 
 -- the message at the front is in the bag
 handles_good : (b : Boot) (e : MsgId → ℕ) (pt : Point) (m : ℕ) (id : MsgId) (o : Option PlainMessage) → RingsHome pt.view → (o ≡ None → ⊥) → Front pt.kernel e m id → GoodOf pt.kernel e m (rule.comes_to b pt m id o)
 handles_good b e pt m id None h there f = absurd (there refl)
 handles_good b e pt m id (Some k) h there f =
-    let one = rule.kernel_handles b pt m id k.what in
-    let two = rule.board_took id (board.takes pt.kernel.switchboard k k.what) in
-    let three = rule.manager_took id (manage.takes pt.kernel.manager pt.kernel.machines (length pt.kernel.images) k k.what) in
-    let four = rule.process_handles pt m id k (pt.view.known m k.to) in
-    let last = if pid_eq k.to manager then three else four in
-    if_good pt.kernel e m (k.to.num == 0) one (if pid_eq k.to switchboard then two else last) (kernel_good b e pt m id k.what f)
-    (if_good pt.kernel e m (pid_eq k.to switchboard) two last (board_good pt.kernel e m id (board.takes pt.kernel.switchboard k k.what) f)
-    (if_good pt.kernel e m (pid_eq k.to manager) three four (manager_good pt.kernel e m id (manage.takes pt.kernel.manager pt.kernel.machines (length pt.kernel.images) k k.what) f) (process_good e pt m id k (pt.view.known m k.to) (h.known m k.to) f)))
+    let s = pt.kernel in
+    let moved_off : (n : Known) → pt.view.known m k.to ≡ n → is_still n ≡ false → ⊥ = λ n known moves. false≢true (sym moves ∙ sym (ap is_still known) ∙ h.known m k.to) in
+    some_good s e m (rule.handles b pt m id k) (λ ps. by_handles (PartsGood s e m) b pt m id k ps (record {
+      created = λ fixed. says_first s e m (Label.Created id (pid_of m (first_number + s.made m))) (Routes (pieces.answer_id id) ∷ []) (f.0, refl) (tt, tt);
+      no_space = λ fixed slots blocks. says_first s e m (Label.NoSpace id slots blocks) (Routes (pieces.answer_id id) ∷ []) f.0 (tt, tt);
+      took = λ fixed sent. says_first s e m (Label.Took id) (rule.routes sent) f.0 (routes_good m sent);
+      queued = λ to user. (inr (inr (id, refl, f.1)), tt);
+      served = λ to mild. says_first s e m (Label.Served id) [] f.0 tt;
+      answers = λ to mild i. says_first s e m (Label.Served id) (Routes i ∷ []) f.0 (tt, tt);
+      kills = λ to kills. says_first s e m (Label.Served id) (rule.drops (pt.view.queue m k.to)) f.0 (drops_good m (pt.view.queue m k.to));
+      gone = λ to. says_first s e m (Label.Gone id) (Routes (pieces.answer_id id) ∷ []) f.0 (tt, tt);
+      dropped = λ to. (inl tt, tt);
+      leaving = λ n to. absurd (moved_off (Frozen n) to.known refl);
+      coming = λ n to. absurd (moved_off (Incoming n) to.known refl);
+      forwarded = λ n c to. absurd (moved_off (Forward n c) to.known refl);
+    }))
 
 pub for_home : (m : ℕ) (o : Option PlainMessage) (x : PlainMessage) → is_for_home m o ≡ true → o ≡ Some x → x.to.home ≡ m
 for_home m None x h is = cc

@@ -1,8 +1,5 @@
 -- The parts that migration adds keep the pairs of machines wherever they stand.
-use Rattle.dm_rule.proofs.Names.{◌≡◌, ℕ, ◌==◌, Bool, true, false, List, [], ◌∷◌, ◌++◌, refl, subst, length, ◌/◌, if◌then◌else◌, Option, None, Some, Pid, pid_eq, MsgId, MessageKind, Line, Stage, Boot, switchboard, manager, PlainProcess}
-use Rattle.dm_rule.proofs.Names.{Pair, Told, About, Of, Known, Unknown, Here, Frozen, Forward, Ended, target_of, Addresses, Sender, is_told_back, child_number, Point, Part, Says, Owns, to_kernel, forwards_on, moves_to, accepts, takes_chunk}
-use Rattle.dm_rule.proofs.Names.{takes_block, gives_piece, sends_on, leaves, kernel_told, chunks_of, pieces_of, updates, here_told, ended_told, process_told, server_told, migrates_child, migrates, fits, free_room, kernel_hears, hears}
-use Rattle.dm_onekernel.specs.Step as kernel
+use Rattle.dm_rule.proofs.Names.{◌≡◌, ℕ, false, List, refl, Option, Some, Pid, MsgId, MessageKind, Line, Boot, Pair, Told, Addresses, Point, Part, forwards_on, migrates, hears}
 use Rattle.dm_rule.proofs.Pairs.Lines.{AllFit, touches}
 use Rattle.dm_rule.proofs.Requests.{by_migrates}
 use Rattle.dm_rule.proofs.Hearing.{IsHeardLine, Kept, kept_forward, hears_kept}

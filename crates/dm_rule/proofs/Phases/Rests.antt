@@ -1,6 +1,6 @@
 -- The rows of migration that end it, and the one that begins it.
 use Rattle.dm_rule.proofs.Names.{◌≡◌, ◌⊎◌, ℕ, zero, suc, ◌+◌, ◌≤◌, ◌==◌, ◌&&◌, Bool, true, false, not, List, [], ◌∷◌, ◌++◌, refl, ap, ◌∙◌, sym, subst, inl, inr, arith, if◌then◌else◌, Option, None, Some, cases_Bool, false≢true, nat_tests}
-use Rattle.dm_rule.proofs.Names.{Pid, pid_eq, MsgId, MessageKind, Stage, id_eq, Line, at_machine, at_record, View, Told, Of, Known, Unknown, Here, Frozen, Incoming, Forward, Ended, view_after, handled_first, released, is_kernels, target_of}
+use Rattle.dm_rule.proofs.Names.{Pid, pid_eq, MsgId, MessageKind, Stage, id_eq, Line, at_machine, at_record, View, Told, Of, Known, Unknown, Here, Frozen, Incoming, Forward, view_after, handled_first, released, is_kernels, target_of}
 use Rattle.dm_rule.proofs.Names.{front_told, Point, label_of, moved, Says, Spelled, spelled, to_kernel, Spot, Queue, Held, Inbox, Untaken, times, ids_at, standing, is_between, is_restart, is_early, comes, is_away, is_here, is_over, Phase}
 use Rattle.dm_rule.proofs.Names.{Nowhere, Rests, Over, Moves, knows, token_in, receiver_in, id_eq-is, pid_eq-is, pid_eq-same}
 use Rattle.dm_rule.specs.Phases.{leaves}

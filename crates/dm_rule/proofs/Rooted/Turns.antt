@@ -1,13 +1,12 @@
 -- What a kernel's own message, a turn, and the other directives say needs nothing but for the first line.
-use Rattle.dm_rule.proofs.Names.{◌≡◌, ℕ, ◌==◌, Bool, true, false, List, [], ◌∷◌, ◌++◌, length, refl, ap, ◌∙◌, ◌/◌, if◌then◌else◌, Option, None, Some, Pid, pid_eq, MsgId, MessageKind, Stage, PlainMessage, Boot, switchboard, manager}
-use Rattle.dm_rule.proofs.Names.{PlainProcess, OneKernel, Line, Told, About, Of, Known, Unknown, Here, Frozen, Forward, Ended, target_of, Addresses, child_number, Point, Part, Says, Routes, Again, Owns, Transmits, to_kernel, sends_on}
-use Rattle.dm_rule.proofs.Names.{accepts, takes_chunk, takes_block, leaves, kernel_told, chunks_of, pieces_of, here_told, ended_told, process_told, server_told, migrates, migrates_child}
+use Rattle.dm_rule.proofs.Names.{◌≡◌, ℕ, List, [], ◌∷◌, ◌++◌, refl, ap, ◌∙◌, Option, None, Some, Pid, MsgId, MessageKind, Stage, PlainMessage, Boot, manager, PlainProcess, OneKernel, Line, Told, Of, Here, Point, Part, Says, Transmits}
+use Rattle.dm_rule.proofs.Names.{to_kernel, sends_on, migrates}
 use Rattle.dm_onekernel.specs.Step as kernel
 use Rattle.dm_rule.specs.Rule as rule
 use Rattle.dm_rule.proofs.Groups.{IsNetLine, IsNet}
 use Rattle.dm_rule.proofs.Lives.{Lives, Lived, lived_alive, lived_here}
 use Rattle.dm_rule.proofs.Rooted.Lines.{Needs}
-use Rattle.dm_rule.proofs.Rooted.Rows.{AllLoose, First, FirstOf, of_bind, of_if, round_first, forwards_first, handles_first}
+use Rattle.dm_rule.proofs.Rooted.Rows.{AllLoose, First, FirstOf, round_first, forwards_first, handles_first}
 use Rattle.dm_rule.proofs.Requests.{by_migrates}
 use Rattle.dm_rule.proofs.Hearing.{by_hears}
 

@@ -1,5 +1,5 @@
 -- Only machines that act know processes, and so all machines of a trail are among those of the boot file.
-use Rattle.dm_rule.proofs.Names.{◌≡◌, ◌≢◌, ℕ, ◌+◌, ◌<◌, ◌==◌, ◌&&◌, Bool, [], refl, ap, ◌∙◌, sym, subst, inl, inr, ⊤, not, filter, if◌then◌else◌, slice_get, Option, None, Some, cases_Bool, Pid, pid_eq, MsgId, MessageKind, Label, Step, Line}
+use Rattle.dm_rule.proofs.Names.{◌≡◌, ◌≢◌, ℕ, ◌+◌, ◌<◌, ◌==◌, ◌&&◌, Bool, refl, ap, ◌∙◌, sym, subst, inl, inr, ⊤, not, filter, if◌then◌else◌, slice_get, Option, None, Some, cases_Bool, Pid, pid_eq, MsgId, MessageKind, Label, Step, Line}
 use Rattle.dm_rule.proofs.Names.{Stage, at_record, View, Told, Known, Unknown, Here, Frozen, Incoming, Ended, actor, view_after, after_label, after_head, handled, taken_id, queued_for, held_for, forwarded_for, served_told, kills}
 use Rattle.dm_rule.proofs.Names.{receiver_of, front_of, front_told, target_of, gone_to, Trails, Trail}
 use Rattle.dm_rule.specs.View as view

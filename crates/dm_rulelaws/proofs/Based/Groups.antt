@@ -1,17 +1,13 @@
 -- What a turn says of a kernel's own message has what its lines need; so each group keeps what each line keeps.
-use Rattle.dm_rulelaws.proofs.Names.{◌≡◌, ℕ, ◌==◌, ◌||◌, Bool, true, false, not, List, [], ◌∷◌, ◌++◌, length, refl, ap, ◌∙◌, sym, subst, ◌/◌, if◌then◌else◌, slice_get, Option, None, Some, arith, false≢true, nat_tests, Pid, pid_eq, MsgId}
-use Rattle.dm_rulelaws.proofs.Names.{MessageKind, Stage, PlainMessage, Boot, switchboard, manager, PlainProcess, Life, Alive, OneKernel, Step, Line, View, Told, About, Of, Known, Unknown, Here, Frozen, Incoming, Forward, target_of}
-use Rattle.dm_rulelaws.proofs.Names.{after_head, Addresses, child_number, Point, moved, Part, Says, Routes, Again, Owns, Transmits, Spelled, is_between, is_apart, is_away, is_here, comes, Phase, Moves, knows, receiver_in, to_kernel}
-use Rattle.dm_rulelaws.proofs.Names.{sends_on, accepts, takes_chunk, takes_block, leaves, kernel_told, chunks_of, pieces_of, here_told, ended_told, process_told, server_told, updates, migrates, migrates_child, group_of, at_record_at}
-use Rattle.dm_rulelaws.proofs.Names.{IsNetLine, IsNet, arrives_net, resends_net, front_way, Sane, InPhases, calm_phases, due, head_calm, told_some, Rooted, Phased, rooted, moves_away, State, is_server, has_nothing_held, agrees, KnownStands}
-use Rattle.dm_rulelaws.proofs.Names.{right_true, by_migrates, by_hears, left_parts}
-use Rattle.dm_onekernel.specs.Step as kernel
-use Rattle.dm_rule.specs.View.{Ended}
+use Rattle.dm_rulelaws.proofs.Names.{◌≡◌, ℕ, ◌==◌, Bool, true, false, not, List, [], ◌∷◌, ◌++◌, length, refl, ap, ◌∙◌, sym, subst, if◌then◌else◌, Option, None, Some, arith, false≢true, nat_tests, Pid, MsgId, MessageKind, Stage, Boot}
+use Rattle.dm_rulelaws.proofs.Names.{manager, Life, Alive, OneKernel, Step, Line, View, Told, Of, Known, Unknown, Here, Frozen, Incoming, Forward, after_head, Point, moved, Part, Says, Spelled, is_between, is_apart, is_away, is_here, comes}
+use Rattle.dm_rulelaws.proofs.Names.{Phase, Moves, knows, receiver_in, to_kernel, sends_on, updates, migrates, group_of, at_record_at, IsNetLine, IsNet, front_way, Sane, InPhases, calm_phases, due, head_calm, told_some, Rooted, Phased}
+use Rattle.dm_rulelaws.proofs.Names.{rooted, moves_away, State, is_server, has_nothing_held, agrees, KnownStands, right_true, by_migrates, by_hears, left_parts, by_net, by_outcome}
 use Rattle.dm_rule.specs.Phases as phases
 use Rattle.dm_rule.specs.Rule as rule
 use Rattle.dm_rule.proofs.Groups as groups
 use Rattle.dm_rulelaws.proofs.Based.Needs.{Living, Leaving, Needs, Rides, Keeps, Walks, WalksOf, AllLoose, loose_walks, first_walks, said_by, again_rides, begun, begun_sane, outcome_keeps}
-use Rattle.dm_rulelaws.proofs.Based.Rows.{turned, resting, living, of_bind, of_if, round_walks, handles_walks, forwards_walks}
+use Rattle.dm_rulelaws.proofs.Based.Rows.{turned, resting, living, round_walks, handles_walks, forwards_walks}
 
 -- what leaves
 leaving_rides : (p : Pid) → Rides (λ q. Leaving q.view p)
@@ -132,7 +128,7 @@ hears_walks b o m i is q h front told = walks_of (turned o m) (rule.hears b o m 
             memory = piece_walks pt i MessageKind.Memory;
             next_block = piece_walks pt i MessageKind.PullBlock;
             last_block = loose_walks (Says (Line.Migration Stage.MemoryTaken p) ∷ to_kernel MessageKind.AllTaken i.from.home ∷ []) pt (λ q. tt, (λ q. tt, tt));
-            left = λ ids to frozen. leaves_walks pt i p ids to frozen lived.server;
+            left = λ ids to leaves. leaves_walks pt i p ids to leaves.known lived.server;
             restarted = λ kind. first_walks (Says (Line.Migration Stage.Restarted p)) [] pt (lived, e.off (ap is_between kind)) tt;
           }
           );
@@ -148,17 +144,6 @@ hears_walks b o m i is q h front told = walks_of (turned o m) (rule.hears b o m 
     }
     )))
 
-comes_walks : (b : Boot) (o : Point) (m : ℕ) (i : MsgId) (is : List MsgId) (q : Option PlainMessage) → Begins o m → o.view.inbox m ≡ i ∷ is → o.kernel.bag i ≡ q → WalksOf (turned o m) (rule.comes_to b o m i q)
-comes_walks b o m i is None h front there = hears_walks b o m i is (o.view.told i) h front refl
-comes_walks b o m i is (Some msg) h front there =
-    let (q, way) = front_way (turned o m) i is h.state front in
-    let (t, told) = told_some (o.view.told i) q (h.state.stands.told i q way) in
-    handles_walks b o m i msg h.sane h.phases h.rooted (record { there = there; told = t; is = told })
-
-turns_walks : (b : Boot) (o : Point) (m : ℕ) (inbox : List MsgId) → Begins o m → o.view.inbox m ≡ inbox → WalksOf (turned o m) (rule.turns b o m inbox)
-turns_walks b o m [] h front = round_walks (turned o m) b o m (rule.first_runnable o.kernel (o.view.queue m) (o.view.ring m)) (λ p is. resting (turned o m).view p h.phases (h.rooted.served m p is))
-turns_walks b o m (i ∷ is) h front = comes_walks b o m i is (o.kernel.bag i) h front refl
-
 -- the other directives
 net_needs : (l : Line) → IsNetLine l → (pt : Point) → Needs pt l
 net_needs (Line.Taken a b n) h pt = tt
@@ -170,10 +155,7 @@ net_needs Line.Nothing h pt = tt
 net_needs _ h pt = absurd h
 
 net_loose : (ps : List Part) → IsNet ps → AllLoose ps
-net_loose [] h = tt
-net_loose (Says l ∷ ps) h = (net_needs l h.0, net_loose ps h.1)
-net_loose (Transmits a b l ∷ ps) h = (λ pt. tt, net_loose ps h.1)
-net_loose _ h = absurd h.0
+net_loose = by_net AllLoose tt (λ l ps net h. (net_needs l net, h)) (λ a b l ps h. (λ pt. tt, h))
 
 migrates_loose : (o : Point) (p : Pid) → AllLoose (migrates o p)
 migrates_loose o p = by_migrates AllLoose o p (λ pt. tt, tt) (λ pt. tt, tt) (λ n off is. (λ pt. tt, tt))
@@ -188,12 +170,22 @@ begins o m h known = record {
 }
 
 outcome_walks : (b : Boot) (pt : Point) (d : Step) → Phased pt → KnownStands pt.kernel pt.view → WalksOf (begun pt d) (rule.outcome b pt d)
-outcome_walks b pt (Step.Turn m) h known = turns_walks b pt m (pt.view.inbox m) (begins pt m h known) refl
-outcome_walks b pt (Step.Tick m) h known = loose_walks (Says (Line.Resent m (rule.outstanding pt.view m pt.kernel.machines)) ∷ rule.resends pt.view m pt.kernel.machines) (begun pt (Step.Tick m)) (λ q. tt, net_loose (rule.resends pt.view m pt.kernel.machines) (resends_net pt.view m pt.kernel.machines))
-outcome_walks b pt (Step.Deliver a c k) h known =
-    let qs = rule.arrives a c (pt.view.pair a c) (pt.view.pair c a) (slice_get (pt.view.pair a c).wire k) in
-    loose_walks qs (begun pt (Step.Deliver a c k)) (net_loose qs (arrives_net a c (pt.view.pair a c) (pt.view.pair c a) (slice_get (pt.view.pair a c).wire k)))
-outcome_walks b pt (Step.Migrate p m) h known = loose_walks (migrates pt p) (begun pt (Step.Migrate p m)) (migrates_loose pt p)
+outcome_walks b pt d h known = walks_of (begun pt d) (rule.outcome b pt d) (λ ps. by_outcome (λ x. Walks (begun pt x)) b pt d ps (record {
+  round = λ m xs box e. (
+      let s = begins pt m h known in
+      subst (WalksOf (turned pt m)) e (round_walks (turned pt m) b pt m (rule.first_runnable pt.kernel (pt.view.queue m) (pt.view.ring m)) (λ p is. resting (turned pt m).view p s.phases (s.rooted.served m p is)))
+      );
+  handles = λ m i is msg xs box there e. (
+      let s = begins pt m h known in
+      let (q, way) = front_way (turned pt m) i is s.state box in
+      let (t, told) = told_some (pt.view.told i) q (s.state.stands.told i q way) in
+      subst (WalksOf (turned pt m)) e (handles_walks b pt m i msg s.sane s.phases s.rooted (record { there = there; told = t; is = told }))
+      );
+  hears = λ m i is xs box none e. subst (WalksOf (turned pt m)) e (hears_walks b pt m i is (pt.view.told i) (begins pt m h known) box refl);
+  ticks = λ m xs net. loose_walks xs (begun pt (Step.Tick m)) (net_loose xs net);
+  delivers = λ a c k xs net. loose_walks xs (begun pt (Step.Deliver a c k)) (net_loose xs net);
+  asks = λ p m. loose_walks (migrates pt p) (begun pt (Step.Migrate p m)) (migrates_loose pt p);
+}))
 
 -- each group keeps what each of its lines keeps
 pub group_keeps : (P : Point → Type 0) (keeps : Keeps P) (b : Boot) (pt : Point) (d : Step) (w : Spelled) → group_of b pt d ≡ Some w → Phased pt → KnownStands pt.kernel pt.view → P pt → P w.point

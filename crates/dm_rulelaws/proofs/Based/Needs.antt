@@ -1,7 +1,7 @@
 -- What a line of a group needs, so that each line keeps what is known of processes; and a walk over a group's parts.
-use Rattle.dm_rulelaws.proofs.Names.{◌≡◌, ℕ, ◌==◌, Bool, true, false, List, [], ◌∷◌, length, refl, ap, ◌∙◌, subst, ⊤, if◌then◌else◌, Option, None, Some, Pid, MsgId, MessageKind, Stage, plain_kind, Boot, Label, bind, PlainProcess, Alive}
+use Rattle.dm_rulelaws.proofs.Names.{◌≡◌, ℕ, ◌==◌, Bool, true, false, List, [], ◌∷◌, length, refl, ap, ◌∙◌, subst, ⊤, if◌then◌else◌, Option, None, Some, Pid, MsgId, MessageKind, Stage, plain_kind, Boot, Label, PlainProcess, Alive}
 use Rattle.dm_rulelaws.proofs.Names.{OneKernel, bind-is, Step, Line, Load, View, Told, Unknown, Here, Frozen, is_kernels, own_id, Receiver, Point, label_of, kernel_after, moved, after_line, after, Part, Says, Routes, Again, Owns, Transmits}
-use Rattle.dm_rulelaws.proofs.Names.{Spelled, lines_of, puts, goes_out, packet_line, behind, spelled, is_away, is_here, group_of, group_is, is_kill, Sane, AllSayable, sane_line, part_sane, outcome_sayable, is_server, has_nothing_held}
+use Rattle.dm_rulelaws.proofs.Names.{Spelled, lines_of, puts, goes_out, packet_line, spelled, is_away, is_here, group_of, group_is, is_kill, Sane, AllSayable, sane_line, part_sane, outcome_sayable, is_server, has_nothing_held, by_parts}
 use Rattle.dm_rule.specs.Rule as rule
 
 -- a process is here, and away from every other machine
@@ -164,14 +164,10 @@ part_keeps P keeps pt next (Transmits a b l) need sane s h =
     subst P (ap (moved pt (packet_line pt.view a b l)) same ∙ k.is) (keeps.rides.packet pt a b (length (pt.view.pair a b).wire) l h)
 
 pub parts_keep : (P : Point → Type 0) (keeps : Keeps P) (ps : List Part) (pt : Point) (w : Spelled) → AllSayable ps → Walks pt ps → Sane pt → spelled pt ps ≡ Some w → P pt → P w.point
-parts_keep P keeps [] pt w ok need sane is h = let f : record { lines = []; point = pt } ≡ w = cc in subst (λ (x : Spelled). P x.point) f h
-parts_keep P keeps (p ∷ ps) pt w ok need sane is h =
-    let (ls, lines, rest) = bind-is (lines_of pt p) (λ (xs : List Line). bind (after pt xs) (λ (q : Point). bind (spelled q ps) (λ (z : Spelled). Some (behind xs z)))) w is in
-    let (next, leads, last) = bind-is (after pt ls) (λ (q : Point). bind (spelled q ps) (λ (z : Spelled). Some (behind ls z))) w rest in
-    let (z, more, end) = bind-is (spelled next ps) (λ (y : Spelled). Some (behind ls y)) w last in
-    let f : behind ls z ≡ w = cc in
+parts_keep P keeps qs q w ok need sane is h = by_parts (λ ps pt v. AllSayable ps → Walks pt ps → Sane pt → P pt → P v.point) (λ pt ok need sane h. h) (λ p ps pt next ls z lines leads rest ok need sane h. (
     let s : Steps pt p next = record { lines = ls; are = lines; leads = leads } in
-    subst (λ (x : Spelled). P x.point) f (parts_keep P keeps ps next z ok.1 (need.1 next s) (part_sane pt next p ls ok.0 lines leads sane) more (part_keeps P keeps pt next p need.0 sane s h))
+    rest ok.1 (need.1 next s) (part_sane pt next p ls ok.0 lines leads sane) (part_keeps P keeps pt next p need.0 sane s h)
+    )) qs q w is ok need sane h
 
 -- a group
 abbrev pub begun : Point → Step → Point

@@ -1,7 +1,7 @@
 -- What a process becomes by its instructions, its calls and its receives fits.
 use Rattle.dm_rulelaws.proofs.Names.{◌≡◌, ℕ, zero, suc, ◌+◌, ◌≤◌, ◌&&◌, Bool, true, false, List, [], ◌∷◌, length, refl, ap, ◌∙◌, sym, subst, nat_le, arith, ⊤, if◌then◌else◌, Option, None, Some, common_steps, Pid, pid_eq, PlainLink}
-use Rattle.dm_rulelaws.proofs.Names.{first_empty, MsgId, PlainMessage, PlainWhat, on_mask, Row, instruction, Regs, KeepsLengths, instruction-lengths, Reply, bind, PlainProcess, PlainStatus, Ready, Waiting, Moving, Alive, OneKernel}
-use Rattle.dm_rulelaws.proofs.Names.{written_at, first_failed, pending_of, bind-is, alive-is, Runs, Each, Lives, has_bytes, LinkFits, SlotFits, move_fits, ProcessFits, WhatFits, KernelFits}
+use Rattle.dm_rulelaws.proofs.Names.{first_empty, MsgId, PlainMessage, PlainWhat, on_mask, Row, instruction, Regs, KeepsLengths, instruction-lengths, Reply, bind, PlainProcess, PlainStatus, Ready, Waiting, Alive, OneKernel, written_at}
+use Rattle.dm_rulelaws.proofs.Names.{first_failed, pending_of, bind-is, alive-is, Runs, Each, Lives, has_bytes, LinkFits, SlotFits, move_fits, ProcessFits, WhatFits, KernelFits}
 use Rattle.dm_onekernel.specs.Receiving as receiving
 use Rattle.dm_onekernel.specs.Calls as calls
 use Rattle.dm_onekernel.specs.Step as kernel

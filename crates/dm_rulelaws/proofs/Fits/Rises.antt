@@ -1,7 +1,7 @@
 -- What fits goes on fitting as long as processes are only made, end, and keep their memory.
 use Rattle.dm_rulelaws.proofs.Names.{◌≡◌, ℕ, ◌+◌, ◌≤◌, ◌&&◌, ◌||◌, Bool, true, false, List, [], ◌∷◌, length, refl, ap, ◌∙◌, sym, subst, nat_le, nat_lt, inl, inr, arith, if◌then◌else◌, Option, None, Some, cases_Bool, nat_tests, Pid, pid_eq}
-use Rattle.dm_rulelaws.proofs.Names.{PlainLink, MsgId, PlainMessage, PlainWhat, PlainProcess, PlainStatus, Ready, Waiting, Moving, Life, Alive, Ended, NamedLink, Pending, OneKernel, with_process, with_sent, without_message, pid_eq-is}
-use Rattle.dm_rulelaws.proofs.Names.{pid_eq-same, stayed, came, Each, Lives, has_bytes, is_server, takes_users, gives_no_right, LinkFits, SlotFits, move_fits, ProcessFits, awaits, IsPending, WhatFits, KernelFits}
+use Rattle.dm_rulelaws.proofs.Names.{PlainLink, MsgId, PlainMessage, PlainWhat, PlainProcess, PlainStatus, Moving, Life, Alive, Ended, NamedLink, Pending, OneKernel, with_process, with_sent, without_message, pid_eq-is, pid_eq-same, stayed}
+use Rattle.dm_rulelaws.proofs.Names.{came, Each, Lives, has_bytes, is_server, takes_users, gives_no_right, LinkFits, SlotFits, move_fits, ProcessFits, awaits, IsPending, WhatFits, KernelFits}
 pub use Rattle.dm_rule.proofs.Homes.Servers.{and-both as both}
 pub use Rattle.dm_line.proofs.Below.{both_true as two}
 

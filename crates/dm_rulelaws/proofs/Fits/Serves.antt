@@ -1,8 +1,8 @@
 -- What kernels do with messages keeps that all fits.
 use Rattle.dm_rulelaws.proofs.Names.{◌≡◌, ℕ, ◌+◌, ◌-◌, ◌≤◌, ◌==◌, ◌&&◌, Bool, true, false, List, length, take, drop, refl, ap, ◌∙◌, sym, subst, nat_le, arith, if◌then◌else◌, Option, None, Some, nat_tests, length-take, length-drop, Pid}
-use Rattle.dm_rulelaws.proofs.Names.{MsgId, id_eq, id_of, Label, Reply, PlainMessage, PlainWhat, Direction, Why, bind, PlainProcess, PlainStatus, Ready, Waiting, Moving, Life, Alive, Ended, OneKernel, with_process, with_sent, answer_id}
-use Rattle.dm_rulelaws.proofs.Names.{answer_to, without_message, is_of_memory, is_dropped, is_piece, pending_of, id_eq-same, One, stayed, out_at, Sound, bind-is, when-is, alive-is, Each, Lives, has_bytes, SlotFits, move_fits, ProcessFits}
-use Rattle.dm_rulelaws.proofs.Names.{piece_fits, status_awaits, awaits, WhatFits, KernelFits}
+use Rattle.dm_rulelaws.proofs.Names.{MsgId, id_eq, id_of, Label, Reply, PlainMessage, PlainWhat, Direction, Why, bind, PlainProcess, PlainStatus, Moving, Life, Alive, Ended, OneKernel, with_process, with_sent, answer_id, answer_to}
+use Rattle.dm_rulelaws.proofs.Names.{without_message, is_of_memory, is_dropped, is_piece, pending_of, id_eq-same, One, stayed, out_at, Sound, bind-is, when-is, alive-is, Each, Lives, has_bytes, SlotFits, move_fits, ProcessFits, piece_fits}
+use Rattle.dm_rulelaws.proofs.Names.{status_awaits, awaits, WhatFits, KernelFits}
 use Rattle.dm_onekernel.specs.Pieces as pieces
 use Rattle.dm_onekernel.specs.Service as service
 use Rattle.dm_onekernel.specs.Step as kernel

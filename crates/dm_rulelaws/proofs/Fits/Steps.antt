@@ -1,7 +1,7 @@
 -- Each label of a process keeps that all fits.
 use Rattle.dm_rulelaws.proofs.Names.{◌≡◌, ℕ, ◌+◌, ◌==◌, ◌&&◌, Bool, true, length, ap, ◌∙◌, sym, subst, nat_le, arith, Option, None, Some, nat_tests, Pid, MsgId, id_eq, Label, Called, PlainMessage, PlainWhat, Reply, Why, reply_eq, why_eq}
-use Rattle.dm_rulelaws.proofs.Names.{bind, PlainProcess, PlainStatus, Ready, Waiting, Moving, Life, Alive, Ended, OneKernel, with_process, with_sent, without_message, pending_of, bind-is, when-is, Nexts, nexts, Lives, has_bytes, LinkFits}
-use Rattle.dm_rulelaws.proofs.Names.{ProcessFits, status_awaits, awaits, WhatFits, KernelFits}
+use Rattle.dm_rulelaws.proofs.Names.{bind, PlainProcess, PlainStatus, Ready, Life, Alive, Ended, OneKernel, with_process, with_sent, without_message, pending_of, bind-is, when-is, Nexts, nexts, Lives, has_bytes, LinkFits, ProcessFits}
+use Rattle.dm_rulelaws.proofs.Names.{status_awaits, awaits, WhatFits, KernelFits}
 use Rattle.dm_onekernel.specs.Receiving as receiving
 use Rattle.dm_onekernel.specs.Step as kernel
 use Rattle.dm_rulelaws.proofs.Fits.Rises.{Rises, Each-on, link_on, users_on, move_on, Becomes, set_fits, set_at, set_rises, out_fits, put_fits, end_fits}

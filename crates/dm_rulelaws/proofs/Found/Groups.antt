@@ -1,10 +1,10 @@
 -- Each group keeps where addresses lead, what machines know, and where messages stand.
-use Rattle.dm_rulelaws.proofs.Names.{◌≡◌, ℕ, ◌<◌, ◌≤◌, ◌==◌, not, Bool, true, false, is_some, List, [], ◌∷◌, refl, ap, ◌∙◌, sym, subst, inl, inr, arith, if◌then◌else◌, slice_get, Option, None, Some, false≢true, Pid, Place, pid_eq, MsgId}
-use Rattle.dm_rulelaws.proofs.Names.{plain_kind, PlainMessage, MessageKind, Boot, switchboard, manager, Step, id_eq-same, alive-is, Line, View, Told, About, Target, Of, Known, Unknown, Here, Frozen, Incoming, Forward, is_kernels, own_id}
-use Rattle.dm_rulelaws.proofs.Names.{receiver_of, target_in, target_of, front_told, front_of, Child, Receiver, Sender, given, child_number, place_of_child, unmoved, own_gives, names, sender_of, IsStep, forwards_on, migrates, Part, Says}
-use Rattle.dm_rulelaws.proofs.Names.{Routes, Again, Owns, Transmits, Spelled, Moves, is_between, is_restart, is_early, knows, receiver_in, is_of_source, Point, moved, group_of, Inbox, Queue, Held, times, standing, IsNet, IsNetLine}
-use Rattle.dm_rulelaws.proofs.Names.{arrives_net, resends_net, group_is, turn_off, letters, eq_is, parts, both_lists, both_times, under_way, front_kernels, Phased, due, head_calm, InPhases, calm_phases, rooted, State, Sane, sane_line}
-use Rattle.dm_rulelaws.proofs.Names.{outcome_sayable, Comes, Named, Links, child_is, source_holds, destination_expects, is_fixed, eq_self, about_same, front_one, least_of, by_migrates}
+use Rattle.dm_rulelaws.proofs.Names.{◌≡◌, ℕ, ◌<◌, ◌≤◌, ◌==◌, not, Bool, true, false, is_some, List, [], ◌∷◌, refl, ap, ◌∙◌, sym, subst, inl, inr, arith, if◌then◌else◌, Option, None, Some, false≢true, Pid, Place, MsgId, plain_kind}
+use Rattle.dm_rulelaws.proofs.Names.{PlainMessage, MessageKind, Boot, manager, Step, id_eq-same, alive-is, Line, View, Told, About, Target, Of, Known, Unknown, Here, Frozen, Incoming, Forward, is_kernels, own_id, receiver_of, target_in}
+use Rattle.dm_rulelaws.proofs.Names.{target_of, front_told, front_of, Child, Receiver, Sender, given, child_number, place_of_child, unmoved, own_gives, names, sender_of, IsStep, forwards_on, migrates, Part, Says, Owns, Spelled, Moves}
+use Rattle.dm_rulelaws.proofs.Names.{is_between, is_restart, is_early, knows, receiver_in, is_of_source, Point, moved, group_of, Inbox, Queue, Held, times, standing, IsNet, IsNetLine, group_is, turn_off, letters, eq_is, parts, both_lists}
+use Rattle.dm_rulelaws.proofs.Names.{both_times, under_way, front_kernels, Phased, due, head_calm, InPhases, calm_phases, rooted, State, Sane, sane_line, outcome_sayable, Comes, Named, Links, child_is, source_holds, destination_expects}
+use Rattle.dm_rulelaws.proofs.Names.{is_fixed, eq_self, about_same, front_one, least_of, by_migrates, by_net, by_outcome}
 use Rattle.dm_rule.specs.Phases as phases
 use Rattle.dm_rule.specs.Rule as rule
 use Rattle.dm_rule.proofs.Groups.{begun}
@@ -49,10 +49,7 @@ net_need n Line.Nothing h pt = tt
 net_need n _ h pt = absurd h
 
 net_loose : (n : ℕ) (ps : List Part) → IsNet ps → AllLoose n ps
-net_loose n [] h = tt
-net_loose n (Says l ∷ ps) h = (net_need n l h.0, net_loose n ps h.1)
-net_loose n (Transmits a b l ∷ ps) h = (λ pt. tt, net_loose n ps h.1)
-net_loose n _ h = absurd h.0
+net_loose n = by_net (AllLoose n) tt (λ l ps net h. (net_need n l net, h)) (λ a b l ps h. (λ pt. tt, h))
 
 -- a directive to move a process
 asks_need : (n : ℕ) (pt : Point) (p : Pid) (k : ℕ) → pt.view.acting ≡ 0 → child_number pt.kernel p ≡ Some k → Core n pt → ((k : ℕ) → names pt.kernel (Child k) ≡ Some p → IsReal n pt.view p) → AllNeed n pt (Owns MessageKind.Migrate p (pt.addresses (Child k)).at ∷ [])
@@ -160,19 +157,22 @@ heard n pt m i is t p h sane state in_ front told own about between =
 forward_free : (n : ℕ) (v : View) (m : ℕ) (p : Pid) (to c : ℕ) → v.known m p ≡ Forward to c → AllKnown n v → is_fixed p ≡ false
 forward_free n v m p to c e h = (subst (KnownIs n v m p) e (h m p)).2
 
-comes_need : (n : ℕ) (b : Boot) (pt : Point) (m : ℕ) (i : MsgId) (is : List MsgId) (o : Option PlainMessage) → Core n (headed pt (Step.Turn m)) → Sane (headed pt (Step.Turn m)) → State None (headed pt (Step.Turn m)) → InPhases (headed pt (Step.Turn m)).view
-    → pt.view.inbox m ≡ i ∷ is → pt.kernel.bag i ≡ o → NeedOf n (headed pt (Step.Turn m)) (rule.comes_to b pt m i o)
-comes_need n b pt m i is (Some k) h sane state in_ front there =
+front_need : (n : ℕ) (b : Boot) (pt : Point) (m : ℕ) (i : MsgId) (is : List MsgId) (k : PlainMessage) (ps : List Part) → Core n (headed pt (Step.Turn m)) → Sane (headed pt (Step.Turn m)) → State None (headed pt (Step.Turn m)) → pt.view.inbox m ≡ i ∷ is → pt.kernel.bag i ≡ Some k
+    → rule.handles b pt m i k ≡ Some ps → AllNeed n (headed pt (Step.Turn m)) ps
+front_need n b pt m i is k ps h sane state front there =
     let start = headed pt (Step.Turn m) in
     let at = h.places i (Inbox m) (front_one start.view m i is front) in
     let (t, told) = told_there (start.view.told i) at.1 in
     let to_same : t.receiver ≡ k.to = sane.tells.receiver i k t there told in
     let kind_same : t.kind ≡ plain_kind k.what = sane.tells.kind i k t there told in
-    handles_need n start b pt m i k at
+    handles_need n start b pt m i k ps at
     (λ to c e. subst (λ (x : MessageKind). AllNeed n start (forwards_on pt.addresses i x k.sender to)) kind_same
     (forwards_need n start i is t k.sender to c front state sane h told (ap (pt.view.known m) to_same ∙ e) (subst (λ (x : Pid). is_fixed x ≡ false) (sym to_same) (forward_free n start.view m k.to to c e h.known))
     (λ back. (h.all (Sender i) k.sender (Links (ap sender_of there)), sends_real start n k.sender h (h.senders i k there)))))
-comes_need n b pt m i is None h sane state in_ front there =
+
+own_need : (n : ℕ) (b : Boot) (pt : Point) (m : ℕ) (i : MsgId) (is : List MsgId) (ps : List Part) → Core n (headed pt (Step.Turn m)) → Sane (headed pt (Step.Turn m)) → State None (headed pt (Step.Turn m)) → InPhases (headed pt (Step.Turn m)).view
+    → pt.view.inbox m ≡ i ∷ is → pt.kernel.bag i ≡ None → rule.hears b pt m i (pt.view.told i) ≡ Some ps → AllNeed n (headed pt (Step.Turn m)) ps
+own_need n b pt m i is ps h sane state in_ front there e =
     let start = headed pt (Step.Turn m) in
     let at = h.places i (Inbox m) (front_one start.view m i is front) in
     let (t, told) = told_there (start.view.told i) at.1 in
@@ -180,46 +180,29 @@ comes_need n b pt m i is None h sane state in_ front there =
     let some : 0 < n = let le = h.acting in omega (arith, le) in
     let le : target_of (Some t) < n = target_within n start.view t.about some (h.tells i t told) in
     let front_is : front_told start.view (start.view.inbox m) ≡ Some t = ap (front_told start.view) front ∙ told in
-    subst (λ (x : Option Told). NeedOf n start (rule.hears b pt m i x)) (sym told)
+    subst (NeedOf n start) (ap (rule.hears b pt m i) (sym told) ∙ e)
     (told_by_need n start b pt m i t at le (subst (λ (x : Option Told). target_of x < n) (sym front_is) le)
     (λ p about between. heard n pt m i is t p h sane state in_ front told own about between)
-    (λ to c e. forwards_need n start i is t manager to c front state sane h told e (forward_free n start.view m t.receiver to c e h.known)
+    (λ to c f. forwards_need n start i is t manager to c front state sane h told f (forward_free n start.view m t.receiver to c f h.known)
     (λ back. (h.all (Sender i) manager (Owns (Comes i t refl own told (moves_back t.kind (h.real i t told own).1 back) refl)), inl (refl, some)))))
 
-turns_need : (n : ℕ) (b : Boot) (pt : Point) (m : ℕ) (inbox : List MsgId) → Phased pt → Core n (headed pt (Step.Turn m)) → Sane (headed pt (Step.Turn m)) → State None (headed pt (Step.Turn m)) → InPhases (headed pt (Step.Turn m)).view
-    → pt.view.inbox m ≡ inbox → NeedOf n (headed pt (Step.Turn m)) (rule.turns b pt m inbox)
-turns_need n b pt m [] base h sane state in_ front =
-    let start = headed pt (Step.Turn m) in
-    round_need n start b pt m (rule.first_runnable pt.kernel (pt.view.queue m) (pt.view.ring m))
-    (λ p x runs alive. inr (
-      made_free pt p base.sane.sound.made (ap is_some (alive-is (pt.kernel.processes p) x alive)),
-      (λ e. let f : Here ≡ Unknown = sym ((rooted pt base.sane base.ground).served m p runs) ∙ e in cc),
-    ))
-turns_need n b pt m (i ∷ is) base h sane state in_ front = comes_need n b pt m i is (pt.kernel.bag i) h sane state in_ front refl
-
-need_some : (n : ℕ) (pt : Point) (o : Option (List Part)) (ps : List Part) → o ≡ Some ps → NeedOf n pt o → AllNeed n pt ps
-need_some n pt o ps e h = subst (NeedOf n pt) e h
+outcome_need : (n : ℕ) (b : Boot) (pt : Point) (d : Step) (ps : List Part) → Phased pt → Core n pt → rule.outcome b pt d ≡ Some ps → Core n (headed pt d) → AllNeed n (headed pt d) ps
+outcome_need n b pt d ps base core =
+    let state : (m : ℕ) → State None (headed pt (Step.Turn m)) = λ m. begun pt (Step.Turn m) base.state (λ z. turn_off pt.view m z) (λ i. refl) in
+    by_outcome (λ x xs. Core n (headed pt x) → AllNeed n (headed pt x) xs) b pt d ps (record {
+      round = λ m xs box e h. round_need n (headed pt (Step.Turn m)) b pt m (rule.first_runnable pt.kernel (pt.view.queue m) (pt.view.ring m)) xs
+          (λ p x runs alive. inr (
+            made_free pt p base.sane.sound.made (ap is_some (alive-is (pt.kernel.processes p) x alive)),
+            (λ f. let g : Here ≡ Unknown = sym ((rooted pt base.sane base.ground).served m p runs) ∙ f in cc),
+          )) e;
+      handles = λ m i is k xs box there e h. front_need n b pt m i is k xs h (head_sane pt (Step.Turn m) base.sane) (state m) box there e;
+      hears = λ m i is xs box none e h.
+          own_need n b pt m i is xs h (head_sane pt (Step.Turn m) base.sane) (state m) (calm_phases pt.view (headed pt (Step.Turn m)).view (head_calm pt.view (Step.Turn m)) base.phases) box none e;
+      ticks = λ m xs net h. loose_need n (headed pt (Step.Tick m)) xs (net_loose n xs net);
+      delivers = λ a c k xs net h. loose_need n (headed pt (Step.Deliver a c k)) xs (net_loose n xs net);
+      asks = λ p m h. migrates_need n (headed pt (Step.Migrate p m)) p refl h (λ k named. child_real pt n k p core named);
+    })
 
 -- each group
 pub core_group : (n : ℕ) (b : Boot) (pt : Point) (d : Step) (w : Spelled) → IsStep n d → group_of b pt d ≡ Some w → Phased pt → Core n pt → Core n w.point
-core_group n b pt (Step.Turn m) w fit e base h =
-    let sane = base.sane in
-    let start = headed pt (Step.Turn m) in
-    group_core n b pt (Step.Turn m) w fit e
-    (λ ps is begins. need_some n start (rule.turns b pt m (pt.view.inbox m)) ps is
-    (turns_need n b pt m (pt.view.inbox m) base begins (head_sane pt (Step.Turn m) sane) (begun pt (Step.Turn m) base.state (λ z. turn_off pt.view m z) (λ i. refl))
-    (calm_phases pt.view start.view (head_calm pt.view (Step.Turn m)) base.phases) refl)) sane h
-core_group n b pt (Step.Tick m) w fit e base h =
-    group_core n b pt (Step.Tick m) w fit e
-    (λ ps is begins. need_some n (headed pt (Step.Tick m)) (rule.outcome b pt (Step.Tick m)) ps is
-    (first_need n (headed pt (Step.Tick m)) (Says (Line.Resent m (rule.outstanding pt.view m pt.kernel.machines))) (rule.resends pt.view m pt.kernel.machines) tt (net_loose n (rule.resends pt.view m pt.kernel.machines) (resends_net pt.view m pt.kernel.machines)))) base.sane h
-core_group n b pt (Step.Deliver a c k) w fit e base h =
-    let qs = rule.arrives a c (pt.view.pair a c) (pt.view.pair c a) (slice_get (pt.view.pair a c).wire k) in
-    group_core n b pt (Step.Deliver a c k) w fit e
-    (λ ps is begins. need_some n (headed pt (Step.Deliver a c k)) (rule.outcome b pt (Step.Deliver a c k)) ps is
-    (loose_need n (headed pt (Step.Deliver a c k)) qs (net_loose n qs (arrives_net a c (pt.view.pair a c) (pt.view.pair c a) (slice_get (pt.view.pair a c).wire k))))) base.sane h
-core_group n b pt (Step.Migrate p m) w fit e base h =
-    let start = headed pt (Step.Migrate p m) in
-    group_core n b pt (Step.Migrate p m) w fit e
-    (λ ps is begins. need_some n start (rule.outcome b pt (Step.Migrate p m)) ps is
-    (migrates_need n start p refl begins (λ k named. child_real pt n k p h named))) base.sane h
+core_group n b pt d w fit e base h = group_core n b pt d w fit e (λ ps. outcome_need n b pt d ps base h) base.sane h

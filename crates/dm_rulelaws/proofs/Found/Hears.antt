@@ -1,6 +1,6 @@
 -- What a turn needs where the message at the front is a kernel's own.
 use Rattle.dm_rulelaws.proofs.Names.{◌≡◌, ℕ, ◌/◌, ◌<◌, ◌==◌, Bool, true, false, List, [], ◌∷◌, ◌++◌, length, refl, ap, ◌∙◌, ◌||◌, if◌then◌else◌, Option, None, Some, Pid, pid_of, pid_eq, MsgId, MessageKind, Line, Stage, Boot, switchboard}
-use Rattle.dm_rulelaws.proofs.Names.{manager, bind, PlainProcess, Told, About, Of, Known, Unknown, Here, Frozen, Forward, target_of, front_told, front_of, Point, Part, Says, to_kernel, forwards_on, accepts, takes_chunk, takes_block, leaves}
+use Rattle.dm_rulelaws.proofs.Names.{manager, bind, PlainProcess, Told, About, Of, Known, Unknown, Here, Forward, target_of, front_told, front_of, Point, Part, Says, to_kernel, forwards_on, accepts, takes_chunk, takes_block, leaves}
 use Rattle.dm_rulelaws.proofs.Names.{chunks_of, pieces_of, kernel_told, here_told, ended_told, process_told, server_told, is_between, is_fixed}
 use Rattle.dm_onekernel.specs.Step as kernel
 use Rattle.dm_rule.specs.View.{Ended}

@@ -1,8 +1,8 @@
 -- The parts of a group keep where messages stand, where each has what it needs.
 use Rattle.dm_rulelaws.proofs.Names.{◌≡◌, ℕ, ◌+◌, ◌<◌, ◌==◌, Bool, true, false, List, [], ◌∷◌, length, refl, ap, ◌∙◌, sym, subst, inl, arith, ⊤, if◌then◌else◌, Option, None, Some, false≢true, Pid, pid_of, MsgId, MessageKind, plain_kind}
-use Rattle.dm_rulelaws.proofs.Names.{PlainMessage, PlainWhat, manager, bind, id_eq-same, bind-is, Line, Load, at_machine, View, Told, is_kernels, own_id, Holder, Receiver, Sender, Gets, given, unmoved, goes_between, own_gives, first_gives}
-use Rattle.dm_rulelaws.proofs.Names.{Point, label_of, kernel_after, moved, after_line, after, Part, Says, Routes, Again, Owns, Transmits, Spelled, lines_of, puts, goes_out, packet_line, behind, spelled, not_kernels, not_first, Sane}
-use Rattle.dm_rulelaws.proofs.Names.{AllSayable, part_sane, is_own}
+use Rattle.dm_rulelaws.proofs.Names.{PlainMessage, PlainWhat, manager, id_eq-same, bind-is, Line, Load, at_machine, View, Told, is_kernels, own_id, Holder, Receiver, Sender, Gets, given, unmoved, goes_between, own_gives, first_gives, Point}
+use Rattle.dm_rulelaws.proofs.Names.{label_of, kernel_after, moved, after_line, after, Part, Says, Routes, Again, Owns, Transmits, Spelled, lines_of, puts, goes_out, packet_line, spelled, not_kernels, not_first, Sane, AllSayable, part_sane}
+use Rattle.dm_rulelaws.proofs.Names.{is_own, by_parts}
 use Rattle.dm_rulelaws.proofs.Found.Core.{Knows, IsReal, Core}
 use Rattle.dm_rulelaws.proofs.Found.Puts.{NeedsPut, put_core}
 use Rattle.dm_rulelaws.proofs.Found.Lines.{NeedsLine, line_core, packet_core}
@@ -109,13 +109,8 @@ pub first_need : (n : ℕ) (pt : Point) (p : Part) (ps : List Part) → NeedsPar
 first_need n pt p ps need h = (need, λ ls next is leads. loose_need n next ps h)
 
 pub parts_core : (n : ℕ) (ps : List Part) (pt : Point) (w : Spelled) → AllSayable ps → AllNeed n pt ps → Sane pt → spelled pt ps ≡ Some w → Core n pt → Core n w.point
-parts_core n [] pt w ok need sane is h = let f : record { lines = []; point = pt } ≡ w = cc in subst (λ (x : Spelled). Core n x.point) f h
-parts_core n (p ∷ ps) pt w ok need sane is h =
-    let (ls, lines_, rest) = bind-is (lines_of pt p) (λ (xs : List Line). bind (after pt xs) (λ (q : Point). bind (spelled q ps) (λ (z : Spelled). Some (behind xs z)))) w is in
-    let (next, leads, last) = bind-is (after pt ls) (λ (q : Point). bind (spelled q ps) (λ (z : Spelled). Some (behind ls z))) w rest in
-    let (z, more, end) = bind-is (spelled next ps) (λ (y : Spelled). Some (behind ls y)) w last in
-    let f : behind ls z ≡ w = cc in
-    subst (λ (x : Spelled). Core n x.point) f (parts_core n ps next z ok.1 (need.1 ls next lines_ leads) (part_sane pt next p ls ok.0 lines_ leads sane) more (part_core n pt next p ls need.0 sane lines_ leads h))
+parts_core n qs q w ok need sane is h = by_parts (λ ps pt v. AllSayable ps → AllNeed n pt ps → Sane pt → Core n pt → Core n v.point) (λ pt ok need sane h. h)
+    (λ p ps pt next ls z lines leads rest ok need sane h. rest ok.1 (need.1 ls next lines leads) (part_sane pt next p ls ok.0 lines leads sane) (part_core n pt next p ls need.0 sane lines leads h)) qs q w is ok need sane h
 
 -- a message that was put before is put again: nothing but lists and wires changes
 pub record Same (v w : Point) : Type 0 where

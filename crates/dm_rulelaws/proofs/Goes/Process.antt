@@ -1,8 +1,8 @@
 -- A message for a process at the front of the inbox can be handled.
 use Rattle.dm_rulelaws.proofs.Names.{◌≡◌, ◌≢◌, ℕ, ◌+◌, ◌≤◌, ◌==◌, ◌&&◌, ◌||◌, Bool, true, false, [], ◌∷◌, length, refl, ap, ◌∙◌, sym, subst, is_some, nat_le, arith, if◌then◌else◌, take, drop, Option, None, Some, false≢true, nat_tests, Pid}
-use Rattle.dm_rulelaws.proofs.Names.{pid_eq, MsgId, MessageKind, Label, Reply, Line, id_eq, plain_kind, PlainMessage, PlainWhat, Direction, Boot, Why, switchboard, manager, bind, when, PlainProcess, PlainStatus, Ready, Waiting, Moving}
-use Rattle.dm_rulelaws.proofs.Names.{Life, Alive, Ended, OneKernel, with_process, with_sent, answer_id, answer_to, without_message, is_dropped, is_of_memory, id_eq-is, out_off, LandsSo, lands-is, Addresses, Sender, is_told_back}
-use Rattle.dm_rulelaws.proofs.Names.{forwards_on, Point, moved, Says, Routes, Owns, Inbox, times, View, Known, has_bytes, is_server, awaits, status_awaits, move_fits, piece_fits, WhatFits, is_fixed, agrees, is_still, handled}
+use Rattle.dm_rulelaws.proofs.Names.{pid_eq, MsgId, MessageKind, Label, Reply, Line, id_eq, plain_kind, PlainMessage, PlainWhat, Direction, Boot, Why, switchboard, manager, bind, when, PlainProcess, PlainStatus, Moving, Life, Alive, Ended}
+use Rattle.dm_rulelaws.proofs.Names.{OneKernel, with_process, with_sent, answer_id, answer_to, without_message, is_dropped, is_of_memory, id_eq-is, out_off, LandsSo, lands-is, Addresses, Sender, is_told_back, forwards_on, Point, moved}
+use Rattle.dm_rulelaws.proofs.Names.{Says, Routes, Owns, Inbox, times, View, Known, has_bytes, is_server, awaits, status_awaits, move_fits, piece_fits, WhatFits, is_fixed, agrees, is_still, handled}
 use Rattle.dm_onekernel.specs.Pieces as pieces
 use Rattle.dm_onekernel.specs.Service as service
 use Rattle.dm_onekernel.specs.Step as kernel

@@ -1,6 +1,6 @@
 -- Routes, deliveries and queues keep the order in which messages were sent.
 use Rattle.dm_rulelaws.proofs.Names.{◌≡◌, ℕ, zero, suc, ◌+◌, ◌≤◌, ◌<◌, ◌==◌, ◌&&◌, Bool, true, false, not, List, [], ◌∷◌, ◌++◌, refl, ap, ◌∙◌, sym, is_some, nat_lt, inl, inr, arith, if◌then◌else◌, Option, None, Some, cases_Bool, false≢true}
-use Rattle.dm_rulelaws.proofs.Names.{nat_tests, Pid, pid_eq, MsgId, id_of, PlainMessage, PlainWhat, switchboard, manager, Life, Alive, Ended, OneKernel, counts, is_counted, pid_eq-is, at_machine, at_pair, untaken, View, Pair, not_false}
+use Rattle.dm_rulelaws.proofs.Names.{nat_tests, Pid, pid_eq, MsgId, id_of, PlainMessage, PlainWhat, switchboard, manager, Life, Alive, OneKernel, counts, is_counted, pid_eq-is, at_machine, at_pair, untaken, View, Pair, not_false}
 use Rattle.dm_rulelaws.proofs.Fits.Rises.{both, two, Each-on}
 use Rattle.dm_rulelaws.proofs.Queued.{is_user}
 use Rattle.dm_rulelaws.proofs.Order.Lists.{ordered, context, put_not, add_last}

@@ -1,8 +1,7 @@
 -- No kernel sends what is told back when it is forwarded.
-use Rattle.dm_rulelaws.proofs.Names.{◌≡◌, ◌⊎◌, ℕ, ◌+◌, ◌*◌, ◌==◌, ◌&&◌, Bool, true, false, List, [], ◌∷◌, ◌++◌, refl, ap, ◌∙◌, sym, subst, nat_lt, is_some, arith, length, inl, inr, ⊤, if◌then◌else◌, slice_get, take, drop, Option, None}
-use Rattle.dm_rulelaws.proofs.Names.{Some, cases_Bool, false≢true, nat_tests, Pid, pid_eq, PlainLink, MsgId, id_eq, plain_kind, Why, Called, PlainMessage, PlainWhat, Label, switchboard, manager, bind, PlainProcess, Alive, Ended, Pending}
-use Rattle.dm_rulelaws.proofs.Names.{Switchboard, Manager, OneKernel, with_process, with_sent, answer_to, without_message, is_of_memory, Made, came, stayed, LandsSo, lands-is, Sound, bind-is, when-is, alive-is, nexts, Nexts, is_told_back}
-use Rattle.dm_rulelaws.proofs.Names.{hidden, BagStep, bag_ran, bag_call, bag_wait, bag_out, bag_end, bag_refuse, bag_receive, bag_dropped, if_some-is}
+use Rattle.dm_rulelaws.proofs.Names.{◌≡◌, ◌⊎◌, ℕ, ◌+◌, ◌*◌, ◌==◌, ◌&&◌, Bool, true, false, List, [], ◌∷◌, ◌++◌, refl, ap, ◌∙◌, sym, subst, nat_lt, is_some, arith, length, inl, inr, ⊤, if◌then◌else◌, take, drop, Option, None, Some}
+use Rattle.dm_rulelaws.proofs.Names.{false≢true, nat_tests, Pid, PlainLink, MsgId, plain_kind, PlainMessage, PlainWhat, Label, switchboard, manager, PlainProcess, Alive, Pending, Switchboard, Manager, OneKernel, with_sent, answer_to}
+use Rattle.dm_rulelaws.proofs.Names.{without_message, Made, came, stayed, lands-is, Sound, is_told_back, by_step}
 use Rattle.dm_onekernel.specs.Pieces as pieces
 use Rattle.dm_onekernel.specs.Switchboard as board
 use Rattle.dm_onekernel.specs.Manager as manage
@@ -18,16 +17,6 @@ Senders s = (i : MsgId) (x : PlainMessage) → s.bag i ≡ Some x → IsSent x
 -- what a step brings into the bag
 abbrev Brings : OneKernel → OneKernel → Type 0
 Brings s t = (i : MsgId) (x : PlainMessage) → t.bag i ≡ Some x → (s.bag i ≡ Some x) ⊎ IsSent x
-
-hidden_back : (o : Option MsgId) (bag : MsgId → Option PlainMessage) (i : MsgId) (x : PlainMessage) → hidden o bag i ≡ Some x → bag i ≡ Some x
-hidden_back None bag i x e = e
-hidden_back (Some j) bag i x e = elim (cases_Bool (id_eq j i)) [
-  | inl same ↦ absurd (let f : None ≡ Some x = sym (ap (λ (c : Bool). if c then None else bag i) same) ∙ e in cc)
-  | inr apart ↦ sym (ap (λ (c : Bool). if c then None else bag i) apart) ∙ e
-]
-
-none_brings : (e : MsgId → ℕ) (s t : OneKernel) (out : Option MsgId) → BagStep e s t out None → Brings s t
-none_brings e s t out b i x there = inl (hidden_back out s.bag i x (sym (b.same i) ∙ there))
 
 out_brings : (s t u : OneKernel) (id : MsgId) → u ≡ t → ((i : MsgId) → u.bag i ≡ (without_message s id).bag i) → Brings s t
 out_brings s t u id is same i x there = inl (stayed s id i x (sym (same i) ∙ ap (λ (k : OneKernel). k.bag i) is ∙ there))
@@ -45,56 +34,8 @@ answer_brings s t u id m w is same off = in_brings s t u (answer_to m w) is (λ 
 process_num : (s : OneKernel) (p : Pid) (x : PlainProcess) → s.processes p ≡ Some (Alive x) → Made s → (p.num == 0) ≡ false
 process_num s p x is h = let k = h.least p (ap is_some is) in grind (arith, nat_tests)
 
-sends_brings : (r e : MsgId → ℕ) (s t : OneKernel) (p : Pid) (id : MsgId) (next : step.Next) → Nexts s p next → step.sends s p id next ≡ Some t → Sound r e s → Brings s t
-sends_brings r e s t p id (step.Calls number (Called.Sends m y)) w is h =
-    let (z, sent, pending, counted) = w.counts in
-    let k = when-is _ (with_sent (step.goes_on s p y) (Some m)) t is in
-    in_brings s t (step.goes_on s p y) m k.1 (λ i x there. there) (λ e. ap (λ (q : Pid). q.num == 0) counted.sender ∙ process_num s p w.x w.is.alive h.made)
-sends_brings r e s t p id _ w is h = cc
-
--- answers
-no_room_brings : (s t : OneKernel) (id : MsgId) (m : PlainMessage) (w : PlainWhat) → service.has_no_room s id m w ≡ Some t → Brings s t
-no_room_brings s t id m (PlainWhat.Create image links) is = answer_brings s t (without_message s id) id m PlainWhat.NoRoom (when-is _ (with_sent (without_message s id) (Some (answer_to m PlainWhat.NoRoom))) t is).1 (λ i. refl) refl
-no_room_brings s t id m _ is = cc
-
-creates_brings : (s t : OneKernel) (id : MsgId) (m : PlainMessage) (child : Pid) (w : PlainWhat) → service.creates s id m child w ≡ Some t → Brings s t
-creates_brings s t id m child (PlainWhat.Create image links) is =
-    let (i, found, rest) = bind-is (slice_get s.images image) (service.creates_of s id m child links) t is in
-    let u = service.with_child (without_message s id) child i links in
-    answer_brings s t u id m (PlainWhat.Created child) (when-is _ (with_sent u (Some (answer_to m (PlainWhat.Created child)))) t rest).1 (λ j. refl) refl
-creates_brings s t id m child _ is = cc
-
-landed_brings : (r e : MsgId → ℕ) (s t : OneKernel) (id : MsgId) (m : PlainMessage) (x : PlainProcess) (c : pieces.Landed) → service.landed s id m c ≡ t → s.processes m.to ≡ Some (Alive x) → LandsSo m.to x c → Sound r e s → Brings s t
-landed_brings r e s t id m x (pieces.Next request y) is alive lands h =
-    in_brings s t (service.changed s id m y) request is (λ i z there. stayed s id i z there) (λ k. ap (λ (q : Pid). q.num == 0) lands.0.sender ∙ process_num s m.to x alive h.made)
-landed_brings r e s t id m x (pieces.Done reply y) is alive lands h = out_brings s t (service.changed s id m y) id is (λ i. refl)
-
-lands_brings : (r e : MsgId → ℕ) (s t : OneKernel) (id : MsgId) (m : PlainMessage) (x : PlainProcess) (o : Option pieces.Landed) → pieces.lands m.to x m x.status ≡ o → bind o (λ c. Some (service.landed s id m c)) ≡ Some t → s.processes m.to ≡ Some (Alive x) → Sound r e s → Brings s t
-lands_brings r e s t id m x None is last alive h = cc
-lands_brings r e s t id m x (Some c) is last alive h = landed_brings r e s t id m x c (let f : service.landed s id m c ≡ t = cc in f) alive (lands-is m.to x m x.status c is) h
-
-served_brings : (r e : MsgId → ℕ) (s t : OneKernel) (id : MsgId) (m : PlainMessage) (x : PlainProcess) (w : PlainWhat) → s.processes m.to ≡ Some (Alive x) → service.serves s id m x w ≡ Some t → Sound r e s → Brings s t
-served_brings r e s t id m x PlainWhat.Stop alive is h = out_brings s t (service.changed s id m (record x { stopped = true })) id (let f : service.changed s id m (record x { stopped = true }) ≡ t = cc in f) (λ i. refl)
-served_brings r e s t id m x PlainWhat.Resume alive is h = out_brings s t (service.changed s id m (record x { stopped = false })) id (let f : service.changed s id m (record x { stopped = false }) ≡ t = cc in f) (λ i. refl)
-served_brings r e s t id m x PlainWhat.Kill alive is h = out_brings s t (with_process (without_message s id) m.to (Ended Why.Killed)) id (let f : with_process (without_message s id) m.to (Ended Why.Killed) ≡ t = cc in f) (λ i. refl)
-served_brings r e s t id m x (PlainWhat.Read base len) alive is h =
-    let (c, served, last) = bind-is (pieces.reads x m base len) (λ v. Some (service.answered s id m v)) t is in
-    let k = if_some-is _ (record { process = x; answer = answer_to m (PlainWhat.Block (take len (drop base x.memory))) }) c served in
-    let f : service.answered s id m c ≡ t = cc in
-    answer_brings s t (service.changed s id m x) id m (PlainWhat.Block (take len (drop base x.memory))) (ap (service.answered s id m) k ∙ f) (λ i. refl) refl
-served_brings r e s t id m x (PlainWhat.Write base bytes) alive is h =
-    let (c, served, last) = bind-is (pieces.writes x m base bytes) (λ v. Some (service.answered s id m v)) t is in
-    let y = record x { memory = pieces.written_at x.memory base bytes } in
-    let k = if_some-is _ (record { process = y; answer = answer_to m PlainWhat.Written }) c served in
-    let f : service.answered s id m c ≡ t = cc in
-    answer_brings s t (service.changed s id m y) id m PlainWhat.Written (ap (service.answered s id m) k ∙ f) (λ i. refl) refl
-served_brings r e s t id m x (PlainWhat.Block bytes) alive is h = lands_brings r e s t id m x (pieces.lands m.to x m x.status) refl is alive h
-served_brings r e s t id m x PlainWhat.Written alive is h = lands_brings r e s t id m x (pieces.lands m.to x m x.status) refl is alive h
-served_brings r e s t id m x PlainWhat.Gone alive is h = lands_brings r e s t id m x (pieces.lands m.to x m x.status) refl is alive h
-served_brings r e s t id m x _ alive is h = cc
-
 -- servers
-abbrev SentBy : Pid → Option PlainMessage → Type 0
+abbrev pub SentBy : Pid → Option PlainMessage → Type 0
 SentBy q None = ⊤
 SentBy q (Some m) = m.sender ≡ q
 
@@ -102,7 +43,7 @@ board_request : (b : Switchboard) (body : List ℕ) (links : List PlainLink) →
 board_request b body [] = tt
 board_request b body (l ∷ ls) = refl
 
-board_sender : (b : Switchboard) (m : PlainMessage) (w : PlainWhat) (k : board.Took) → board.takes b m w ≡ Some k → SentBy switchboard k.answer
+pub board_sender : (b : Switchboard) (m : PlainMessage) (w : PlainWhat) (k : board.Took) → board.takes b m w ≡ Some k → SentBy switchboard k.answer
 board_sender b m (PlainWhat.User code channel body links) k e = let f : board.takes_request b body links ≡ k = cc in subst (λ (v : board.Took). SentBy switchboard v.answer) f (board_request b body links)
 board_sender b m _ k e = cc
 
@@ -146,7 +87,7 @@ manager_no_room g n (Some r) k e =
     let f : manage.answers h r.answer 1 [] ≡ k = cc in
     subst (λ (v : manage.Took). SentBy manager v.message) f refl
 
-manager_sender : (g : Manager) (machines images : ℕ) (m : PlainMessage) (w : PlainWhat) (k : manage.Took) → manage.takes g machines images m w ≡ Some k → SentBy manager k.message
+pub manager_sender : (g : Manager) (machines images : ℕ) (m : PlainMessage) (w : PlainWhat) (k : manage.Took) → manage.takes g machines images m w ≡ Some k → SentBy manager k.message
 manager_sender g machines images m (PlainWhat.User code channel body links) k e =
     let f : manage.takes_user g machines images code body links ≡ k = cc in
     subst (λ (v : manage.Took). SentBy manager v.message) f
@@ -159,46 +100,39 @@ server_brings : (s t u : OneKernel) (id : MsgId) (q : Pid) (o : Option PlainMess
 server_brings s t u id q None sends num is same = out_brings s t u id is same
 server_brings s t u id q (Some m) sends num is same = in_brings s t u m is (λ i x there. stayed s id i x (sym (same i) ∙ there)) (λ e. ap (λ (p : Pid). p.num == 0) sends ∙ num)
 
-board_brings : (s t : OneKernel) (id : MsgId) (m : PlainMessage) (o : Option board.Took) → board.takes s.switchboard m m.what ≡ o → bind o (λ k. Some (service.switchboard_took s id k)) ≡ Some t → Brings s t
-board_brings s t id m None is last = cc
-board_brings s t id m (Some k) is last =
-    server_brings s t (record (without_message s id) { switchboard = k.switchboard }) id switchboard k.answer (board_sender s.switchboard m m.what k is) refl (let f : service.switchboard_took s id k ≡ t = cc in f) (λ i. refl)
-
-manager_brings : (s t : OneKernel) (id : MsgId) (m : PlainMessage) (o : Option manage.Took) → manage.takes s.manager s.machines (length s.images) m m.what ≡ o → bind o (λ k. Some (service.manager_took s id k)) ≡ Some t → Brings s t
-manager_brings s t id m None is last = cc
-manager_brings s t id m (Some k) is last =
-    server_brings s t (record (without_message s id) { manager = k.manager }) id manager k.message (manager_sender s.manager s.machines (length s.images) m m.what k is) refl (let f : service.manager_took s id k ≡ t = cc in f) (λ i. refl)
-
-took_brings : (s t : OneKernel) (id : MsgId) (m : PlainMessage) (b c : Bool)
-    → (if b then bind (board.takes s.switchboard m m.what) (λ k. Some (service.switchboard_took s id k))
-    else if c then bind (manage.takes s.manager s.machines (length s.images) m m.what) (λ k. Some (service.manager_took s id k))
-    else None) ≡ Some t → Brings s t
-took_brings s t id m true c is = board_brings s t id m (board.takes s.switchboard m m.what) refl is
-took_brings s t id m false true is = manager_brings s t id m (manage.takes s.manager s.machines (length s.images) m m.what) refl is
-took_brings s t id m false false is = cc
-
 -- a row a label
 brings : (r e : MsgId → ℕ) (s t : OneKernel) (l : Label) → step.step s l ≡ Some t → Sound r e s → Brings s t
-brings r e s t (Label.Ran p k) is h = none_brings e s t None (bag_ran e s t p k is)
-brings r e s t (Label.Call p n c) is h = none_brings e s t None (bag_call e s t p n c is)
-brings r e s t (Label.Send p id) is h = let (x, next, rest) = bind-is (step.next s p) (step.sends s p id) t is in sends_brings r e s t p id x (nexts s p x next) rest h
-brings r e s t (Label.Wait p) is h = none_brings e s t None (bag_wait e s t p is)
-brings r e s t (Label.Out p w) is h = none_brings e s t None (bag_out e s t p w is)
-brings r e s t (Label.End p y) is h = none_brings e s t None (bag_end e s t p y is)
-brings r e s t (Label.Receive p id) is h = none_brings e s t (Some id) (bag_receive e s t p id is)
-brings r e s t (Label.Refuse p id c) is h = none_brings e s t None (bag_refuse e s t p id c is)
-brings r e s t (Label.Dropped id) is h = none_brings e s t (Some id) (bag_dropped e s t id is)
-brings r e s t (Label.Served id) is h =
-    let (m, there, rest) = bind-is (s.bag id) (λ v. bind (step.alive (s.processes v.to)) (λ p. service.serves s id v p v.what)) t is in
-    let (x, alive, last) = bind-is (step.alive (s.processes m.to)) (λ p. service.serves s id m p m.what) t rest in
-    served_brings r e s t id m x m.what (alive-is (s.processes m.to) x alive) last h
-brings r e s t (Label.Gone id) is h =
-    let (m, there, rest) = bind-is (s.bag id) (λ v. bind (step.ended (s.processes v.to)) (step.says_gone s id v)) t is in
-    let (y, gone, last) = bind-is (step.ended (s.processes m.to)) (step.says_gone s id m) t rest in
-    answer_brings s t (without_message s id) id m PlainWhat.Gone (when-is (is_of_memory m.what) (with_sent (without_message s id) (Some (answer_to m PlainWhat.Gone))) t last).1 (λ i. refl) refl
-brings r e s t (Label.Took id) is h = let (m, there, rest) = bind-is (s.bag id) (service.takes s id) t is in took_brings s t id m (pid_eq m.to switchboard) (pid_eq m.to manager) rest
-brings r e s t (Label.Created id p) is h = let (m, there, rest) = bind-is (s.bag id) (λ v. service.creates s id v p v.what) t is in creates_brings s t id m p m.what rest
-brings r e s t (Label.NoSpace id a b) is h = let (m, there, rest) = bind-is (s.bag id) (λ v. service.has_no_room s id v v.what) t is in no_room_brings s t id m m.what rest
+brings r e s t l is_ h =
+    let answered : (u : OneKernel) (id : MsgId) (m : PlainMessage) (w : PlainWhat) → ((i : MsgId) → u.bag i ≡ (without_message s id).bag i) → is_told_back (plain_kind w) ≡ false → Brings s (with_sent u (Some (answer_to m w))) =
+    λ u id m w same off. answer_brings s (with_sent u (Some (answer_to m w))) u id m w refl same off in
+    by_step (Brings s) s t l (record {
+      ran = λ p k x m is w i z there. inl there;
+      replies = λ p n k c d y is w i z there. inl there;
+      sends = λ p id k m y is same w.
+          (let (z, sent, pending, counted) = w.so.counts in
+          in_brings s (with_sent (step.goes_on s p y) (Some m)) (step.goes_on s p y) m refl (λ i x there. there) (λ f. ap (λ (q : Pid). q.num == 0) counted.sender ∙ process_num s p w.so.x w.so.is.alive h.made));
+      waits = λ p k y is w i z there. inl there;
+      outputs = λ p w k v y is n i z there. inl there;
+      ends = λ p y next is w i z there. inl there;
+      receives = λ p id y is w c i z there. inl (stayed s id i z there);
+      refuses = λ p id c d y is w f i z there. inl there;
+      dropped = λ id m y is w f i z there. inl (stayed s id i z there);
+      gone = λ id m y is w f. answered (without_message s id) id m PlainWhat.Gone (λ i. refl) refl;
+      stops = λ id m x b is w f i z there. inl (stayed s id i z there);
+      kills = λ id m x is w f i z there. inl (stayed s id i z there);
+      reads = λ id m x base len is w f. answered (service.changed s id m x) id m (PlainWhat.Block (take len (drop base x.memory))) (λ i. refl) refl;
+      writes = λ id m x base bytes is w f. answered (service.changed s id m (record x { memory = pieces.written_at x.memory base bytes })) id m PlainWhat.Written (λ i. refl) refl;
+      lands = λ id m x r_ y is w f c.
+          in_brings s (with_sent (service.changed s id m y) (Some r_)) (service.changed s id m y) r_ refl (λ i z there. stayed s id i z there)
+          (λ k. ap (λ (q : Pid). q.num == 0) (lands-is m.to x m x.status (pieces.Next r_ y) c).0.sender ∙ process_num s m.to x w.alive h.made);
+      done = λ id m x c y is w f g i z there. inl (stayed s id i z there);
+      board = λ id m k is there c took.
+          server_brings s (service.switchboard_took s id k) (record (without_message s id) { switchboard = k.switchboard }) id switchboard k.answer (board_sender s.switchboard m m.what k took) refl refl (λ i. refl);
+      manager = λ id m k is there c took.
+          server_brings s (service.manager_took s id k) (record (without_message s id) { manager = k.manager }) id manager k.message (manager_sender s.manager s.machines (length s.images) m m.what k took) refl refl (λ i. refl);
+      creates = λ id child m image links i is w found name. answered (service.with_child (without_message s id) child i links) id m (PlainWhat.Created child) (λ j. refl) refl;
+      no_room = λ id a b m image links is w. answered (without_message s id) id m PlainWhat.NoRoom (λ i. refl) refl;
+    }) is_
 
 -- each step keeps it
 pub senders_step : (r e : MsgId → ℕ) (s t : OneKernel) (l : Label) → step.step s l ≡ Some t → Sound r e s → Senders s → Senders t

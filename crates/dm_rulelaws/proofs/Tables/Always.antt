@@ -7,26 +7,8 @@ use Rattle.dm_rulelaws.proofs.Fits.Rises.{both}
 use Rattle.dm_rulelaws.proofs.RunLabels.{group_replay}
 use Rattle.dm_rulelaws.proofs.Based.Constants.{constant_group}
 use Rattle.dm_rulelaws.proofs.Tables.{Tables}
-use Rattle.dm_rulelaws.proofs.Tables.Steps as steps
-use Rattle.dm_rulelaws.proofs.Tables.Servers as servers
 use Rattle.dm_rulelaws.proofs.Tables.Servers.{slots_with_length}
-
--- each step
-pub tables_step : (s t : OneKernel) (e : Label) → kernel.step s e ≡ Some t → Tables s → Tables t
-tables_step s t (Label.Ran p k) is h = steps.ran_tables s t p k is h
-tables_step s t (Label.Call p n c) is h = steps.call_step s t p n c is h
-tables_step s t (Label.Send p id) is h = steps.send_step s t p id is h
-tables_step s t (Label.Wait p) is h = steps.wait_step s t p is h
-tables_step s t (Label.Out p w) is h = steps.out_step s t p w is h
-tables_step s t (Label.End p y) is h = steps.end_step s t p y is h
-tables_step s t (Label.Receive p id) is h = steps.receive_step s t p id is h
-tables_step s t (Label.Refuse p id c) is h = steps.refuse_step s t p id c is h
-tables_step s t (Label.Dropped id) is h = steps.dropped_step s t id is h
-tables_step s t (Label.Served id) is h = steps.served_step s t id is h
-tables_step s t (Label.Gone id) is h = steps.gone_step s t id is h
-tables_step s t (Label.Took id) is h = servers.took_step s t id is h
-tables_step s t (Label.Created id child) is h = servers.created_step s t id child is h
-tables_step s t (Label.NoSpace id a b) is h = servers.no_space_step s t id a b is h
+use Rattle.dm_rulelaws.proofs.Tables.Steps.{tables_step}
 
 -- where a run begins
 abbrev ShortList : Boot → BootProcess → Type 0

@@ -1,7 +1,7 @@
 -- A call and a receive leave the number of link slots, and a call sends at most four links.
 use Rattle.dm_rulelaws.proofs.Names.{◌≡◌, ℕ, zero, suc, ◌+◌, ◌≤◌, ◌==◌, ◌&&◌, ◌||◌, Bool, true, false, List, [], ◌∷◌, length, drop, filter_map, refl, ap, ◌∙◌, subst, nat_lt, arith, ⊤, if◌then◌else◌, slice_set, cons_option, Option, None}
-use Rattle.dm_rulelaws.proofs.Names.{Some, nat_tests, length-take, Pid, pid_eq, PlainLink, first_empty, link_at, PlainMessage, PlainWhat, direction_numbered, on_mask, Direction, Reply, PlainProcess, PlainStatus, Ready, Waiting, Moving, reg}
-use Rattle.dm_rulelaws.proofs.Names.{Check, first_failed, Called, Replies, Sends, Waits, Outputs, Ends, CallNumber}
+use Rattle.dm_rulelaws.proofs.Names.{Some, nat_tests, length-take, Pid, pid_eq, PlainLink, first_empty, link_at, PlainMessage, PlainWhat, direction_numbered, on_mask, Direction, Reply, PlainProcess, PlainStatus, Waiting, reg, Check}
+use Rattle.dm_rulelaws.proofs.Names.{first_failed, Called, Replies, Sends, Waits, Outputs, Ends, CallNumber}
 use Rattle.dm_onekernel.specs.Pieces as pieces
 use Rattle.dm_onekernel.specs.Receiving as receiving
 use Rattle.dm_onekernel.specs.Calls as calls

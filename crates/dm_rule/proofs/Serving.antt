@@ -1,0 +1,237 @@
+-- A turn that serves a process, or handles a message of the bag: what comes of it, row by row. Whatever holds of the parts of each row holds of what comes of the turn.
+use Rattle.dm_rule.proofs.Names.{◌≡◌, ℕ, ◌+◌, ◌==◌, ◌||◌, Bool, true, false, List, [], ◌∷◌, refl, ap, ◌∙◌, subst, length, if◌then◌else◌, slice_get, Option, None, Some, Pid, pid_of, pid_eq, MsgId, MessageKind, Label, Reply, Why, plain_kind}
+use Rattle.dm_rule.proofs.Names.{PlainMessage, PlainWhat, instruction, BootImage, Boot, first_number, switchboard, manager, bind, PlainProcess, PlainStatus, Ready, Waiting, Moving, answer_id, machine_of, with_machine, Line, Known, Unknown}
+use Rattle.dm_rule.proofs.Names.{Here, Frozen, Incoming, Forward, Ended, Addresses, Sender, is_told_back, Point, Part, Says, Routes, Again, Owns, forwards_on, Room, says, drops, called, stops, executes, ran, completes, receives}
+use Rattle.dm_rule.proofs.Names.{first_awaited, serves_status, goes_round, has_room, free_room, creates, kernel_handles, routes, board_took, manager_took, here_handles, ended_handles, process_handles, bind-is}
+use Rattle.dm_onekernel.specs.Calls as calls
+use Rattle.dm_onekernel.specs.Pieces as pieces
+use Rattle.dm_onekernel.specs.Receiving as receiving
+use Rattle.dm_onekernel.specs.Switchboard as board
+use Rattle.dm_onekernel.specs.Manager as manage
+use Rattle.dm_onekernel.specs.Step as kernel
+use Rattle.dm_rule.specs.Rule as rule
+
+-- a process stops: its turn is over, or a call follows, or its end with its queue behind
+pub record Stops (Q : List Part → Type 0) (p : Pid) (queue : List MsgId) : Type 0 where
+  pub over : Q []
+  pub replies : (n : ℕ) (r : Reply) → Q (says (Label.Call p n r) ∷ [])
+  pub sends : (id : MsgId) → Q (says (Label.Send p id) ∷ Routes id ∷ [])
+  pub waits : Q (says (Label.Wait p) ∷ [])
+  pub outputs : (word : ℕ) → Q (says (Label.Out p word) ∷ [])
+  pub ends : (y : Why) → Q (says (Label.End p y) ∷ drops queue)
+
+-- it is served: it runs and stops, takes a message of its queue that it waits for, or is refused it
+pub record Serves (P : List Part → Type 0) (o : Point) (m : ℕ) (p : Pid) : Type 1 where
+  pub runs : (k : ℕ) (ps : List Part) → ((Q : List Part → Type 0) → Stops Q p (o.view.queue m p) → Q ps) → P (says (Label.Ran p k) ∷ ps)
+  pub takes : (mask : ℕ) (id : MsgId) → first_awaited o.kernel mask (o.view.queue m p) ≡ Some id → P (says (Label.Receive p id) ∷ [])
+  pub refuses : (id : MsgId) (r : Reply) → P (says (Label.Refuse p id r) ∷ [])
+
+given : (P : List Part → Type 0) (qs ps : List Part) → P qs → Some qs ≡ Some ps → P ps
+given P qs ps h e = let k : qs ≡ ps = cc in subst P k h
+
+by_called : (Q : List Part → Type 0) (p : Pid) (n : ℕ) (queue : List MsgId) (c : calls.Called) → Stops Q p queue → Q (called p n queue c)
+by_called Q p n queue (calls.Replies reply x) h = h.replies n reply
+by_called Q p n queue (calls.Sends m x) h = h.sends m.id
+by_called Q p n queue (calls.Waits x) h = h.waits
+by_called Q p n queue (calls.Outputs word x) h = h.outputs word
+by_called Q p n queue (calls.Ends because) h = h.ends because
+
+by_stops : (Q : List Part → Type 0) (p : Pid) (queue : List MsgId) (full : Bool) (o : Option kernel.Next) → Stops Q p queue → Q (if full then [] else stops p queue o)
+by_stops Q p queue true o h = h.over
+by_stops Q p queue false None h = h.over
+by_stops Q p queue false (Some (kernel.Calls n c)) h = by_called Q p n queue c h
+by_stops Q p queue false (Some (kernel.Faults fault)) h = h.ends (Why.Fault fault)
+
+by_receives : (P : List Part → Type 0) (o : Point) (m mask : ℕ) (p : Pid) (x : PlainProcess) (i : Option MsgId) (ps : List Part) → first_awaited o.kernel mask (o.view.queue m p) ≡ i → Serves P o m p → receives o.kernel p x i ≡ Some ps → P ps
+by_receives P o m mask p x None ps is h e = cc
+by_receives P o m mask p x (Some id) ps is h e =
+    let (k, there, more) = bind-is (o.kernel.bag id) (λ k. bind (receiving.completes_with p x k) (λ c. Some (completes p id c))) ps e in
+    let (c, done, last) = bind-is (receiving.completes_with p x k) (λ c. Some (completes p id c)) ps more in
+    given P (completes p id c) ps (by_completes c) last
+  where
+    by_completes : (c : receiving.Completed) → P (completes p id c)
+    by_completes (receiving.Receives y) = h.takes mask id is
+    by_completes (receiving.Refuses reply y) = h.refuses id reply
+
+by_status : (P : List Part → Type 0) (quantum : ℕ) (o : Point) (m : ℕ) (p : Pid) (x : PlainProcess) (st : PlainStatus) (ps : List Part) → Serves P o m p → serves_status quantum o.kernel p (o.view.queue m p) x st ≡ Some ps → P ps
+by_status P quantum o m p x Ready ps h e =
+    let r = ran quantum (machine_of x) in
+    let next = kernel.next_row p (with_machine x r.machine) (instruction r.machine.regs r.machine.bytes) in
+    given P (executes quantum p (o.view.queue m p) x r) ps (h.runs r.count (if r.count == quantum then [] else stops p (o.view.queue m p) next) (λ Q. by_stops Q p (o.view.queue m p) (r.count == quantum) next)) e
+by_status P quantum o m p x (Waiting mask base size) ps h e = by_receives P o m mask p x (first_awaited o.kernel mask (o.view.queue m p)) ps refl h e
+by_status P quantum o m p x (Moving dir owner base own left pending) ps h e = cc
+
+pub by_round : (P : List Part → Type 0) (b : Boot) (o : Point) (m : ℕ) (q : Option Pid) (ps : List Part) → P (Says (Line.Idle m) ∷ []) → ((p : Pid) (x : PlainProcess) → q ≡ Some p → kernel.alive (o.kernel.processes p) ≡ Some x → Serves P o m p)
+    → goes_round b o m q ≡ Some ps → P ps
+by_round P b o m None ps idle h e = given P (Says (Line.Idle m) ∷ []) ps idle e
+by_round P b o m (Some p) ps idle h e =
+    let (x, alive, more) = bind-is (kernel.alive (o.kernel.processes p)) (λ x. serves_status b.quantum o.kernel p (o.view.queue m p) x x.status) ps e in
+    by_status P b.quantum o m p x x.status ps (h p x refl alive) more
+
+-- what the machine knows of the receiver, a process
+pub record To (o : Point) (m : ℕ) (msg : PlainMessage) (k : Known) : Type 0 where
+  pub known : o.view.known m msg.to ≡ k
+  pub process : (pid_eq msg.to switchboard || pid_eq msg.to manager) ≡ false
+
+-- the receiver is a kernel or a server, which never moves
+abbrev pub IsFixed : Pid → Type 0
+IsFixed p = (p.num == 0 || (pid_eq p switchboard || pid_eq p manager)) ≡ true
+
+abbrev pub is_kill : MessageKind → Bool
+is_kill MessageKind.Kill = true
+is_kill _ = false
+
+-- a message of the bag is handled
+pub record Handles (P : List Part → Type 0) (o : Point) (m : ℕ) (id : MsgId) (msg : PlainMessage) : Type 0 where
+  pub created : IsFixed msg.to → P (says (Label.Created id (pid_of m (first_number + o.kernel.made m))) ∷ Routes (answer_id id) ∷ [])
+  pub no_space : IsFixed msg.to → (slots blocks : ℕ) → P (says (Label.NoSpace id slots blocks) ∷ Routes (answer_id id) ∷ [])
+  pub took : IsFixed msg.to → (sent : Option PlainMessage) → P (says (Label.Took id) ∷ routes sent)
+  pub queued : To o m msg Here → plain_kind msg.what ≡ MessageKind.User → P (Says (Line.Queued id) ∷ [])
+  pub served : To o m msg Here → is_kill (plain_kind msg.what) ≡ false → P (says (Label.Served id) ∷ [])
+  pub answers : To o m msg Here → is_kill (plain_kind msg.what) ≡ false → (i : MsgId) → P (says (Label.Served id) ∷ Routes i ∷ [])
+  pub kills : To o m msg Here → is_kill (plain_kind msg.what) ≡ true → P (says (Label.Served id) ∷ drops (o.view.queue m msg.to))
+  pub gone : To o m msg Ended → P (says (Label.Gone id) ∷ Routes (answer_id id) ∷ [])
+  pub dropped : To o m msg Ended → P (says (Label.Dropped id) ∷ [])
+  pub leaving : (to : ℕ) → To o m msg (Frozen to) → P (Says (Line.Held id) ∷ [])
+  pub coming : (from : ℕ) → To o m msg (Incoming from) → P (Says (Line.Held id) ∷ [])
+  pub forwarded : (to moves : ℕ) → To o m msg (Forward to moves) → P (forwards_on o.addresses id (plain_kind msg.what) msg.sender to)
+
+by_creates : (P : List Part → Type 0) (o : Point) (m : ℕ) (id : MsgId) (msg : PlainMessage) (r : Room) (i : Option BootImage) (ps : List Part) → IsFixed msg.to → Handles P o m id msg → creates o m id r i ≡ Some ps → P ps
+by_creates P o m id msg r None ps fixed h e = cc
+by_creates P o m id msg r (Some i) ps fixed h e =
+    let yes = says (Label.Created id (pid_of m (first_number + o.kernel.made m))) in
+    let no = says (Label.NoSpace id r.slots r.blocks) in
+    given P ((if has_room r i.blocks then yes else no) ∷ Routes (answer_id id) ∷ []) ps (by_room (has_room r i.blocks)) e
+  where
+    by_room : (c : Bool) → P ((if c then says (Label.Created id (pid_of m (first_number + o.kernel.made m))) else says (Label.NoSpace id r.slots r.blocks)) ∷ Routes (answer_id id) ∷ [])
+    by_room true = h.created fixed
+    by_room false = h.no_space fixed r.slots r.blocks
+
+by_asked : (P : List Part → Type 0) (b : Boot) (o : Point) (m : ℕ) (id : MsgId) (msg : PlainMessage) (w : PlainWhat) (ps : List Part) → IsFixed msg.to → Handles P o m id msg → kernel_handles b o m id w ≡ Some ps → P ps
+by_asked P b o m id msg (PlainWhat.Create image links) ps fixed h e = by_creates P o m id msg (free_room b o m) (slice_get b.images image) ps fixed h e
+by_asked P b o m id msg _ ps fixed h e = cc
+
+by_board : (P : List Part → Type 0) (id : MsgId) (t : Option board.Took) (ps : List Part) → ((sent : Option PlainMessage) → P (says (Label.Took id) ∷ routes sent)) → board_took id t ≡ Some ps → P ps
+by_board P id None ps h e = cc
+by_board P id (Some t) ps h e = given P (says (Label.Took id) ∷ routes t.answer) ps (h t.answer) e
+
+by_manager : (P : List Part → Type 0) (id : MsgId) (t : Option manage.Took) (ps : List Part) → ((sent : Option PlainMessage) → P (says (Label.Took id) ∷ routes sent)) → manager_took id t ≡ Some ps → P ps
+by_manager P id None ps h e = cc
+by_manager P id (Some t) ps h e = given P (says (Label.Took id) ∷ routes t.message) ps (h t.message) e
+
+by_lands : (P : List Part → Type 0) (id : MsgId) (l : Option pieces.Landed) (ps : List Part) → P (says (Label.Served id) ∷ []) → ((i : MsgId) → P (says (Label.Served id) ∷ Routes i ∷ [])) → rule.lands id l ≡ Some ps → P ps
+by_lands P id None ps done next e = cc
+by_lands P id (Some (pieces.Next request x)) ps done next e = given P (says (Label.Served id) ∷ Routes request.id ∷ []) ps (next request.id) e
+by_lands P id (Some (pieces.Done reply x)) ps done next e = given P (says (Label.Served id) ∷ []) ps done e
+
+by_here : (P : List Part → Type 0) (o : Point) (m : ℕ) (id : MsgId) (msg : PlainMessage) (x : PlainProcess) (w : PlainWhat) (ps : List Part) → msg.what ≡ w → To o m msg Here → Handles P o m id msg → here_handles o m id msg x w ≡ Some ps → P ps
+by_here P o m id msg x (PlainWhat.User code channel body links) ps is to h e = given P (Says (Line.Queued id) ∷ []) ps (h.queued to (ap plain_kind is)) e
+by_here P o m id msg x PlainWhat.Stop ps is to h e = given P (says (Label.Served id) ∷ []) ps (h.served to (ap (λ w. is_kill (plain_kind w)) is)) e
+by_here P o m id msg x PlainWhat.Resume ps is to h e = given P (says (Label.Served id) ∷ []) ps (h.served to (ap (λ w. is_kill (plain_kind w)) is)) e
+by_here P o m id msg x PlainWhat.Kill ps is to h e = given P (says (Label.Served id) ∷ drops (o.view.queue m msg.to)) ps (h.kills to (ap (λ w. is_kill (plain_kind w)) is)) e
+by_here P o m id msg x (PlainWhat.Read base len) ps is to h e = given P (says (Label.Served id) ∷ Routes (answer_id id) ∷ []) ps (h.answers to (ap (λ w. is_kill (plain_kind w)) is) (answer_id id)) e
+by_here P o m id msg x (PlainWhat.Write base bytes) ps is to h e = given P (says (Label.Served id) ∷ Routes (answer_id id) ∷ []) ps (h.answers to (ap (λ w. is_kill (plain_kind w)) is) (answer_id id)) e
+by_here P o m id msg x (PlainWhat.Block bytes) ps is to h e = let mild = ap (λ w. is_kill (plain_kind w)) is in by_lands P id (pieces.lands msg.to x msg x.status) ps (h.served to mild) (h.answers to mild) e
+by_here P o m id msg x PlainWhat.Written ps is to h e = let mild = ap (λ w. is_kill (plain_kind w)) is in by_lands P id (pieces.lands msg.to x msg x.status) ps (h.served to mild) (h.answers to mild) e
+by_here P o m id msg x PlainWhat.Gone ps is to h e = let mild = ap (λ w. is_kill (plain_kind w)) is in by_lands P id (pieces.lands msg.to x msg x.status) ps (h.served to mild) (h.answers to mild) e
+by_here P o m id msg x _ ps is to h e = cc
+
+by_ended : (P : List Part → Type 0) (o : Point) (m : ℕ) (id : MsgId) (msg : PlainMessage) (w : PlainWhat) (ps : List Part) → To o m msg Ended → Handles P o m id msg → ended_handles id w ≡ Some ps → P ps
+by_ended P o m id msg (PlainWhat.Read base len) ps to h e = given P (says (Label.Gone id) ∷ Routes (answer_id id) ∷ []) ps (h.gone to) e
+by_ended P o m id msg (PlainWhat.Write base bytes) ps to h e = given P (says (Label.Gone id) ∷ Routes (answer_id id) ∷ []) ps (h.gone to) e
+by_ended P o m id msg (PlainWhat.Create image links) ps to h e = cc
+by_ended P o m id msg (PlainWhat.Created p) ps to h e = cc
+by_ended P o m id msg PlainWhat.NoRoom ps to h e = cc
+by_ended P o m id msg (PlainWhat.Move machine) ps to h e = cc
+by_ended P o m id msg (PlainWhat.Moved outcome) ps to h e = cc
+by_ended P o m id msg _ ps to h e = given P (says (Label.Dropped id) ∷ []) ps (h.dropped to) e
+
+by_process : (P : List Part → Type 0) (o : Point) (m : ℕ) (id : MsgId) (msg : PlainMessage) (k : Known) (ps : List Part) → To o m msg k → Handles P o m id msg → process_handles o m id msg k ≡ Some ps → P ps
+by_process P o m id msg Unknown ps to h e = cc
+by_process P o m id msg Here ps to h e =
+    let (x, alive, more) = bind-is (kernel.alive (o.kernel.processes msg.to)) (λ x. here_handles o m id msg x msg.what) ps e in
+    by_here P o m id msg x msg.what ps refl to h more
+by_process P o m id msg (Frozen at_) ps to h e = given P (Says (Line.Held id) ∷ []) ps (h.leaving at_ to) e
+by_process P o m id msg (Incoming from) ps to h e = given P (Says (Line.Held id) ∷ []) ps (h.coming from to) e
+by_process P o m id msg (Forward at_ moves) ps to h e = given P (forwards_on o.addresses id (plain_kind msg.what) msg.sender at_) ps (h.forwarded at_ moves to) e
+by_process P o m id msg Ended ps to h e = by_ended P o m id msg msg.what ps to h e
+
+or_either : (a c d : Bool) → (c || d) ≡ true → (a || (c || d)) ≡ true
+or_either true c d e = refl
+or_either false c d e = e
+
+by_receiver : (P : List Part → Type 0) (b : Boot) (o : Point) (m : ℕ) (id : MsgId) (msg : PlainMessage) (c d g : Bool) (ps : List Part) → msg.to.num == 0 ≡ c → pid_eq msg.to switchboard ≡ d → pid_eq msg.to manager ≡ g → Handles P o m id msg
+    → (if c then kernel_handles b o m id msg.what else if d then board_took id (board.takes o.kernel.switchboard msg msg.what)
+    else if g then manager_took id (manage.takes o.kernel.manager o.kernel.machines (length o.kernel.images) msg msg.what) else process_handles o m id msg (o.view.known m msg.to)) ≡ Some ps → P ps
+by_receiver P b o m id msg true d g ps zero_ one two h e = by_asked P b o m id msg msg.what ps (ap (λ (x : Bool). x || (pid_eq msg.to switchboard || pid_eq msg.to manager)) zero_) h e
+by_receiver P b o m id msg false true g ps zero_ one two h e =
+    by_board P id (board.takes o.kernel.switchboard msg msg.what) ps (h.took (or_either (msg.to.num == 0) (pid_eq msg.to switchboard) (pid_eq msg.to manager) (ap (λ (x : Bool). x || pid_eq msg.to manager) one))) e
+by_receiver P b o m id msg false false true ps zero_ one two h e =
+    by_manager P id (manage.takes o.kernel.manager o.kernel.machines (length o.kernel.images) msg msg.what) ps
+    (h.took (or_either (msg.to.num == 0) (pid_eq msg.to switchboard) (pid_eq msg.to manager) (ap (λ (x : Bool). x || pid_eq msg.to manager) one ∙ two))) e
+by_receiver P b o m id msg false false false ps zero_ one two h e =
+    by_process P o m id msg (o.view.known m msg.to) ps (record { known = refl; process = ap (λ (x : Bool). x || pid_eq msg.to manager) one ∙ two }) h e
+
+pub by_handles : (P : List Part → Type 0) (b : Boot) (o : Point) (m : ℕ) (id : MsgId) (msg : PlainMessage) (ps : List Part) → Handles P o m id msg → rule.handles b o m id msg ≡ Some ps → P ps
+by_handles P b o m id msg ps h e = by_receiver P b o m id msg (msg.to.num == 0) (pid_eq msg.to switchboard) (pid_eq msg.to manager) ps refl refl refl h e
+
+-- a message goes on, and its sender may be told
+pub by_forwards : (P : List Part → Type 0) (a : Addresses) (id : MsgId) (k : MessageKind) (sender : Pid) (to : ℕ) → P (Says (Line.Forwarded id to) ∷ Again id to ∷ [])
+    → P (Says (Line.Forwarded id to) ∷ Again id to ∷ Owns MessageKind.Update sender (a (Sender id)).at ∷ []) → P (forwards_on a id k sender to)
+by_forwards P a id k sender to alone told = by_told (is_told_back k)
+  where
+    by_told : (c : Bool) → P (Says (Line.Forwarded id to) ∷ Again id to ∷ (if c then Owns MessageKind.Update sender (a (Sender id)).at ∷ [] else []))
+    by_told true = told
+    by_told false = alone
+
+-- what holds of parts that only say labels and route messages
+pub record Loose (L : List Part → Type 0) : Type 0 where
+  pub none : L []
+  pub label : (l : Label) (ps : List Part) → L ps → L (says l ∷ ps)
+  pub routes : (i : MsgId) (ps : List Part) → L ps → L (Routes i ∷ ps)
+
+pub loose_drops : (L : List Part → Type 0) → Loose L → (ids : List MsgId) → L (drops ids)
+loose_drops L c [] = c.none
+loose_drops L c (i ∷ is) = c.label (Label.Dropped i) (drops is) (loose_drops L c is)
+
+pub loose_sent : (L : List Part → Type 0) → Loose L → (sent : Option PlainMessage) → L (routes sent)
+loose_sent L c None = c.none
+loose_sent L c (Some m) = c.routes m.id [] c.none
+
+pub loose_stops : (L : List Part → Type 0) → Loose L → (p : Pid) (queue : List MsgId) → Stops L p queue
+loose_stops L c p queue = record {
+  over = c.none;
+  replies = λ n r. c.label (Label.Call p n r) [] c.none;
+  sends = λ id. c.label (Label.Send p id) (Routes id ∷ []) (c.routes id [] c.none);
+  waits = c.label (Label.Wait p) [] c.none;
+  outputs = λ word. c.label (Label.Out p word) [] c.none;
+  ends = λ y. c.label (Label.End p y) (drops queue) (loose_drops L c queue);
+}
+
+pub loose_round : (L : List Part → Type 0) → Loose L → (b : Boot) (o : Point) (m : ℕ) (q : Option Pid) (ps : List Part) → L (Says (Line.Idle m) ∷ []) → goes_round b o m q ≡ Some ps → L ps
+loose_round L c b o m q ps idle = by_round L b o m q ps idle (λ p x is alive. record {
+  runs = λ k rest h. c.label (Label.Ran p k) rest (h L (loose_stops L c p (o.view.queue m p)));
+  takes = λ mask id stands. c.label (Label.Receive p id) [] c.none;
+  refuses = λ id r. c.label (Label.Refuse p id r) [] c.none;
+})
+
+-- a message of the bag, where only these rows say more
+pub loose_handles : (P L : List Part → Type 0) → Loose L → ((ps : List Part) → L ps → P ps) → (b : Boot) (o : Point) (m : ℕ) (id : MsgId) (msg : PlainMessage) (ps : List Part) → (To o m msg Here → P (Says (Line.Queued id) ∷ [])) → P (Says (Line.Held id) ∷ [])
+    → ((to moves : ℕ) → To o m msg (Forward to moves) → P (forwards_on o.addresses id (plain_kind msg.what) msg.sender to)) → rule.handles b o m id msg ≡ Some ps → P ps
+loose_handles P L c up b o m id msg ps queued held forwarded =
+    let one : (l : Label) → P (says l ∷ []) = λ l. up (says l ∷ []) (c.label l [] c.none) in
+    let routed : (l : Label) (i : MsgId) → P (says l ∷ Routes i ∷ []) = λ l i. up (says l ∷ Routes i ∷ []) (c.label l (Routes i ∷ []) (c.routes i [] c.none)) in
+    by_handles P b o m id msg ps (record {
+      created = λ fixed. routed (Label.Created id (pid_of m (first_number + o.kernel.made m))) (answer_id id);
+      no_space = λ fixed slots blocks. routed (Label.NoSpace id slots blocks) (answer_id id);
+      took = λ fixed sent. up (says (Label.Took id) ∷ routes sent) (c.label (Label.Took id) (routes sent) (loose_sent L c sent));
+      queued = λ to user. queued to;
+      served = λ to mild. one (Label.Served id);
+      answers = λ to mild i. routed (Label.Served id) i;
+      kills = λ to kills. up (says (Label.Served id) ∷ drops (o.view.queue m msg.to)) (c.label (Label.Served id) (drops (o.view.queue m msg.to)) (loose_drops L c (o.view.queue m msg.to)));
+      gone = λ to. routed (Label.Gone id) (answer_id id);
+      dropped = λ to. one (Label.Dropped id);
+      leaving = λ n to. held;
+      coming = λ n to. held;
+      forwarded = forwarded;
+    })
