@@ -18,7 +18,7 @@ use crate::part::Part;
 use dm_line::line::{Line, Stage};
 use dm_link::Pid;
 use dm_lists::Queue;
-use dm_memory::{NoMemory, list_of};
+use dm_memory::{NoMemory, Parcel, list_of};
 use dm_message::{Message, MsgId, What};
 use dm_migrate::{Arriving, Ask, Asked, Wanted, answer_ask};
 use dm_onekernel::Boot;
@@ -27,6 +27,7 @@ use dm_processor::MOST_BLOCKS;
 use dm_records::Record;
 use dm_room::Lacks;
 use dm_statebytes::MOST_STATE;
+use std::alloc::Global;
 
 impl Kernel {
     /// Answers a process that asks to come.
@@ -65,7 +66,7 @@ impl Kernel {
         if let Err((_, e)) = self.records.set(pid, Record::Incoming(arriving)) {
             return Err(e);
         }
-        let pull = self.send(message.sender, pull);
+        let pull = Parcel::new(self.alloc, self.send(message.sender, pull))?;
         list_of(self.alloc, [step(Stage::Accepted, pid), Part::Routes(pull)])
     }
 
@@ -95,10 +96,11 @@ impl Kernel {
     }
 
     /// Keeps a message for a process that comes.
-    pub(crate) fn hold_arriving(&mut self, message: Message) -> Result<Vec<Part>, NoMemory>
+    pub(crate) fn hold_arriving(&mut self, message: Parcel<Message>) -> Result<Vec<Part>, NoMemory>
         requires { IsSome (incoming_of (at self.old.records message.to.pid)) }
         ensures { Answers result self.new (bind (incoming_of (at self.old.records message.to.pid)) (λ a. holds_arriving (state_of self.old) message a)) }
     {
+        let message = message.into_inner();
         let id = message.id;
         let arriving = self.records.incoming_mut(message.to.pid).unwrap();
         match arriving.hold(message) {
@@ -179,7 +181,7 @@ impl Kernel {
     {
         self.ring.push(pid)?;
         self.records.put_back(pid, Record::Here(process));
-        put_before(held, &mut self.inbox)
+        put_before(self.alloc, held, &mut self.inbox)
     }
 }
 
@@ -207,10 +209,15 @@ fn piece_line(id: MsgId, pid: Pid, wanted: Wanted) -> Line
 }
 
 /// Puts messages before those of a queue, the last of them first.
-fn put_before(mut messages: Vec<Message>, queue: &mut Queue<Message>) -> Result<(), NoMemory>
+fn put_before(
+    alloc: Global,
+    mut messages: Vec<Message>,
+    queue: &mut Queue<Parcel<Message>>,
+) -> Result<(), NoMemory>
     ensures { OnOk result (queue.new ≡ messages.items ++ queue.old) }
 {
     while let Some(message) = messages.pop() {
+        let message = Parcel::new(alloc, message)?;
         queue.push_front(message)?;
     }
     Ok(())

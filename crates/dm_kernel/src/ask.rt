@@ -8,7 +8,7 @@ use crate::kernel::Kernel;
 use crate::part::Part;
 use dm_line::line::Line;
 use dm_link::Pid;
-use dm_memory::{NoMemory, list_of};
+use dm_memory::{NoMemory, Parcel, list_of};
 use dm_procman::MoveError;
 
 impl Kernel {
@@ -23,6 +23,7 @@ impl Kernel {
         match servers.manager.ask_move(pid, to, id) {
             Ok(message) => {
                 self.sent += 1;
+                let message = Parcel::new(self.alloc, message)?;
                 list_of(self.alloc, [Part::Routes(message)])
             }
             Err(MoveError::Unknown) => self.say(Line::NoChild(pid)),

@@ -16,10 +16,11 @@ use crate::part::Part;
 use crate::ring::remove;
 use dm_line::line::{Line, Stage};
 use dm_link::{Addr, Pid};
-use dm_memory::{NoMemory, list_of, push};
+use dm_memory::{NoMemory, Parcel, list_of, push};
 use dm_message::{Message, What};
 use dm_migrate::freeze;
 use dm_records::Record;
+use std::alloc::Global;
 
 impl Kernel {
     /// Lets a process leave for a machine, if it isn't there.
@@ -62,6 +63,7 @@ impl Kernel {
         ensures { IfOk result (λ parts. parts.items ≡ takes_step stage_.Frozen pid ∷ takes_step stage_.Asked pid ∷ Part.Routes ask ∷ []) }
     {
         let frozen = step(Stage::Frozen, pid);
+        let ask = Parcel::new(self.alloc, ask)?;
         list_of(
             self.alloc,
             [frozen, step(Stage::Asked, pid), Part::Routes(ask)],
@@ -69,10 +71,11 @@ impl Kernel {
     }
 
     /// Keeps a message for a process that leaves.
-    pub(crate) fn hold_leaving(&mut self, message: Message) -> Result<Vec<Part>, NoMemory>
+    pub(crate) fn hold_leaving(&mut self, message: Parcel<Message>) -> Result<Vec<Part>, NoMemory>
         requires { IsSome (frozen_of (at self.old.records message.to.pid)) }
         ensures { Answers result self.new (bind (frozen_of (at self.old.records message.to.pid)) (λ d. holds_leaving (state_of self.old) message d)) }
     {
+        let message = message.into_inner();
         let id = message.id;
         let leaving = self.records.frozen_mut(message.to.pid).unwrap();
         match leaving.hold(message) {
@@ -166,9 +169,9 @@ impl Kernel {
     {
         let count = messages.len() as u32;
         let mut parts = list_of(self.alloc, [Part::Says(Line::SentOn { pid, count })])?;
-        route_all(messages, &mut parts)?;
+        route_all(self.alloc, messages, &mut parts)?;
         push(&mut parts, step(Stage::Left, pid))?;
-        push(&mut parts, Part::Routes(restart))?;
+        push(&mut parts, Part::Routes(Parcel::new(self.alloc, restart)?))?;
         Ok(parts)
     }
 }
@@ -181,11 +184,11 @@ pub(crate) fn step(step: Stage, pid: Pid) -> Part
 }
 
 /// Routes messages, in order.
-fn route_all(messages: Vec<Message>, parts: &mut Vec<Part>) -> Result<(), NoMemory>
+fn route_all(alloc: Global, messages: Vec<Message>, parts: &mut Vec<Part>) -> Result<(), NoMemory>
     ensures { OnOk result (parts.new.items ≡ parts.old.items ++ map Part.Routes messages.items) }
 {
     for message in messages {
-        push(parts, Part::Routes(message))?;
+        push(parts, Part::Routes(Parcel::new(alloc, message)?))?;
     }
     Ok(())
 }

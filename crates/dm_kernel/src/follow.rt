@@ -11,7 +11,7 @@ use crate::part::Part;
 use dm_line::line::Line;
 use dm_link::{Addr, Placeless};
 use dm_linkupdate::{apply, notice};
-use dm_memory::{NoMemory, list_of};
+use dm_memory::{NoMemory, Parcel, list_of};
 use dm_message::{Message, MsgId};
 
 impl Kernel {
@@ -19,20 +19,22 @@ impl Kernel {
     /// has an update.
     pub(crate) fn forward(
         &mut self,
-        message: Message,
+        message: Parcel<Message>,
         to: u8,
         moves: u32,
     ) -> Result<Vec<Part>, NoMemory>
         requires { self.old.sent < u32.MAX }
         ensures { Answers result self.new (forwards (state_of self.old) message to moves) }
     {
-        let mut message = message;
+        let mut message = message.into_inner();
         let update = notice(&message, self.own_id(), self.here, to, moves);
         let said = Part::Says(Line::Forwarded { id: message.id, to });
         message.relocate(to, moves);
+        let message = Parcel::new(self.alloc, message)?;
         match update {
             Some(update) => {
                 self.sent += 1;
+                let update = Parcel::new(self.alloc, update)?;
                 list_of(
                     self.alloc,
                     [said, Part::Routes(message), Part::Routes(update)],

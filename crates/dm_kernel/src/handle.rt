@@ -16,14 +16,18 @@ use crate::kernel::Kernel;
 use crate::part::Part;
 use dm_line::line::Line;
 use dm_link::{MACHINES, MANAGER, SWITCHBOARD};
-use dm_memory::NoMemory;
+use dm_memory::{NoMemory, Parcel};
 use dm_message::{Message, What};
 use dm_onekernel::Boot;
 use dm_records::Record;
 
 impl Kernel {
     /// Handles a message for the machine's kernel, a server or a process.
-    pub(crate) fn handle(&mut self, boot: &Boot, message: Message) -> Result<Vec<Part>, NoMemory>
+    pub(crate) fn handle(
+        &mut self,
+        boot: &Boot,
+        message: Parcel<Message>,
+    ) -> Result<Vec<Part>, NoMemory>
         requires may { MayHandle boot.now (state_of self.old) message }
         requires images { images_are_valid boot.now.images ≡ true }
         requires here { self.old.here < MACHINES }
@@ -31,20 +35,20 @@ impl Kernel {
         ensures answers { Answers result self.new (handles boot.now (state_of self.old) message) }
         ensures whole { OnOk result (FreezesReceiverWhole (state_of self.old) message) }
     {
-        let to = message.to.pid;
+        let to = message.get().to.pid;
         if to.num == 0 {
-            self.for_kernel(boot, message)
+            self.for_kernel(boot, message.get())
         } else if to == SWITCHBOARD {
-            self.for_board(&message)
+            self.for_board(message.get())
         } else if to == MANAGER {
-            self.for_manager(&message)
+            self.for_manager(message.get())
         } else {
             self.for_process(message)
         }
     }
 
     /// Handles a message for a process.
-    fn for_process(&mut self, message: Message) -> Result<Vec<Part>, NoMemory>
+    fn for_process(&mut self, message: Parcel<Message>) -> Result<Vec<Part>, NoMemory>
         requires lawful { IsLawfulMessage message }
         requires here { self.old.here < MACHINES }
         requires fits { FitsKnown (state_of self.old) message (at self.old.records message.to.pid) }
@@ -52,7 +56,7 @@ impl Kernel {
         ensures answers { Answers result self.new (process_handles (state_of self.old) message (at self.old.records message.to.pid)) }
         ensures whole { OnOk result (KnownIsWhole self.old.here message.what (at self.old.records message.to.pid)) }
     {
-        match self.records.borrow(message.to.pid) {
+        match self.records.borrow(message.get().to.pid) {
             Record::Here(_) => self.for_here(message),
             Record::Frozen(_) => self.hold_leaving(message),
             Record::Incoming(_) => self.hold_arriving(message),
@@ -60,12 +64,12 @@ impl Kernel {
                 let (at, moves) = (*at, *moves);
                 self.forward(message, at, moves)
             }
-            Record::Ended(_) => self.for_ended(&message),
+            Record::Ended(_) => self.for_ended(message.get()),
         }
     }
 
     /// Handles a message for a process that is here.
-    fn for_here(&mut self, message: Message) -> Result<Vec<Part>, NoMemory>
+    fn for_here(&mut self, message: Parcel<Message>) -> Result<Vec<Part>, NoMemory>
         requires lawful { IsLawfulMessage message }
         requires here { self.old.here < MACHINES }
         requires process { IsHere (Handles (state_of self.old) message) (at self.old.records message.to.pid) }
@@ -73,18 +77,19 @@ impl Kernel {
             (λ x. here_handles (state_of self.old) message x message.what)) }
         ensures whole { OnOk result (WhereSentOff self.old.here message.what (IfSome (here_of (at self.old.records message.to.pid)) CanMove)) }
     {
-        match &message.what {
+        let said = message.get();
+        match &said.what {
             What::User { .. } => self.queue(message),
-            What::Stop => self.set_stopped(&message, true),
-            What::Resume => self.set_stopped(&message, false),
-            What::Kill => self.kill(&message),
-            What::Read { .. } => self.answer_piece(&message),
-            What::Write { .. } => self.answer_piece(&message),
-            What::Block { .. } => self.land_piece(&message),
-            What::Written => self.land_piece(&message),
-            What::Gone => self.land_piece(&message),
-            What::Migrate { machine } => self.migrate(&message, *machine),
-            What::Update { about } => self.follow(&message, *about),
+            What::Stop => self.set_stopped(said, true),
+            What::Resume => self.set_stopped(said, false),
+            What::Kill => self.kill(said),
+            What::Read { .. } => self.answer_piece(said),
+            What::Write { .. } => self.answer_piece(said),
+            What::Block { .. } => self.land_piece(said),
+            What::Written => self.land_piece(said),
+            What::Gone => self.land_piece(said),
+            What::Migrate { machine } => self.migrate(said, *machine),
+            What::Update { about } => self.follow(said, *about),
             // No other kind is sent to a process: what a message must fit says so.
             _ => unreachable!(),
         }

@@ -1,6 +1,7 @@
 //! The kernel of a machine.
 use dm_link::Pid;
 use dm_lists::Queue;
+use dm_memory::Parcel;
 use dm_message::Message;
 use dm_migrate::{Arriving, Leaving};
 use dm_onekernel::Why;
@@ -22,7 +23,7 @@ pub struct Kernel {
     /// The processes that are here, in the order in which they are served.
     pub(crate) ring: Queue<Pid>,
     /// The messages that have come and wait to be handled.
-    pub(crate) inbox: Queue<Message>,
+    pub(crate) inbox: Queue<Parcel<Message>>,
     /// How many processes were made here.
     pub(crate) made: u32,
     /// How many messages of its own the kernel has sent.

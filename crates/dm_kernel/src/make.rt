@@ -20,7 +20,7 @@ use dm_datamove::answer;
 use dm_line::line::Line;
 use dm_link::{FIRST_NUMBER, Link, Pid};
 use dm_linktable::{FEW_SLOTS, MOST_SLOTS, Table};
-use dm_memory::{NoMemory, list_of};
+use dm_memory::{NoMemory, Parcel, list_of};
 use dm_message::{Message, What};
 use dm_migrate::Ask;
 use dm_onekernel::{Boot, BootImage, Label};
@@ -34,16 +34,16 @@ impl Kernel {
     pub(crate) fn for_kernel(
         &mut self,
         boot: &Boot,
-        message: Message,
+        message: &Message,
     ) -> Result<Vec<Part>, NoMemory>
-        requires lawful { IsLawfulMessage message }
+        requires lawful { IsLawfulMessage message.now }
         requires images { images_are_valid boot.now.images ≡ true }
-        requires fits { FitsKernel boot.now (state_of self.old) message.what }
-        ensures { Answers result self.new (kernel_handles boot.now (state_of self.old) message message.what) }
+        requires fits { FitsKernel boot.now (state_of self.old) message.now.what }
+        ensures { Answers result self.new (kernel_handles boot.now (state_of self.old) message.now message.now.what) }
     {
         match &message.what {
             What::Create { image, links } => {
-                self.make(boot, &message, image_of(boot, *image), links.as_slice())
+                self.make(boot, message, image_of(boot, *image), links.as_slice())
             }
             What::Ask {
                 pid,
@@ -59,18 +59,18 @@ impl Kernel {
                     size: *size,
                     asker: *asker,
                 };
-                self.answer(boot, &message, ask)
+                self.answer(boot, message, ask)
             }
             What::Refuse { pid, .. } => self.stay(*pid),
-            What::PullState { pid, chunk } => self.give_chunk(&message, *pid, *chunk),
+            What::PullState { pid, chunk } => self.give_chunk(message, *pid, *chunk),
             What::State {
                 pid,
                 chunk,
                 last,
                 bytes,
-            } => self.take_chunk(&message, *pid, *chunk, *last, bytes.as_slice()),
-            What::PullBlock { pid, block } => self.give_block(&message, *pid, *block),
-            What::Memory { pid, block, bytes } => { self.take_block(&message, *pid, *block, bytes) }
+            } => self.take_chunk(message, *pid, *chunk, *last, bytes.as_slice()),
+            What::PullBlock { pid, block } => self.give_block(message, *pid, *block),
+            What::Memory { pid, block, bytes } => { self.take_block(message, *pid, *block, bytes) }
             What::AllTaken { pid } => self.let_go(*pid),
             What::Restart { pid } => self.restart(*pid),
             // No other kind is sent to a kernel: what a message must fit says so.
@@ -136,6 +136,7 @@ impl Kernel {
             pid,
         });
         let answer = answer(message, self.here, 0, What::Created { pid });
+        let answer = Parcel::new(self.alloc, answer)?;
         list_of(self.alloc, [Part::Says(said), Part::Routes(answer)])
     }
 
@@ -154,6 +155,7 @@ impl Kernel {
             free_blocks,
         });
         let answer = answer(message, self.here, 0, What::NoRoom);
+        let answer = Parcel::new(self.alloc, answer)?;
         list_of(self.alloc, [Part::Says(said), Part::Routes(answer)])
     }
 }

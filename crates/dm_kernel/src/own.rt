@@ -7,7 +7,7 @@ use crate::kernel::Kernel;
 use crate::part::Part;
 use dm_line::line::Line;
 use dm_link::{Addr, Pid};
-use dm_memory::{NoMemory, list_of};
+use dm_memory::{NoMemory, Parcel, list_of};
 use dm_message::{Message, MsgId, What};
 
 impl Kernel {
@@ -45,6 +45,7 @@ impl Kernel {
     pub(crate) fn say_and_route(&self, line: Line, message: Message) -> Result<Vec<Part>, NoMemory>
         ensures { IfOk result (λ parts. parts.items ≡ Part.Says line ∷ Part.Routes message ∷ []) }
     {
+        let message = Parcel::new(self.alloc, message)?;
         list_of(self.alloc, [Part::Says(line), Part::Routes(message)])
     }
 }

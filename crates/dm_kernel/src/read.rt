@@ -4,7 +4,7 @@ ghost use Rattle.std.specs.Option.{option_copied};
 
 use crate::kernel::{Kernel, Servers};
 use dm_lists::Queue;
-use dm_memory::NoMemory;
+use dm_memory::{NoMemory, Parcel};
 use dm_message::Message;
 use dm_migrate::{Arriving, Leaving};
 use dm_onekernel::Why;
@@ -29,7 +29,7 @@ impl Kernel {
     }
 
     /// The messages that have come and wait to be handled.
-    pub fn inbox(&self) -> &Queue<Message>
+    pub fn inbox(&self) -> &Queue<Parcel<Message>>
         ensures { result.now ≡ self.now.inbox }
     {
         &self.inbox
@@ -50,7 +50,7 @@ impl Kernel {
     }
 
     /// A message comes, and waits behind the others.
-    pub fn enters(&mut self, message: Message) -> Result<(), NoMemory>
+    pub fn enters(&mut self, message: Parcel<Message>) -> Result<(), NoMemory>
         ensures ok { OnOk result (self.new ≡ record self.old { inbox = self.old.inbox ++ message ∷ [] }) }
         ensures err { OnErr result (self.new ≡ self.old) }
     {

@@ -14,7 +14,7 @@ use crate::part::Part;
 use crate::run::{Halt, execute};
 use dm_line::line::Line;
 use dm_link::{MACHINES, Pid};
-use dm_memory::{NoMemory, list_of};
+use dm_memory::{NoMemory, Parcel, list_of};
 use dm_message::{Message, MsgId};
 use dm_onekernel::{Label, Why};
 use dm_process::Service;
@@ -72,8 +72,8 @@ impl Kernel {
     {
         match called {
             Called::Replied(reply) => self.goes_on(pid, count, Label::Call { pid, number, reply }),
-            Called::Sent(message) => self.sends(pid, count, message),
-            Called::Moving(message) => self.sends(pid, count, message),
+            Called::Sent(message) => self.sends(pid, count, Parcel::new(self.alloc, message)?),
+            Called::Moving(message) => self.sends(pid, count, Parcel::new(self.alloc, message)?),
             Called::Waits => self.goes_on(pid, count, Label::Wait { pid }),
             Called::Out(word) => self.goes_on(pid, count, Label::Out { pid, word }),
             Called::Ended(why) => self.end(pid, count, why),
@@ -92,13 +92,13 @@ impl Kernel {
     }
 
     /// What is said of a process that has sent a message, which goes out.
-    fn sends(&self, pid: Pid, count: u32, message: Message) -> Result<Vec<Part>, NoMemory>
+    fn sends(&self, pid: Pid, count: u32, message: Parcel<Message>) -> Result<Vec<Part>, NoMemory>
         ensures { IfOk result (λ parts. parts.items ≡ says (label_.Ran pid count) ∷ says (label_.Send pid message.id) ∷ Part.Routes message ∷ []) }
     {
         let ran = Line::Label(Label::Ran { pid, count });
         let sent = Line::Label(Label::Send {
             pid,
-            id: message.id,
+            id: message.get().id,
         });
         list_of(
             self.alloc,

@@ -16,7 +16,7 @@ ghost use Rattle.dm_kernel.specs.State.{says};
 use crate::kernel::Kernel;
 use crate::part::Part;
 use dm_line::line::Line;
-use dm_memory::{NoMemory, list_of};
+use dm_memory::{NoMemory, Parcel, list_of};
 use dm_message::{Message, MsgId, What};
 use dm_onekernel::Label;
 
@@ -70,7 +70,10 @@ impl Kernel {
     {
         let said = Part::Says(Line::Label(Label::Took { id }));
         match sent {
-            Some(message) => list_of(self.alloc, [said, Part::Routes(message)]),
+            Some(message) => {
+                let message = Parcel::new(self.alloc, message)?;
+                list_of(self.alloc, [said, Part::Routes(message)])
+            }
             None => list_of(self.alloc, [said]),
         }
     }

@@ -18,17 +18,18 @@ use crate::part::Part;
 use dm_datamove::{Landed, gone, land, serve};
 use dm_line::line::Line;
 use dm_link::MACHINES;
-use dm_memory::{NoMemory, list_of};
+use dm_memory::{NoMemory, Parcel, list_of};
 use dm_message::{Message, MsgId};
 use dm_onekernel::{Label, Why};
 
 impl Kernel {
     /// Puts a message at the back of its receiver's queue.
-    pub(crate) fn queue(&mut self, message: Message) -> Result<Vec<Part>, NoMemory>
+    pub(crate) fn queue(&mut self, message: Parcel<Message>) -> Result<Vec<Part>, NoMemory>
         requires { IsSome (here_of (at self.old.records message.to.pid)) }
         ensures { Answers result self.new (bind (here_of (at self.old.records message.to.pid))
             (λ x. turned (with_here (state_of self.old) message.to.pid (queued x message)) (Part.Says (line_.Queued message.id) ∷ []))) }
     {
+        let message = message.into_inner();
         let id = message.id;
         let process = self.records.here_mut(message.to.pid).unwrap();
         process.queue.push(message)?;
@@ -70,7 +71,7 @@ impl Kernel {
     {
         let here = self.here;
         let process = self.records.here_mut(message.to.pid).unwrap();
-        let answer = serve(process, message, here);
+        let answer = Parcel::new(self.alloc, serve(process, message, here))?;
         self.serve_and_route(message.id, answer)
     }
 
@@ -85,7 +86,10 @@ impl Kernel {
         let here = self.here;
         let process = self.records.here_mut(message.to.pid).unwrap();
         match land(process, message, here) {
-            Landed::Next(request) => self.serve_and_route(message.id, request),
+            Landed::Next(request) => {
+                let request = Parcel::new(self.alloc, request)?;
+                self.serve_and_route(message.id, request)
+            }
             Landed::Done(_) => self.say_served(message.id),
         }
     }
@@ -97,7 +101,7 @@ impl Kernel {
         requires request { IsRequest message.now.what }
         ensures { Answers result self.now (is_gone (state_of self.now) message.now) }
     {
-        let answer = gone(message, self.here);
+        let answer = Parcel::new(self.alloc, gone(message, self.here))?;
         let said = Line::Label(Label::Gone { id: message.id });
         list_of(self.alloc, [Part::Says(said), Part::Routes(answer)])
     }
@@ -117,7 +121,7 @@ impl Kernel {
     }
 
     /// The parts of a turn that served a message and sends one.
-    fn serve_and_route(&self, id: MsgId, message: Message) -> Result<Vec<Part>, NoMemory>
+    fn serve_and_route(&self, id: MsgId, message: Parcel<Message>) -> Result<Vec<Part>, NoMemory>
         ensures { IfOk result (λ parts. parts.items ≡ says (label_.Served id) ∷ Part.Routes message ∷ []) }
     {
         let said = Line::Label(Label::Served { id });

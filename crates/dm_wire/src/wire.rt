@@ -1,5 +1,7 @@
 //! The wires of all pairs of machines.
-ghost use Rattle.std.specs.Prelude.{IfOk, OnErr, OnOk, [], length, option_map, position, slice_index_or, vec_len, ◌*◌, ◌+◌, ◌<◌, ◌^◌, ◌≡◌, ◌≤◌, ℕ};
+ghost use Rattle.std.specs.Prelude.{IfOk, None, OnErr, OnOk, [], false, true, length, option_map, position, slice_index_or, vec_len, ◌*◌, ◌+◌, ◌<◌, ◌^◌, ◌≡◌, ◌≤◌, ℕ};
+ghost use Rattle.dm_wire.specs.Sent.{is_unseen};
+ghost use Rattle.dm_wire.specs.Wire.{IsDelivered, packets_on};
 
 use crate::packets::Packets;
 use dm_link::MACHINES;
@@ -12,16 +14,21 @@ use std::marker::Model;
 #[derive(Drop)]
 pub struct Wire {
     pairs: Vec<Packets>,
+    /// Of each sender, whether there may be a packet that isn't marked.
+    pending: [bool; 16],
     alloc: Global,
 }
 
 impl Model for Wire {
     ghost use Rattle.std.specs.Prelude.{List};
     ghost use Rattle.dm_wire.specs.Sent.{Sent};
+    ghost use Rattle.dm_wire.specs.Wire.{AreDelivered};
 
     ghost Value = { List (List Sent) };
 
     ghost view = { λ w. w.pairs.items };
+
+    ghost invariant = { λ w. AreDelivered w.pending w.pairs.items };
 }
 
 /// The place of a pair.
@@ -42,6 +49,32 @@ fn reach(pairs: &mut Vec<Packets>, alloc: Global, len: usize) -> Result<(), NoMe
     Ok(())
 }
 
+/// The least number from `a` to `b` that isn't marked.
+#[tactic(auto, unfolding(crate::specs::Wire::packets_on))]
+fn unseen(pairs: &[Packets], a: u8, b: u8) -> Option<u64>
+    requires { (a < MACHINES) × (b < MACHINES) }
+    ensures first { result ≡ position is_unseen (packets_on pairs.now a b) }
+    ensures short { length (packets_on pairs.now a b) < 2 ^ 64 }
+{
+    match pairs.get(place(a, b)) {
+        Some(packets) => packets.unseen(),
+        None => None,
+    }
+}
+
+/// Whether a packet from machine `a` isn't marked.
+fn is_open(pairs: &[Packets], a: u8) -> bool
+    requires { a < MACHINES }
+    ensures { result ≡ false → IsDelivered pairs.now a }
+{
+    for b in 0..MACHINES {
+        if unseen(pairs, a, b).is_some() {
+            return true;
+        }
+    }
+    false
+}
+
 #[tactic(auto, unfolding(crate::specs::Wire::packets_on))]
 impl Wire {
     ghost use Rattle.dm_wire.specs.Sent.{bytes_at, is_unseen};
@@ -53,6 +86,7 @@ impl Wire {
     {
         Wire {
             pairs: Vec::new(alloc),
+            pending: [false; 16],
             alloc,
         }
     }
@@ -64,6 +98,7 @@ impl Wire {
         ensures number { IfOk result (λ k. k ≡ length (packets_on self.old a b)) }
         ensures err { OnErr result ((x y : ℕ) → packets_on self.new x y ≡ packets_on self.old x y) }
     {
+        self.pending[usize::from(a)] = true;
         let place = place(a, b);
         reach(&mut self.pairs, self.alloc, place + 1)?;
         self.pairs[place].put(bytes)
@@ -97,6 +132,15 @@ impl Wire {
         ensures { (x y : ℕ) → packets_on self.new x y ≡ after_mark (packets_on self.old) a b number x y }
     {
         self.pairs[place(a, b)].mark(number);
+        self.pending[usize::from(a)] = is_open(&self.pairs, a);
+    }
+
+    /// Whether a packet from machine `a` may not be marked yet: where not, all are.
+    pub fn is_pending(&self, a: u8) -> bool
+        requires { a < MACHINES }
+        ensures { result ≡ false → (b : ℕ) → position is_unseen (packets_on self.now a b) ≡ None }
+    {
+        self.pending[usize::from(a)]
     }
 
     /// The least number on the wire from `a` to `b` that isn't marked. It looks at no packet that was delivered.
@@ -105,9 +149,6 @@ impl Wire {
         ensures first { result ≡ position is_unseen (packets_on self.now a b) }
         ensures short { length (packets_on self.now a b) < 2 ^ 64 }
     {
-        match self.pairs.get(place(a, b)) {
-            Some(packets) => packets.unseen(),
-            None => None,
-        }
+        unseen(&self.pairs, a, b)
     }
 }
