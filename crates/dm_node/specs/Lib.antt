@@ -1,6 +1,7 @@
 pub mod State
 pub mod Out
 pub mod Acts
+pub mod Contents
 pub mod Wired
 pub mod Meets
 pub mod May

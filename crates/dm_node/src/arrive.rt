@@ -6,12 +6,13 @@ ghost use Rattle.dm_node.specs.Acts.{acknowledges, arrives, arrives_packet, come
 ghost use Rattle.dm_node.specs.May.{MayArrive, MayArrivePacket};
 ghost use Rattle.dm_node.specs.Meets.{Gave, HasStreams, state_of};
 
+use crate::envelope::{Contents, Envelope};
 use crate::node::Node;
 use crate::out::Out;
 use crate::route::push;
 use dm_line::line::Line;
 use dm_link::MACHINES;
-use dm_memory::NoMemory;
+use dm_memory::{NoMemory, Parcel};
 use dm_message::Message;
 use dm_packet::Packet;
 use dm_stream::{Arrived, WINDOW};
@@ -20,13 +21,13 @@ impl Node {
     /// Takes what a packet carries that names this machine, from another. A message is taken if it is the next, with those behind it
     /// that came early, kept if it is early, and dropped if it is old; how many were taken is acknowledged. An
     /// acknowledgement lets messages go out that wait.
-    pub fn arrive(&mut self, packet: Packet, outs: &mut Vec<Out>) -> Result<(), NoMemory>
+    pub fn arrive(&mut self, packet: Envelope, outs: &mut Vec<Out>) -> Result<(), NoMemory>
         requires may { MayArrivePacket (state_of self.old) packet }
         requires streams { HasStreams self.old }
         ensures { OnOk result (Gave self.new outs.old.items outs.new.items (arrives_packet (state_of self.old) packet)) }
     {
-        match packet {
-            Packet::Data {
+        match packet.open() {
+            Contents::Data {
                 from,
                 to,
                 seq,
@@ -36,7 +37,7 @@ impl Node {
                 prove!(mine);
                 self.take(from, seq, message, outs)
             }
-            Packet::Ack { from, to, count } => {
+            Contents::Ack { from, to, count } => {
                 let mine = to == self.kernel.here();
                 prove!(mine);
                 self.hear(from, count, outs)
@@ -49,7 +50,7 @@ impl Node {
         &mut self,
         from: u8,
         seq: u32,
-        message: Message,
+        message: Parcel<Message>,
         outs: &mut Vec<Out>,
     ) -> Result<(), NoMemory>
         requires may { MayArrive (state_of self.old) from (Data seq message) }
@@ -66,7 +67,7 @@ impl Node {
         &mut self,
         from: u8,
         seq: u32,
-        arrived: Arrived<Message>,
+        arrived: Arrived<Parcel<Message>>,
         outs: &mut Vec<Out>,
     ) -> Result<(), NoMemory>
         requires from { from < MACHINES }
@@ -139,14 +140,12 @@ impl Node {
         requires streams { HasStreams self.now }
         ensures { OnOk result (outs.new.items ≡ outs.old.items ++ acknowledges (state_of self.now) to) }
     {
-        push(
-            outs,
-            Out::Sends(Packet::Ack {
-                from: self.kernel.here(),
-                to,
-                count: self.count(to),
-            }),
-        )
+        let acknowledgement = Packet::Ack {
+            from: self.kernel.here(),
+            to,
+            count: self.count(to),
+        };
+        push(outs, Out::Sends(Parcel::new(self.alloc, acknowledgement)?))
     }
 
     /// Machine `from` has taken the first `count` messages: those that wait go out, as far as the window allows.

@@ -9,7 +9,7 @@ ghost use Rattle.dm_node.specs.State.{opened};
 use crate::node::Node;
 use dm_kernel::Kernel;
 use dm_link::MACHINES;
-use dm_memory::{NoMemory, push};
+use dm_memory::{NoMemory, Parcel, push};
 use dm_message::Message;
 use dm_onekernel::Boot;
 use dm_stream::{Receiver, Sender};
@@ -39,7 +39,7 @@ impl Node {
 }
 
 /// A stream to each machine, which may be given so many messages.
-fn fresh_senders(alloc: Global, numbers: u32) -> Result<Vec<Sender<Message>>, NoMemory>
+fn fresh_senders(alloc: Global, numbers: u32) -> Result<Vec<Sender<Parcel<Message>>>, NoMemory>
     ensures { IfOk result (λ senders. senders.items ≡ replicate 16 (fresh_sending numbers)) }
 {
     let mut senders = Vec::new(alloc);
@@ -50,7 +50,7 @@ fn fresh_senders(alloc: Global, numbers: u32) -> Result<Vec<Sender<Message>>, No
 }
 
 /// A stream from each machine.
-fn fresh_receivers(alloc: Global) -> Result<Vec<Receiver<Message>>, NoMemory>
+fn fresh_receivers(alloc: Global) -> Result<Vec<Receiver<Parcel<Message>>>, NoMemory>
     ensures { IfOk result (λ receivers. receivers.items ≡ replicate 16 fresh_receiving) }
 {
     let mut receivers = Vec::new(alloc);

@@ -11,6 +11,7 @@ use crate::node::Node;
 use crate::stop::Stop;
 use crate::streams;
 use dm_link::MACHINES;
+use dm_memory::Parcel;
 use dm_message::Message;
 use dm_packet::Packet;
 use dm_stream::{Arrived, GiveError, WINDOW};
@@ -26,7 +27,7 @@ impl Node {
     }
 
     /// Gives a message to the stream to machine `to`.
-    pub(crate) fn give(&mut self, to: u8, message: Message) -> Result<(), Stop>
+    pub(crate) fn give(&mut self, to: u8, message: Parcel<Message>) -> Result<(), Stop>
         requires streams { HasStreams self.old }
         requires to { to < MACHINES }
         ensures { Gives result self.new (state_of self.old) to message }
@@ -101,7 +102,12 @@ impl Node {
     }
 
     /// A message with its number has come from machine `from`.
-    pub(crate) fn receive(&mut self, from: u8, seq: u32, message: Message) -> Arrived<Message>
+    pub(crate) fn receive(
+        &mut self,
+        from: u8,
+        seq: u32,
+        message: Parcel<Message>,
+    ) -> Arrived<Parcel<Message>>
         requires streams { HasStreams self.old }
         requires from { from < MACHINES }
         requires in_window { seq < ((state_of self.old).receivers from).count + WINDOW }
@@ -114,7 +120,7 @@ impl Node {
     }
 
     /// Takes the message of machine `from` that came early and is the next now.
-    pub(crate) fn next_kept(&mut self, from: u8) -> Option<Message>
+    pub(crate) fn next_kept(&mut self, from: u8) -> Option<Parcel<Message>>
         requires streams { HasStreams self.old }
         requires from { from < MACHINES }
         ensures value { result ≡ next ((state_of self.old).receivers from) }

@@ -5,6 +5,7 @@
 mod arrive;
 mod begin;
 mod ends;
+pub mod envelope;
 mod law;
 pub mod node;
 pub mod out;
@@ -15,6 +16,7 @@ mod streams;
 mod turn;
 
 pub use dm_memory::NoMemory;
+pub use envelope::Envelope;
 pub use law::events_send_lawfully;
 pub use node::Node;
 pub use out::Out;

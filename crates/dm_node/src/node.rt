@@ -1,5 +1,6 @@
 //! A machine.
 use dm_kernel::Kernel;
+use dm_memory::Parcel;
 use dm_message::Message;
 use dm_stream::{Receiver, Sender};
 use std::alloc::Global;
@@ -16,6 +17,6 @@ pub struct Node {
     /// How many it has routed to itself.
     pub(crate) home: u32,
     /// What goes to each machine, and what comes from it, for 16 machines.
-    pub(crate) senders: Vec<Sender<Message>>,
-    pub(crate) receivers: Vec<Receiver<Message>>,
+    pub(crate) senders: Vec<Sender<Parcel<Message>>>,
+    pub(crate) receivers: Vec<Receiver<Parcel<Message>>>,
 }

@@ -1,5 +1,6 @@
 //! What an event of a machine gives to the outside.
 use dm_line::line::Line;
+use dm_memory::Parcel;
 use dm_packet::Packet;
 
 /// What an event of a machine gives to the outside.
@@ -8,5 +9,5 @@ pub enum Out {
     /// A printed line.
     Says(Line),
     /// A packet for another machine's wire, which has a line too.
-    Sends(Packet),
+    Sends(Parcel<Packet>),
 }

@@ -5,6 +5,7 @@ ghost use Rattle.dm_node.specs.Meets.{HasStreams, state_of};
 use crate::node::Node;
 use dm_kernel::Kernel;
 use dm_link::MACHINES;
+use dm_memory::Parcel;
 use dm_message::Message;
 use dm_stream::Sender;
 use std::alloc::Global;
@@ -25,7 +26,7 @@ impl Node {
     }
 
     /// Its end of the stream to machine `to`.
-    pub fn sender(&self, to: u8) -> &Sender<Message>
+    pub fn sender(&self, to: u8) -> &Sender<Parcel<Message>>
         requires streams { HasStreams self.now }
         requires to { to < MACHINES }
         ensures { result.now ≡ (state_of self.now).senders to }

@@ -10,19 +10,23 @@ use crate::out::Out;
 use crate::stop::Stop;
 use dm_line::line::Line;
 use dm_link::MACHINES;
-use dm_memory::NoMemory;
+use dm_memory::{NoMemory, Parcel};
 use dm_message::Message;
 
 impl Node {
     /// Routes a message to the machine that its receiver's address names.
-    pub(crate) fn route(&mut self, message: Message, outs: &mut Vec<Out>) -> Result<(), Stop>
+    pub(crate) fn route(
+        &mut self,
+        message: Parcel<Message>,
+        outs: &mut Vec<Out>,
+    ) -> Result<(), Stop>
         requires streams { HasStreams self.old }
         requires to { message.to.at < MACHINES }
         requires home { self.old.home ≤ self.old.numbers }
         requires numbers { self.old.numbers < 2 ^ 32 }
         ensures { Answers result self.new outs.old.items outs.new.items (routes (state_of self.old) message) }
     {
-        if message.to.at == self.kernel.here() {
+        if message.get().to.at == self.kernel.here() {
             self.route_home(message, outs)
         } else {
             self.route_away(message, outs)
@@ -43,7 +47,7 @@ impl Node {
     }
 
     /// Routes a message to this machine itself: it comes into the inbox.
-    fn route_home(&mut self, message: Message, outs: &mut Vec<Out>) -> Result<(), Stop>
+    fn route_home(&mut self, message: Parcel<Message>, outs: &mut Vec<Out>) -> Result<(), Stop>
         requires streams { HasStreams self.old }
         requires home { self.old.home ≤ self.old.numbers }
         requires numbers { self.old.numbers < 2 ^ 32 }
@@ -56,7 +60,7 @@ impl Node {
                 to: here,
             });
         }
-        push(outs, Out::Says(self.put_line(&message)))?;
+        push(outs, Out::Says(self.put_line(message.get())))?;
         if let Err(e) = self.kernel.enters(message) {
             return Err(Stop::NoMemory(e));
         }
@@ -65,15 +69,16 @@ impl Node {
     }
 
     /// Routes a message to another machine: it goes out at once where none waits before it, and the window isn't full.
-    fn route_away(&mut self, message: Message, outs: &mut Vec<Out>) -> Result<(), Stop>
+    fn route_away(&mut self, message: Parcel<Message>, outs: &mut Vec<Out>) -> Result<(), Stop>
         requires streams { HasStreams self.old }
         requires to { message.to.at < MACHINES }
         ensures { Answers result self.new outs.old.items outs.new.items
             (routes_away (state_of self.old) message.to.at message ((state_of self.old).senders message.to.at)) }
     {
-        let to = message.to.at;
+        let said = message.get();
+        let to = said.to.at;
+        let put = self.put_line(said);
         let at_once = self.none_waits(to);
-        let put = self.put_line(&message);
         self.give(to, message)?;
         push(outs, Out::Says(put))?;
         if at_once {
@@ -91,7 +96,7 @@ impl Node {
     {
         match self.due(to) {
             Some(packet) => {
-                push(outs, Out::Sends(packet))?;
+                push(outs, Out::Sends(Parcel::new(self.alloc, packet)?))?;
                 self.sent_due(to);
                 Ok(true)
             }

@@ -9,12 +9,13 @@ ghost use Rattle.dm_node.specs.Out.{numbered};
 ghost use Rattle.dm_node.specs.Meets.{receiver_of, sender_of};
 ghost use Rattle.dm_line.specs.Sets.{at_machine};
 
+use dm_memory::Parcel;
 use dm_message::Message;
 use dm_packet::Packet;
 use dm_stream::{Arrived, GiveError, Receiver, Sender, WINDOW};
 
 /// Whether all messages to machine `to` have gone out.
-pub fn none_waits(senders: &[Sender<Message>], to: u8) -> bool
+pub fn none_waits(senders: &[Sender<Parcel<Message>>], to: u8) -> bool
     requires { to < length senders.now }
     ensures { result ≡ none_waits (sender_of senders.now to) }
 {
@@ -24,10 +25,10 @@ pub fn none_waits(senders: &[Sender<Message>], to: u8) -> bool
 
 /// Gives a message to the stream to machine `to`.
 pub fn give(
-    senders: &mut [Sender<Message>],
+    senders: &mut [Sender<Parcel<Message>>],
     to: u8,
-    message: Message,
-) -> Result<(), GiveError<Message>>
+    message: Parcel<Message>,
+) -> Result<(), GiveError<Parcel<Message>>>
     requires { to < length senders.old }
     ensures ok { OnOk result ((c : ℕ) → sender_of senders.new c ≡ at_machine (sender_of senders.old) to (with_given (sender_of senders.old to) message) c) }
     ensures worn { (result ≡ Err (no.Worn message)) ↔ (given_count (sender_of senders.old to) ≡ (sender_of senders.old to).numbers) }
@@ -38,7 +39,7 @@ pub fn give(
 }
 
 /// The packet that is due on the stream from machine `here` to machine `to`.
-pub fn due(senders: &[Sender<Message>], here: u8, to: u8) -> Option<Packet>
+pub fn due(senders: &[Sender<Parcel<Message>>], here: u8, to: u8) -> Option<Packet>
     requires { to < length senders.now }
     ensures { result ≡ numbered here to (due (sender_of senders.now to)) }
 {
@@ -47,14 +48,14 @@ pub fn due(senders: &[Sender<Message>], here: u8, to: u8) -> Option<Packet>
             from: here,
             to,
             seq,
-            message: message.copied(),
+            message: message.get().copied(),
         }),
         None => None,
     }
 }
 
 /// The packet that is due to machine `to` has gone out.
-pub fn sent_due(senders: &mut [Sender<Message>], to: u8)
+pub fn sent_due(senders: &mut [Sender<Parcel<Message>>], to: u8)
     requires within { to < length senders.old }
     requires due { IsSome (due (sender_of senders.old to)) }
     ensures sent { (c : ℕ) → sender_of senders.new c ≡ at_machine (sender_of senders.old) to (with_sent (sender_of senders.old to)) c }
@@ -64,7 +65,12 @@ pub fn sent_due(senders: &mut [Sender<Message>], to: u8)
 }
 
 /// The packet at a place among those that are out from machine `here` to machine `to`.
-pub fn outstanding(senders: &[Sender<Message>], here: u8, to: u8, place: usize) -> Option<Packet>
+pub fn outstanding(
+    senders: &[Sender<Parcel<Message>>],
+    here: u8,
+    to: u8,
+    place: usize,
+) -> Option<Packet>
     requires { to < length senders.now }
     ensures { result ≡ numbered here to (outstanding (sender_of senders.now to) place) }
 {
@@ -73,14 +79,14 @@ pub fn outstanding(senders: &[Sender<Message>], here: u8, to: u8, place: usize) 
             from: here,
             to,
             seq,
-            message: message.copied(),
+            message: message.get().copied(),
         }),
         None => None,
     }
 }
 
 /// How many packets are out to machine `to` and not acknowledged.
-pub fn count_out(senders: &[Sender<Message>], to: u8) -> u32
+pub fn count_out(senders: &[Sender<Parcel<Message>>], to: u8) -> u32
     requires { to < length senders.now }
     ensures count { result ≡ count_out (sender_of senders.now to) }
     ensures few { result ≤ WINDOW }
@@ -89,7 +95,7 @@ pub fn count_out(senders: &[Sender<Message>], to: u8) -> u32
 }
 
 /// Machine `to` has taken the first `count` messages.
-pub fn acked(senders: &mut [Sender<Message>], to: u8, count: u32)
+pub fn acked(senders: &mut [Sender<Parcel<Message>>], to: u8, count: u32)
     requires within { to < length senders.old }
     requires gone { count ≤ (sender_of senders.old to).gone }
     ensures acked { (c : ℕ) → sender_of senders.new c ≡ at_machine (sender_of senders.old) to (with_acked (sender_of senders.old to) count) c }
@@ -99,7 +105,7 @@ pub fn acked(senders: &mut [Sender<Message>], to: u8, count: u32)
 }
 
 /// How many messages of machine `from` were taken.
-pub fn count(receivers: &[Receiver<Message>], from: u8) -> u32
+pub fn count(receivers: &[Receiver<Parcel<Message>>], from: u8) -> u32
     requires { from < length receivers.now }
     ensures { result ≡ (receiver_of receivers.now from).count }
 {
@@ -108,11 +114,11 @@ pub fn count(receivers: &[Receiver<Message>], from: u8) -> u32
 
 /// A message with its number has come from machine `from`.
 pub fn arrive(
-    receivers: &mut [Receiver<Message>],
+    receivers: &mut [Receiver<Parcel<Message>>],
     from: u8,
     seq: u32,
-    message: Message,
-) -> Arrived<Message>
+    message: Parcel<Message>,
+) -> Arrived<Parcel<Message>>
     requires within { from < length receivers.old }
     requires in_window { seq < (receiver_of receivers.old from).count + WINDOW }
     requires numbered { seq < 2 ^ 32 - 1 }
@@ -125,7 +131,7 @@ pub fn arrive(
 }
 
 /// Takes the message of machine `from` that came early and is the next now.
-pub fn next_kept(receivers: &mut [Receiver<Message>], from: u8) -> Option<Message>
+pub fn next_kept(receivers: &mut [Receiver<Parcel<Message>>], from: u8) -> Option<Parcel<Message>>
     requires within { from < length receivers.old }
     ensures value { result ≡ next (receiver_of receivers.old from) }
     ensures after { (c : ℕ) → receiver_of receivers.new c ≡ at_machine (receiver_of receivers.old) from (after_next (receiver_of receivers.old from)) c }

@@ -15,7 +15,7 @@ use crate::stop::Stop;
 use dm_kernel::{Part, moves_are_asked_lawfully, turns_are_lawful};
 use dm_line::line::Line;
 use dm_link::{MACHINES, Pid};
-use dm_memory::NoMemory;
+use dm_memory::{NoMemory, Parcel};
 use dm_onekernel::Boot;
 
 impl Node {
@@ -113,7 +113,7 @@ impl Node {
         let count = self.count_out(to);
         for place in 0..count {
             if let Some(packet) = self.outstanding(to, place as usize) {
-                push(outs, Out::Sends(packet))?;
+                push(outs, Out::Sends(Parcel::new(self.alloc, packet)?))?;
             }
         }
         Ok(())
