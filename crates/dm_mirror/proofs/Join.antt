@@ -46,22 +46,14 @@ turned_records w m k n = records_if w m n k (m == n)
 -- the machine that turns, and another one
 node_turns : (b : Boot) (m : ℕ) (pt next : Point) (l placed : Placed) (n : NodeState) (k : KernelState) → next.kernel.machines ≡ pt.kernel.machines → next.view.pair m m ≡ pt.view.pair m m
     → KernelStands b next placed m k → IsLawfulState k → NodeStands b pt l m n → NodeStands b next placed m (with_kernel n k)
-node_turns b m pt next l placed n k machines pair kernel lawful h = record {
-  kernel = kernel;
-  lawful = lawful;
-  machines = h.machines ∙ sym machines;
-  numbers = h.numbers;
-  home = h.home ∙ sym (ap (λ (p : Pair). length p.ids) pair);
-}
+node_turns b m pt next l placed n k machines pair kernel lawful h = search (h.machines ∙ sym machines, h.home ∙ sym (ap (λ (p : Pair). length p.ids) pair))
 
 node_stays : (b : Boot) (m i : ℕ) (pt next : Point) (l placed : Placed) (n : NodeState) → i ≢ m → MadeHere m i pt next → Elsewhere m pt l next placed → NodeStands b pt l i n → NodeStands b next placed i n
-node_stays b m i pt next l placed n apart made e h = record {
-  kernel = kernel_stays b m i pt next l placed n.kernel apart made e h.kernel;
-  lawful = h.lawful;
-  machines = h.machines ∙ sym e.machines;
-  numbers = h.numbers;
-  home = h.home ∙ sym (ap (λ (p : Pair). length p.ids) (e.pair i i));
-}
+node_stays b m i pt next l placed n apart made e h = search (
+  kernel_stays b m i pt next l placed n.kernel apart made e h.kernel,
+  h.machines ∙ sym e.machines,
+  h.home ∙ sym (ap (λ (p : Pair). length p.ids) (e.pair i i)),
+)
 
 -- the world stands for the point behind what is said
 pub turned_stands : (b : Boot) (w : WorldState) (pt next : Point) (l placed : Placed) (h : History) (m : ℕ) (k : KernelState) → StandsWith b w pt l h → m < pt.kernel.machines → ((i : ℕ) → i ≢ m → MadeHere m i pt next) → Elsewhere m pt l next placed

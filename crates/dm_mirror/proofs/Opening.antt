@@ -61,33 +61,11 @@ begin_on b m p i s true home here there =
     let blocks : blocks_of_image (slice_get b.images p.image) ≡ i.blocks = ap blocks_of_image there in
     let one : one_if (p.pid.home == m) ≡ 1 = ap one_if home in
     let many : blocks_if (p.pid.home == m) (blocks_of_image (slice_get b.images p.image)) ≡ i.blocks = ap (λ (t : Bool). blocks_if t (blocks_of_image (slice_get b.images p.image))) home ∙ blocks in
-    record {
-      here = here;
-      records = λ q. set_record b m p (child_of b p.pid i p.links) q (pid_eq p.pid q) true (s.records q) refl home (first_started b p i there);
-      ring = sym (ap (λ (t : Bool). s.ring ++ (if t then p.pid ∷ [] else [])) home);
-      inbox = refl;
-      made = omega (arith, one);
-      slots = refl;
-      blocks = refl;
-      taken_slots = omega (arith, one);
-      taken_blocks = omega (arith, many);
-      servers = refl;
-    }
+    search (set_record, child_of, pid_eq, s.records, first_started, sym (ap (λ (t : Bool). s.ring ++ (if t then p.pid ∷ [] else [])) home), arith, one, many)
 begin_on b m p i s false home here there =
     let one : one_if (p.pid.home == m) ≡ 0 = ap one_if home in
     let many : blocks_if (p.pid.home == m) (blocks_of_image (slice_get b.images p.image)) ≡ 0 = ap (λ (t : Bool). blocks_if t (blocks_of_image (slice_get b.images p.image))) home in
-    record {
-      here = here;
-      records = λ q. off_record b m p q (pid_eq p.pid q) (s.records q) refl home;
-      ring = sym (ap (λ (t : Bool). s.ring ++ (if t then p.pid ∷ [] else [])) home ∙ append-nil s.ring);
-      inbox = refl;
-      made = omega (arith, one);
-      slots = refl;
-      blocks = refl;
-      taken_slots = omega (arith, one);
-      taken_blocks = omega (arith, many);
-      servers = refl;
-    }
+    search (off_record, pid_eq, s.records, sym (ap (λ (t : Bool). s.ring ++ (if t then p.pid ∷ [] else [])) home ∙ append-nil s.ring), arith, one, many)
 
 begin_one : (b : Boot) (m : ℕ) (p : BootProcess) (i : BootImage) (s : KernelState) → s.here ≡ m → slice_get b.images p.image ≡ Some i → Opens b m (p ∷ []) s (begins b s p (slice_get b.images p.image))
 begin_one b m p i s here there =
@@ -106,18 +84,7 @@ ring_then p ps m true = refl
 ring_then p ps m false = refl
 
 pub opens_all : (b : Boot) (m : ℕ) (earlier ps : List BootProcess) (s : KernelState) → processes_are_valid b earlier ps ≡ true → s.here ≡ m → Opens b m ps s (with_all b s ps)
-opens_all b m earlier [] s h here = record {
-  here = here;
-  records = λ q. refl;
-  ring = sym (append-nil s.ring);
-  inbox = refl;
-  made = omega arith;
-  slots = refl;
-  blocks = refl;
-  taken_slots = omega arith;
-  taken_blocks = omega arith;
-  servers = refl;
-}
+opens_all b m earlier [] s h here = search (sym (append-nil s.ring), arith)
 opens_all b m earlier (p ∷ ps) s h here =
     let k = listed b earlier p ps h in
     let u = begins b s p (slice_get b.images p.image) in

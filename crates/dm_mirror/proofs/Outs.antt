@@ -1,6 +1,6 @@
 -- What a machine sends goes from it, and what that puts on the wires.
 use Rattle.dm_mirror.proofs.Names.{◌≡◌, ◌≢◌, ℕ, zero, suc, ◌==◌, ◌&&◌, Bool, true, false, List, [], ◌∷◌, ◌++◌, refl, ap, ◌∙◌, sym, subst, append_assoc, arith, ⊤, if◌then◌else◌, All, Option, None, Some, nat_tests, append-nil, All-nil}
-use Rattle.dm_mirror.proofs.Names.{All-cons, All-append, Message, Packet, Line, spelling, Sent, Data, Ack, Sending, window, due, outstanding, with_given, with_sent, with_acked, arrival, after_arrival, next, after_next, Arrived, Old, Early}
+use Rattle.dm_mirror.proofs.Names.{All-cons, All-append, Message, Packet, Line, spelling, Sent, Data, Ack, Sending, window, due, outstanding, with_given, with_sent, with_acked, arrival, after_arrival, next, after_next, Arrived}
 use Rattle.dm_mirror.proofs.Names.{NodeState, here, with_sender, with_message, with_receiver, Out, Sends, Acted, Acts, Goes, Worn, behind, then_, acts, routes, routes_home, routes_away, gives, sends, sends_due, put_line, is_worn}
 use Rattle.dm_mirror.proofs.Names.{none_waits, count_out, again, first_out, all_out, acknowledges, before, takes_next, takes_kept, then_acknowledges, comes_in, lets_next, lets_go, with_packet, spoken, IsFresh}
 use Rattle.dm_wire.specs.Sent.{just_put}

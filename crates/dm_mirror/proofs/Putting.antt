@@ -39,12 +39,7 @@ pub plain_of : (pt : Point) (l : Placed) (x : Message) → Mirrors pt.kernel pt.
 plain_of pt l x mirrors there plain =
     let (m, is) = some_plain (plain_message x) plain in
     let k = meaning_is x (plain_what x.what) m is in
-    record {
-      m = m;
-      there = sym (mirrors.plain.bag x.id) ∙ ap (λ (o : Option Message). bind o plain_message) there ∙ is;
-      kind = subst (IsKindOfPlain x.what) k.0 (kind_plain x.what);
-      to = k.1;
-    }
+    search (sym (mirrors.plain.bag x.id) ∙ ap (λ (o : Option Message). bind o plain_message) there ∙ is, subst (IsKindOfPlain x.what) k.0 (kind_plain x.what))
 
 -- the packet that goes with it
 abbrev pub packet_with : Point → ℕ → ℕ → Line

@@ -167,14 +167,7 @@ makes s id m home links image within =
       others = λ h apart. made_same s home h apart;
       there = ap (λ (c : Bool). is_some (if c then Some life else s.processes child)) (pid_eq-same child);
       lives = λ p apart. ap (λ (c : Bool). is_some (if c then Some life else s.processes p)) apart;
-      counts = record {
-        sent = λ p. child_sent s (pid_eq child p) p life refl;
-        board = omega arith;
-        names = omega arith;
-        manager = omega arith;
-        children = omega arith;
-        made = λ h. made_more (s.made h) (home == h);
-      };
+      counts = search (child_sent, pid_eq, arith, made_more, s.made, home);
     }
 
 created_of : (s t : OneKernel) (id : MsgId) (m : PlainMessage) (child : Pid) (links : List PlainLink) (image : BootImage) → service.creates_of s id m child links image ≡ Some t → Makes s t

@@ -44,23 +44,7 @@ pub record Acts (b : Boot) (m : ℕ) (pt : Point) (l : Placed) (k : KernelState)
   pub records : (q : Pid) → pid_eq p q ≡ false → state.records q ≡ k.records q
 
 pub acts_as : (b : Boot) (m : ℕ) (pt : Point) (l : Placed) (k : KernelState) (p : Pid) (t u : Option Turned) (ps qs : Option (List rule.Part)) → t ≡ u → ps ≡ qs → Acts b m pt l k p u qs → Acts b m pt l k p t ps
-acts_as b m pt l k p t u ps qs e f h = record {
-  state = h.state;
-  says = h.says;
-  route = h.route;
-  turn = e ∙ h.turn;
-  outcome = f ∙ h.outcome;
-  next = h.next;
-  after = h.after;
-  placed = h.placed;
-  mirrors = h.mirrors;
-  kernel = h.kernel;
-  leaves = h.leaves;
-  sent = h.sent;
-  still = h.still;
-  count = h.count;
-  records = h.records;
-}
+acts_as b m pt l k p t u ps qs e f h = search (e ∙ h.turn, f ∙ h.outcome)
 
 -- the machine's kernel with the process at the ring's back
 abbrev pub moved_round : KernelState → Pid → KernelState

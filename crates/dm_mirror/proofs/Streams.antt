@@ -25,34 +25,10 @@ pub record Joined (b : Boot) (bag : MsgId → Option Message) (a c : ℕ) (s : S
   pub lawful : All IsLawfulMessage s.given
 
 pub joined : (b : Boot) (pt : Point) (l : Placed) (w : WorldState) (h : History) (a c : ℕ) → PairStands b pt l w h a c → Joined b l.bag a c (stream_of w h a c) (w.wires a c) (pt.view.pair a c)
-joined b pt l w h a c s = record {
-  stream = s.stream;
-  ids = s.ids;
-  untaken = s.untaken;
-  taken = s.taken;
-  gone = s.gone;
-  acked = s.acked;
-  numbers = s.numbers;
-  kept = s.kept;
-  packets = s.packets;
-  bytes = s.bytes;
-  lawful = s.lawful;
-}
+joined b pt l w h a c s = search
 
 pair_of : (b : Boot) (pt : Point) (l : Placed) (w : WorldState) (h : History) (a c : ℕ) → Joined b l.bag a c (stream_of w h a c) (w.wires a c) (pt.view.pair a c) → PairStands b pt l w h a c
-pair_of b pt l w h a c s = record {
-  stream = s.stream;
-  ids = s.ids;
-  untaken = s.untaken;
-  taken = s.taken;
-  gone = s.gone;
-  acked = s.acked;
-  numbers = s.numbers;
-  kept = s.kept;
-  packets = s.packets;
-  bytes = s.bytes;
-  lawful = s.lawful;
-}
+pair_of b pt l w h a c s = search
 
 -- where the world, the history and the view have this stream, these bytes and this pair, the pair stands; what was taken is
 -- the beginning of what was given
@@ -125,19 +101,12 @@ untaken_then bag n ids xs x few less there e =
     ∙ ap (map Some) (sym (drop-append-le n xs (x ∷ []) less))
 
 pub is_given : (b : Boot) (bag : MsgId → Option Message) (a c : ℕ) (s : Stream Message) (sent : List wire.Sent) (p : Pair) (x : Message) → is_worn s.sender ≡ false → bag x.id ≡ Some x → IsLawfulMessage x → Joined b bag a c s sent p → Joined b bag a c (record s { sender = with_given s.sender x; given = s.given ++ x ∷ [] }) sent (record p { ids = p.ids ++ x.id ∷ [] })
-is_given b bag a c s sent p x fresh there lawful j = record {
-  stream = subst (λ (z : Bool). order.Stands (gives s x z)) fresh (Stands-happens s (Give x) j.stream);
-  ids = map-append id_of s.given (x ∷ []) ∙ ap (λ (is : List MsgId). is ++ x.id ∷ []) j.ids;
-  untaken = untaken_then bag p.taken p.ids s.given x (let k = taken_within b bag a c s sent p j in omega (arith, k, given_length b bag a c s sent p j)) (taken_within b bag a c s sent p j) there j.untaken;
-  taken = j.taken;
-  gone = j.gone;
-  acked = j.acked;
-  numbers = j.numbers;
-  kept = j.kept;
-  packets = j.packets;
-  bytes = j.bytes;
-  lawful = All-push IsLawfulMessage s.given x j.lawful lawful;
-}
+is_given b bag a c s sent p x fresh there lawful j = search (
+  subst (λ (z : Bool). order.Stands (gives s x z)) fresh (Stands-happens s (Give x) j.stream),
+  map-append id_of s.given (x ∷ []) ∙ ap (λ (is : List MsgId). is ++ x.id ∷ []) j.ids,
+  untaken_then bag p.taken p.ids s.given x (let k = taken_within b bag a c s sent p j in omega (arith, k, given_length b bag a c s sent p j)) (taken_within b bag a c s sent p j) there j.untaken,
+  All-push IsLawfulMessage s.given x j.lawful lawful,
+)
 
 -- the message that is due goes out, with the next number
 numbered_is : (n k : ℕ) (o : Option Message) (x : Message) → numbered k o ≡ Some (n, x) → n ≡ k
@@ -168,52 +137,26 @@ gone_again n g e = grind (arith, nat_tests)
 
 pub went_out : (b : Boot) (bag : MsgId → Option Message) (a c : ℕ) (s : Stream Message) (sent : List wire.Sent) (p : Pair) (n : ℕ) (x : Message) → due s.sender ≡ Some (n, x) → Joined b bag a c s sent p
     → Joined b bag a c (record s { sender = with_sent s.sender; out = s.out ++ stream.just_put (stream.Data n x) ∷ [] }) (with_bytes a c sent (stream.Data n x)) (with_line p (Load.Data n))
-went_out b bag a c s sent p n x next j = record {
-  stream = subst (λ (z : Option (ℕ × Message)). order.Stands (goes_out s z)) next (Stands-happens s GoOut j.stream);
-  ids = j.ids;
-  untaken = j.untaken;
-  taken = j.taken;
-  gone = ap (λ (g : ℕ). g + 1) j.gone ∙ gone_next n p.gone (due_is s.sender n x next ∙ j.gone);
-  acked = j.acked;
-  numbers = j.numbers;
-  kept = j.kept;
-  packets = lines_put s.out (stream.Data n x) p.wire j.packets;
-  bytes = bytes_put a c s.out (stream.Data n x) sent j.bytes;
-  lawful = j.lawful;
-}
+went_out b bag a c s sent p n x next j = search (
+  subst (λ (z : Option (ℕ × Message)). order.Stands (goes_out s z)) next (Stands-happens s GoOut j.stream),
+  ap (λ (g : ℕ). g + 1) j.gone ∙ gone_next n p.gone (due_is s.sender n x next ∙ j.gone),
+  lines_put s.out (stream.Data n x) p.wire j.packets,
+  bytes_put a c s.out (stream.Data n x) sent j.bytes,
+)
 
 -- one that is outstanding goes out again
 pub went_again : (b : Boot) (bag : MsgId → Option Message) (a c : ℕ) (s : Stream Message) (sent : List wire.Sent) (p : Pair) (k n : ℕ) (x : Message) → outstanding s.sender k ≡ Some (n, x) → Joined b bag a c s sent p
     → Joined b bag a c (with_out s (stream.Data n x)) (with_bytes a c sent (stream.Data n x)) (with_line p (Load.Data n))
-went_again b bag a c s sent p k n x out j = record {
-  stream = subst (λ (z : Option (ℕ × Message)). order.Stands (goes_again s z)) out (Stands-happens s (GoAgain k) j.stream);
-  ids = j.ids;
-  untaken = j.untaken;
-  taken = j.taken;
-  gone = j.gone ∙ gone_again n p.gone (let f = outstanding_is s.sender k n x out in omega (arith, f.1, j.gone));
-  acked = j.acked;
-  numbers = j.numbers;
-  kept = j.kept;
-  packets = lines_put s.out (stream.Data n x) p.wire j.packets;
-  bytes = bytes_put a c s.out (stream.Data n x) sent j.bytes;
-  lawful = j.lawful;
-}
+went_again b bag a c s sent p k n x out j = search (
+  subst (λ (z : Option (ℕ × Message)). order.Stands (goes_again s z)) out (Stands-happens s (GoAgain k) j.stream),
+  j.gone ∙ gone_again n p.gone (let f = outstanding_is s.sender k n x out in omega (arith, f.1, j.gone)),
+  lines_put s.out (stream.Data n x) p.wire j.packets,
+  bytes_put a c s.out (stream.Data n x) sent j.bytes,
+)
 
 -- a packet on the wire back leaves all but that wire
 back_put : (b : Boot) (bag : MsgId → Option Message) (a c : ℕ) (s : Stream Message) (sent : List wire.Sent) (p : Pair) (l : stream.Load Message) → order.Stands (with_back s l) → Joined b bag a c s sent p → Joined b bag a c (with_back s l) sent p
-back_put b bag a c s sent p l stands j = record {
-  stream = stands;
-  ids = j.ids;
-  untaken = j.untaken;
-  taken = j.taken;
-  gone = j.gone;
-  acked = j.acked;
-  numbers = j.numbers;
-  kept = j.kept;
-  packets = j.packets;
-  bytes = j.bytes;
-  lawful = j.lawful;
-}
+back_put b bag a c s sent p l stands j = search
 
 -- data of the stream the other way
 pub put_back : (b : Boot) (bag : MsgId → Option Message) (a c : ℕ) (s : Stream Message) (sent : List wire.Sent) (p : Pair) (n : ℕ) (x : Message) → Joined b bag a c s sent p → Joined b bag a c (with_back s (stream.Data n x)) sent p

@@ -1,6 +1,6 @@
 -- How many messages were routed, pair by pair and in all: no line takes any away, and a route adds one.
 use Rattle.dm_mirror.proofs.Names.{◌≡◌, inl, inr, ℕ, zero, suc, ◌+◌, ◌*◌, ◌<◌, ◌≤◌, ◌==◌, ◌&&◌, Bool, true, false, not, filter, List, [], ◌∷◌, ◌++◌, length, refl, ap, ◌∙◌, subst, arith, if◌then◌else◌, cases_Bool, nat_tests, Pid, MsgId}
-use Rattle.dm_mirror.proofs.Names.{MessageKind, Label, Step, Line, at_pair, View, Pair, view_after, handled, eq_is, queued_pair, held_pair, forwarded_pair, taken_pair, label_pair, stage_pair, proto_pair}
+use Rattle.dm_mirror.proofs.Names.{MessageKind, Step, Line, at_pair, View, Pair, view_after, handled, eq_is, queued_pair, held_pair, forwarded_pair, taken_pair, label_pair, stage_pair, proto_pair}
 use Rattle.dm_rule.specs.View as view
 use Rattle.dm_rule.proofs.Lines.{parts}
 

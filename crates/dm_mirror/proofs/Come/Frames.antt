@@ -152,22 +152,10 @@ arrives b m pt l records k y p c =
     let records_is : records (destination_of y.id (told_of y)) p ≡ k.records p = ap (λ (n : ℕ). records n p) (destination_is m y c.of_source t.to) ∙ (λ i. c.mine i p) in
     let alive : kernel.alive (pt.kernel.processes p) ≡ Some (plain_process token.process) = c.mirrors.plain.processes p ∙ ap (option_map plain_process) token.there in
     let is_made = alive_made (pt.kernel.processes p) (plain_process token.process) alive in
-    record {
-      source = t.source;
-      told = stood.told;
-      mine = stood.mine;
-      unplain = sym (c.mirrors.plain.bag y.id) ∙ ap (λ (o : Option Message). bind o plain_message) c.there ∙ c.plain;
-      first = first;
-      phase = t.phase;
-      to = t.to;
-      from = t.from;
-      sender = sym (ap (λ (x : Message). x.sender) same) ∙ token.sender;
-      process = token.process;
-      there = token.there;
-      carries = subst (λ (x : Message). Carries p token.process (pt.view.asked p) (incoming_of (k.records p)) x.what) same
-          (subst (λ o. Carries p token.process (pt.view.asked p) (incoming_of o) token.message.what) records_is token.carries);
-      named = (c.mirrors.places.process p token.process token.there).pid;
-      alive = alive;
-      is_made = is_made;
-      server = no_server pt.kernel p c.run.based.phased.sane.sound.made is_made;
-    }
+    search (
+      sym (c.mirrors.plain.bag y.id) ∙ ap (λ (o : Option Message). bind o plain_message) c.there ∙ c.plain,
+      sym (ap (λ (x : Message). x.sender) same) ∙ token.sender,
+      subst (λ (x : Message). Carries p token.process (pt.view.asked p) (incoming_of (k.records p)) x.what) same (subst (λ o. Carries p token.process (pt.view.asked p) (incoming_of o) token.message.what) records_is token.carries),
+      (c.mirrors.places.process p token.process token.there).pid,
+      no_server pt.kernel p c.run.based.phased.sane.sound.made is_made,
+    )

@@ -1,7 +1,7 @@
 -- What a machine and the rule do with a message about a process that comes, and where the lines of it lead.
-use Rattle.dm_mirror.proofs.Names.{◌≡◌, ℕ, ◌+◌, ◌/◌, ◌==◌, Bool, true, false, List, [], ◌∷◌, length, refl, ap, ◌∙◌, sym, subst, if◌then◌else◌, Option, None, Some, false≢true, Pid, Message, MsgId, MessageKind, Record, Step, Line, Stage}
+use Rattle.dm_mirror.proofs.Names.{◌≡◌, ℕ, ◌+◌, ◌/◌, ◌==◌, Bool, true, false, List, [], ◌∷◌, length, refl, ap, ◌∙◌, sym, subst, if◌then◌else◌, Option, Some, false≢true, Pid, Message, MsgId, MessageKind, Record, Step, Line, Stage}
 use Rattle.dm_mirror.proofs.Names.{kind_of, Arrival, Boot, bind, plain_process, PlainProcess, id_eq-same, kernel_told, Part, comes, is_away, is_between, is_early, leaves, Point, after, fits, free_room, kernel_hears, outcome, at_pid}
-use Rattle.dm_mirror.proofs.Names.{at_record, without_front, About, Known, Here, Frozen, Incoming, Forward, Ended, Of, Told, after_proto, front_of, handled, without_first, Placed, kernel_handles, KernelState, Turned, turn, turns, about_of}
+use Rattle.dm_mirror.proofs.Names.{at_record, without_front, About, Known, Incoming, Of, Told, after_proto, front_of, handled, without_first, Placed, kernel_handles, KernelState, Turned, turn, turns, about_of}
 use Rattle.dm_mirror.proofs.Names.{ComesStand, KnownStands, AllRecords, apart_is, expects_is}
 use Rattle.dm_rule.specs.Rule as rule
 use Rattle.dm_kernel.specs.State as machine

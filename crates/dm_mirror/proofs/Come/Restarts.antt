@@ -25,13 +25,8 @@ known_apart : (pt next : Point) (l placed : Placed) (p : Pid) (queue held_ : Lis
     → KnownStands pt l p queue held_ k r → KnownStands next placed p queue held_ k r
 known_apart pt next l placed p queue held_ Unknown None same bag life h = tt
 known_apart pt next l placed p queue held_ Here (Some (Record.Here x)) same bag life h = ((h.0.0, same ∙ h.0.1), ap (λ f. map f queue) bag ∙ h.1)
-known_apart pt next l placed p queue held_ (Frozen to) (Some (Record.Frozen d)) same bag life h = record {
-  to = h.to;
-  asker = h.asker;
-  here = ((h.here.0.0, same ∙ h.here.0.1), ap (λ f. map f queue) bag ∙ h.here.1);
-  held = ap (λ f. map f held_) bag ∙ h.held;
-  whole = h.whole;
-}
+known_apart pt next l placed p queue held_ (Frozen to) (Some (Record.Frozen d)) same bag life h = search
+    (same ∙ h.here.0.1, ap (λ f. map f queue) bag ∙ h.here.1, ap (λ f. map f held_) bag ∙ h.held)
 known_apart pt next l placed p queue held_ (Incoming from) (Some (Record.Incoming a)) same bag life h =
     record { process = h.process; there = same ∙ h.there; whole = h.whole; pieces = h.pieces; held = ap (λ f. map f held_) bag ∙ h.held }
 known_apart pt next l placed p queue held_ (Forward at_ moves) (Some (Record.Forward to count)) same bag life h = h
@@ -130,14 +125,10 @@ tokens_back b m pt l records k y p c a o s records_off q i t z told between abou
           let h = c.tokens q i t where_ told between about least in
           let n = destination_of i t in
           let r : at_machine records m s.records n q ≡ records n q = others_known records m n s k q c.mine (records_off q off) (m == n) refl in
-          record {
-            process = h.process;
-            there = set_off l.processes p q o off ∙ h.there;
-            message = h.message;
-            is = h.is;
-            sender = h.sender;
-            carries = subst (λ (x : Option machine.Known). Carries q h.process (v.asked q) (incoming_of x) h.message.what) (sym r) h.carries;
-          }
+          search (
+            set_off l.processes p q o off ∙ h.there,
+            subst (λ (x : Option machine.Known). Carries q h.process (v.asked q) (incoming_of x) h.message.what) (sym r) h.carries,
+          )
     ]
   where
     came : (1 ≤ standing (come_view pt.view m p (without_first (pt.view.inbox m)) pt.view.known pt.view.asked) i z) ⊎ (1 ≤ standing pt.view i (Held m p)) → (x : Spot) × (1 ≤ standing pt.view i x)

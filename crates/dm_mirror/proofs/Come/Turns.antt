@@ -128,15 +128,8 @@ tokens_kept b m pt l records k y p c a box known asked s is_box asked_off record
           let h = c.tokens q i t z told between about least in
           let n = destination_of i t in
           let r : at_machine records m s.records n q ≡ records n q = others_known records m n s k q c.mine (records_off q off) (m == n) refl in
-          record {
-            process = h.process;
-            there = h.there;
-            message = h.message;
-            is = h.is;
-            sender = h.sender;
-            carries = subst (λ (o : Option machine.Known). Carries q h.process (asked q) (incoming_of o) h.message.what) (sym r)
-                (subst (λ (j : ℕ). Carries q h.process j (incoming_of (records n q)) h.message.what) (sym (asked_off q off)) h.carries);
-          }
+          search
+          (subst (λ (o : Option machine.Known). Carries q h.process (asked q) (incoming_of o) h.message.what) (sym r) (subst (λ (j : ℕ). Carries q h.process j (incoming_of (records n q)) h.message.what) (sym (asked_off q off)) h.carries))
     ]
 
 known_by : (b : Boot) (m : ℕ) (pt : Point) (l : Placed) (records : AllRecords) (k : KernelState) (y : Message) (p : Pid) (c : Comes b m pt l records k y p) (a : Arrives b m pt l k y p) (h : Answer b m pt l records k y p c a) (q : Pid) → is_server q ≡ false
@@ -184,12 +177,8 @@ may_answer b m pt l records k y p c a h =
       asker = λ e. absurd (false≢true (sym (ap is_between e) ∙ h.between));
       carried = λ between q about.
           let e : p ≡ q = of_same p q (sym h.about ∙ about) in
-          subst (λ (z : Pid). IsCarried l (h.asked z) (at_machine records m h.state.records) z x) e (record {
-            process = a.process;
-            there = a.there;
-            sender = refl;
-            carries = subst (λ (o : Option machine.Known). Carries p a.process (h.asked p) (incoming_of o) h.what) (sym known) h.carries;
-          });
+          subst (λ (z : Pid). IsCarried l (h.asked z) (at_machine records m h.state.records) z x) e (search
+          (subst (λ (o : Option machine.Known). Carries p a.process (h.asked p) (incoming_of o) h.what) (sym known) h.carries));
     }
   where
     of_same : (i j : Pid) → Of i ≡ Of j → i ≡ j
@@ -213,37 +202,17 @@ turns_answer b m pt l records k y p c a h =
       after = h.after;
       placed = l;
       mirrors = mirrors_view pt.kernel pt.view v pt.addresses l refl c.mirrors;
-      kernel = record {
-        here = h.here ∙ stands.here;
-        known = λ q server. known_by b m pt l records k y p c a h q server;
-        no_server = λ q server. server_by b m pt l records k y p c a h q server;
-        ring = h.ring ∙ stands.ring;
-        inbox = ap (map l.bag) (machine_self pt.view.inbox m h.box ∙ h.is_box) ∙ c.others ∙ ap (map Some) (sym h.inbox);
-        made = h.made ∙ stands.made;
-        room = h.room;
-        servers = h.servers ∙ stands.servers;
-      };
+      kernel = search (
+        h.here ∙ stands.here,
+        known_by b m pt l records k y p c a h,
+        server_by b m pt l records k y p c a h,
+        h.ring ∙ stands.ring,
+        ap (map l.bag) (machine_self pt.view.inbox m h.box ∙ h.is_box) ∙ c.others ∙ ap (map Some) (sym h.inbox),
+        h.made ∙ stands.made,
+        h.servers ∙ stands.servers,
+      );
       sent = λ e. let f = h.sent in omega (arith, e, f);
-      elsewhere = record {
-        acting = refl;
-        groups = refl;
-        pair = λ d e. refl;
-        inbox = λ n off. machine_off pt.view.inbox m n h.box off;
-        ring = λ n off. refl;
-        known = λ n q off. h.known_away n q off;
-        queue = λ n q off. refl;
-        held = λ n q off. refl;
-        count = λ n. refl;
-        told = refl;
-        machines = refl;
-        made = λ n off. refl;
-        process = λ n q off is. refl;
-        ended = λ n q off is. refl;
-        life = λ n q off is. refl;
-        bag = λ i s is least. refl;
-        board = λ off. refl;
-        manager = λ off. refl;
-      };
+      elsewhere = search (machine_off, h.known_away);
       may = (may_answer b m pt l records k y p c a h, tt);
       late_may = tt;
       single = omega arith;

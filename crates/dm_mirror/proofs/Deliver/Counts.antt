@@ -1,6 +1,6 @@
 -- A delivery counts none of the kernels' own messages, by the lines and by the machine.
 use Rattle.dm_mirror.proofs.Names.{◌≡◌, ℕ, zero, suc, ◌<◌, List, [], ◌∷◌, refl, ap, ◌∙◌, sym, subst, inl, inr, if◌then◌else◌, Option, None, Some, eqb_tells, bind-is, Message, MsgId, Data, Ack, after_arrival, after_next, arrival, next, due}
-use Rattle.dm_mirror.proofs.Names.{window, with_acked, with_sent, Arrived, Old, Early, bind, Line, Part, Spelled, packet_line, spelled, Point, after, moved, at_machine, View, view_after, IsNet, IsNetLine, comes_in, lets_go, lets_next}
+use Rattle.dm_mirror.proofs.Names.{window, with_acked, with_sent, Arrived, bind, Line, Part, Spelled, packet_line, spelled, Point, after, moved, at_machine, View, view_after, IsNet, IsNetLine, comes_in, lets_go, lets_next}
 use Rattle.dm_mirror.proofs.Names.{takes_kept, takes_next, Acted, NodeState, with_message, with_receiver, with_sender, OneKernel, WorldState, CountsStand}
 use Rattle.dm_stream.specs.Packets.{Load}
 use Rattle.dm_stream.specs.declared.receiver.Arrived.TheVariants.{Taken}

@@ -58,11 +58,10 @@ pub taking : (b : Boot) (l : Placed) (a c : ℕ) (x : Ends) (sent : List wire.Se
 taking b l a c x sent p m is h =
     let at : slice_get x.given p.taken ≡ Some m = ap (slice_get x.given) (sym h.taken) ∙ is in
     let first : slice_get p.ids p.taken ≡ Some m.id = oldest_is x.given p.ids p.taken m h.ids at in
-    record {
-      there = message_is l.bag p.ids x.given p.taken m.id m h.untaken first at;
-      first = first;
-      lawful = subst IsLawfulMessage (get_or_from_slice_get x.given p.taken m m at) (All-get_or IsLawfulMessage x.given p.taken m (slice_get_within x.given p.taken m at) h.lawful);
-    }
+    search (
+      message_is l.bag p.ids x.given p.taken m.id m h.untaken first at,
+      subst IsLawfulMessage (get_or_from_slice_get x.given p.taken m m at) (All-get_or IsLawfulMessage x.given p.taken m (slice_get_within x.given p.taken m at) h.lawful),
+    )
 
 module _ (b : Boot) (w : WorldState) (pt : Point) (l : Placed) (h : History) (a c : ℕ) (s : StandsWith b w pt l h) (a_in : a < pt.kernel.machines) (c_in : c < pt.kernel.machines) (apart : a ≢ c) where
   pub there_pair : PairIs b l a c (ends_of w h a c) (w.wires a c) (pt.view.pair a c)

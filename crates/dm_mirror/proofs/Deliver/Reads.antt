@@ -1,5 +1,5 @@
 -- The packet of a delivery is read as it was put, and its machine may take it.
-use Rattle.dm_mirror.proofs.Names.{◌≡◌, ◌≢◌, ℕ, ◌^◌, ◌<◌, ◌≤◌, List, refl, ap, ◌∙◌, sym, arith, slice_get, option_map, Ok, Option, None, Some, slice_get-map, Message, Packet, packet_of, spelling, packet_again, Data, Ack, load_at, load_in}
+use Rattle.dm_mirror.proofs.Names.{◌≡◌, ◌≢◌, ℕ, ◌^◌, ◌<◌, ◌≤◌, List, refl, ap, ◌∙◌, sym, arith, slice_get, option_map, Ok, Option, None, Some, slice_get-map, Message, Packet, packet_of, spelling, packet_again, Data, load_at, load_in}
 use Rattle.dm_mirror.proofs.Names.{Sent, bytes_at, Boot, Pair, Placed, WorldState, History, bytes_of, line_of}
 use Rattle.dm_stream.specs.Packets as stream
 use Rattle.dm_rule.specs.View as view

@@ -20,26 +20,12 @@ node_on n ms senders receivers = record n { kernel = record n.kernel { inbox = m
 
 kernel_on : (b : Boot) (pt : Point) (l : Placed) (m acting groups : ℕ) (topic : About) (pair : ℕ → ℕ → Pair) (inbox : ℕ → List MsgId) (n : NodeState) (ms : List Message) → AreMessages l.bag (inbox m) ms → KernelStands b pt l m n.kernel
     → KernelStands b (told_on pt acting groups topic pair inbox) l m (record n.kernel { inbox = ms })
-kernel_on b pt l m acting groups topic pair inbox n ms box h = record {
-  here = h.here;
-  known = h.known;
-  no_server = h.no_server;
-  ring = h.ring;
-  inbox = box;
-  made = h.made;
-  room = h.room;
-  servers = h.servers;
-}
+kernel_on b pt l m acting groups topic pair inbox n ms box h = search
 
 node_stands_on : (b : Boot) (pt : Point) (l : Placed) (m acting groups : ℕ) (topic : About) (pair : ℕ → ℕ → Pair) (inbox : ℕ → List MsgId) (n : NodeState) (ms : List Message) (ss : ℕ → Sending Message) (rs : ℕ → Receiving Message)
     → AreMessages l.bag (inbox m) ms → All IsLawfulMessage ms → (pair m m).ids ≡ (pt.view.pair m m).ids → NodeStands b pt l m n → NodeStands b (told_on pt acting groups topic pair inbox) l m (node_on n ms ss rs)
-node_stands_on b pt l m acting groups topic pair inbox n ms ss rs box lawful ids h = record {
-  kernel = kernel_on b pt l m acting groups topic pair inbox n ms box h.kernel;
-  lawful = record { records = h.lawful.records; room = h.lawful.room; inbox = lawful; servers = h.lawful.servers };
-  machines = h.machines;
-  numbers = h.numbers;
-  home = h.home ∙ ap length (sym ids);
-}
+node_stands_on b pt l m acting groups topic pair inbox n ms ss rs box lawful ids h = search
+    (kernel_on b pt l m acting groups topic pair inbox n ms box h.kernel, h.home ∙ ap length (sym ids))
 
 -- not this pair of machines
 abbrev pub IsOther : ℕ → ℕ → ℕ → ℕ → Type 0
@@ -124,41 +110,33 @@ turned a c x y e = grind (arith, nat_tests)
 module _ (b : Boot) (w : WorldState) (pt : Point) (l : Placed) (h : History) (a c : ℕ) (v : WorldState) (q : Point) (g : History) (e : Moves b w pt l h a c v q g) (s : StandsWith b w pt l h) (apart : a ≢ c) where
   there_is : PairStands b (told_on pt e.acting e.groups e.topic e.pair e.inbox) l v g a c
   there_is = holds_stands b (told_on pt e.acting e.groups e.topic e.pair e.inbox) l v g a c e.there e.there_wire e.there_pair
-      (record {
-        sender = ap (λ (n : NodeState). n.senders c) (e.nodes a apart) ∙ e.there_sender;
-        receiver = ap (λ (n : NodeState). n.receivers a) e.node ∙ e.there_receiver;
-        given = e.given a c ∙ e.there_given;
-        out = e.there_out;
-        back = e.there_back;
-        on_wire = e.there_sent;
-        on_pair = e.there_said;
-      })
+      (search (
+        ap (λ (n : NodeState). n.senders c) (e.nodes a apart) ∙ e.there_sender,
+        ap (λ (n : NodeState). n.receivers a) e.node ∙ e.there_receiver,
+        e.given a c ∙ e.there_given,
+      ))
       e.there_stands
 
   back_is : PairStands b (told_on pt e.acting e.groups e.topic e.pair e.inbox) l v g c a
   back_is = holds_stands b (told_on pt e.acting e.groups e.topic e.pair e.inbox) l v g c a e.back e.back_wire e.back_pair
-      (record {
-        sender = ap (λ (n : NodeState). n.senders a) e.node ∙ e.back_sender;
-        receiver = ap (λ (n : NodeState). n.receivers c) (e.nodes a apart) ∙ e.back_receiver;
-        given = e.given c a ∙ e.back_given;
-        out = e.back_out;
-        back = e.back_back;
-        on_wire = e.back_sent;
-        on_pair = e.back_said;
-      })
+      (search (
+        ap (λ (n : NodeState). n.senders a) e.node ∙ e.back_sender,
+        ap (λ (n : NodeState). n.receivers c) (e.nodes a apart) ∙ e.back_receiver,
+        e.given c a ∙ e.back_given,
+      ))
       e.back_stands
 
   elsewhere : (x y : ℕ) → IsOther a c x y → IsOther c a x y → PairStands b pt l w h x y → PairStands b (told_on pt e.acting e.groups e.topic e.pair e.inbox) l v g x y
   elsewhere x y there back k = holds_stands b (told_on pt e.acting e.groups e.topic e.pair e.inbox) l v g x y (ends_of w h x y) (w.wires x y) (pt.view.pair x y)
-      (record {
-        sender = other_sender w v a c x y e.messages e.senders e.receivers e.node e.nodes e.other_senders back;
-        receiver = other_receiver w v a c x y e.messages e.senders e.receivers e.node e.nodes e.other_receivers there;
-        given = e.given x y;
-        out = e.packets x y there back;
-        back = e.packets y x (turned c a x y back) (turned a c x y there);
-        on_wire = e.wires x y there back;
-        on_pair = e.pairs x y there back;
-      })
+      (search (
+        other_sender w v a c x y e.messages e.senders e.receivers e.node e.nodes e.other_senders back,
+        other_receiver w v a c x y e.messages e.senders e.receivers e.node e.nodes e.other_receivers there,
+        e.given x y,
+        e.packets x y there back,
+        e.packets y x (turned c a x y back) (turned a c x y there),
+        e.wires x y there back,
+        e.pairs x y there back,
+      ))
       (pair_is b pt l w h x y k)
 
   pair_on : (x y : ℕ) → PairStands b pt l w h x y → PairStands b (told_on pt e.acting e.groups e.topic e.pair e.inbox) l v g x y
@@ -215,14 +193,8 @@ module _ (b : Boot) (w : WorldState) (pt : Point) (l : Placed) (h : History) (a 
       let (y, there) = stood i z least in
       let k = s.tokens p i t y told between about there in
       let d : ℕ = destination_of i t in
-      record {
-        process = k.process;
-        there = k.there;
-        message = k.message;
-        is = k.is;
-        sender = k.sender;
-        carries = subst (λ (f : Pid → Option machine.Known). Carries p k.process (pt.view.asked p) (incoming_of (f p)) k.message.what) (sym (records_at d)) k.carries;
-      }
+      search
+      (subst (λ (f : Pid → Option machine.Known). Carries p k.process (pt.view.asked p) (incoming_of (f p)) k.message.what) (sym (records_at d)) k.carries)
 
   pub moves_stand : StandsWith b v q l g
   moves_stand = subst (λ (z : Point). StandsWith b v z l g) (sym e.point) (record {

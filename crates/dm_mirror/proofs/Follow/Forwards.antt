@@ -1,8 +1,8 @@
 -- A message for a process that has gone on follows it, and its sender may be told.
-use Rattle.dm_mirror.proofs.Names.{◌≡◌, ◌≢◌, ℕ, ◌+◌, ◌≤◌, Bool, true, false, List, [], ◌∷◌, map, refl, ap, ◌∙◌, sym, subst, is_some, arith, if◌then◌else◌, Option, None, Some, false≢true, Pid, pid_of, place_of, update_of, Message, MsgId}
-use Rattle.dm_mirror.proofs.Names.{What, Record, Line, MessageKind, id_eq, id_of, kind_of, plain_kind, PlainMessage, PlainWhat, plain_message, plain_what, with_what, incoming_of, sent_on, Boot, manager, OneKernel, bind, forwards_and}
+use Rattle.dm_mirror.proofs.Names.{◌≡◌, ℕ, ◌+◌, ◌≤◌, Bool, true, false, List, [], ◌∷◌, map, refl, ap, ◌∙◌, sym, subst, is_some, arith, if◌then◌else◌, Option, None, Some, false≢true, Pid, pid_of, place_of, update_of, Message, MsgId}
+use Rattle.dm_mirror.proofs.Names.{What, Record, Line, MessageKind, id_eq, id_of, kind_of, plain_kind, PlainMessage, PlainWhat, plain_message, plain_what, with_what, incoming_of, sent_on, Boot, manager, bind, forwards_and}
 use Rattle.dm_mirror.proofs.Names.{KernelState, id_eq-same, id_eq-swap, Addresses, Receiver, Sender, is_told_back, unmoved, forwards_on, process_told, Point, moved, at_machine, Spot, Queue, Held, StandsOnce, standing, About, Known, Forward}
-use Rattle.dm_mirror.proofs.Names.{Told, forward_about, forwarded_for, handled, own_id, receiver_of, stands_right, WhatFits, is_fixed, own_sort, Run, Placed, Mirrors, free_off, plain_sent_on, forwarded_mirrors, moves_forwarded, update_gets}
+use Rattle.dm_mirror.proofs.Names.{Told, forward_about, forwarded_for, handled, own_id, receiver_of, stands_right, is_fixed, Run, Placed, Mirrors, free_off, plain_sent_on, forwarded_mirrors, moves_forwarded, update_gets}
 use Rattle.dm_mirror.proofs.Names.{parts, mirrors_view, AllOwnStand, OwnStands, KnownStands, AllRecords, Wants}
 use Rattle.dm_kernel.specs.declared.part.Part.{Part}
 use Rattle.dm_kernel.specs.State as machine
@@ -11,7 +11,7 @@ use Rattle.dm_rule.specs.Parts as rule
 use Rattle.dm_rule.specs.Rule.{process_handles}
 use Rattle.dm_places.specs.PlacedStep.{with_message}
 use Rattle.dm_mirror.proofs.Follow.Frames.{Fronts, apart_at, held_apart, known_on, queue_apart}
-use Rattle.dm_mirror.proofs.Follow.Fronts.{IsProcess, front_still, is_process_of, plain_kinds, plain_there}
+use Rattle.dm_mirror.proofs.Follow.Fronts.{IsProcess, front_still, is_process_of, plain_kinds}
 use Rattle.dm_mirror.proofs.Follow.Receivers.{machine_process, rule_process}
 use Rattle.dm_mirror.proofs.Follow.Rows.{handled_point, handled_view, turns_follow}
 use Rattle.dm_mirror.proofs.Turning.{AllMayPut, MayOwn, MayPut, On, Own, Route, TurnsAt, begun, owns, part_of, rule_part_of}

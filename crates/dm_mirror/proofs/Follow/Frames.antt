@@ -22,20 +22,10 @@ pub known_on : (pt next : Point) (l placed : Placed) (p : Pid) (queue held : Lis
     → ((j : MsgId) → 1 ≤ times j queue → placed.bag j ≡ l.bag j) → ((j : MsgId) → 1 ≤ times j held → placed.bag j ≡ l.bag j) → KnownStands pt l p queue held k r → KnownStands next placed p queue held k r
 known_on pt next l placed p queue held Unknown None same life bag back h = tt
 known_on pt next l placed p queue held Here (Some (Record.Here x)) same life bag back h = ((h.0.0, same ∙ h.0.1), map_same l.bag placed.bag queue bag ∙ h.1)
-known_on pt next l placed p queue held (Frozen to) (Some (Record.Frozen d)) same life bag back h = record {
-  to = h.to;
-  asker = h.asker;
-  here = ((h.here.0.0, same ∙ h.here.0.1), map_same l.bag placed.bag queue bag ∙ h.here.1);
-  held = map_same l.bag placed.bag held back ∙ h.held;
-  whole = h.whole;
-}
-known_on pt next l placed p queue held (Incoming from) (Some (Record.Incoming a)) same life bag back h = record {
-  process = h.process;
-  there = same ∙ h.there;
-  whole = h.whole;
-  pieces = h.pieces;
-  held = map_same l.bag placed.bag held back ∙ h.held;
-}
+known_on pt next l placed p queue held (Frozen to) (Some (Record.Frozen d)) same life bag back h = search
+    (same ∙ h.here.0.1, map_same l.bag placed.bag queue bag ∙ h.here.1, map_same l.bag placed.bag held back ∙ h.held)
+known_on pt next l placed p queue held (Incoming from) (Some (Record.Incoming a)) same life bag back h = search
+    (same ∙ h.there, map_same l.bag placed.bag held back ∙ h.held)
 known_on pt next l placed p queue held (Forward at moves) (Some (Record.Forward to count)) same life bag back h = h
 known_on pt next l placed p queue held Ended (Some (Record.Ended y)) same life bag back h = ap kernel.ended life ∙ h
 known_on pt next l placed p queue held k r same life bag back h = absurd h

@@ -137,15 +137,11 @@ tokens_follow b m pt l records k y c h p i t z told between about least =
     let off = token_apart b m pt l records k y c i t h.still told between in
     let before = stood b m pt l records k y c h i z off least in
     let one = c.tokens p i t z told between about before in
-    record {
-      process = one.process;
-      there = process_stays b m pt l records k y c h p i t z told between about before ∙ one.there;
-      message = one.message;
-      is = h.bag i off ∙ one.is;
-      sender = one.sender;
-      carries = carries_on p one.process (pt.view.asked p) (incoming_of (records (destination_of i t) p)) (incoming_of (at_machine records m h.state.records (destination_of i t) p)) one.message.what
-          (λ u w. all_wants b m pt l records k y c h p (destination_of i t) u (m == destination_of i t) refl w) one.carries;
-    }
+    search (
+      process_stays b m pt l records k y c h p i t z told between about before ∙ one.there,
+      h.bag i off ∙ one.is,
+      carries_on p one.process (pt.view.asked p) (incoming_of (records (destination_of i t) p)) (incoming_of (at_machine records m h.state.records (destination_of i t) p)) one.message.what (λ u w. all_wants b m pt l records k y c h p (destination_of i t) u (m == destination_of i t) refl w) one.carries,
+    )
 
 own_follows : (b : Boot) (m : ℕ) (pt : Point) (l : Placed) (records : AllRecords) (k : KernelState) (y : Message) (c : Fronts b m pt l records k y) (h : Follows b m pt l records k y c) → AllOwnStand (handled_view pt m y.id h.held h.topic) h.placed
 own_follows b m pt l records k y c h i x there plain = elim (cases_Bool (id_eq y.id i)) [
@@ -190,17 +186,15 @@ kernel_follows : (b : Boot) (m : ℕ) (pt : Point) (l : Placed) (records : AllRe
     → KernelStands b (handled_point pt m y.id h.held h.topic h.addresses) h.placed m h.state
 kernel_follows b m pt l records k y c h =
     let stands = c.stands in
-    record {
-      here = h.here ∙ stands.here;
-      known = λ q server. known_follows b m pt l records k y c h q server;
-      no_server = λ q server. servers_follow b m pt l records k y c h q server;
-      ring = h.ring ∙ stands.ring;
-      inbox = ap (map h.placed.bag) (machine_self pt.view.inbox m (without_front y.id (pt.view.inbox m)) ∙ front_gone y.id c.ids (pt.view.inbox m) c.box)
-          ∙ map_same l.bag h.placed.bag c.ids (λ j least. h.bag j (apart_behind b m pt l records k y c j least)) ∙ c.others ∙ ap (map Some) (sym h.inbox);
-      made = h.made ∙ stands.made;
-      room = subst (λ (t : Taken). RoomStands t (room_of (slice_get b.machines m)) (taken_at pt m pt.kernel.machines)) (sym h.room) stands.room;
-      servers = h.servers;
-    }
+    search (
+      h.here ∙ stands.here,
+      known_follows b m pt l records k y c h,
+      servers_follow b m pt l records k y c h,
+      h.ring ∙ stands.ring,
+      ap (map h.placed.bag) (machine_self pt.view.inbox m (without_front y.id (pt.view.inbox m)) ∙ front_gone y.id c.ids (pt.view.inbox m) c.box) ∙ map_same l.bag h.placed.bag c.ids (λ j least. h.bag j (apart_behind b m pt l records k y c j least)) ∙ c.others ∙ ap (map Some) (sym h.inbox),
+      h.made ∙ stands.made,
+      subst (λ (t : Taken). RoomStands t (room_of (slice_get b.machines m)) (taken_at pt m pt.kernel.machines)) (sym h.room) stands.room,
+    )
 
 elsewhere_follows : (b : Boot) (m : ℕ) (pt : Point) (l : Placed) (records : AllRecords) (k : KernelState) (y : Message) (c : Fronts b m pt l records k y) (h : Follows b m pt l records k y c)
     → Elsewhere m (begun pt m) l (handled_point pt m y.id h.held h.topic h.addresses) h.placed

@@ -72,31 +72,7 @@ one_mirrors pt l j p step h =
 
 pub all_dropped : (ids : List MsgId) (pt : Point) (l : Placed) (p : Pid) (y : Why) → pt.view.queue pt.view.acting p ≡ ids → pt.kernel.processes p ≡ Some (Ended y) → Droppable pt.kernel p ids
     → ((j : MsgId) → 1 ≤ times j ids → view.receiver_of (pt.view.told j) ≡ Some p) → ((j : MsgId) → 1 ≤ times j ids → times j (pt.view.inbox pt.view.acting) ≡ 0) → Mirrors pt.kernel pt.view pt.addresses l → Drops pt l p ids
-all_dropped [] pt l p y front ended drops told inbox h = record {
-  next = pt;
-  on = l;
-  after = refl;
-  mirrors = h;
-  acting = refl;
-  groups = refl;
-  pair = λ a c. refl;
-  inbox = λ n. refl;
-  ring = λ n. refl;
-  known = λ n q. refl;
-  held = λ n q. refl;
-  count = λ n. refl;
-  told = refl;
-  empty = front;
-  queue = λ n q off. refl;
-  machines = refl;
-  made = λ n. refl;
-  lives = λ q. refl;
-  processes = λ q. refl;
-  bag = λ j none. refl;
-  back = λ j x there. there;
-  board = refl;
-  manager = refl;
-}
+all_dropped [] pt l p y front ended drops told inbox h = search
 all_dropped (j ∷ js) pt l p y front ended drops told inbox h =
     let s = pt.kernel in
     let v = pt.view in

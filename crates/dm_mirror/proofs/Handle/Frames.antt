@@ -34,22 +34,11 @@ here_on l placed p queue x same bag h = ((h.0.0, same ∙ h.0.1), map_same l.bag
 
 leaves_on : (l placed : Placed) (p : Pid) (queue held : List MsgId) (to : ℕ) (d : Departure) → placed.processes p ≡ l.processes p → ((j : MsgId) → 1 ≤ times j queue → placed.bag j ≡ l.bag j) → ((j : MsgId) → 1 ≤ times j held → placed.bag j ≡ l.bag j)
     → LeavesStand l p queue held to d → LeavesStand placed p queue held to d
-leaves_on l placed p queue held to d same bag holds h = record {
-  to = h.to;
-  asker = h.asker;
-  here = here_on l placed p queue d.process same bag h.here;
-  held = map_same l.bag placed.bag held holds ∙ h.held;
-  whole = h.whole;
-}
+leaves_on l placed p queue held to d same bag holds h = search
+    (here_on l placed p queue d.process same bag h.here, map_same l.bag placed.bag held holds ∙ h.held)
 
 comes_on : (l placed : Placed) (p : Pid) (held : List MsgId) (a : Arrival) → placed.processes p ≡ l.processes p → ((j : MsgId) → 1 ≤ times j held → placed.bag j ≡ l.bag j) → ComesStand l p held a → ComesStand placed p held a
-comes_on l placed p held a same holds h = record {
-  process = h.process;
-  there = same ∙ h.there;
-  whole = h.whole;
-  pieces = h.pieces;
-  held = map_same l.bag placed.bag held holds ∙ h.held;
-}
+comes_on l placed p held a same holds h = search (same ∙ h.there, map_same l.bag placed.bag held holds ∙ h.held)
 
 pub known_on : (pt next : Point) (l placed : Placed) (p : Pid) (queue held : List MsgId) (k : Known) (r : Option machine.Known) → placed.processes p ≡ l.processes p → next.kernel.processes p ≡ pt.kernel.processes p
     → ((j : MsgId) → 1 ≤ times j queue → placed.bag j ≡ l.bag j) → ((j : MsgId) → 1 ≤ times j held → placed.bag j ≡ l.bag j) → KnownStands pt l p queue held k r → KnownStands next placed p queue held k r
@@ -99,16 +88,7 @@ servers_set b pt next l placed m k s p q server w h = elim (cases_Bool (pid_eq p
 
 pub stands_set : (b : Boot) (pt next : Point) (l placed : Placed) (m : ℕ) (k s : KernelState) (p : Pid) → Sets pt next l placed m k s p → KernelStands b pt l m k → s.ring ≡ next.view.ring m → AreMessages placed.bag (next.view.inbox m) s.inbox
     → s.made ≡ next.kernel.made m → RoomStands s.room (room_of (slice_get b.machines m)) (taken_at next m next.kernel.machines) → s.servers ≡ servers_at placed m → KernelStands b next placed m s
-stands_set b pt next l placed m k s p w h ring inbox made room servers = record {
-  here = w.here ∙ h.here;
-  known = λ q server. known_sets b pt next l placed m k s p q server w h;
-  no_server = λ q server. servers_set b pt next l placed m k s p q server w h;
-  ring = ring;
-  inbox = inbox;
-  made = made;
-  room = room;
-  servers = servers;
-}
+stands_set b pt next l placed m k s p w h ring inbox made room servers = search (w.here ∙ h.here, known_sets, servers_set)
 
 -- what machine m has, at m and elsewhere
 pub eq_off : (m n : ℕ) → n ≢ m → (m == n) ≡ false

@@ -47,17 +47,7 @@ is_here b m pt l k y w c h known =
     let f = here_record pt l p (pt.view.queue m p) (pt.view.held m p) (k.records p) (subst (λ (n : Known). KnownStands pt l p (pt.view.queue m p) (pt.view.held m p) n (k.records p)) known (c.stands.known p server)) in
     let (g, found, same) = of_map plain_process (l.processes p) z (sym (ap kernel.alive life) ∙ c.mirrors.plain.processes p) in
     let e : g ≡ with_queue f.x f.q = let d : Some g ≡ Some (with_queue f.x f.q) = sym found ∙ f.placed in cc in
-    record {
-      process = h;
-      x = f.x;
-      queue = f.q;
-      there = f.there;
-      placed = f.placed;
-      waits = f.waits;
-      life = life ∙ ap (λ (n : PlainProcess). Some (Alive n)) (sym same ∙ ap plain_process e);
-      known = known;
-      pid = (c.mirrors.places.process p (with_queue f.x f.q) f.placed).pid;
-    }
+    search (life ∙ ap (λ (n : PlainProcess). Some (Alive n)) (sym same ∙ ap plain_process e), (c.mirrors.places.process p (with_queue f.x f.q) f.placed).pid)
 
 -- the rows' parts
 pub here_turn : (b : Boot) (m : ℕ) (pt : Point) (l : Placed) (k : KernelState) (y : Message) (w : PlainWhat) (c : Taking b m pt l k y w) (h : IsHere b m pt l k y.to.pid) (o : Option Turned) → here_handles (record k { inbox = c.rest }) y h.x y.what ≡ o → handles b (record k { inbox = c.rest }) y ≡ o

@@ -38,13 +38,11 @@ goes_lands : (here : ℕ) (p : Pid) (x y : Process) (o : Option Landing) (r : Re
     → pieces.goes_on p (plain_process y) r.dir r.owner.pid r.base r.own r.left (piece_of r.left) ≡ c → Lands p x o c
 goes_lands here p x y o r c e pid queue memory f =
     let g = goes_same here y r in
-    record {
-      d = landing.goes_on here y r;
-      lands = e;
-      plain = goes_on_plainly here y r ∙ ap (λ (q : Pid). Some (pieces.goes_on q (plain_process y) r.dir r.owner.pid r.base r.own r.left (piece_of r.left))) pid ∙ ap Some f;
-      queue = g.queue ∙ queue;
-      memory = ap length g.memory ∙ memory;
-    }
+    search (
+      goes_on_plainly here y r ∙ ap (λ (q : Pid). Some (pieces.goes_on q (plain_process y) r.dir r.owner.pid r.base r.own r.left (piece_of r.left))) pid ∙ ap Some f,
+      g.queue ∙ queue,
+      ap length g.memory ∙ memory,
+    )
 
 -- the test of a landing holds
 some_is : (b : Bool) (x y : pieces.Landed) → (if b then Some x else None) ≡ Some y → (b ≡ true) × (x ≡ y)

@@ -74,26 +74,7 @@ user_row b m pt l k y code channel bytes ls c h =
             taken_slots = c.stands.room.taken_slots ∙ ap (λ (r : Room). r.slots) (sym taken);
             taken_blocks = c.stands.room.taken_blocks ∙ ap (λ (r : Room). r.blocks) (sym taken);
           }) c.stands.servers;
-      elsewhere = record {
-        acting = refl;
-        groups = refl;
-        pair = λ a d. refl;
-        inbox = λ n off. machine_off pt.view.inbox m n (without_front i (pt.view.inbox m)) off;
-        ring = λ n off. refl;
-        known = λ n q off. refl;
-        queue = λ n q off. record_off pt.view.queue m n p q xs off;
-        held = λ n q off. refl;
-        count = λ n. refl;
-        told = refl;
-        machines = refl;
-        made = λ n off. refl;
-        process = λ n q off has. refl;
-        ended = λ n q off over. refl;
-        life = λ n q off has. refl;
-        bag = λ j s off least. refl;
-        board = λ off. refl;
-        manager = λ off. refl;
-      };
+      elsewhere = search (machine_off, pt.view.inbox, record_off);
       sent = tt;
       still = refl;
       count = refl;

@@ -58,29 +58,11 @@ took b m pt l k i is x valid below run told made mirrors h own box there =
     let same : z ≡ y = let g : Some z ≡ Some y = sym found ∙ f.there in cc in
     let plain : plain_message y ≡ Some x = ap plain_message (sym same) ∙ says in
     let box_ : pt.view.inbox m ≡ y.id ∷ is = box ∙ ap (λ (j : MsgId). j ∷ is) (sym name) in
-    record {
-      message = y;
-      id = name;
-      plain = plain;
-      taking = record {
-        valid = valid;
-        below = below;
-        run = run;
-        told = told;
-        made = made;
-        mirrors = mirrors;
-        stands = h;
-        own = own;
-        says = (parts y x plain).what;
-        there = ap l.bag name ∙ f.there;
-        ids = is;
-        box = box_;
-        rest = f.rest;
-        inbox = f.is_front;
-        others = f.others;
-        front = front b m pt y.id is (plainly y x.what) box_ (ap pt.kernel.bag name ∙ there ∙ ap Some (plainly_is y x plain)) run;
-      };
-    }
+    search (
+      (parts y x plain).what,
+      ap l.bag name ∙ f.there,
+      front b m pt y.id is (plainly y x.what) box_ (ap pt.kernel.bag name ∙ there ∙ ap Some (plainly_is y x plain)) run,
+    )
 
 -- its plain meaning
 pub plainly_says : (b : Boot) (m : ℕ) (pt : Point) (l : Placed) (k : KernelState) (y : Message) (w : PlainWhat) → Taking b m pt l k y w → plain_message y ≡ Some (plainly y w)

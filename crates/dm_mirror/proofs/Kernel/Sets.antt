@@ -105,11 +105,11 @@ placed_leaves_from m t p v w l n g h = record {
 }
 
 pub leaves_on : (m : ℕ) (t : Spot → Bool) (p : Pid) (a b c : Point) (k l n : Placed) → Leaves m t p a k b l → Leaves m t p b l c n → Leaves m t p a k c n
-leaves_on m t p a b c k l n g h = record {
-  view = view_leaves_on m t p a.view b.view c.view g.view h.view;
-  kernel = kernel_leaves_on p a.kernel b.kernel c.kernel g.kernel h.kernel;
-  placed_ = placed_leaves_on t p a.view k l n g.placed_ (placed_leaves_from m t p a.view b.view l n g.view h.placed_);
-}
+leaves_on m t p a b c k l n g h = search (
+  view_leaves_on m t p a.view b.view c.view g.view h.view,
+  kernel_leaves_on p a.kernel b.kernel c.kernel g.kernel h.kernel,
+  placed_leaves_on t p a.view k l n g.placed_ (placed_leaves_from m t p a.view b.view l n g.view h.placed_),
+)
 
 -- the other machines and the pairs stay
 not_here : (m n : ℕ) → n ≢ m → not (n == m) ≡ true
@@ -176,20 +176,10 @@ pub known_at : (pt next : Point) (l placed : Placed) (q : Pid) (ids held_ : List
     → ((i : MsgId) → 1 ≤ times i ids → placed.bag i ≡ l.bag i) → ((i : MsgId) → 1 ≤ times i held_ → placed.bag i ≡ l.bag i) → KnownStands pt l q ids held_ w r → KnownStands next placed q ids held_ w r
 known_at pt next l placed q ids held_ Unknown None p e b c h = tt
 known_at pt next l placed q ids held_ Here (Some (Record.Here x)) p e b c h = ((h.0.0, p ∙ h.0.1), messages_on l.bag placed.bag ids x.queue b h.1)
-known_at pt next l placed q ids held_ (Frozen to) (Some (Record.Frozen d)) p e b c h = record {
-  to = h.to;
-  asker = h.asker;
-  here = ((h.here.0.0, p ∙ h.here.0.1), messages_on l.bag placed.bag ids d.process.queue b h.here.1);
-  held = messages_on l.bag placed.bag held_ d.held c h.held;
-  whole = h.whole;
-}
-known_at pt next l placed q ids held_ (Incoming from) (Some (Record.Incoming a)) p e b c h = record {
-  process = h.process;
-  there = p ∙ h.there;
-  whole = h.whole;
-  pieces = h.pieces;
-  held = messages_on l.bag placed.bag held_ a.held c h.held;
-}
+known_at pt next l placed q ids held_ (Frozen to) (Some (Record.Frozen d)) p e b c h = search
+    (p ∙ h.here.0.1, messages_on l.bag placed.bag ids d.process.queue b h.here.1, messages_on l.bag placed.bag held_ d.held c h.held)
+known_at pt next l placed q ids held_ (Incoming from) (Some (Record.Incoming a)) p e b c h = search
+    (p ∙ h.there, messages_on l.bag placed.bag held_ a.held c h.held)
 known_at pt next l placed q ids held_ (Forward at moves) (Some (Record.Forward to count)) p e b c h = h
 known_at pt next l placed q ids held_ Ended (Some (Record.Ended y)) p e b c h = ap kernel.ended e ∙ h
 known_at pt next l placed q ids held_ w r p e b c h = absurd h

@@ -1,9 +1,8 @@
 -- A process has gone: the messages for it go on, and the other machine may restart it.
-use Rattle.dm_mirror.proofs.Names.{◌≡◌, ◌≢◌, ℕ, ◌+◌, ◌/◌, ◌≤◌, ◌==◌, Bool, true, false, not, List, [], ◌∷◌, ◌++◌, length, map, is_some, refl, ap, ◌∙◌, sym, subst, inl, arith, if◌then◌else◌, option_map, Option, None, Some, false≢true, Pid}
+use Rattle.dm_mirror.proofs.Names.{◌≡◌, ◌≢◌, ℕ, ◌+◌, ◌/◌, ◌≤◌, ◌==◌, Bool, true, false, not, List, [], ◌∷◌, ◌++◌, length, map, is_some, refl, ap, ◌∙◌, sym, subst, inl, arith, if◌then◌else◌, option_map, Option, Some, false≢true, Pid}
 use Rattle.dm_mirror.proofs.Names.{pid_eq, kernel_at, Message, MsgId, What, MessageKind, Record, Wanted, Line, Stage, Process, Taken, with_released, frozen_of, incoming_of, all_sent_on, Boot, Alive, Life, bind, plain_process, PlainProcess}
 use Rattle.dm_mirror.proofs.Names.{without_leaving, KernelState, own, turned, pid_eq-same, sends_on, to_kernel, Point, moved, Room, blocks_of, taken_at, taken_by, takes_room, at_machine, Spot, Held, Inbox, Queue, standing, times, Forward}
 use Rattle.dm_mirror.proofs.Names.{Frozen, Known, gone_to, own_id, without_first, MirrorsPoint, sent_all, Placed, sent_on_mirrors, mirrors_view, MadeStands, told_of, AreMessages, KnownStands, RoomStands, AllRecords, Wants}
-use Rattle.dm_onekernel.specs.Kernel.{Ended}
 use Rattle.dm_onekernel.specs.Step as kernel
 use Rattle.dm_kernel.specs.declared.part.Part.{Part}
 use Rattle.dm_kernel.specs.Departing.{leaves}
@@ -201,27 +200,12 @@ goes b m pt l records k y p h made =
       may = all_may end placed after_records to moves l.bag ids ms (λ i a least e. on_may b pt end m p l after_records to moves i a h.run h.mirrors h.own refl least e) lists;
       single = omega (arith, owned);
       topic = refl;
-      late_may = may_between end placed after_records m to p restart (record {
-        acting = refl;
-        id = id_is;
-        plain = refl;
-        encloses = refl;
-        gives = refl;
-        to = refl;
-        sender = ap kernel_at h.stands.here;
-        bag = bag_absent l to moves ids restart.id (ap l.bag id_is ∙ absent_next b pt l m h.run h.mirrors h.own);
-        untold = ap v.told id_is ∙ untold_next b pt m h.run;
-        from = h.stands.here;
-        about = refl;
-        topic = refl;
-        process = c.process;
-        there = c.there;
-        carries = (
-          refl,
-          subst (λ (r : Option machine.Known). Wants (incoming_of r) Wanted.Nothing) (sym (ap (λ (f : Pid → Option machine.Known). f p) (machine_off records m to state.records apart)))
-              (subst (λ (r : ℕ). Wants (incoming_of (records r p)) Wanted.Nothing) from_is c.carries.1),
-        );
-      });
+      late_may = may_between end placed after_records m to p restart (search (
+        ap kernel_at h.stands.here,
+        bag_absent l to moves ids restart.id (ap l.bag id_is ∙ absent_next b pt l m h.run h.mirrors h.own),
+        ap v.told id_is ∙ untold_next b pt m h.run,
+        subst (λ (r : Option machine.Known). Wants (incoming_of r) Wanted.Nothing) (sym (ap (λ (f : Pid → Option machine.Known). f p) (machine_off records m to state.records apart))) (subst (λ (r : ℕ). Wants (incoming_of (records r p)) Wanted.Nothing) from_is c.carries.1),
+      ));
       own = own_on v end.view l to moves ids refl h.own;
       tokens = tokens_one v end.view l placed records after_records p
           (record {

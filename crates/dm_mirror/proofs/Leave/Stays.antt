@@ -104,26 +104,7 @@ refuses b m pt l records k y p slots blocks h =
           (room_stays k.room _ _ _ taken h.stands.room)
           h.stands.servers;
       sent = λ e. e ∙ (let f : (n : ℕ) → n ≡ n + 0 = λ n. omega arith in f (v.count m));
-      elsewhere = record {
-        acting = refl;
-        groups = refl;
-        pair = λ a c. refl;
-        inbox = box_off;
-        ring = λ n off. machine_off v.ring m n (v.ring m ++ p ∷ []) off;
-        known = λ n q off. record_off v.known m n p q Here off;
-        queue = λ n q off. refl;
-        held = λ n q off. record_off v.held m n p q [] off;
-        count = λ n. refl;
-        told = refl;
-        machines = refl;
-        made = λ n off. refl;
-        process = λ n q off has. refl;
-        ended = λ n q off over. refl;
-        life = λ n q off has. refl;
-        bag = λ i spot away least. refl;
-        board = λ off. refl;
-        manager = λ off. refl;
-      };
+      elsewhere = search (machine_off, v.ring, record_off);
       may = tt;
       late_may = tt;
       single = omega arith;

@@ -76,15 +76,11 @@ keeps_own : (pt : Point) (l : Placed) (m c : ℕ) (x y : Message) (home out : Bo
     → Keeps pt (put_end pt m c x home out) y.id
 keeps_own pt l m c x y home out other gives apart =
     let s = same_end pt m c x home out in
-    record {
-      kernel = s.kernel;
-      addresses = s.addresses ∙ ap (λ (g : List Gets). given pt.addresses g) gives;
-      acting = s.acting;
-      own = (λ i. id_of (pid_of (s.acting i) 0) (s.count i (s.acting i))) ∙ ap (λ (t : Bool). id_of (pid_of pt.view.acting 0) ((if t then at_machine pt.view.count x.id.from.home (pt.view.count x.id.from.home + 1) else pt.view.count) pt.view.acting)) other;
-      told = ap (λ (f : MsgId → Option Told). f y.id) s.told ∙ put_told_off pt.view m c x.id y.id (kind_of x.what) x.to.pid apart;
-      topic = s.topic;
-      asked = s.asked;
-    }
+    search (
+      s.addresses ∙ ap (λ (g : List Gets). given pt.addresses g) gives,
+      (λ i. id_of (pid_of (s.acting i) 0) (s.count i (s.acting i))) ∙ ap (λ (t : Bool). id_of (pid_of pt.view.acting 0) ((if t then at_machine pt.view.count x.id.from.home (pt.view.count x.id.from.home + 1) else pt.view.count) pt.view.acting)) other,
+      ap (λ (f : MsgId → Option Told). f y.id) s.told ∙ put_told_off pt.view m c x.id y.id (kind_of x.what) x.to.pid apart,
+    )
 
 -- what holds of an own message behind another one that is put
 pub own_on : (pt : Point) (l : Placed) (records : AllRecords) (m : ℕ) (r : Route) (y : Message) (home out : Bool) → Sane pt → Mirrors pt.kernel pt.view pt.addresses l → turning.is_own r ≡ 0 → MayPut pt l records r → MayOwn pt l records y

@@ -89,14 +89,11 @@ route_own pt l records m (Own x) may h i y there plain = elim (cases_Bool (id_eq
 pub token_kept : (v u : View) (l k : Placed) (r s : AllRecords) (p : Pid) (i : MsgId) (t : Told) → MoreBag l k → u.asked p ≡ v.asked p → ((d : ℕ) → s d ≡ r d) → TokenStands v l r p i t → TokenStands u k s p i t
 token_kept v u l k r s p i t more asked records h =
     let d : ℕ = destination_of i t in
-    record {
-      process = h.process;
-      there = more.processes p ∙ h.there;
-      message = h.message;
-      is = more.bag i h.message h.is;
-      sender = h.sender;
-      carries = subst (λ (n : ℕ). Carries p h.process n (incoming_of (s d p)) h.message.what) (sym asked) (subst (λ (f : Pid → Option machine.Known). Carries p h.process (v.asked p) (incoming_of (f p)) h.message.what) (sym (records d)) h.carries);
-    }
+    search (
+      more.processes p ∙ h.there,
+      more.bag i h.message h.is,
+      subst (λ (n : ℕ). Carries p h.process n (incoming_of (s d p)) h.message.what) (sym asked) (subst (λ (f : Pid → Option machine.Known). Carries p h.process (v.asked p) (incoming_of (f p)) h.message.what) (sym (records d)) h.carries),
+    )
 
 first_kind : (o : Option Told) (u t : Told) → Some (first_told o u) ≡ Some t → is_between u.kind ≡ false → ((s : Told) → o ≡ Some s → is_between s.kind ≡ false) → is_between t.kind ≡ false
 first_kind None u t e new old = let f : u ≡ t = cc in subst (λ (z : Told). is_between z.kind ≡ false) f new
@@ -146,24 +143,16 @@ route_tokens pt l r s m (Own x) may records sane fits mirrors h =
     let is : told_of x ≡ t = some_same (told_of x) t ((after_put pt.view m x.to.at x.id (kind_of x.what) x.to.pid).told x.id) (own_told pt l r m x may) told in
     let c : IsCarried l (pt.view.asked p) r p x = may.carried (ap (λ (z : Told). is_between z.kind) is ∙ between) p (ap (λ (z : Told). z.about) is ∙ about) in
     subst (λ (z : Told). TokenStands (after_put pt.view m x.to.at x.id (kind_of x.what) x.to.pid) (with_message l x.id (Some x)) s p x.id z) is
-    (record {
-      process = c.process;
-      there = c.there;
-      message = x;
-      is = bag_here l x;
-      sender = c.sender;
-      carries = subst (λ (f : Pid → Option machine.Known). Carries p c.process (pt.view.asked p) (incoming_of (f p)) x.what) (sym (records (destination_of x.id (told_of x)))) c.carries;
-    }))
+    (search (
+      bag_here l x,
+      subst (λ (f : Pid → Option machine.Known). Carries p c.process (pt.view.asked p) (incoming_of (f p)) x.what) (sym (records (destination_of x.id (told_of x)))) c.carries,
+    )))
 
 -- the world stands for the point behind the put
 pub stands_routed : (b : Boot) (pt : Point) (l : Placed) (r : AllRecords) (m : ℕ) (route : Route) (w : WorldState) (h : History) → MayPut pt l r route → ((d : ℕ) → (w.nodes d).kernel.records ≡ r d) → Sane pt → PairsFit pt.view → Mirrors pt.kernel pt.view pt.addresses l
     → AllOwnStand pt.view l → TokensStand pt.view l r → CoreStands b w (put_point pt m (message_of route).to.at (message_of route)) (after_route l route) h → StandsWith b w (put_point pt m (message_of route).to.at (message_of route)) (after_route l route) h
-stands_routed b pt l r m route w h may records sane fits mirrors own tokens core = record {
-  mirrors = route_mirrors pt l r m route may mirrors;
-  groups = core.groups;
-  nodes = core.nodes;
-  pairs = core.pairs;
-  counts = core.counts;
-  own = route_own pt l r m route may own;
-  tokens = route_tokens pt l r (λ d. (w.nodes d).kernel.records) m route may records sane fits mirrors tokens;
-}
+stands_routed b pt l r m route w h may records sane fits mirrors own tokens core = search (
+  route_mirrors pt l r m route may mirrors,
+  route_own pt l r m route may own,
+  route_tokens pt l r (λ d. (w.nodes d).kernel.records) m route may records sane fits mirrors tokens,
+)

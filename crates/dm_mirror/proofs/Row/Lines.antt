@@ -1,7 +1,7 @@
 -- Behind the lines of a still row as many pieces were asked for as before, and a kernel's own message that stands somewhere stood there before.
 use Rattle.dm_mirror.proofs.Names.{◌≡◌, ℕ, ◌≤◌, ◌==◌, ◌&&◌, Bool, true, false, List, [], ◌∷◌, ◌++◌, map, refl, ap, ◌∙◌, sym, subst, inl, inr, arith, if◌then◌else◌, Option, None, Some, cases_Bool, false≢true, Pid, pid_eq, MsgId, id_eq}
 use Rattle.dm_mirror.proofs.Names.{MessageKind, Label, OneKernel, bind, id_eq-is, pid_eq-is, bind-is, Line, Part, Says, Point, after, after_line, kernel_after, label_of, moved, at_machine, at_record, without_front, without_id, Spot, Queue}
-use Rattle.dm_mirror.proofs.Names.{Held, Inbox, Untaken, times, standing, View, Told, after_label, view_after, handled, queued_for, dropped_for, receiver_of, is_kernels, eq_is, queued_spots, Needs, Walks}
+use Rattle.dm_mirror.proofs.Names.{Inbox, times, standing, View, Told, after_label, view_after, handled, queued_for, dropped_for, receiver_of, is_kernels, eq_is, queued_spots, Needs, Walks}
 use Rattle.dm_rule.specs.View as view
 use Rattle.dm_rule.proofs.Lines.{parts}
 use Rattle.dm_mirror.proofs.Turning.{is_still, are_still}

@@ -50,17 +50,16 @@ ran_of b m pt l k p x c n s ready steps memory =
     ∙ ap (λ (o : Option Machine). bind o (λ (z : Machine). Some (kernel.goes_on pt.kernel p (kernel.with_machine (plain_process x) z)))) steps
     in
     let ready_x : placed.if_ready x x.status ≡ Some x = ap (placed.if_ready x) ready ∙ ap (λ (d : Bool). if d then None else Some x) s.going in
-    record {
-      step = step;
-      mirrors = label_mirrors pt l (ran_placed l p y queue) m (Label.Ran p c) t s.mirrors s.acting tt step (ran_matches l p c x queue n s.at.there ready_x steps);
-      leaves = record { view = view_serving m (is_queue_of m p) p pt.view s.acting; kernel = kernel_sets p pt.kernel (Alive (plain_process y)); placed_ = placed_sets (is_queue_of m p) p pt.view l (Some (with_queue y queue)) };
-      ready = ap (placed.if_ready y) ready ∙ ap (λ (d : Bool). if d then None else Some y) s.going;
-      running = running_of t p (plain_process y) (set_at pt.kernel p (Alive (plain_process y))) s.going plain;
-      there = on_if (pid_eq p p) (Some (with_queue y queue)) (l.processes p) (pid_eq-same p);
-      ring = machine_on pt.view.ring pt.view.acting m (moved_back p (pt.view.ring pt.view.acting)) s.acting ∙ ap (λ (a : ℕ). moved_back p (pt.view.ring a)) s.acting;
-      memory = memory;
-      same_queue = refl;
-    }
+    search (
+      label_mirrors pt l (ran_placed l p y queue) m (Label.Ran p c) t s.mirrors s.acting tt step (ran_matches l p c x queue n s.at.there ready_x steps),
+      view_serving m (is_queue_of m p) p pt.view s.acting,
+      kernel_sets p pt.kernel (Alive (plain_process y)),
+      placed_sets (is_queue_of m p) p pt.view l (Some (with_queue y queue)),
+      ap (placed.if_ready y) ready ∙ ap (λ (d : Bool). if d then None else Some y) s.going,
+      running_of t p (plain_process y) (set_at pt.kernel p (Alive (plain_process y))) s.going plain,
+      on_if (pid_eq p p) (Some (with_queue y queue)) (l.processes p) (pid_eq-same p),
+      machine_on pt.view.ring pt.view.acting m (moved_back p (pt.view.ring pt.view.acting)) s.acting ∙ ap (λ (a : ℕ). moved_back p (pt.view.ring a)) s.acting,
+    )
 
 -- the quantum is used up
 pub whole_acts : (b : Boot) (m : ℕ) (pt : Point) (l : Placed) (k : KernelState) (p : Pid) (x y : Process) (c : ℕ) (s : Served b m pt l k p x) → Ran m pt l p x s.at.queue c y

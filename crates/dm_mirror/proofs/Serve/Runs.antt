@@ -52,12 +52,11 @@ pub record Found (l : Placed) (mask : ℕ) (ids : List MsgId) (ms : List Message
 found_here : (l : Placed) (mask : ℕ) (i : MsgId) (is : List MsgId) (n : Message) (ns : List Message) → is_on mask n ≡ true → n.id ≡ i → l.bag i ≡ Some n → AreMessages l.bag is ns → Found l mask (i ∷ is) (n ∷ ns) n
 found_here l mask i is n ns on name there are =
     let same : id_eq n.id i ≡ true = ap (λ (j : MsgId). id_eq j i) name ∙ id_eq-same i in
-    record {
-      there = ap l.bag name ∙ there;
-      on = on;
-      stands = subst (λ (j : MsgId). 1 ≤ times j (i ∷ is)) (sym name) (times_self i is);
-      rest = ap (λ (c : Bool). map l.bag (if c then is else i ∷ without_id n.id is)) same ∙ are ∙ sym (ap (λ (c : Bool). map Some (if c then ns else n ∷ without_first_on mask ns)) on);
-    }
+    search (
+      ap l.bag name ∙ there,
+      subst (λ (j : MsgId). 1 ≤ times j (i ∷ is)) (sym name) (times_self i is),
+      ap (λ (c : Bool). map l.bag (if c then is else i ∷ without_id n.id is)) same ∙ are ∙ sym (ap (λ (c : Bool). map Some (if c then ns else n ∷ without_first_on mask ns)) on),
+    )
 
 found_later : (l : Placed) (mask : ℕ) (i : MsgId) (is : List MsgId) (n m : Message) (ns : List Message) → is_on mask n ≡ false → l.bag i ≡ Some n → Found l mask is ns m → Found l mask (i ∷ is) (n ∷ ns) m
 found_later l mask i is n m ns off there f = record {
