@@ -31,6 +31,30 @@ node_stands_on b pt l m acting groups topic pair inbox n ms ss rs box lawful ids
 abbrev pub IsOther : ℕ → ℕ → ℕ → ℕ → Type 0
 IsOther a c x y = ((a == x) && (c == y)) ≡ false
 
+-- what it leaves of the other machines, wires and streams, and what both streams' parts are then
+pub record MovesAlone (w : WorldState) (pt : Point) (h : History) (a c : ℕ) (v : WorldState) (g : History) (inbox : ℕ → List MsgId) (messages : List Message) (senders : ℕ → Sending Message) (receivers : ℕ → Receiving Message)
+    (there : Ends) (there_wire : List Sent) (back : Ends) (back_wire : List Sent) : Type 0 where
+  pub boxes : (m : ℕ) → m ≢ c → inbox m ≡ pt.view.inbox m
+  pub node : v.nodes c ≡ node_on (w.nodes c) messages senders receivers
+  pub nodes : (m : ℕ) → m ≢ c → v.nodes m ≡ w.nodes m
+  pub other_senders : (y : ℕ) → y ≢ a → senders y ≡ (w.nodes c).senders y
+  pub other_receivers : (y : ℕ) → y ≢ a → receivers y ≡ (w.nodes c).receivers y
+  -- the wires
+  pub wires : (x y : ℕ) → IsOther a c x y → IsOther c a x y → v.wires x y ≡ w.wires x y
+  pub given : (x y : ℕ) → g.given x y ≡ h.given x y
+  pub packets : (x y : ℕ) → IsOther a c x y → IsOther c a x y → g.packets x y ≡ h.packets x y
+  pub there_sender : (w.nodes a).senders c ≡ there.sender
+  pub there_given : h.given a c ≡ there.given
+  pub there_out : g.packets a c ≡ there.out
+  pub there_back : g.packets c a ≡ there.back
+  pub there_sent : v.wires a c ≡ there_wire
+  pub back_sender : senders a ≡ back.sender
+  pub back_receiver : (w.nodes a).receivers c ≡ back.receiver
+  pub back_given : h.given c a ≡ back.given
+  pub back_out : g.packets c a ≡ back.out
+  pub back_back : g.packets a c ≡ back.back
+  pub back_sent : v.wires c a ≡ back_wire
+
 -- what an event on machine c, of a packet from machine a, changes
 pub record Moves (b : Boot) (w : WorldState) (pt : Point) (l : Placed) (h : History) (a c : ℕ) (v : WorldState) (q : Point) (g : History) : Type 0 where
   -- what the lines tell
@@ -39,52 +63,34 @@ pub record Moves (b : Boot) (w : WorldState) (pt : Point) (l : Placed) (h : Hist
   pub topic : About
   pub pair : ℕ → ℕ → Pair
   pub inbox : ℕ → List MsgId
-  pub point : q ≡ told_on pt acting groups topic pair inbox
-  pub counted : v.groups ≡ groups
-  pub mirrors : Mirrors q.kernel q.view q.addresses l
-  pub boxes : (m : ℕ) → m ≢ c → inbox m ≡ pt.view.inbox m
-  pub pairs : (x y : ℕ) → IsOther a c x y → IsOther c a x y → pair x y ≡ pt.view.pair x y
-  pub ids : (x y : ℕ) → (pair x y).ids ≡ (pt.view.pair x y).ids
-  pub took : (x y : ℕ) → (pt.view.pair x y).taken ≤ (pair x y).taken
-  pub came : (i : MsgId) → 1 ≤ times i (inbox c) → Stood pt.view i
   -- the machine
   pub messages : List Message
   pub senders : ℕ → Sending Message
   pub receivers : ℕ → Receiving Message
-  pub node : v.nodes c ≡ node_on (w.nodes c) messages senders receivers
-  pub nodes : (m : ℕ) → m ≢ c → v.nodes m ≡ w.nodes m
-  pub box : AreMessages l.bag (inbox c) messages
-  pub lawful : All IsLawfulMessage messages
-  pub other_senders : (y : ℕ) → y ≢ a → senders y ≡ (w.nodes c).senders y
-  pub other_receivers : (y : ℕ) → y ≢ a → receivers y ≡ (w.nodes c).receivers y
-  -- the wires
-  pub wires : (x y : ℕ) → IsOther a c x y → IsOther c a x y → v.wires x y ≡ w.wires x y
-  pub given : (x y : ℕ) → g.given x y ≡ h.given x y
-  pub packets : (x y : ℕ) → IsOther a c x y → IsOther c a x y → g.packets x y ≡ h.packets x y
   -- the stream from a to c
   pub there : Ends
   pub there_wire : List Sent
   pub there_pair : Pair
-  pub there_stands : PairIs b l a c there there_wire there_pair
-  pub there_sender : (w.nodes a).senders c ≡ there.sender
-  pub there_receiver : receivers a ≡ there.receiver
-  pub there_given : h.given a c ≡ there.given
-  pub there_out : g.packets a c ≡ there.out
-  pub there_back : g.packets c a ≡ there.back
-  pub there_sent : v.wires a c ≡ there_wire
-  pub there_said : pair a c ≡ there_pair
   -- and the one that leads back
   pub back : Ends
   pub back_wire : List Sent
   pub back_pair : Pair
+  pub point : q ≡ told_on pt acting groups topic pair inbox
+  pub counted : v.groups ≡ groups
+  pub mirrors : Mirrors q.kernel q.view q.addresses l
+  pub pairs : (x y : ℕ) → IsOther a c x y → IsOther c a x y → pair x y ≡ pt.view.pair x y
+  pub ids : (x y : ℕ) → (pair x y).ids ≡ (pt.view.pair x y).ids
+  pub took : (x y : ℕ) → (pt.view.pair x y).taken ≤ (pair x y).taken
+  pub came : (i : MsgId) → 1 ≤ times i (inbox c) → Stood pt.view i
+  pub box : AreMessages l.bag (inbox c) messages
+  pub lawful : All IsLawfulMessage messages
+  pub there_stands : PairIs b l a c there there_wire there_pair
+  pub there_receiver : receivers a ≡ there.receiver
+  pub there_said : pair a c ≡ there_pair
   pub back_stands : PairIs b l c a back back_wire back_pair
-  pub back_sender : senders a ≡ back.sender
-  pub back_receiver : (w.nodes a).receivers c ≡ back.receiver
-  pub back_given : h.given c a ≡ back.given
-  pub back_out : g.packets c a ≡ back.out
-  pub back_back : g.packets a c ≡ back.back
-  pub back_sent : v.wires c a ≡ back_wire
   pub back_said : pair c a ≡ back_pair
+  pub alone : MovesAlone w pt h a c v g inbox messages senders receivers there there_wire back back_wire
+  pub open alone use *
 
 other_sender : (w v : WorldState) (a c x y : ℕ) (ms : List Message) (ss : ℕ → Sending Message) (rs : ℕ → Receiving Message) → v.nodes c ≡ node_on (w.nodes c) ms ss rs → ((m : ℕ) → m ≢ c → v.nodes m ≡ w.nodes m) → ((z : ℕ) → z ≢ a → ss z ≡ (w.nodes c).senders z)
     → IsOther c a x y → (v.nodes x).senders y ≡ (w.nodes x).senders y
