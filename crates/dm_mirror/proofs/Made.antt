@@ -4,7 +4,7 @@ use Rattle.dm_mirror.proofs.Names.{Label, IsValid, first_number, process_named, 
 use Rattle.dm_mirror.proofs.Names.{labels, group_of, group_replay, MadeStands}
 use Rattle.dm_onekernel.specs.Start.{begun}
 use Rattle.dm_onekernel.specs.Step as kernel
-use Rattle.dm_mirror.proofs.Numbering.{life_named, named_all, named_is}
+use Rattle.dm_mirror.proofs.Numbering.{life_named, named_all, named_is, some_of as some_is}
 use Rattle.dm_mirror.proofs.Raises.{Stays}
 use Rattle.dm_mirror.proofs.RaisesMade.{Makes, step_makes}
 
@@ -94,11 +94,7 @@ start_life : (b : Boot) (p : Pid) (o : Option BootProcess) → process_named p b
 start_life b p None e there = absurd (false≢true (sym (ap is_some (life_named b b.processes p ∙ ap (λ (o : Option BootProcess). bind o (first_life b)) e)) ∙ there))
 start_life b p (Some x) e there = (x, e)
 
-some_is : {X : Type 0} (o : Option X) → is_some o ≡ true → (x : X) × (o ≡ Some x)
-some_is None e = absurd (false≢true e)
-some_is (Some x) e = (x, refl)
-
-first_alive : (b : Boot) (p : BootProcess) (i : BootImage) → slice_get b.images p.image ≡ Some i → first_life b p ≡ Some (Alive (begun b.format i (map plain_link p.links)))
+pub first_alive : (b : Boot) (p : BootProcess) (i : BootImage) → slice_get b.images p.image ≡ Some i → first_life b p ≡ Some (Alive (begun b.format i (map plain_link p.links)))
 first_alive b p i there = ap (λ (o : Option BootImage). life_in o) there
   where
     life_in : Option BootImage → Option Life

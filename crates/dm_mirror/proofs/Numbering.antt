@@ -28,7 +28,7 @@ pub record Listed (b : Boot) (earlier : List BootProcess) (p : BootProcess) (ps 
   pub there : slice_get b.images p.image ≡ Some image
   pub rest : processes_are_valid b (earlier ++ p ∷ []) ps ≡ true
 
-some_of : {X : Type 0} (o : Option X) → is_some o ≡ true → (x : X) × (o ≡ Some x)
+pub some_of : {X : Type 0} (o : Option X) → is_some o ≡ true → (x : X) × (o ≡ Some x)
 some_of None e = absurd (false≢true e)
 some_of (Some x) e = (x, refl)
 

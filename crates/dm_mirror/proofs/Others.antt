@@ -8,14 +8,7 @@ use Rattle.dm_rule.specs.View as view
 use Rattle.dm_kernel.specs.State as machine
 use Rattle.dm_mirror.proofs.Turning.{Elsewhere, has_process}
 pub use Rattle.dm_rule.proofs.QuietTests.{eq_not as apart_tells}
-
--- the messages of a list stay
-messages_same : (f g : MsgId → Option Message) (ids : List MsgId) → ((i : MsgId) → 1 ≤ times i ids → g i ≡ f i) → map g ids ≡ map f ids
-messages_same f g [] h = refl
-messages_same f g (j ∷ js) h =
-    let one : times j (j ∷ js) ≡ 1 + times j js = ap (λ (c : Bool). (if c then 1 else 0) + times j js) (id_eq-same j) in
-    let first : g j ≡ f j = h j (omega (arith, one)) in
-    λ k. first k ∷ messages_same f g js (λ i e. h i (omega (arith, e))) k
+use Rattle.dm_mirror.proofs.Kernel.Sets.{map_same as messages_same}
 
 pub messages_stay : (f g : MsgId → Option Message) (ids : List MsgId) (ms : List Message) → ((i : MsgId) → 1 ≤ times i ids → g i ≡ f i) → AreMessages f ids ms → AreMessages g ids ms
 messages_stay f g ids ms h e = messages_same f g ids h ∙ e

@@ -50,7 +50,7 @@ pub wire_length : (b : Boot) (pt : Point) (l : Placed) (w : WorldState) (h : His
 wire_length b pt l w h a c s = ap length s.bytes ∙ length-map (h.packets a c) _ ∙ sym (ap length (sym s.packets) ∙ length-map (h.packets a c) _)
 
 -- a pair that is set has the messages that it had
-ids_if : (f : ℕ → ℕ → Pair) (a c : ℕ) (p : Pair) (x y : ℕ) (t : Bool) → ((a == x) && (c == y)) ≡ t → p.ids ≡ (f a c).ids → (if t then p else f x y).ids ≡ (f x y).ids
+pub ids_if : (f : ℕ → ℕ → Pair) (a c : ℕ) (p : Pair) (x y : ℕ) (t : Bool) → ((a == x) && (c == y)) ≡ t → p.ids ≡ (f a c).ids → (if t then p else f x y).ids ≡ (f x y).ids
 ids_if f a c p x y true e same = let k = two_of a c x y e in same ∙ (λ i. (f (k.0 i) (k.1 i)).ids)
 ids_if f a c p x y false e same = refl
 

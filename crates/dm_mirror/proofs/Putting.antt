@@ -31,7 +31,7 @@ meaning_is x None m e = cc
 meaning_is x (Some w) m e =
     let f : record { id = x.id; to = x.to.pid; sender = x.sender.pid; what = w } ≡ m = cc in (ap (λ (z : PlainMessage). Some z.what) f, sym (ap (λ (z : PlainMessage). z.to) f))
 
-some_plain : (o : Option PlainMessage) → is_some o ≡ true → (m : PlainMessage) × (o ≡ Some m)
+pub some_plain : (o : Option PlainMessage) → is_some o ≡ true → (m : PlainMessage) × (o ≡ Some m)
 some_plain None e = cc
 some_plain (Some m) e = (m, refl)
 

@@ -9,7 +9,7 @@ use Rattle.dm_onekernel.specs.Manager as manage
 use Rattle.dm_onekernel.specs.Service as service
 use Rattle.dm_onekernel.specs.Step as step
 use Rattle.dm_mirror.proofs.Raises.{Within, Stays, Raises, sent_of, ran_raises, call_raises, send_raises, wait_raises, out_raises, end_raises, receive_raises, refuse_raises}
-use Rattle.dm_mirror.proofs.RaisesServed.{sent_raise, board_raises, dropped_raises, gone_raises, no_space_raises, served_raises}
+use Rattle.dm_mirror.proofs.RaisesServed.{sent_raise, board_raises, dropped_raises, gone_raises, no_space_raises, served_raises, append-longer}
 
 -- a child comes only with an answer
 abbrev Paid : Manager → manage.Took → Type 0
@@ -44,10 +44,6 @@ paid_controls : (g : Manager) (child : Option Pid) (body : List ℕ) (links : Li
 paid_controls g (Some child) (a ∷ []) links = paid_control g child (manage.control_of a) links
 paid_controls g None (a ∷ []) links = paid_bad g links
 paid_controls g _ _ links = paid_bad g links
-
-append-longer : {A : Type 0} (xs : List A) (y : A) → length (xs ++ y ∷ []) ≡ length xs + 1
-append-longer [] y = refl
-append-longer (x ∷ xs) y = omega (arith, append-longer xs y)
 
 paid_created : (g : Manager) (n : ℕ) (child : Pid) (o : Option Pending) (k : manage.Took) → manage.takes_created g n child o ≡ Some k → Paid g k
 paid_created g n child None k e = cc

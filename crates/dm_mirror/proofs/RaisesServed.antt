@@ -111,7 +111,7 @@ board_sent n after None h = let e : after ≡ n = h in omega (arith, e)
 board_sent n after (Some m) h = h.1
 
 -- a request keeps at most one name more
-append-longer : {A : Type 0} (xs : List A) (y : A) → length (xs ++ y ∷ []) ≡ length xs + 1
+pub append-longer : {A : Type 0} (xs : List A) (y : A) → length (xs ++ y ∷ []) ≡ length xs + 1
 append-longer [] y = refl
 append-longer (x ∷ xs) y = omega (arith, append-longer xs y)
 

@@ -6,6 +6,7 @@ use Rattle.dm_onekernel.specs.Start.{begun}
 use Rattle.dm_onekernel.specs.Step as kernel
 use Rattle.dm_mirror.proofs.StartKnown.{known_of_life, first_known}
 use Rattle.dm_mirror.proofs.Numbering.{Listed, listed, named_is, none_again, life_named, one_if, starting-last}
+pub use Rattle.dm_mirror.proofs.Made.{first_alive}
 
 abbrev nothing : Room
 nothing = record { slots = 0; blocks = 0 }
@@ -15,13 +16,6 @@ first_apart b m q valid off = first_known b m q valid ∙ ap (λ (c : Bool). if 
 
 no_server : (q : Pid) → 3 ≤ q.num → is_server q ≡ false
 no_server q least = grind (arith, nat_tests)
-
-pub first_alive : (b : Boot) (p : BootProcess) (i : BootImage) → slice_get b.images p.image ≡ Some i → first_life b p ≡ Some (Alive (begun b.format i (map plain_link p.links)))
-first_alive b p i there = ap (λ (o : Option BootImage). life_in o) there
-  where
-    life_in : Option BootImage → Option Life
-    life_in None = None
-    life_in (Some j) = Some (Alive (begun b.format j (map plain_link p.links)))
 
 pub first_mine : (b : Boot) (m : ℕ) (q : Pid) (p : BootProcess) → IsValid b → (q.home == m) ≡ true → process_named q b.processes ≡ Some p → (first_point b).view.known m q ≡ Known.Here
 first_mine b m q p valid on named =

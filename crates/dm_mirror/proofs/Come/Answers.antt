@@ -15,11 +15,8 @@ use Rattle.dm_mirror.proofs.Come.Pieces.{room_kept}
 use Rattle.dm_mirror.proofs.Come.Turns.{come_point, come_view, eq_off, eq_self, known_same, turns_answer}
 use Rattle.dm_mirror.proofs.Rooms.{taken_changed}
 use Rattle.dm_mirror.proofs.Turning.{TurnsAt}
-
--- what is free is what the lines say
-free_as : (t : Taken) (o : Option BootMachine) (r : Room) → RoomStands t (room_of o) r → (free_slots t ≡ (rule.free_of o r).slots) × (free_blocks t ≡ (rule.free_of o r).blocks)
-free_as t None r h = let a = h.slots in let c = h.blocks in (omega (arith, a), omega (arith, c))
-free_as t (Some g) r h = let a = h.slots in let c = h.blocks in let d = h.taken_slots in let e = h.taken_blocks in (omega (arith, a, d), omega (arith, c, e))
+use Rattle.dm_mirror.proofs.Handle.Frames.{pid_apart as pid_off}
+use Rattle.dm_mirror.proofs.Handle.Makes.{free_of as free_as}
 
 room_as : (t : Taken) (r : Room) (n : ℕ) → (free_slots t ≡ r.slots) × (free_blocks t ≡ r.blocks) → room_.has_room t n ≡ rule.has_room r n
 room_as t r n h = λ i. nat_le 1 (h.0 i) && nat_le n (h.1 i)
@@ -107,12 +104,6 @@ record_off f m n p q x off = ap (λ (d : Bool). if d then x else f n q) (and_fal
 
 record_away : (f : ℕ → Pid → Known) (m n : ℕ) (p q : Pid) (x : Known) → n ≢ m → at_record f m p x n q ≡ f n q
 record_away f m n p q x off = ap (λ (d : Bool). if d && pid_eq p q then x else f n q) (eq_off m n off)
-
-pid_off : (p q : Pid) → q ≢ p → pid_eq p q ≡ false
-pid_off p q apart = elim (cases_Bool (pid_eq p q)) [
-  | inl same ↦ absurd (apart (sym (pid_eq-is p q same)))
-  | inr off ↦ off
-]
 
 -- what the process takes here then
 taken_then : (b : Boot) (m : ℕ) (pt : Point) (l : Placed) (records : AllRecords) (k : KernelState) (y : Message) (p : Pid) (c : Comes b m pt l records k y p) (a : Arrives b m pt l k y p) (box : List MsgId) (from : ℕ) (asked : Pid → ℕ) → Absent (pt.view.known m p)

@@ -6,6 +6,7 @@ use Rattle.dm_mirror.proofs.Names.{token_is, token_at, is_server, Run, Placed, M
 use Rattle.dm_mirror.proofs.Names.{inbox_is, about_same}
 use Rattle.dm_onekernel.specs.Kernel.{Ended}
 use Rattle.dm_onekernel.specs.Step as kernel
+use Rattle.dm_mirror.proofs.Leave.Goes.{life_some as alive_made}
 
 -- machine m, with kernel k, has at its inbox's front message y, which the machine that process p leaves sends
 pub record Comes (b : Boot) (m : ℕ) (pt : Point) (l : Placed) (records : AllRecords) (k : KernelState) (y : Message) (p : Pid) : Type 0 where
@@ -87,12 +88,6 @@ fresh_own b pt l i run mirrors own mine untold = by_bag (l.bag i) refl
 -- the next message of a machine's kernel
 pub next_untold : (b : Boot) (pt : Point) (m : ℕ) → Run b pt → pt.view.told (id_of (pid_of m 0) (pt.view.count m)) ≡ None
 next_untold b pt m run = run.based.phased.state.numbered m (pt.view.count m) (omega arith)
-
--- a process that is alive is none of the servers
-alive_made : (o : Option Life) (v : PlainProcess) → kernel.alive o ≡ Some v → is_some o ≡ true
-alive_made None v e = cc
-alive_made (Some (Alive x)) v e = refl
-alive_made (Some (Ended y)) v e = refl
 
 no_server : (s : OneKernel) (p : Pid) → Made s → is_some (s.processes p) ≡ true → is_server p ≡ false
 no_server s p h there =

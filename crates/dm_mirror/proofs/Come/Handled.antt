@@ -8,11 +8,7 @@ use Rattle.dm_kernel.specs.State as machine
 use Rattle.dm_mirror.proofs.Come.Frames.{Arrives, Comes}
 use Rattle.dm_mirror.proofs.Come.Turns.{come_point, come_view, eq_self}
 use Rattle.dm_mirror.proofs.Turning.{begun}
-
--- the machine's turn, and the rule's
-if_true : {X : Type 0} (d : Bool) (x z : X) → d ≡ true → (if d then x else z) ≡ x
-if_true true x z e = refl
-if_true false x z e = absurd (false≢true e)
+use Rattle.dm_mirror.proofs.Kernel.Sets.{on_if as if_true}
 
 pub turn_kernel : (b : Boot) (m : ℕ) (pt : Point) (l : Placed) (records : AllRecords) (k : KernelState) (y : Message) (p : Pid) (c : Comes b m pt l records k y p) (a : Arrives b m pt l k y p) (o : Option Turned) → kernel_handles b (record k { inbox = c.rest }) y y.what ≡ o → turn b k ≡ o
 turn_kernel b m pt l records k y p c a o e =

@@ -16,6 +16,7 @@ use Rattle.dm_mirror.proofs.Come.Handled.{first_gone, known_incoming, outcome_ke
 use Rattle.dm_mirror.proofs.Come.Turns.{come_view, eq_off, fewer, gone, machine_off, machine_self, others_known}
 use Rattle.dm_mirror.proofs.Rooms.{taken_same}
 use Rattle.dm_mirror.proofs.Turning.{Nothing as NoLate, TurnsAt, begun, has_process}
+use Rattle.dm_mirror.proofs.Leave.Stays.{messages_append as are_both}
 
 abbrev pub back_point : Point → ℕ → Pid → Point
 back_point pt m p = moved (begun pt m) (Line.Migration Stage.Restarted p) pt.kernel
@@ -44,17 +45,6 @@ set_off f p q x off = ap (λ (d : Bool). if d then x else f q) off
 
 set_self : {X : Type 0} (f : Pid → X) (p : Pid) (x : X) → (if pid_eq p p then x else f p) ≡ x
 set_self f p x = ap (λ (d : Bool). if d then x else f p) (pid_eq-same p)
-
--- messages behind messages
-are_both : (bag : MsgId → Option Message) (is js : List MsgId) (xs ys : List Message) → AreMessages bag is xs → AreMessages bag js ys → AreMessages bag (is ++ js) (xs ++ ys)
-are_both bag [] js [] ys e f = f
-are_both bag [] js (x ∷ xs) ys e f = cc
-are_both bag (i ∷ is) js [] ys e f = cc
-are_both bag (i ∷ is) js (x ∷ xs) ys e f =
-    let first : bag i ≡ Some x = cc in
-    let more : map bag is ≡ map Some xs = cc in
-    let rest = are_both bag is js xs ys more f in
-    λ c. first c ∷ rest c
 
 -- no other machine has the process
 forward_only : (d : ℕ) (n : Known) → leaves MessageKind.Restart d n ≡ true → has_process n ≡ false

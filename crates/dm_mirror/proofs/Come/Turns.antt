@@ -9,6 +9,7 @@ use Rattle.dm_mirror.proofs.Come.Frames.{Arrives, Comes, fresh_own, next_untold,
 use Rattle.dm_mirror.proofs.Turning.{IsCarried, MayOwn, Nothing, Own, TurnsAt, begun}
 pub use Rattle.dm_rule.proofs.Lines.{eq_self}
 pub use Rattle.dm_rule.proofs.Lines.{at_machine_at as machine_self}
+pub use Rattle.dm_mirror.proofs.End.Where.{off as eq_off}
 
 -- the view behind the line: the message is handled, and what is known of p here and asked for of it may be new
 abbrev pub come_view : View → ℕ → Pid → List MsgId → (ℕ → Pid → Known) → (Pid → ℕ) → View
@@ -26,12 +27,6 @@ known_same pt v l p queue held (Incoming from) (Some (Record.Incoming a)) h = h
 known_same pt v l p queue held (Forward at_ moves) (Some (Record.Forward to count)) h = h
 known_same pt v l p queue held Ended (Some (Record.Ended y)) h = h
 known_same pt v l p queue held k r h = absurd h
-
-pub eq_off : (m n : ℕ) → n ≢ m → (m == n) ≡ false
-eq_off m n apart = elim (cases_Bool (m == n)) [
-  | inl same ↦ absurd (apart (let e : n ≡ m = grind (arith, nat_tests) in e))
-  | inr off ↦ off
-]
 
 pub machine_off : {X : Type 0} (f : ℕ → X) (m n : ℕ) (x : X) → n ≢ m → at_machine f m x n ≡ f n
 machine_off f m n x apart = ap (λ (c : Bool). if c then x else f n) (eq_off m n apart)

@@ -26,7 +26,7 @@ room_none i g a e = elim (cases_Bool (nat_le i g)) [
 ]
 
 -- the message under this number is due
-given_at : (xs : List Message) (n : ℕ) → n < length xs → (m : Message) × (slice_get xs n ≡ Some m)
+pub given_at : (xs : List Message) (n : ℕ) → n < length xs → (m : Message) × (slice_get xs n ≡ Some m)
 given_at xs n lt = elim (slice_get_cases xs n).1 [
   | inl k ↦ (k.0, k.2)
   | inr k ↦ absurd (omega (arith, k.0))

@@ -13,6 +13,7 @@ use Rattle.dm_mirror.proofs.Deliver.Stood.{came_one, took_set}
 use Rattle.dm_mirror.proofs.Deliver.Stands.{IsOther, Moves, moves_stand}
 use Rattle.dm_mirror.proofs.Deliver.Follows.{machine_same, machine_other}
 pub use Rattle.dm_rule.proofs.Lines.{pair_at as two_same}
+pub use Rattle.dm_mirror.proofs.Puts.{ids_same as ids_set}
 
 pub two_other : {X : Type 0} (f : ℕ → ℕ → X) (a c : ℕ) (x : X) (m n : ℕ) → IsOther a c m n → at_pair f a c x m n ≡ f m n
 two_other f a c x m n e = ap (λ (t : Bool). if t then x else f m n) e
@@ -35,14 +36,6 @@ back_other a c apart = grind (arith, nat_tests)
 
 pub there_other : (a c : ℕ) → a ≢ c → IsOther c a a c
 there_other a c apart = grind (arith, nat_tests)
-
-pub ids_set : (f : ℕ → ℕ → Pair) (a c : ℕ) (p : Pair) → p.ids ≡ (f a c).ids → (m n : ℕ) → (at_pair f a c p m n).ids ≡ (f m n).ids
-ids_set f a c p e m n = elim (cases_Bool ((a == m) && (c == n))) [
-  | inl same ↦
-      let two = two_of a c m n same in
-      ap (λ (t : Bool). (if t then p else f m n).ids) same ∙ e ∙ ap (λ (i : ℕ). (f i c).ids) two.0 ∙ ap (λ (i : ℕ). (f m i).ids) two.1
-  | inr other ↦ ap (λ (t : Bool). (if t then p else f m n).ids) other
-]
 
 -- one more message of an inbox
 pub messages_push : (bag : MsgId → Option Message) (ids : List MsgId) (ms : List Message) (i : MsgId) (m : Message) → AreMessages bag ids ms → bag i ≡ Some m → AreMessages bag (ids ++ i ∷ []) (ms ++ m ∷ [])

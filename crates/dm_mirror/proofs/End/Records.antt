@@ -8,6 +8,7 @@ use Rattle.dm_rule.specs.Ends as rule
 use Rattle.dm_kernel.specs.State as machine
 use Rattle.dm_mirror.proofs.End.Lists.{names_are}
 use Rattle.dm_mirror.proofs.End.Where.{is_silent}
+pub use Rattle.dm_mirror.proofs.Row.Tokens.{carries_plain as carried_own}
 
 -- a machine that says nothing
 pub silent_has : (k : Known) → is_silent k ≡ true → rule.has k ≡ None
@@ -132,17 +133,6 @@ is_coming pt l p q held from _ h = absurd h
 pub restart_wants : (p : Pid) (x : Process) (n : ℕ) (o : Option Arrival) (w : What) → kind_of w ≡ MessageKind.Restart → Carries p x n o w → Wants o Nothing
 restart_wants p x n o (What.Restart pid) e h = h.1
 restart_wants p x n o _ e h = cc
-
-pub carried_own : (p : Pid) (x : Process) (n : ℕ) (o : Option Arrival) (w : What) → Carries p x n o w → plain_what w ≡ None
-carried_own p x n o (What.Ask pid blocks moves size asker) h = refl
-carried_own p x n o (What.Refuse pid slots blocks) h = refl
-carried_own p x n o (What.PullState pid chunk) h = refl
-carried_own p x n o (What.State pid chunk last bytes) h = refl
-carried_own p x n o (What.PullBlock pid block) h = refl
-carried_own p x n o (What.Memory pid block bytes) h = refl
-carried_own p x n o (What.AllTaken pid) h = refl
-carried_own p x n o (What.Restart pid) h = refl
-carried_own p x n o _ h = absurd h
 
 -- all its pieces give the process
 pub come_all : (l : Placed) (p : Pid) (held : List MsgId) (a : Arrival) (c : ComesStand l p held a) → a.wanted ≡ Nothing → come_whole a a.wanted ≡ Some (moved c.process)

@@ -73,7 +73,7 @@ pub record Follows (b : Boot) (m : ℕ) (pt : Point) (l : Placed) (records : All
   pub still : is_between (kind_of y.what) ≡ false
   pub may : AllMayPut (handled_point pt m y.id held topic addresses) placed (at_machine records m state.records) routes
 
-append_none : {X : Type 0} (xs : List X) → xs ++ [] ≡ xs
+pub append_none : {X : Type 0} (xs : List X) → xs ++ [] ≡ xs
 append_none [] = refl
 append_none (x ∷ xs) = ap (λ (ys : List _). x ∷ ys) (append_none xs)
 

@@ -20,11 +20,7 @@ use Rattle.dm_mirror.proofs.Follow.Quiet.{no_plain, own_told_of, turns_quiet}
 use Rattle.dm_mirror.proofs.Follow.Receivers.{machine_process, rule_process, set_other, set_self}
 use Rattle.dm_mirror.proofs.Follow.Rows.{handled_point, turns_follow}
 use Rattle.dm_mirror.proofs.Turning.{TurnsAt, begun, has_process}
-
--- a process that is here is nowhere else, and nothing of it is under way
-away_not : (k : Known) → is_away k ≡ true → has_process k ≡ true → ⊥
-away_not Unknown e h = cc
-away_not _ e h = cc
+use Rattle.dm_mirror.proofs.Kernel.Sets.{away_process as away_not}
 
 rests_away : (m n : ℕ) (k : Known) → n ≢ m → knows (Rests m) n k ≡ true → is_away k ≡ true
 rests_away m n k apart e = sym (ap (λ (c : Bool). if c then is_here k else is_away k) (eq_off m n apart)) ∙ e

@@ -8,13 +8,8 @@ pub use Rattle.dm_rulelaws.proofs.Goes.Turns.{times_self}
 pub use Rattle.dm_rule.proofs.Lines.{eq_self}
 pub use Rattle.dm_rule.proofs.Lines.{at_machine_at as machine_self}
 pub use Rattle.dm_rulelaws.proofs.Goes.Turns.{times_more}
-
-pub map_same : (f g : MsgId → Option Message) (ids : List MsgId) → ((j : MsgId) → 1 ≤ times j ids → g j ≡ f j) → map g ids ≡ map f ids
-map_same f g [] same = refl
-map_same f g (j ∷ js) same =
-    let first : g j ≡ f j = same j (times_self j js) in
-    let rest : map g js ≡ map f js = map_same f g js (λ n least. same n (let more = times_more n j js in omega (arith, least, more))) in
-    λ i. first i ∷ rest i
+pub use Rattle.dm_mirror.proofs.Kernel.Sets.{known_at as known_on, map_same}
+pub use Rattle.dm_mirror.proofs.End.Where.{off as eq_off}
 
 -- the message at the front
 pub record FrontOf (bag : MsgId → Option Message) (i : MsgId) (is : List MsgId) (ms : List Message) : Type 0 where
@@ -39,16 +34,6 @@ leaves_on l placed p queue held to d same bag holds h = search
 
 comes_on : (l placed : Placed) (p : Pid) (held : List MsgId) (a : Arrival) → placed.processes p ≡ l.processes p → ((j : MsgId) → 1 ≤ times j held → placed.bag j ≡ l.bag j) → ComesStand l p held a → ComesStand placed p held a
 comes_on l placed p held a same holds h = search (same ∙ h.there, map_same l.bag placed.bag held holds ∙ h.held)
-
-pub known_on : (pt next : Point) (l placed : Placed) (p : Pid) (queue held : List MsgId) (k : Known) (r : Option machine.Known) → placed.processes p ≡ l.processes p → next.kernel.processes p ≡ pt.kernel.processes p
-    → ((j : MsgId) → 1 ≤ times j queue → placed.bag j ≡ l.bag j) → ((j : MsgId) → 1 ≤ times j held → placed.bag j ≡ l.bag j) → KnownStands pt l p queue held k r → KnownStands next placed p queue held k r
-known_on pt next l placed p queue held Unknown None same life bag holds h = tt
-known_on pt next l placed p queue held Here (Some (Record.Here x)) same life bag holds h = here_on l placed p queue x same bag h
-known_on pt next l placed p queue held (Frozen to) (Some (Record.Frozen d)) same life bag holds h = leaves_on l placed p queue held to d same bag holds h
-known_on pt next l placed p queue held (Incoming from) (Some (Record.Incoming a)) same life bag holds h = comes_on l placed p held a same holds h
-known_on pt next l placed p queue held (Forward at moves) (Some (Record.Forward to count)) same life bag holds h = h
-known_on pt next l placed p queue held Ended (Some (Record.Ended y)) same life bag holds h = ap kernel.ended life ∙ h
-known_on pt next l placed p queue held k r same life bag holds h = absurd h
 
 -- another kernel of machine m for another point, where only process p may have changed
 pub record Sets (pt next : Point) (l placed : Placed) (m : ℕ) (k s : KernelState) (p : Pid) : Type 0 where
@@ -89,13 +74,6 @@ servers_set b pt next l placed m k s p q server w h = elim (cases_Bool (pid_eq p
 pub stands_set : (b : Boot) (pt next : Point) (l placed : Placed) (m : ℕ) (k s : KernelState) (p : Pid) → Sets pt next l placed m k s p → KernelStands b pt l m k → s.ring ≡ next.view.ring m → AreMessages placed.bag (next.view.inbox m) s.inbox
     → s.made ≡ next.kernel.made m → RoomStands s.room (room_of (slice_get b.machines m)) (taken_at next m next.kernel.machines) → s.servers ≡ servers_at placed m → KernelStands b next placed m s
 stands_set b pt next l placed m k s p w h ring inbox made room servers = search (w.here ∙ h.here, known_sets, servers_set)
-
--- what machine m has, at m and elsewhere
-pub eq_off : (m n : ℕ) → n ≢ m → (m == n) ≡ false
-eq_off m n apart = elim (cases_Bool (m == n)) [
-  | inl same ↦ absurd (apart (let e : n ≡ m = grind (arith, nat_tests) in e))
-  | inr off ↦ off
-]
 
 pub machine_off : {X : Type 0} (f : ℕ → X) (m n : ℕ) (x : X) → n ≢ m → at_machine f m x n ≡ f n
 machine_off f m n x apart = ap (λ (c : Bool). if c then x else f n) (eq_off m n apart)

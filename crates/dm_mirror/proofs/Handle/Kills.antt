@@ -22,6 +22,7 @@ use Rattle.dm_mirror.proofs.Handle.Rows.{IsLeft, Elsewhere, Over, Moves, here_le
 use Rattle.dm_mirror.proofs.Handle.Taking.{Taking, apart_at, outcome_is, sane_of, turn_is, held_apart, held_no_queue, queue_apart, waits}
 use Rattle.dm_mirror.proofs.Rooms.{taken_changed}
 use Rattle.dm_mirror.proofs.Turning.{is_elsewhere, Row}
+use Rattle.dm_mirror.proofs.Leave.Goes.{other_queue}
 
 -- where the kill leads, before its queue is dropped
 abbrev ended_view : Point → ℕ → MsgId → Pid → View
@@ -55,11 +56,6 @@ own_unqueued b pt m p l j x run mirrors none there =
 abbrev spot_process : Spot → Pid → Pid
 spot_process (Queue m p) q = p
 spot_process _ q = q
-
-other_queue : (m : ℕ) (p q : Pid) → pid_eq p q ≡ false → Queue m q ≢ Queue m p
-other_queue m p q off e =
-    let f : q ≡ p = ap (λ (s : Spot). spot_process s q) e in
-    false≢true (sym off ∙ ap (pid_eq p) f ∙ pid_eq-same p)
 
 elsewhere_queue : (m : ℕ) (p : Pid) (s : Spot) → is_elsewhere m s ≡ true → s ≢ Queue m p
 elsewhere_queue m p s is e = false≢true (sym (ap not (eq_self m)) ∙ ap (is_elsewhere m) (sym e) ∙ is)

@@ -11,6 +11,7 @@ use Rattle.dm_mirror.proofs.Handle.Frames.{times_more, map_same, stands_set, eq_
 use Rattle.dm_mirror.proofs.Handle.Taking.{Taking, turn_is, outcome_is, plainly_says, sane_of, apart_at, apart_behind, fresh_at, sent_other, bag_kept, queue_apart, held_apart, sent_there}
 use Rattle.dm_mirror.proofs.Rooms.{taken_same}
 use Rattle.dm_mirror.proofs.Turning.{is_elsewhere, has_process, is_moving, routed, rule_routed, IsSent, Row}
+use Rattle.dm_mirror.proofs.Kernel.Sets.{away_process as has_none}
 
 -- where the head of the turn, a label and another view lead
 abbrev pub seen_point : Point → ℕ → Label → OneKernel → View → Point
@@ -47,12 +48,6 @@ pub data IsLeft (m : ℕ) (pt : Point) (q : Pid) : Type 0 where
   Elsewhere : (n : ℕ) → (apart : n ≢ m) → (has : has_process (pt.view.known n q) ≡ true) → IsLeft m pt q
   Over : (n : ℕ) → (apart : n ≢ m) → (ended : pt.view.known n q ≡ Ended) → IsLeft m pt q
   Moves : (moving : is_moving (pt.view.known m q) ≡ true) → IsLeft m pt q
-
-has_none : (k : Known) → is_away k ≡ true → has_process k ≡ true → ⊥
-has_none Here away has = false≢true away
-has_none (Frozen to) away has = false≢true away
-has_none (Incoming from) away has = false≢true away
-has_none _ away has = false≢true has
 
 -- a process that is here is known nowhere else
 away_elsewhere : (pt : Point) (m n : ℕ) (p : Pid) → InPhases pt.view → pt.view.known m p ≡ Here → n ≢ m → is_away (pt.view.known n p) ≡ true

@@ -10,6 +10,7 @@ use Rattle.dm_rule.proofs.States.{not_true}
 use Rattle.dm_places.specs.PlacedStep.{with_sent, without_message}
 use Rattle.dm_mirror.proofs.Handle.Frames.{times_self, front_of}
 pub use Rattle.dm_rulelaws.proofs.Goes.Always.{queue_apart}
+pub use Rattle.dm_mirror.proofs.Putting.{some_plain as some_of}
 
 -- machine m handles message y, which says w without places
 pub record Taking (b : Boot) (m : ℕ) (pt : Point) (l : Placed) (k : KernelState) (y : Message) (w : PlainWhat) : Type 0 where
@@ -104,7 +105,7 @@ once b m pt l k y w c = subst (λ (z : List MsgId). 1 ≤ times y.id z) (sym c.b
 kept_of : (b : Boot) (m : ℕ) (pt : Point) (l : Placed) (k : KernelState) (y : Message) (w : PlainWhat) (c : Taking b m pt l k y w) → StandsAsBag (Some (plainly y w)) (standing pt.view y.id)
 kept_of b m pt l k y w c = stands_right pt y.id c.run.based.phased.state (Some (plainly y w)) c.front.there
 
-not_it : (i j : MsgId) (f : MsgId → ℕ) → f i ≡ 0 → 1 ≤ f j → id_eq i j ≡ false
+pub not_it : (i j : MsgId) (f : MsgId → ℕ) → f i ≡ 0 → 1 ≤ f j → id_eq i j ≡ false
 not_it i j f none least = elim (cases_Bool (id_eq i j)) [
   | inl same ↦ absurd (let e : f i ≡ f j = ap f (id_eq-is i j same) in omega (arith, none, least, e))
   | inr off ↦ off
@@ -126,11 +127,6 @@ pub fresh_at : (b : Boot) (pt : Point) (s : Spot) (i j : MsgId) → Run b pt →
 fresh_at b pt s i j h none other least =
     let k : StandsNowhere (standing pt.view i) = subst (λ (c : Bool). StandsOutside c (standing pt.view i)) other (stands_right pt i h.based.phased.state None none) in
     not_it i j (λ (n : MsgId). standing pt.view n s) (k s) least
-
--- what is there
-pub some_of : (o : Option PlainMessage) → is_some o ≡ true → (q : PlainMessage) × (o ≡ Some q)
-some_of None e = cc
-some_of (Some q) e = (q, refl)
 
 -- what a step sends is no kernel's own
 pub sent_other : (pt : Point) (e : Label) (next : OneKernel) (placed : Placed) (a : Message) → kernel.step pt.kernel e ≡ Some next → MirrorsKernel next placed → placed.bag a.id ≡ Some a → is_some (plain_message a) ≡ true → Sane pt → is_kernels a.id ≡ false

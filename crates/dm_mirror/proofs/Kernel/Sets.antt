@@ -13,6 +13,7 @@ pub use Rattle.dm_rule.proofs.Lines.{eq_self}
 pub use Rattle.dm_rule.proofs.Trails.Spares.{not_is}
 pub use Rattle.dm_rulelaws.proofs.Goes.Turns.{times_more}
 pub use Rattle.dm_rule.proofs.Phases.Pieces.{and_false as right_off}
+pub use Rattle.dm_mirror.proofs.End.Where.{off as eq_apart}
 
 -- small tests
 pub off_if : {A : Type 0} (c : Bool) (x y : A) → c ≡ false → (if c then x else y) ≡ y
@@ -23,12 +24,6 @@ on_if c x y e = ap (λ (b : Bool). if b then x else y) e
 
 pub left_off : (a b : Bool) → a ≡ false → (a && b) ≡ false
 left_off a b e = ap (λ (c : Bool). c && b) e
-
-pub eq_apart : (m n : ℕ) → n ≢ m → (m == n) ≡ false
-eq_apart m n h = elim (cases_Bool (m == n)) [
-  | inl same ↦ absurd (h (let e : n ≡ m = grind (arith, nat_tests) in e))
-  | inr off ↦ off
-]
 
 -- the queue of process p on machine m
 abbrev pub is_queue_of : ℕ → Pid → Spot → Bool
@@ -119,7 +114,7 @@ not_here m n h = ap not (eq_apart n m (λ e. h (sym e)))
 abbrev pub IsAway : View → ℕ → Pid → Type 0
 IsAway v m p = (n : ℕ) → n ≢ m → is_away (v.known n p) ≡ true
 
-away_process : (k : Known) → is_away k ≡ true → has_process k ≡ true → ⊥
+pub away_process : (k : Known) → is_away k ≡ true → has_process k ≡ true → ⊥
 away_process Unknown a e = false≢true e
 away_process (Forward at moves) a e = false≢true e
 away_process _ a e = false≢true a
@@ -161,7 +156,7 @@ queue_not_elsewhere m p _ e = refl
 pub queue_of_others : (m : ℕ) (p q : Pid) → pid_eq p q ≡ false → is_queue_of m p (Queue m q) ≡ false
 queue_of_others m p q off = right_off (m == m) (pid_eq p q) off
 
-map_same : (f g : MsgId → Option Message) (ids : List MsgId) → ((i : MsgId) → 1 ≤ times i ids → g i ≡ f i) → map g ids ≡ map f ids
+pub map_same : (f g : MsgId → Option Message) (ids : List MsgId) → ((i : MsgId) → 1 ≤ times i ids → g i ≡ f i) → map g ids ≡ map f ids
 map_same f g [] h = refl
 map_same f g (i ∷ is) h =
     let first = h i (times_self i is) in

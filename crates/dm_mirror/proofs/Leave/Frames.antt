@@ -5,19 +5,7 @@ use Rattle.dm_mirror.proofs.Names.{KernelStands, LeavesStand, RoomStands, server
 use Rattle.dm_onekernel.specs.Step as kernel
 use Rattle.dm_kernel.specs.State as machine
 use Rattle.dm_mirror.proofs.Handle.Frames.{map_same}
-
--- what is known of a process that stays as it is
-pub known_stays : (pt next : Point) (l placed : Placed) (p : Pid) (queue held : List MsgId) (k : Known) (r : Option machine.Known) → placed.processes p ≡ l.processes p → next.kernel.processes p ≡ pt.kernel.processes p
-    → ((j : MsgId) → 1 ≤ times j queue → placed.bag j ≡ l.bag j) → ((j : MsgId) → 1 ≤ times j held → placed.bag j ≡ l.bag j) → KnownStands pt l p queue held k r → KnownStands next placed p queue held k r
-known_stays pt next l placed p queue held Unknown None same life waits kept h = tt
-known_stays pt next l placed p queue held Here (Some (Record.Here x)) same life waits kept h = ((h.0.0, same ∙ h.0.1), map_same l.bag placed.bag queue waits ∙ h.1)
-known_stays pt next l placed p queue held (Frozen to) (Some (Record.Frozen d)) same life waits kept h = search
-    (same ∙ h.here.0.1, map_same l.bag placed.bag queue waits ∙ h.here.1, map_same l.bag placed.bag held kept ∙ h.held)
-known_stays pt next l placed p queue held (Incoming from) (Some (Record.Incoming a)) same life waits kept h = search
-    (same ∙ h.there, map_same l.bag placed.bag held kept ∙ h.held)
-known_stays pt next l placed p queue held (Forward at moves) (Some (Record.Forward to count)) same life waits kept h = h
-known_stays pt next l placed p queue held Ended (Some (Record.Ended y)) same life waits kept h = ap kernel.ended life ∙ h
-known_stays pt next l placed p queue held k r same life waits kept h = absurd h
+pub use Rattle.dm_mirror.proofs.Kernel.Sets.{known_at as known_stays}
 
 -- a process that is here, and one that leaves
 pub record IsHere (l : Placed) (p : Pid) (queue : List MsgId) (r : Option machine.Known) : Type 0 where

@@ -37,7 +37,7 @@ room_released t given o n blocks h slots pieces =
     let c = h.taken_blocks in
     record { slots = h.slots; blocks = h.blocks; taken_slots = omega (arith, a, slots); taken_blocks = omega (arith, c, pieces) }
 
-life_some : (o : Option Life) (x : PlainProcess) → kernel.alive o ≡ Some x → is_some o ≡ true
+pub life_some : (o : Option Life) (x : PlainProcess) → kernel.alive o ≡ Some x → is_some o ≡ true
 life_some (Some (Alive y)) x e = refl
 life_some _ x e = cc
 
@@ -53,7 +53,7 @@ pid_in (Queue m p) q = p
 pid_in (Held m p) q = p
 pid_in _ q = q
 
-other_queue : (m : ℕ) (p q : Pid) → pid_eq p q ≡ false → Queue m q ≢ Queue m p
+pub other_queue : (m : ℕ) (p q : Pid) → pid_eq p q ≡ false → Queue m q ≢ Queue m p
 other_queue m p q off e = false≢true (sym off ∙ ap (pid_eq p) (ap (λ (z : Spot). pid_in z p) e) ∙ pid_eq-same p)
 
 other_held : (m : ℕ) (p q : Pid) → pid_eq p q ≡ false → Held m q ≢ Held m p

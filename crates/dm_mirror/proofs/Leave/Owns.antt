@@ -7,6 +7,7 @@ use Rattle.dm_kernel.specs.State as machine
 use Rattle.dm_mirror.proofs.Handle.Frames.{machine_self, machine_off}
 use Rattle.dm_mirror.proofs.Leave.Fronts.{Hearing}
 use Rattle.dm_mirror.proofs.Turning.{IsCarried, MayOwn}
+pub use Rattle.dm_mirror.proofs.Handle.Receivers.{to_kernel}
 
 -- what a kernel has not counted was not told, and isn't in the bag
 absent_by : (b : Boot) (pt : Point) (l : Placed) (i : MsgId) (o : Option Message) (p : Option PlainMessage) → Run b pt → Mirrors pt.kernel pt.view pt.addresses l → AllOwnStand pt.view l → is_kernels i ≡ true → pt.view.told i ≡ None → l.bag i ≡ o → bind o plain_message ≡ p → o ≡ None
@@ -106,11 +107,6 @@ process_hears b pt m i t n loose is =
     ∙ ap (λ (c : Bool). if c then server_told pt i t t.kind else if pid_eq p manager then server_told pt i t t.kind else process_told pt m i t (pt.view.known m p)) board
     ∙ ap (λ (c : Bool). if c then server_told pt i t t.kind else process_told pt m i t (pt.view.known m p)) manage
     ∙ ap (process_told pt m i t) is
-
-pub to_kernel : (b : Boot) (s : KernelState) (y : Message) → (y.to.pid.num == 0) ≡ true → handles b s y ≡ kernel_handles b s y y.what
-to_kernel b s y num =
-    let p = y.to.pid in
-    ap (λ (c : Bool). if c then kernel_handles b s y y.what else if pid_eq p switchboard then board_handles s y s.servers else if pid_eq p manager then manager_handles s y s.servers else process_handles s y (s.records p)) num
 
 pub to_kernel_hears : (b : Boot) (pt : Point) (m : ℕ) (i : MsgId) (t : Told) → (t.receiver.num == 0) ≡ true → hears b pt m i (Some t) ≡ kernel_hears b pt m i t.kind t.about
 to_kernel_hears b pt m i t num =

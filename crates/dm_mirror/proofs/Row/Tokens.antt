@@ -9,7 +9,7 @@ use Rattle.dm_mirror.proofs.Kernel.Sets.{eq_self, not_is, off_if, on_if}
 use Rattle.dm_mirror.proofs.Row.Lines.{StillKeeps}
 
 -- what a message of a migration carries has no plain meaning
-carries_plain : (p : Pid) (x : Process) (n : ℕ) (a : Option Arrival) (w : What) → Carries p x n a w → plain_what w ≡ None
+pub carries_plain : (p : Pid) (x : Process) (n : ℕ) (a : Option Arrival) (w : What) → Carries p x n a w → plain_what w ≡ None
 carries_plain p x n a (What.Ask pid blocks moves size asker) h = refl
 carries_plain p x n a (What.Refuse pid slots blocks) h = refl
 carries_plain p x n a (What.PullState pid chunk) h = refl

@@ -12,6 +12,7 @@ use Rattle.dm_mirror.proofs.Kernel.Sets.{ViewLeaves, Leaves, leaves_on, is_queue
 use Rattle.dm_mirror.proofs.Kernel.Labels.{view_same, view_serving, kernel_sets, placed_sets, machine_on, label_mirrors, after_label}
 use Rattle.dm_mirror.proofs.Serving.{Served, Acts, moved_round, served_goes}
 pub use Rattle.dm_rulelaws.proofs.Goes.Serves.{ran_steps}
+use Rattle.dm_rulelaws.proofs.Goes.Serves.{running_of}
 
 -- behind the plain instructions: the process is y, and at the ring's back
 abbrev pub ran_kernel : Point → Pid → Process → OneKernel
@@ -33,10 +34,6 @@ pub record Ran (m : ℕ) (pt : Point) (l : Placed) (p : Pid) (x : Process) (queu
   pub ring : (ran_point pt p c y).view.ring m ≡ moved_back p (pt.view.ring m)
   pub memory : length y.memory ≡ length x.memory
   pub same_queue : y.queue ≡ x.queue
-
-running_of : (s : OneKernel) (p : Pid) (x : PlainProcess) → s.processes p ≡ Some (Alive x) → x.stopped ≡ false → x.status ≡ Ready → kernel.running s p ≡ Some x
-running_of s p x is going ready =
-    ap (λ (o : Option Life). bind (kernel.alive o) (λ (v : PlainProcess). kernel.if_ready v v.status)) is ∙ ap (kernel.if_ready x) ready ∙ ap (λ (c : Bool). if c then None else Some x) going
 
 pub ran_of : (b : Boot) (m : ℕ) (pt : Point) (l : Placed) (k : KernelState) (p : Pid) (x : Process) (c : ℕ) (n : Machine) (s : Served b m pt l k p x) → x.status ≡ Status.Ready → kernel.plain_steps c (kernel.machine_of (plain_process x)) ≡ Some n → length n.bytes ≡ length x.memory
     → Ran m pt l p x s.at.queue c (serve.with_machine x n)
