@@ -61,13 +61,8 @@ completed_matches l p id y q place m d there found e =
     let plain = completion_is y y.queue place y.status (Some m) in
     let (c, first, last) = of_map (completion_with y.queue place) (completion y 0 y.status (Some m)) d (sym e ∙ plain) in
     let r = queue_after c.completed q 0 in
-    record {
-      queue = r;
-      is = ap (λ (o : Option Process). bind o (λ (z : Process). bind (l.bag id) (λ (n : Message). completion z 0 z.status (Some n)))) there
-          ∙ ap (λ (o : Option Message). bind o (λ (n : Message). completion (with_queue y q) 0 y.status (Some n))) found
-          ∙ completion_is y q 0 y.status (Some m) ∙ ap (option_map (completion_with q 0)) first
-          ∙ ap (λ (z : Completion). Some (record { completed = z.completed; process = with_queue z.process r })) last;
-    }
+    search
+    (ap (λ (o : Option Process). bind o (λ (z : Process). bind (l.bag id) (λ (n : Message). completion z 0 z.status (Some n)))) there ∙ ap (λ (o : Option Message). bind o (λ (n : Message). completion (with_queue y q) 0 y.status (Some n))) found ∙ completion_is y q 0 y.status (Some m) ∙ ap (option_map (completion_with q 0)) first ∙ ap (λ (z : Completion). Some (record { completed = z.completed; process = with_queue z.process r })) last)
 
 -- a piece that is served, and one that lands
 pub answers_match : (here : ℕ) (l : Placed) (m a : Message) (y : Process) (q : List Message) → serving_answer here y m ≡ Some a

@@ -12,14 +12,7 @@ bag_again s l id m i e h = elim (cases_Bool (id_eq id i)) [
 ]
 
 pub kernel_again : (s : OneKernel) (l : Placed) (id : MsgId) (m : Option Message) → bind m plain_message ≡ s.bag id → MirrorsKernel s l → MirrorsKernel s (with_message l id m)
-kernel_again s l id m e h = record {
-  processes = h.processes;
-  bag = λ i. bag_again s l id m i e h;
-  board = h.board;
-  manager = h.manager;
-  machines = h.machines;
-  images = h.images;
-}
+kernel_again s l id m e h = search bag_again
 
 -- the other messages keep their addresses
 again_places : (a b : Addresses) (l : Placed) (id : MsgId) (m : Option Message) → ((i : MsgId) (x : Message) → l.bag i ≡ Some x → MirrorsMessage a i x) → ((i : MsgId) (x : Message) → l.bag i ≡ Some x → id_eq id i ≡ false → SameMessage a b i)
@@ -59,12 +52,7 @@ sent_on_one s v a l id x at moves there h =
     let place : Place = record { at = at; moves = moves } in
     let b = given a (gets (Receiver id) place ∷ []) in
     let hm = h.places.message id x there in
-    let on : MirrorsMessage b id (sent_on at moves x) = record {
-      id = hm.id;
-      receiver = ap (λ (c : Bool). if c then place else a (Receiver id)) (id_eq-same id);
-      sender = hm.sender;
-      enclosed = hm.enclosed;
-    } in
+    let on : MirrorsMessage b id (sent_on at moves x) = search (ap (λ (c : Bool). if c then place else a (Receiver id)) (id_eq-same id)) in
     record {
       plain = kernel_again s l id (Some (sent_on at moves x)) (plain_sent_on at moves x ∙ sym (ap (λ (o : Option Message). bind o plain_message) there) ∙ h.plain.bag id) h.plain;
       places = places_message v a b l id (Some (sent_on at moves x)) h.places (λ q. record { slot = λ k. refl; owner = refl })

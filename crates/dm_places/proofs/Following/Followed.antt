@@ -127,14 +127,7 @@ alive_again s l p x y q there same h = elim (cases_Bool (pid_eq p q)) [
 
 -- a process that means the same
 pub kernel_process_again : (s : OneKernel) (l : Placed) (p : Pid) (x y : Process) → l.processes p ≡ Some x → plain_process y ≡ plain_process x → MirrorsKernel s l → MirrorsKernel s (with_process l p (Some y))
-kernel_process_again s l p x y there same h = record {
-  processes = λ q. alive_again s l p x y q there same h;
-  bag = h.bag;
-  board = h.board;
-  manager = h.manager;
-  machines = h.machines;
-  images = h.images;
-}
+kernel_process_again s l p x y there same h = search alive_again
 
 moved_places : (v w : View) (a : Addresses) (l : Placed) (p : Pid) (x : Process) (q : Pid) (z : Process) → w.moves ≡ at_pid v.moves p (v.moves p + 1) → l.processes p ≡ Some x → ((r : Pid) (y : Process) → l.processes r ≡ Some y → MirrorsProcess v a r y)
     → (with_process l p (Some (way.moved x))).processes q ≡ Some z → MirrorsProcess w a q z
@@ -143,21 +136,12 @@ moved_places v w a l p x q z counts there h e = elim (cases_Bool (pid_eq p q)) [
       let k = h p x there in
       let f : Some (way.moved x) ≡ Some z = sym (ap (λ (c : Bool). if c then Some (way.moved x) else l.processes q) is) ∙ e in
       let g : way.moved x ≡ z = cc in
-      let m : MirrorsProcess w a p (way.moved x) = record {
-        pid = k.pid;
-        moves = ap (λ (n : ℕ). n + 1) k.moves ∙ sym (ap (λ (c : Bool). if c then v.moves p + 1 else v.moves p) (pid_eq-same p)) ∙ ap (λ (n : Pid → ℕ). n p) (sym counts);
-        slots = k.slots;
-        owner = k.owner;
-      } in
+      let m : MirrorsProcess w a p (way.moved x) = search
+      (ap (λ (n : ℕ). n + 1) k.moves ∙ sym (ap (λ (c : Bool). if c then v.moves p + 1 else v.moves p) (pid_eq-same p)) ∙ ap (λ (n : Pid → ℕ). n p) (sym counts)) in
       subst (MirrorsProcess w a q) g (subst (λ (r : Pid). MirrorsProcess w a r (way.moved x)) (pid_eq-is p q is) m)
   | inr apart ↦
       let k = h q z (sym (ap (λ (c : Bool). if c then Some (way.moved x) else l.processes q) apart) ∙ e) in
-      record {
-        pid = k.pid;
-        moves = k.moves ∙ sym (ap (λ (c : Bool). if c then v.moves p + 1 else v.moves q) apart) ∙ ap (λ (n : Pid → ℕ). n q) (sym counts);
-        slots = k.slots;
-        owner = k.owner;
-      }
+      search (k.moves ∙ sym (ap (λ (c : Bool). if c then v.moves p + 1 else v.moves q) apart) ∙ ap (λ (n : Pid → ℕ). n q) (sym counts))
 ]
 
 pub restarted_mirrors : (pt : Point) (l : Placed) (p : Pid) (x : Process) → MirrorsPoint pt l → l.processes p ≡ Some x → MirrorsPoint (moved pt (Line.Migration Stage.Restarted p) pt.kernel) (with_process l p (Some (way.moved x)))

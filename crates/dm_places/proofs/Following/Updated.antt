@@ -159,14 +159,7 @@ switchboard_told s v a l r at moves none h =
     let q = switchboard in
     let names = board.plain_retargeted r at moves l.board.names in
     record {
-      plain = record {
-        processes = h.plain.processes;
-        bag = h.plain.bag;
-        board = ap (λ (ns : List NamedLink). record { names = ns; sent = l.board.sent }) names ∙ h.plain.board;
-        manager = h.plain.manager;
-        machines = h.plain.machines;
-        images = h.plain.images;
-      };
+      plain = search (ap (λ (ns : List NamedLink). record { names = ns; sent = l.board.sent }) names ∙ h.plain.board);
       places = record {
         process = λ p z e. process_same v a (told_of s a q r at moves) p z (others_keep s a q r at moves p (absent l q p z none e)) (g.process p z e);
         message = λ i m e. message_same a (told_of s a q r at moves) i m (messages_keep s a q r at moves i) (g.message i m e);
@@ -218,14 +211,7 @@ children_told s v a l r at moves none h =
     let g = h.places in
     let q = manager in
     record {
-      plain = record {
-        processes = h.plain.processes;
-        bag = h.plain.bag;
-        board = h.plain.board;
-        manager = managing.plain_retargeted r at moves l.manager ∙ h.plain.manager;
-        machines = h.plain.machines;
-        images = h.plain.images;
-      };
+      plain = search (managing.plain_retargeted r at moves l.manager ∙ h.plain.manager);
       places = record {
         process = λ p z e. process_same v a (told_of s a q r at moves) p z (others_keep s a q r at moves p (absent l q p z none e)) (g.process p z e);
         message = λ i m e. message_same a (told_of s a q r at moves) i m (messages_keep s a q r at moves i) (g.message i m e);
