@@ -198,32 +198,21 @@ kernel_follows b m pt l records k y c h =
 
 elsewhere_follows : (b : Boot) (m : ℕ) (pt : Point) (l : Placed) (records : AllRecords) (k : KernelState) (y : Message) (c : Fronts b m pt l records k y) (h : Follows b m pt l records k y c)
     → Elsewhere m (begun pt m) l (handled_point pt m y.id h.held h.topic h.addresses) h.placed
-elsewhere_follows b m pt l records k y c h = record {
-  acting = refl;
-  groups = refl;
-  pair = λ a d. refl;
-  inbox = λ n off. machine_off pt.view.inbox m n (without_front y.id (pt.view.inbox m)) off;
-  ring = λ n off. refl;
-  known = λ n p off. refl;
-  queue = λ n p off. refl;
-  held = λ n p off. h.held_off n p off;
-  count = λ n. refl;
-  told = refl;
-  machines = refl;
-  made = λ n off. refl;
-  process = λ n p off has. elim (cases_Bool (pid_eq h.process p)) [
-    | inl same ↦
-        let e : h.process ≡ p = pid_eq-is h.process p same in
-        subst (λ (q : Pid). h.placed.processes q ≡ l.processes q) e (h.elsewhere n off (ap (λ (q : Pid). has_process (pt.view.known n q)) e ∙ has))
-    | inr apart ↦ h.processes p apart
-  ];
-  ended = λ n p off e. refl;
-  life = λ n p off e. refl;
-  bag = λ i s is least. kept_at b m pt l records k y c h s i (elsewhere_apart m s is) (standing_begun s i least);
-  board = h.board;
-  manager = h.manager;
-}
+elsewhere_follows b m pt l records k y c h = search (
+  machine_off,
+  h.held_off,
+  others,
+  λ (i : MsgId) (s : Spot) (is : is_elsewhere m s ≡ true) (least : 1 ≤ standing (begun pt m).view i s). kept_at b m pt l records k y c h s i (elsewhere_apart m s is) (standing_begun s i least),
+)
   where
+    others : (n : ℕ) (p : Pid) → n ≢ m → has_process (pt.view.known n p) ≡ true → h.placed.processes p ≡ l.processes p
+    others n p off has = elim (cases_Bool (pid_eq h.process p)) [
+      | inl same ↦
+          let e : h.process ≡ p = pid_eq-is h.process p same in
+          subst (λ (q : Pid). h.placed.processes q ≡ l.processes q) e (h.elsewhere n off (ap (λ (q : Pid). has_process (pt.view.known n q)) e ∙ has))
+      | inr apart ↦ h.processes p apart
+    ]
+
     standing_begun : (s : Spot) (i : MsgId) → 1 ≤ standing (begun pt m).view i s → 1 ≤ standing pt.view i s
     standing_begun (Queue n p) i least = least
     standing_begun _ i least = least

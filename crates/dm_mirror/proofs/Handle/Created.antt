@@ -17,7 +17,7 @@ use Rattle.dm_mirror.proofs.Handle.Makes.{no_room_row, valid_at, free_of, room_s
 use Rattle.dm_mirror.proofs.Handle.Rows.{IsLeft, Elsewhere, Over, Moves, unknown_left, after_one, elsewhere_apart, front_gone, kept_at, kept_behind, mirrors_one, own_back, own_kept, seen_point, standing_begun}
 use Rattle.dm_mirror.proofs.Handle.Taking.{Taking, outcome_is, sane_of, sent_other, sent_there, turn_is, held_apart, queue_apart}
 use Rattle.dm_mirror.proofs.Rooms.{taken_made}
-use Rattle.dm_mirror.proofs.Turning.{Row}
+use Rattle.dm_mirror.proofs.Turning.{Row, has_process, is_elsewhere}
 
 -- it is made
 abbrev made_point : Point → ℕ → MsgId → Pid → OneKernel → Point
@@ -137,26 +137,14 @@ created_row b m pt l k y image ls g c num found some valid =
             taken_slots = ap (λ (n : ℕ). n + 1) c.stands.room.taken_slots ∙ ap (λ (r : Room). r.slots) (sym all);
             taken_blocks = ap (λ (n : ℕ). n + g.blocks) c.stands.room.taken_blocks ∙ ap (λ (r : Room). r.blocks) (sym all);
           }) c.stands.servers;
-      elsewhere = record {
-        acting = refl;
-        groups = refl;
-        pair = λ f d. refl;
-        inbox = λ n o. machine_off pt.view.inbox m n (without_front y.id (pt.view.inbox m)) o;
-        ring = λ n o. machine_off pt.view.ring m n (pt.view.ring m ++ child ∷ []) o;
-        known = λ n q o. record_off pt.view.known m n child q Known.Here o;
-        queue = λ n q o. refl;
-        held = λ n q o. refl;
-        count = λ n. refl;
-        told = refl;
-        machines = refl;
-        made = made_off;
-        process = λ n q o has. others_placed q (left q (Elsewhere n o has));
-        ended = λ n q o over. others_live q (left q (Over n o over));
-        life = λ n q o has. others_live q (left q (Elsewhere n o has));
-        bag = λ i q is least. kept q i (elsewhere_apart m q is) (subst (λ (n : ℕ). 1 ≤ n) (standing_begun pt m i q) least);
-        board = λ o. refl;
-        manager = λ o. refl;
-      };
+      elsewhere = search (
+        machine_off,
+        record_off,
+        λ (n : ℕ) (q : Pid) (o : n ≢ m) (has : has_process (pt.view.known n q) ≡ true). others_placed q (left q (Elsewhere n o has)),
+        λ (n : ℕ) (q : Pid) (o : n ≢ m) (over : pt.view.known n q ≡ Known.Ended). others_live q (left q (Over n o over)),
+        λ (n : ℕ) (q : Pid) (o : n ≢ m) (has : has_process (pt.view.known n q) ≡ true). others_live q (left q (Elsewhere n o has)),
+        λ (i : MsgId) (q : Spot) (is : is_elsewhere m q ≡ true) (least : 1 ≤ standing (begun pt m).view i q). kept q i (elsewhere_apart m q is) (subst (λ (n : ℕ). 1 ≤ n) (standing_begun pt m i q) least),
+      );
       sent = (a_there, refl);
       still = refl;
       count = refl;

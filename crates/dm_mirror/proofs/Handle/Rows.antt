@@ -232,26 +232,14 @@ turns_row b m pt l k y w c h =
             taken_slots = ap (λ (t : Taken). t.taken_slots) h.room ∙ stands.room.taken_slots ∙ ap (λ (r : Room). r.slots) (sym taken);
             taken_blocks = ap (λ (t : Taken). t.taken_blocks) h.room ∙ stands.room.taken_blocks ∙ ap (λ (r : Room). r.blocks) (sym taken);
           }) h.servers;
-      elsewhere = record {
-        acting = refl;
-        groups = refl;
-        pair = λ a d. refl;
-        inbox = λ n off. machine_off pt.view.inbox m n (without_front y.id (pt.view.inbox m)) off;
-        ring = λ n off. refl;
-        known = λ n p off. refl;
-        queue = λ n p off. refl;
-        held = λ n p off. refl;
-        count = λ n. refl;
-        told = refl;
-        machines = h.machines;
-        made = λ n off. h.made n;
-        process = λ n q off has. (h.left q (Elsewhere n off has)).0;
-        ended = λ n q off over. (h.left q (Over n off over)).1;
-        life = λ n q off has. (h.left q (Elsewhere n off has)).1;
-        bag = λ i s is least. kept s i (elsewhere_apart m s is) (subst (λ (n : ℕ). 1 ≤ n) (standing_begun pt m i s) least);
-        board = h.board;
-        manager = h.manager;
-      };
+      elsewhere = search (
+        machine_off,
+        h.made,
+        λ (n : ℕ) (q : Pid) (off : n ≢ m) (has : has_process (pt.view.known n q) ≡ true). (h.left q (Elsewhere n off has)).0,
+        λ (n : ℕ) (q : Pid) (off : n ≢ m) (has : has_process (pt.view.known n q) ≡ true). (h.left q (Elsewhere n off has)).1,
+        λ (n : ℕ) (q : Pid) (off : n ≢ m) (over : pt.view.known n q ≡ Ended). (h.left q (Over n off over)).1,
+        λ (i : MsgId) (s : Spot) (is : is_elsewhere m s ≡ true) (least : 1 ≤ standing (begun pt m).view i s). kept s i (elsewhere_apart m s is) (subst (λ (n : ℕ). 1 ≤ n) (standing_begun pt m i s) least),
+      );
       sent = sent;
       still = refl;
       count = h.sent;

@@ -177,26 +177,11 @@ goes b m pt l records k y p h made =
           (room_released k.room _ before now (length x.memory / 256) h.stands.room slots blocks)
           h.stands.servers;
       sent = λ e. omega (arith, e, owned);
-      elsewhere = record {
-        acting = refl;
-        groups = refl;
-        pair = λ a e. refl;
-        inbox = λ r off. machine_off v.inbox m r (without_first (v.inbox m)) off;
-        ring = λ r off. refl;
-        known = λ r q off. record_off v.known m r p q forward off;
-        queue = λ r q off. record_off v.queue m r p q [] off;
-        held = λ r q off. record_off v.held m r p q [] off;
-        count = λ r. refl;
-        told = refl;
-        machines = refl;
-        made = λ r off. refl;
-        process = λ r q off has. refl;
-        ended = λ r q off over. refl;
-        life = λ r q off has. refl;
-        bag = λ i spot away least. stays spot i (elsewhere_queue m p spot away) (elsewhere_held m p spot away) (subst (λ (r : ℕ). 1 ≤ r) (begun_standing pt m i spot) least);
-        board = λ off. refl;
-        manager = λ off. refl;
-      };
+      elsewhere = search (
+        record_off,
+        λ (i : MsgId) (spot : Spot) (away : is_elsewhere m spot ≡ true) (least : 1 ≤ standing (begun pt m).view i spot).
+            stays spot i (elsewhere_queue m p spot away) (elsewhere_held m p spot away) (subst (λ (r : ℕ). 1 ≤ r) (begun_standing pt m i spot) least),
+      );
       may = all_may end placed after_records to moves l.bag ids ms (λ i a least e. on_may b pt end m p l after_records to moves i a h.run h.mirrors h.own refl least e) lists;
       single = omega (arith, owned);
       topic = refl;
