@@ -1,5 +1,5 @@
 -- The world after what a turn says, before the messages that it sends are routed.
-use Rattle.dm_mirror.proofs.Names.{◌≡◌, ◌≢◌, ℕ, ◌<◌, ◌≤◌, ◌==◌, Bool, true, false, length, refl, ap, ◌∙◌, sym, subst, inl, inr, if◌then◌else◌, eqb_tells, Boot, Point, at_machine, Untaken, Pair, Placed, Mirrors, IsLawfulState, KernelState}
+use Rattle.dm_mirror.proofs.Names.{◌≡◌, ◌≢◌, ℕ, ◌<◌, ◌≤◌, ◌==◌, Bool, true, false, length, refl, ap, ◌∙◌, sym, subst, inl, inr, if◌then◌else◌, eqb_tells, Boot, Point, at_machine, Untaken, Pair, Placed, Mirrors, IsLawfulState, KernelState, arith, nat_tests}
 use Rattle.dm_mirror.proofs.Names.{NodeState, WorldState, AllOwnStand, KernelStands, NodeStands, History, StandsWith, AllRecords, TokensStand}
 use Rattle.dm_mirror.proofs.Turning.{Elsewhere}
 use Rattle.dm_mirror.proofs.Others.{MadeHere, apart_tells, kernel_stays, pair_stays}
@@ -20,20 +20,10 @@ turned_there w m n k h = ap (λ (c : Bool). if c then with_kernel (w.nodes m) k 
 
 -- the streams stay
 turned_senders : (w : WorldState) (m n c : ℕ) (k : KernelState) → ((with_turned w m k).nodes n).senders c ≡ (w.nodes n).senders c
-turned_senders w m n c k =
-    elim (eqb_tells m n) [
-      | inl e ↦
-          ap (λ (t : Bool). (if t then with_kernel (w.nodes m) k else w.nodes n).senders c) e.0 ∙ ap (λ (i : ℕ). (w.nodes i).senders c) e.1
-      | inr e ↦ ap (λ (t : Bool). (if t then with_kernel (w.nodes m) k else w.nodes n).senders c) e.0
-    ]
+turned_senders w m n c k = grind (arith, nat_tests, eqb_tells)
 
 turned_receivers : (w : WorldState) (m n c : ℕ) (k : KernelState) → ((with_turned w m k).nodes n).receivers c ≡ (w.nodes n).receivers c
-turned_receivers w m n c k =
-    elim (eqb_tells m n) [
-      | inl e ↦
-          ap (λ (t : Bool). (if t then with_kernel (w.nodes m) k else w.nodes n).receivers c) e.0 ∙ ap (λ (i : ℕ). (w.nodes i).receivers c) e.1
-      | inr e ↦ ap (λ (t : Bool). (if t then with_kernel (w.nodes m) k else w.nodes n).receivers c) e.0
-    ]
+turned_receivers w m n c k = grind (arith, nat_tests, eqb_tells)
 
 -- what the machines know then
 records_if : (w : WorldState) (m n : ℕ) (k : KernelState) (t : Bool) → (if t then with_kernel (w.nodes m) k else w.nodes n).kernel.records ≡ (if t then k.records else (w.nodes n).kernel.records)

@@ -83,10 +83,7 @@ marked_none (p ∷ ps) zero e = cc
 marked_none (p ∷ ps) (suc k) e = ap (λ (qs : List Sent). p ∷ qs) (marked_none ps k e)
 
 mark_by : (wires : ℕ → ℕ → List Sent) (a c k x y : ℕ) (b : Bool) → ((a == x) && (c == y)) ≡ b → bytes_at (wires a c) k ≡ None → (if b then marked (wires x y) k else wires x y) ≡ wires x y
-mark_by wires a c k x y true e none =
-    let f : a ≡ x = grind (arith, nat_tests) in
-    let g : c ≡ y = grind (arith, nat_tests) in
-    marked_none (wires x y) k (ap (λ (n : ℕ). bytes_at (wires n y) k) (sym f) ∙ (ap (λ (n : ℕ). bytes_at (wires a n) k) (sym g) ∙ none))
+mark_by wires a c k x y true e none = grind (arith, nat_tests, marked_none)
 mark_by wires a c k x y false e none = refl
 
 mark_none : (wires : ℕ → ℕ → List Sent) (a c k x y : ℕ) → bytes_at (wires a c) k ≡ None → after_mark wires a c k x y ≡ wires x y

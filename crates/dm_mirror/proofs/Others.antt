@@ -1,5 +1,5 @@
 -- A turn on one machine leaves the kernels of the others as they stand, and each pair.
-use Rattle.dm_mirror.proofs.Names.{◌≡◌, ◌≢◌, ℕ, zero, suc, ◌+◌, ◌≤◌, ◌==◌, Bool, true, not, List, [], ◌∷◌, map, refl, ap, ◌∙◌, sym, subst, is_some, inl, inr, arith, if◌then◌else◌, drop, take, slice_get, Option, None, Some, eqb_tells, Pid}
+use Rattle.dm_mirror.proofs.Names.{◌≡◌, ◌≢◌, ℕ, zero, suc, ◌+◌, ◌≤◌, ◌==◌, Bool, true, not, List, [], ◌∷◌, map, refl, ap, ◌∙◌, sym, subst, is_some, inl, inr, arith, if◌then◌else◌, drop, take, slice_get, Option, None, Some, eqb_tells, Pid, nat_tests}
 use Rattle.dm_mirror.proofs.Names.{pid_of, Message, MsgId, Record, Process, Receiving, kept_under, Sending, Boot, first_number, id_eq-same, Point, Room, and, blocks_of, has, takes_room, taken_at, taken_by, taken_of_home, Queue, Held, Inbox}
 use Rattle.dm_mirror.proofs.Names.{Untaken, times, standing, Pair, Placed, KernelState, room_of, WorldState, AreMessages, HereStands, KnownStands, RoomStands, servers_at, KernelStands, History, PairStands}
 use Rattle.dm_stream.specs.Order as order
@@ -60,10 +60,7 @@ module _ (pt next : Point) (n m : ℕ) (made : MadeHere m n pt next) (same : (p 
   home_same home (suc k) = λ i. and (home_same home k i) (same (pid_of home (first_number + k)) i)
 
   and_none : (r s : Room) → s ≡ no_room → and r s ≡ r
-  and_none r s e =
-      let a : r.slots + 0 ≡ r.slots = omega arith in
-      let c : r.blocks + 0 ≡ r.blocks = omega arith in
-      ap (and r) e ∙ (λ i. record { slots = a i; blocks = c i })
+  and_none r s e = grind (arith, nat_tests)
 
   -- those that were made now take nothing there
   home_more : (k j : ℕ) → j ≡ pt.kernel.made m + k → taken_of_home next n m j ≡ taken_of_home pt n m (pt.kernel.made m)
@@ -97,15 +94,7 @@ module _ (pt next : Point) (n m : ℕ) (made : MadeHere m n pt next) (same : (p 
 
 -- the servers are on machine 0
 servers_stay : (l placed : Placed) (m n : ℕ) → n ≢ m → (m ≢ 0 → placed.board ≡ l.board) → (m ≢ 0 → placed.manager ≡ l.manager) → servers_at placed n ≡ servers_at l n
-servers_stay l placed m n apart board manager =
-    elim (eqb_tells n 0) [
-      | inl e ↦
-          let other : m ≢ 0 = (λ z. apart (e.1 ∙ sym z)) in
-          λ i. if n == 0 then Some (record { board = board other i; manager = manager other i }) else None
-      | inr e ↦
-          ap (λ (c : Bool). if c then Some (record { board = placed.board; manager = placed.manager }) else None) e.0
-          ∙ sym (ap (λ (c : Bool). if c then Some (record { board = l.board; manager = l.manager }) else None) e.0)
-    ]
+servers_stay l placed m n apart board manager = grind (arith, nat_tests, eqb_tells)
 
 -- the kernel of another machine stays
 pub kernel_stays : (b : Boot) (m n : ℕ) (pt next : Point) (l placed : Placed) (k : KernelState) → n ≢ m → MadeHere m n pt next → Elsewhere m pt l next placed → KernelStands b pt l n k

@@ -14,10 +14,7 @@ use Rattle.dm_mirror.proofs.Stays.{apart_is, at_here, at_other, both_false, mirr
 
 -- the parts of a group, one after the other
 pub spelled_on : (pt next : Point) (p : Part) (ls : List Line) (ps : List Part) (w : Spelled) → lines_of pt p ≡ Some ls → after pt ls ≡ Some next → spelled next ps ≡ Some w → spelled pt (p ∷ ps) ≡ Some (behind ls w)
-spelled_on pt next p ls ps w lines comes rest =
-    ap (λ (o : Option (List Line)). bind o (λ (xs : List Line). bind (after pt xs) (λ (n : Point). bind (spelled n ps) (λ (z : Spelled). Some (behind xs z))))) lines
-    ∙ ap (λ (o : Option Point). bind o (λ (n : Point). bind (spelled n ps) (λ (z : Spelled). Some (behind ls z)))) comes
-    ∙ ap (λ (o : Option Spelled). bind o (λ (z : Spelled). Some (behind ls z))) rest
+spelled_on pt next p ls ps w lines comes rest = search
 
 -- what is given to the outside, one after the other
 abbrev pub spoken_then : Spoken → List Out → Spoken

@@ -1,5 +1,5 @@
 -- The line of a message that is routed, as the machine says it and as the rule has it.
-use Rattle.dm_mirror.proofs.Names.{◌≡◌, ℕ, ◌==◌, Bool, true, false, is_some, List, [], ◌∷◌, length, refl, ap, ◌∙◌, sym, subst, if◌then◌else◌, Option, None, Some, Message, What, Load, IsKindOfPlain, kind_of, plain_kind, PlainMessage}
+use Rattle.dm_mirror.proofs.Names.{◌≡◌, ℕ, ◌==◌, Bool, true, false, is_some, List, [], ◌∷◌, length, refl, ap, ◌∙◌, sym, subst, if◌then◌else◌, Option, None, Some, Message, What, Load, IsKindOfPlain, kind_of, plain_kind, PlainMessage, arith, nat_tests}
 use Rattle.dm_mirror.proofs.Names.{PlainWhat, plain_message, plain_what, with_what, bind, Line, Receiver, goes_out, lines_of, packet_line, puts, Point, after, moved, Told, own_id, Pid, MsgId, MessageKind, Placed, Mirrors, AllRecords}
 use Rattle.dm_mirror.proofs.Turning.{Route, First, On, Own, MayPut, message_of, rule_part_of}
 
@@ -77,9 +77,6 @@ part_is pt l records m (First x) home out mirrors acting may same goes =
     let place : (pt.addresses (Receiver x.id)).at ≡ x.to.at = ap (λ z. z.at) (mirrors.places.message x.id x may.0).receiver in
     ap (λ (o : Option PlainMessage). bind o (λ (z : PlainMessage). Some (puts pt.view (pt.addresses (Receiver x.id)).at x.id (plain_kind z.what) z.to))) p.there
     ∙ ap Some (puts_are pt m x.to.at x x.id (plain_kind p.m.what) p.m.to (pt.addresses (Receiver x.id)).at home out acting place refl p.kind p.to same goes)
-part_is pt l records m (On x) home out mirrors acting may same goes =
-    let t : Told = may.1.0 in
-    ap (λ (o : Option Told). bind o (λ (z : Told). Some (puts pt.view x.to.at x.id z.kind z.receiver))) may.1.1
-    ∙ ap Some (puts_are pt m x.to.at x x.id t.kind t.receiver x.to.at home out acting refl refl may.1.2 may.1.3 same goes)
+part_is pt l records m (On x) home out mirrors acting may same goes = grind (arith, nat_tests, puts_are)
 part_is pt l records m (Own x) home out mirrors acting may same goes =
     ap Some (puts_are pt m x.to.at x (own_id pt.view) (kind_of x.what) x.to.pid x.to.at home out acting refl (sym may.id) refl refl same goes)

@@ -42,13 +42,7 @@ memory_blocks : (i : BootImage) → image_is_valid i ≡ true → length (memory
 memory_blocks i valid = let e : length (memory_of i) ≡ 256 * i.blocks = grind (arith, common_steps, nat_tests) in omega (arith, e)
 
 taken_on : (b : Boot) (m : ℕ) (q : Pid) (p : BootProcess) → IsValid b → (q.home == m) ≡ true → process_named q b.processes ≡ Some p → taken_by (first_point b) m q ≡ record { slots = 1; blocks = blocks_of_image (slice_get b.images p.image) }
-taken_on b m q p valid on named =
-    let n = named_is b [] b.processes q p valid.processes named in
-    let life : (first_point b).kernel.processes q ≡ Some (Alive (begun b.format n.image (map plain_link p.links))) =
-    life_named b b.processes q ∙ ap (λ (o : Option BootProcess). bind o (first_life b)) named ∙ first_alive b p n.image n.there in
-    ap (λ (k : Known). record { slots = takes_room k; blocks = if takes_room k == 0 then 0 else blocks_of (kernel.alive ((first_point b).kernel.processes q)) }) (first_mine b m q p valid on named)
-    ∙ ap (λ (o : Option Life). record { slots = 1; blocks = blocks_of (kernel.alive o) }) life
-    ∙ ap (λ (k : ℕ). record { slots = 1; blocks = k }) (memory_blocks n.image (image_fits b.images p.image n.image valid.images n.there) ∙ sym (ap blocks_of_image n.there))
+taken_on b m q p valid on named = grind (arith, nat_tests, named_is, life_named, first_alive, first_mine, memory_blocks, image_fits)
 
 -- those of the list that are here, in order
 abbrev AreOfFile : Boot → List BootProcess → Type 0

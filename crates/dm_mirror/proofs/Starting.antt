@@ -48,11 +48,7 @@ known_first b m q false off server valid =
 
 -- servers aren't named
 server_low : (q : Pid) → is_server q ≡ true → q.num < 3
-server_low q e = by (pid_eq q switchboard) refl e
-  where
-    by : (c : Bool) → pid_eq q switchboard ≡ c → (c || pid_eq q manager) ≡ true → q.num < 3
-    by true f g = grind (arith, nat_tests)
-    by false f g = grind (arith, nat_tests)
+server_low q e = grind (arith, nat_tests)
 
 no_server_named : (b : Boot) (m : ℕ) (q : Pid) → IsValid b → is_server q ≡ true → first_record b m q (process_named q b.processes) None ≡ None
 no_server_named b m q valid server = ap (λ o. first_record b m q o None) (none_below b [] b.processes q valid.processes (let low = server_low q server in omega (arith, low)))

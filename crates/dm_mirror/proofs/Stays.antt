@@ -57,15 +57,6 @@ module _ (b : Boot) (pt : Point) (l : Placed) (v : View) where
   taken_same m zero = refl
   taken_same m (suc n) = λ i. and (taken_same m n i) (home_same m n (pt.kernel.made n) i)
 
-  known_same : (p : Pid) (queue held : List MsgId) (k : Known) (r : Option machine.Known) → KnownStands pt l p queue held k r → KnownStands (with_view pt v) l p queue held k r
-  known_same p queue held Unknown None h = h
-  known_same p queue held Here (Some (Record.Here x)) h = h
-  known_same p queue held (Frozen to) (Some (Record.Frozen d)) h = h
-  known_same p queue held (Incoming from) (Some (Record.Incoming x)) h = h
-  known_same p queue held (Forward to moves) (Some (Record.Forward at n)) h = h
-  known_same p queue held Ended (Some (Record.Ended y)) h = h
-  known_same p queue held k r h = h
-
   room_same : (m : ℕ) (k : KernelState) → RoomStands k.room (room_of (slice_get b.machines m)) (taken_at pt m pt.kernel.machines)
       → RoomStands k.room (room_of (slice_get b.machines m)) (taken_at (with_view pt v) m pt.kernel.machines)
   room_same m k h = subst (λ r. RoomStands k.room (room_of (slice_get b.machines m)) r) (sym (taken_same m pt.kernel.machines)) h

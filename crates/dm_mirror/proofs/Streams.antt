@@ -111,11 +111,7 @@ is_given b bag a c s sent p x fresh there lawful j = search (
 -- the message that is due goes out, with the next number
 numbered_is : (n k : ℕ) (o : Option Message) (x : Message) → numbered k o ≡ Some (n, x) → n ≡ k
 numbered_is n k None x e = cc
-numbered_is n k (Some y) x e = sym (ap number_in e)
-  where
-    number_in : Option (ℕ × Message) → ℕ
-    number_in None = 0
-    number_in (Some q) = q.0
+numbered_is n k (Some y) x e = grind (arith, nat_tests)
 
 due_if : (n k : ℕ) (o : Option Message) (x : Message) (t : Bool) → (if t then numbered k o else None) ≡ Some (n, x) → (t ≡ true) × (n ≡ k)
 due_if n k o x true e = (refl, numbered_is n k o x e)

@@ -18,16 +18,7 @@ pub grows_on : (u v w : View) → Grows u v → Grows v w → Grows u w
 grows_on u v w h k = record { ids = λ a c. omega (arith, h.ids a c, k.ids a c) }
 
 pair_grows : (f : ℕ → ℕ → Pair) (a b : ℕ) (p : Pair) → length (f a b).ids ≤ length p.ids → (c d : ℕ) → length (f c d).ids ≤ length (at_pair f a b p c d).ids
-pair_grows f a b p le c d = elim (cases_Bool ((a == c) && (b == d))) [
-  | inl same ↦
-      let k = parts (a == c) (b == d) same in
-      let here : length (at_pair f a b p c d).ids ≡ length p.ids = ap (λ (t : Bool). length (if t then p else f c d).ids) same in
-      let was : length (f a b).ids ≡ length (f c d).ids = ap (λ x. length (f x b).ids) (eq_is a c k.0) ∙ ap (λ x. length (f c x).ids) (eq_is b d k.1) in
-      omega (arith, here, was, le)
-  | inr apart ↦
-      let off : length (at_pair f a b p c d).ids ≡ length (f c d).ids = ap (λ (t : Bool). length (if t then p else f c d).ids) apart in
-      omega (arith, off)
-]
+pair_grows f a b p le c d = grind (arith, nat_tests, parts, eq_is)
 
 set_grows : (v w : View) (a b : ℕ) (p : Pair) → w.pair ≡ at_pair v.pair a b p → length (v.pair a b).ids ≤ length p.ids → Grows v w
 set_grows v w a b p e le = record {

@@ -90,11 +90,7 @@ pub next_untold : (b : Boot) (pt : Point) (m : ℕ) → Run b pt → pt.view.tol
 next_untold b pt m run = run.based.phased.state.numbered m (pt.view.count m) (omega arith)
 
 no_server : (s : OneKernel) (p : Pid) → Made s → is_some (s.processes p) ≡ true → is_server p ≡ false
-no_server s p h there =
-    let k = h.least p there in
-    let e : pid_eq p switchboard ≡ false = grind (arith, nat_tests) in
-    let d : pid_eq p manager ≡ false = grind (arith, nat_tests) in
-    ap (λ (c : Bool). c || pid_eq p manager) e ∙ d
+no_server s p h there = grind (arith, nat_tests)
 
 the_told : (t u : Told) → Some t ≡ Some u → t ≡ u
 the_told t u e = cc

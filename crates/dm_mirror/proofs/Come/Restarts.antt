@@ -1,5 +1,5 @@
 -- A process that has come goes on: it is here, at the ring's back, and what was held for it comes before the inbox.
-use Rattle.dm_mirror.proofs.Names.{◌≡◌, ◌≢◌, ◌⊎◌, ℕ, ◌+◌, ◌/◌, ◌≤◌, ◌==◌, ◌&&◌, Bool, true, false, List, [], ◌∷◌, ◌++◌, length, map, refl, ap, ◌∙◌, sym, subst, inl, inr, arith, if◌then◌else◌, slice_get, Option, None, Some, cases_Bool}
+use Rattle.dm_mirror.proofs.Names.{◌≡◌, ◌≢◌, ◌⊎◌, ℕ, ◌+◌, ◌/◌, ◌≤◌, ◌==◌, ◌&&◌, Bool, true, false, List, [], ◌∷◌, ◌++◌, length, map, refl, ap, ◌∙◌, sym, subst, inl, inr, arith, if◌then◌else◌, slice_get, Option, None, Some, cases_Bool, nat_tests}
 use Rattle.dm_mirror.proofs.Names.{false≢true, Pid, pid_eq, Message, MsgId, What, Record, Line, Stage, Part, MessageKind, kind_of, Process, incoming_of, with_record, Nothing, restarted, ComesByPieces, by_pieces, Boot, bind, plain_process}
 use Rattle.dm_mirror.proofs.Names.{pid_eq-is, pid_eq-same, kernel_told, Moves, comes, is_away, is_early, knows, leaves, Point, moved, Room, fits, free_room, taken_at, taken_by, at_machine, at_record, Spot, Held, Inbox, standing, times}
 use Rattle.dm_mirror.proofs.Names.{Known, Unknown, Here, Frozen, Incoming, Forward, Ended, Of, View, without_first, once_at, times-append, is_server, has_no_queue, Placed, restarted_mirrors, mirrors_view, room_of, restarts, restarts_as}
@@ -79,11 +79,7 @@ held_fewer v m n p q j false = omega arith
 
 inbox_back : (v : View) (m n : ℕ) (p : Pid) (j : MsgId) (d : Bool) → (m == n) ≡ d
     → times j (if d then v.held m p ++ at_machine v.inbox m (without_first (v.inbox m)) m else at_machine v.inbox m (without_first (v.inbox m)) n) ≤ times j (at_machine v.inbox m (without_first (v.inbox m)) n) + times j (v.held m p)
-inbox_back v m n p j true e =
-    let both = times-append j (v.held m p) (at_machine v.inbox m (without_first (v.inbox m)) m) in
-    let here : at_machine v.inbox m (without_first (v.inbox m)) n ≡ at_machine v.inbox m (without_first (v.inbox m)) m = ap (λ (t : Bool). if t then without_first (v.inbox m) else v.inbox n) e ∙ sym (machine_self v.inbox m (without_first (v.inbox m))) in
-    let same : times j (at_machine v.inbox m (without_first (v.inbox m)) n) ≡ times j (at_machine v.inbox m (without_first (v.inbox m)) m) = ap (times j) here in
-    omega (arith, both, same)
+inbox_back v m n p j true e = grind (arith, nat_tests, times-append, machine_self)
 inbox_back v m n p j false e = omega arith
 
 back_standing : (pt : Point) (m : ℕ) (p : Pid) (j : MsgId) (z : Spot)
@@ -166,10 +162,7 @@ taken_back b m pt l k y p a incoming = taken_same pt (back_point pt m p) m refl 
     ]
 
 no_server_back : (b : Boot) (m : ℕ) (pt : Point) (l : Placed) (k s : KernelState) (y : Message) (p : Pid) → Arrives b m pt l k y p → KernelStands b pt l m k → (r : Pid) → is_server r ≡ true → ((z : Pid) → pid_eq p z ≡ false → s.records z ≡ k.records z) → s.records r ≡ None
-no_server_back b m pt l k s y p a stands r server others = elim (cases_Bool (pid_eq p r)) [
-  | inl same ↦ absurd (false≢true (sym a.server ∙ ap is_server (pid_eq-is p r same) ∙ server))
-  | inr off ↦ others r off ∙ stands.no_server r server
-]
+no_server_back b m pt l k s y p a stands r server others = grind (arith, nat_tests, pid_eq-is)
 
 pub turns_restart : (b : Boot) (m : ℕ) (pt : Point) (l : Placed) (records : AllRecords) (k : KernelState) (y : Message) (p : Pid) (q : Pid) → Comes b m pt l records k y p → y.what ≡ What.Restart q → TurnsAt b m pt l records k
 turns_restart b m pt l records k y p q c e =

@@ -33,10 +33,7 @@ machine_off f m n x apart = ap (λ (c : Bool). if c then x else f n) (eq_off m n
 
 -- the handled message is gone, and no other has come
 fewer_at : (f : ℕ → List MsgId) (m n : ℕ) (i j : MsgId) (is box : List MsgId) → f m ≡ i ∷ is → box ≡ is → (c : Bool) → (m == n) ≡ c → times j (if c then box else f n) ≤ times j (f n)
-fewer_at f m n i j is box e b true same =
-    let here : m ≡ n = eq_is m n same in
-    let g : f n ≡ i ∷ is = ap f (sym here) ∙ e in
-    subst (λ (xs : List MsgId). times j box ≤ times j xs) (sym g) (subst (λ (xs : List MsgId). times j xs ≤ times j (i ∷ is)) (sym b) (omega arith))
+fewer_at f m n i j is box e b true same = grind (arith, nat_tests, eq_is)
 fewer_at f m n i j is box e b false off = omega arith
 
 pub fewer : (v : View) (m : ℕ) (p : Pid) (is box : List MsgId) (known : ℕ → Pid → Known) (asked : Pid → ℕ) (i j : MsgId) (z : Spot) → v.inbox m ≡ i ∷ is → box ≡ is → standing (come_view v m p box known asked) j z ≤ standing v j z
@@ -141,10 +138,7 @@ known_by b m pt l records k y p c a h q server =
     ]
 
 server_by : (b : Boot) (m : ℕ) (pt : Point) (l : Placed) (records : AllRecords) (k : KernelState) (y : Message) (p : Pid) (c : Comes b m pt l records k y p) (a : Arrives b m pt l k y p) (h : Answer b m pt l records k y p c a) (q : Pid) → is_server q ≡ true → h.state.records q ≡ None
-server_by b m pt l records k y p c a h q server = elim (cases_Bool (pid_eq p q)) [
-  | inl same ↦ absurd (false≢true (sym a.server ∙ ap is_server (pid_eq-is p q same) ∙ server))
-  | inr off ↦ h.records_off q off ∙ c.stands.no_server q server
-]
+server_by b m pt l records k y p c a h q server = grind (arith, nat_tests, pid_eq-is)
 
 -- the next message of the kernel may be put
 may_answer : (b : Boot) (m : ℕ) (pt : Point) (l : Placed) (records : AllRecords) (k : KernelState) (y : Message) (p : Pid) (c : Comes b m pt l records k y p) (a : Arrives b m pt l k y p) (h : Answer b m pt l records k y p c a)

@@ -20,10 +20,7 @@ room_less : (i g a j : ℕ) → suc j ≡ less (i - g) (a + 8 - g) → (j ≡ le
 room_less i g a j e = (grind (arith, nat_tests), grind (arith, nat_tests), grind (arith, nat_tests))
 
 room_none : (i g a : ℕ) → 0 ≡ less (i - g) (a + 8 - g) → (i ≤ g) ⊎ (a + 8 ≤ g)
-room_none i g a e = elim (cases_Bool (nat_le i g)) [
-  | inl on ↦ inl (grind (arith, nat_tests))
-  | inr off ↦ inr (grind (arith, nat_tests))
-]
+room_none i g a e = grind (arith, nat_tests, nat_le)
 
 -- the message under this number is due
 pub given_at : (xs : List Message) (n : ℕ) → n < length xs → (m : Message) × (slice_get xs n ≡ Some m)

@@ -94,21 +94,11 @@ pub record Moves (b : Boot) (w : WorldState) (pt : Point) (l : Placed) (h : Hist
 
 other_sender : (w v : WorldState) (a c x y : ℕ) (ms : List Message) (ss : ℕ → Sending Message) (rs : ℕ → Receiving Message) → v.nodes c ≡ node_on (w.nodes c) ms ss rs → ((m : ℕ) → m ≢ c → v.nodes m ≡ w.nodes m) → ((z : ℕ) → z ≢ a → ss z ≡ (w.nodes c).senders z)
     → IsOther c a x y → (v.nodes x).senders y ≡ (w.nodes x).senders y
-other_sender w v a c x y ms ss rs node nodes others other = elim (eqb_tells x c) [
-  | inl e ↦
-      let apart : y ≢ a = let f : x ≡ c = e.1 in grind (arith, nat_tests) in
-      subst (λ (m : ℕ). (v.nodes m).senders y ≡ (w.nodes m).senders y) (sym e.1) (ap (λ (n : NodeState). n.senders y) node ∙ others y apart)
-  | inr e ↦ ap (λ (n : NodeState). n.senders y) (nodes x (let f : (x == c) ≡ false = e.0 in grind (arith, nat_tests)))
-]
+other_sender w v a c x y ms ss rs node nodes others other = grind (arith, nat_tests, eqb_tells)
 
 other_receiver : (w v : WorldState) (a c x y : ℕ) (ms : List Message) (ss : ℕ → Sending Message) (rs : ℕ → Receiving Message) → v.nodes c ≡ node_on (w.nodes c) ms ss rs → ((m : ℕ) → m ≢ c → v.nodes m ≡ w.nodes m) → ((z : ℕ) → z ≢ a → rs z ≡ (w.nodes c).receivers z)
     → IsOther a c x y → (v.nodes y).receivers x ≡ (w.nodes y).receivers x
-other_receiver w v a c x y ms ss rs node nodes others other = elim (eqb_tells y c) [
-  | inl e ↦
-      let apart : x ≢ a = let f : y ≡ c = e.1 in grind (arith, nat_tests) in
-      subst (λ (m : ℕ). (v.nodes m).receivers x ≡ (w.nodes m).receivers x) (sym e.1) (ap (λ (n : NodeState). n.receivers x) node ∙ others x apart)
-  | inr e ↦ ap (λ (n : NodeState). n.receivers x) (nodes y (let f : (y == c) ≡ false = e.0 in grind (arith, nat_tests)))
-]
+other_receiver w v a c x y ms ss rs node nodes others other = grind (arith, nat_tests, eqb_tells)
 
 turned : (a c x y : ℕ) → IsOther a c x y → IsOther c a y x
 turned a c x y e = grind (arith, nat_tests)
@@ -189,10 +179,7 @@ module _ (b : Boot) (w : WorldState) (pt : Point) (l : Placed) (h : History) (a 
 
   -- the machines know what they knew
   records_at : (m : ℕ) → (v.nodes m).kernel.records ≡ (w.nodes m).kernel.records
-  records_at m = elim (eqb_tells m c) [
-    | inl f ↦ subst (λ (i : ℕ). (v.nodes i).kernel.records ≡ (w.nodes i).kernel.records) (sym f.1) (ap (λ (n : NodeState). n.kernel.records) e.node)
-    | inr f ↦ ap (λ (n : NodeState). n.kernel.records) (e.nodes m (let t : (m == c) ≡ false = f.0 in grind (arith, nat_tests)))
-  ]
+  records_at m = grind (arith, nat_tests, eqb_tells)
 
   tokens_on : TokensStand (told_on pt e.acting e.groups e.topic e.pair e.inbox).view l (λ m. (v.nodes m).kernel.records)
   tokens_on p i t z told between about least =

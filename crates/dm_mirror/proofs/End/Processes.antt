@@ -17,11 +17,6 @@ pub use Rattle.dm_mirror.proofs.Handle.Makes.{child_off as no_server}
 some_same : {X : Type 0} (x y : X) → Some x ≡ Some y → x ≡ y
 some_same x y e = cc
 
--- a process with a number from the first on is no server
-neither : (c d e : Bool) → d ≡ false → e ≡ false → ((c && d) || (c && e)) ≡ false
-neither true d e f g = ap (λ (x : Bool). x || e) f ∙ g
-neither false d e f g = refl
-
 -- a process that is no server, where the world stands for the point
 pub record IsOfHome (b : Boot) (w : WorldState) (pt : Point) (l : Placed) (h : History) (p : Pid) : Type 0 where
   pub stands : StandsWith b w pt l h
@@ -138,11 +133,7 @@ over_queue b w pt l h p a g =
 
 -- a process that comes: nobody has it
 none_has : (pt : Point) (p : Pid) (a : ComesTo pt.view p) (m : ℕ) → is_silent (pt.view.known m p) ≡ true
-none_has pt p a m = by (m == a.to) refl
-  where
-    by : (c : Bool) → (m == a.to) ≡ c → is_silent (pt.view.known m p) ≡ true
-    by true e = let same : a.to ≡ m = grind (arith, nat_tests) in ap (λ (k : ℕ). is_silent (pt.view.known k p)) (sym same) ∙ ap is_silent a.known
-    by false e = away_silent (pt.view.known m p) (a.others m (let apart : m ≢ a.to = grind (arith, nat_tests) in apart))
+none_has pt p a m = grind (arith, nat_tests, away_silent)
 
 to_machine : (b : Boot) (w : WorldState) (pt : Point) (l : Placed) (h : History) (p : Pid) (a : ComesTo pt.view p) → IsOfHome b w pt l h p → IsComing l p (pt.view.held a.to p) ((w.nodes a.to).kernel.records p)
 to_machine b w pt l h p a g =

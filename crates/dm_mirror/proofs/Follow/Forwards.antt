@@ -1,5 +1,5 @@
 -- A message for a process that has gone on follows it, and its sender may be told.
-use Rattle.dm_mirror.proofs.Names.{◌≡◌, ℕ, ◌+◌, ◌≤◌, Bool, true, false, List, [], ◌∷◌, map, refl, ap, ◌∙◌, sym, subst, is_some, arith, if◌then◌else◌, Option, None, Some, false≢true, Pid, pid_of, place_of, update_of, Message, MsgId}
+use Rattle.dm_mirror.proofs.Names.{◌≡◌, ℕ, ◌+◌, ◌≤◌, Bool, true, false, List, [], ◌∷◌, map, refl, ap, ◌∙◌, sym, subst, is_some, arith, if◌then◌else◌, Option, None, Some, false≢true, Pid, pid_of, place_of, update_of, Message, MsgId, nat_tests}
 use Rattle.dm_mirror.proofs.Names.{What, Record, Line, MessageKind, id_eq, id_of, kind_of, plain_kind, PlainMessage, PlainWhat, plain_message, plain_what, with_what, incoming_of, sent_on, Boot, manager, bind, forwards_and}
 use Rattle.dm_mirror.proofs.Names.{KernelState, id_eq-same, id_eq-swap, Addresses, Receiver, Sender, is_told_back, unmoved, forwards_on, process_told, Point, moved, at_machine, Spot, Queue, Held, StandsOnce, standing, About, Known, Forward}
 use Rattle.dm_mirror.proofs.Names.{Told, forward_about, forwarded_for, handled, own_id, receiver_of, stands_right, is_fixed, Run, Placed, Mirrors, free_off, plain_sent_on, forwarded_mirrors, moves_forwarded, update_gets}
@@ -78,11 +78,7 @@ sender_is : (b : Boot) (m : ℕ) (pt : Point) (l : Placed) (records : AllRecords
 sender_is b m pt l records k y c none back = sym ((c.own y.id y c.there (ap (with_what y) none)).sender (own_back y.what none back))
 
 none_of : (y : Message) → plain_message y ≡ None → plain_what y.what ≡ None
-none_of y e = none_by y (plain_what y.what) e
-  where
-    none_by : (y : Message) (o : Option PlainWhat) → with_what y o ≡ None → o ≡ None
-    none_by y None e = refl
-    none_by y (Some w) e = cc
+none_of y e = grind (arith, nat_tests)
 
 -- what goes on, and what tells its sender
 abbrev routes_of : Message → MsgId → ℕ → ℕ → ℕ → Bool → List Route

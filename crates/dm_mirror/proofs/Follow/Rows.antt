@@ -92,12 +92,7 @@ token_apart b m pt l records k y c i t still told between = elim (cases_Bool (id
 
 -- where another message stands behind it stood before
 inbox_from : (m n : ℕ) (pt : Point) (y i : MsgId) (ids : List MsgId) (e : Bool) → (m == n) ≡ e → pt.view.inbox m ≡ y ∷ ids → 1 ≤ times i (if e then without_front y (pt.view.inbox m) else pt.view.inbox n) → 1 ≤ times i (pt.view.inbox n)
-inbox_from m n pt y i ids true is box least =
-    let same : m ≡ n = grind (arith, nat_tests) in
-    let gone : 1 ≤ times i ids = subst (λ (z : List MsgId). 1 ≤ times i z) (front_gone y ids (pt.view.inbox m) box) least in
-    let more = times_more i y ids in
-    let all : 1 ≤ times i (y ∷ ids) = omega (arith, gone, more) in
-    subst (λ (z : ℕ). 1 ≤ times i (pt.view.inbox z)) same (subst (λ (z : List MsgId). 1 ≤ times i z) (sym box) all)
+inbox_from m n pt y i ids true is box least = grind (arith, nat_tests, front_gone, times_more)
 inbox_from m n pt y i ids false is box least = least
 
 stood : (b : Boot) (m : ℕ) (pt : Point) (l : Placed) (records : AllRecords) (k : KernelState) (y : Message) (c : Fronts b m pt l records k y) (h : Follows b m pt l records k y c) (i : MsgId) (z : Spot) → id_eq y.id i ≡ false

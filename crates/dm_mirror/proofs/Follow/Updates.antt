@@ -1,5 +1,5 @@
 -- An update makes the links of a process or of a server follow another process.
-use Rattle.dm_mirror.proofs.Names.{◌≡◌, ◌≢◌, ℕ, ◌+◌, ◌≤◌, ◌==◌, Bool, true, false, List, [], ◌∷◌, refl, ap, ◌∙◌, sym, subst, is_some, nat_le, arith, if◌then◌else◌, count_by, option_map, Option, None, Some, false≢true, Addr, Pid, pid_eq}
+use Rattle.dm_mirror.proofs.Names.{◌≡◌, ◌≢◌, ℕ, ◌+◌, ◌≤◌, ◌==◌, Bool, true, false, List, [], ◌∷◌, refl, ap, ◌∙◌, sym, subst, is_some, nat_le, arith, if◌then◌else◌, count_by, option_map, Option, None, Some, false≢true, Addr, Pid, pid_eq, nat_tests}
 use Rattle.dm_mirror.proofs.Names.{slot_is_behind, applied, Message, MsgId, What, Record, Line, kind_of, plain_message, plain_what, with_what, Process, incoming_of, named_is_behind, pending_is_behind, Boot, switchboard, manager, Life}
 use Rattle.dm_mirror.proofs.Names.{plain_process, Servers, board_follows, manager_follows, handles, KernelState, with_here, pid_eq-same, place_told, behind_count, here_told, process_told, server_told, updates, Phase, Rests, is_away}
 use Rattle.dm_mirror.proofs.Names.{is_between, is_here, knows, token_in, Point, moved, comes_to, hears, kernel_hears, Inbox, Spot, standing, Known, Unknown, Here, Of, Told, rests_here, is_fixed, Run, Placed, Mirrors, mirrors_view}
@@ -127,11 +127,7 @@ updated_here_turn b m pt l records k y c about fixed knows e =
 
 -- the servers are no processes, and on machine 0
 none_by : (b : Boot) (pt : Point) (l : Placed) (p : Pid) (o : Option Life) → Run b pt → Mirrors pt.kernel pt.view pt.addresses l → nat_le 3 p.num ≡ false → pt.kernel.processes p ≡ o → l.processes p ≡ None
-none_by b pt l p None run mirrors few is = none_there (l.processes p) (sym (mirrors.plain.processes p) ∙ ap kernel.alive is)
-  where
-    none_there : (o : Option Process) → option_map plain_process o ≡ None → o ≡ None
-    none_there None e = refl
-    none_there (Some x) e = cc
+none_by b pt l p None run mirrors few is = grind (arith, nat_tests, option_map)
 none_by b pt l p (Some x) run mirrors few is = absurd (false≢true (sym few ∙ run.based.phased.sane.sound.made.least p (ap is_some is)))
 
 at_home : (b : Boot) (m : ℕ) (pt : Point) (l : Placed) (records : AllRecords) (k : KernelState) (y : Message) (c : Fronts b m pt l records k y) → is_fixed y.to.pid ≡ true → y.to.pid.home ≡ 0 → m ≡ 0

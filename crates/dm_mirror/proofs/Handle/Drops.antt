@@ -1,5 +1,5 @@
 -- The queue of a process that has ended is dropped, message by message.
-use Rattle.dm_mirror.proofs.Names.{◌≡◌, ℕ, ◌≤◌, ◌==◌, ◌&&◌, Bool, true, false, List, [], ◌∷◌, ◌++◌, map, refl, ap, ◌∙◌, sym, subst, inl, inr, arith, if◌then◌else◌, Option, None, Some, cases_Bool, Pid, pid_eq, MsgId, Message, id_eq, Label}
+use Rattle.dm_mirror.proofs.Names.{◌≡◌, ℕ, ◌≤◌, ◌==◌, ◌&&◌, Bool, true, false, List, [], ◌∷◌, ◌++◌, map, refl, ap, ◌∙◌, sym, subst, inl, inr, arith, if◌then◌else◌, Option, None, Some, cases_Bool, Pid, pid_eq, MsgId, Message, id_eq, Label, nat_tests}
 use Rattle.dm_mirror.proofs.Names.{Why, OneKernel, bind, without_message, id_eq-is, id_eq-same, pid_eq-same, out_off, Line, Point, after, moved, without_front, times, View, handled, Droppable, droppable_on, dropped_is, Placed, Mirrors}
 use Rattle.dm_mirror.proofs.Names.{mirrors_view, placed_follows, AreMessages, user_dropped, machine_same}
 use Rattle.dm_kernel.specs.declared.part.Part.{Part}
@@ -46,10 +46,7 @@ pub record Drops (pt : Point) (l : Placed) (p : Pid) (ids : List MsgId) : Type 0
 
 -- a message that isn't there
 pub times_off : (j i : MsgId) (is : List MsgId) → times j (i ∷ is) ≡ 0 → (id_eq i j ≡ false) × (times j is ≡ 0)
-times_off j i is none = elim (cases_Bool (id_eq i j)) [
-  | inl same ↦ absurd (let e : i ≡ j = id_eq-is i j same in let one : 1 ≤ times j (i ∷ is) = subst (λ (z : MsgId). 1 ≤ times z (i ∷ is)) e (times_self i is) in omega (arith, none, one))
-  | inr off ↦ (off, let more = times_more j i is in omega (arith, none, more))
-]
+times_off j i is none = grind (arith, nat_tests, id_eq-is, times_self, times_more)
 
 -- the view after one
 abbrev dropped_view : View → MsgId → Pid → View

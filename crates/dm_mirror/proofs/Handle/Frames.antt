@@ -23,18 +23,6 @@ pub front_of : (bag : MsgId → Option Message) (i : MsgId) (is : List MsgId) (m
 front_of bag i is [] e = cc
 front_of bag i is (y ∷ rest) e = record { message = y; rest = rest; is_front = refl; there = cc; others = cc }
 
--- what is known of a process that stays
-here_on : (l placed : Placed) (p : Pid) (queue : List MsgId) (x : Process) → placed.processes p ≡ l.processes p → ((j : MsgId) → 1 ≤ times j queue → placed.bag j ≡ l.bag j) → HereStands l p queue x → HereStands placed p queue x
-here_on l placed p queue x same bag h = ((h.0.0, same ∙ h.0.1), map_same l.bag placed.bag queue bag ∙ h.1)
-
-leaves_on : (l placed : Placed) (p : Pid) (queue held : List MsgId) (to : ℕ) (d : Departure) → placed.processes p ≡ l.processes p → ((j : MsgId) → 1 ≤ times j queue → placed.bag j ≡ l.bag j) → ((j : MsgId) → 1 ≤ times j held → placed.bag j ≡ l.bag j)
-    → LeavesStand l p queue held to d → LeavesStand placed p queue held to d
-leaves_on l placed p queue held to d same bag holds h = search
-    (here_on l placed p queue d.process same bag h.here, map_same l.bag placed.bag held holds ∙ h.held)
-
-comes_on : (l placed : Placed) (p : Pid) (held : List MsgId) (a : Arrival) → placed.processes p ≡ l.processes p → ((j : MsgId) → 1 ≤ times j held → placed.bag j ≡ l.bag j) → ComesStand l p held a → ComesStand placed p held a
-comes_on l placed p held a same holds h = search (same ∙ h.there, map_same l.bag placed.bag held holds ∙ h.held)
-
 -- another kernel of machine m for another point, where only process p may have changed
 pub record Sets (pt next : Point) (l placed : Placed) (m : ℕ) (k s : KernelState) (p : Pid) : Type 0 where
   pub here : s.here ≡ k.here
@@ -64,12 +52,7 @@ known_sets b pt next l placed m k s p q server w h = elim (cases_Bool (pid_eq p 
 ]
 
 servers_set : (b : Boot) (pt next : Point) (l placed : Placed) (m : ℕ) (k s : KernelState) (p q : Pid) → is_server q ≡ true → Sets pt next l placed m k s p → KernelStands b pt l m k → s.records q ≡ None
-servers_set b pt next l placed m k s p q server w h = elim (cases_Bool (pid_eq p q)) [
-  | inl same ↦
-      let e : p ≡ q = pid_eq-is p q same in
-      ap s.records (sym e) ∙ w.keeps (ap is_server e ∙ server) ∙ ap k.records e ∙ h.no_server q server
-  | inr apart ↦ w.records q apart ∙ h.no_server q server
-]
+servers_set b pt next l placed m k s p q server w h = grind (arith, nat_tests, pid_eq-is)
 
 pub stands_set : (b : Boot) (pt next : Point) (l placed : Placed) (m : ℕ) (k s : KernelState) (p : Pid) → Sets pt next l placed m k s p → KernelStands b pt l m k → s.ring ≡ next.view.ring m → AreMessages placed.bag (next.view.inbox m) s.inbox
     → s.made ≡ next.kernel.made m → RoomStands s.room (room_of (slice_get b.machines m)) (taken_at next m next.kernel.machines) → s.servers ≡ servers_at placed m → KernelStands b next placed m s
@@ -88,7 +71,4 @@ pub record_others : {X : Type 0} (f : ℕ → Pid → X) (m : ℕ) (p q : Pid) (
 record_others f m p q x apart = ap (λ (c : Bool). if c && pid_eq p q then x else f m q) (eq_self m) ∙ ap (λ (c : Bool). if c then x else f m q) apart
 
 pub pid_apart : (p q : Pid) → q ≢ p → pid_eq p q ≡ false
-pid_apart p q apart = elim (cases_Bool (pid_eq p q)) [
-  | inl same ↦ absurd (apart (sym (pid_eq-is p q same)))
-  | inr off ↦ off
-]
+pid_apart p q apart = grind (arith, nat_tests, pid_eq-is)

@@ -53,10 +53,6 @@ own_unqueued b pt m p l j x run mirrors none there =
     let is : Some q.x ≡ None = sym q.there ∙ sym (mirrors.plain.bag j) ∙ ap (λ (o : Option Message). bind o plain_message) there ∙ none in
     cc)
 
-abbrev spot_process : Spot → Pid → Pid
-spot_process (Queue m p) q = p
-spot_process _ q = q
-
 elsewhere_queue : (m : ℕ) (p : Pid) (s : Spot) → is_elsewhere m s ≡ true → s ≢ Queue m p
 elsewhere_queue m p s is e = false≢true (sym (ap not (eq_self m)) ∙ ap (is_elsewhere m) (sym e) ∙ is)
 

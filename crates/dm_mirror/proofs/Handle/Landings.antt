@@ -50,12 +50,7 @@ some_is true x y e = (refl, let f : x ≡ y = cc in f)
 some_is false x y e = cc
 
 piece_within : (left own size n : ℕ) → ((n == piece_of left) && nat_le (own + left) size) ≡ true → own + n ≤ size
-piece_within left own size n e =
-    let k = both (n == piece_of left) (nat_le (own + left) size) e in
-    let f : piece_of left ≤ left = grind (arith, nat_tests) in
-    let g : n ≡ piece_of left = let z = k.0 in grind (arith, nat_tests) in
-    let h : own + left ≤ size = let z = k.1 in grind (arith, nat_tests) in
-    omega (arith, f, g, h)
+piece_within left own size n e = grind (arith, nat_tests, both, nat_le)
 
 lands_what_of : (here : ℕ) (p : Pid) (x : Process) (dir : Direction) (owner : Addr) (base own left : ℕ) (w : What) (u : PlainWhat) (c : pieces.Landed) → plain_what w ≡ Some u → x.pid ≡ p
     → pieces.lands_what p (plain_process x) dir owner.pid base own left u ≡ Some c → Lands p x (landing.lands_what here x (record { dir = dir; owner = owner; base = base; own = own; left = left }) dir w) c

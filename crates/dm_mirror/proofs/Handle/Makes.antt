@@ -102,10 +102,7 @@ no_room_row b m pt l k y image ls g c num found none =
 
 -- a process that is made is no server
 pub child_off : (m n : ℕ) → is_server (pid_of m (first_number + n)) ≡ false
-child_off m n =
-    let e : pid_eq (pid_of m (first_number + n)) switchboard ≡ false = grind (arith, nat_tests) in
-    let d : pid_eq (pid_of m (first_number + n)) manager ≡ false = grind (arith, nat_tests) in
-    ap (λ (c : Bool). c || pid_eq (pid_of m (first_number + n)) manager) e ∙ d
+child_off m n = grind (arith, nat_tests)
 
 pub valid_at : (images : List BootImage) (n : ℕ) (g : BootImage) → slice_get images n ≡ Some g → images_are_valid images ≡ true → image_is_valid g ≡ true
 valid_at [] n g e h = cc

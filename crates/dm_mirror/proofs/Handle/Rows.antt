@@ -1,5 +1,5 @@
 -- A row of a turn that says one label, by which one process may go on, and sends at most one message.
-use Rattle.dm_mirror.proofs.Names.{◌≡◌, ◌≢◌, ℕ, ◌≤◌, ◌==◌, Bool, true, false, not, List, [], ◌∷◌, map, refl, ap, ◌∙◌, sym, subst, inl, inr, is_some, arith, if◌then◌else◌, Option, None, Some, cases_Bool, false≢true, Pid, pid_eq, MsgId}
+use Rattle.dm_mirror.proofs.Names.{◌≡◌, ◌≢◌, ℕ, ◌≤◌, ◌==◌, Bool, true, false, not, List, [], ◌∷◌, map, refl, ap, ◌∙◌, sym, subst, inl, inr, is_some, arith, if◌then◌else◌, Option, None, Some, cases_Bool, false≢true, Pid, pid_eq, MsgId, nat_tests}
 use Rattle.dm_mirror.proofs.Names.{Message, id_eq, PlainWhat, plain_message, Boot, Label, Life, OneKernel, bind, id_eq-is, pid_eq-is, Line, addresses_after, Point, after, moved, Taken, Room, blocks_of, taken_by, takes_room, without_front}
 use Rattle.dm_mirror.proofs.Names.{Spot, Queue, Held, Inbox, times, standing, View, Known, Unknown, Here, Frozen, Incoming, Ended, after_label, handled, is_kernels, Phase, Rests, is_away, is_here, knows, rests_here, InPhases, is_server}
 use Rattle.dm_mirror.proofs.Names.{begun, StepNeeds, Placed, Mirrors, placed_step, mirrors_view, moves_label, plainly, placed_follows, handles, KernelState, id_eq-same, KnownStands, servers_at}
@@ -64,10 +64,7 @@ here_not pt m p h here (Over n apart ended) = false≢true (sym (ap is_away ende
 here_not pt m p h here (Moves moving) = false≢true (sym (ap is_moving here) ∙ moving)
 
 other_than : (p q : Pid) → (p ≡ q → ⊥) → pid_eq p q ≡ false
-other_than p q off = elim (cases_Bool (pid_eq p q)) [
-  | inl same ↦ absurd (off (pid_eq-is p q same))
-  | inr apart ↦ apart
-]
+other_than p q off = grind (arith, nat_tests, pid_eq-is)
 
 -- so it is none of these
 pub here_left : (pt : Point) (m : ℕ) (p q : Pid) → InPhases pt.view → pt.view.known m p ≡ Here → IsLeft m pt q → pid_eq p q ≡ false

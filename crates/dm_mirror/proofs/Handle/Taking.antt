@@ -1,5 +1,5 @@
 -- A turn that handles the message at the inbox's front: what holds of it, and how a row of it comes to the end.
-use Rattle.dm_mirror.proofs.Names.{◌≡◌, ◌≢◌, ℕ, ◌+◌, ◌≤◌, ◌<◌, Bool, true, false, List, ◌∷◌, refl, ap, ◌∙◌, sym, subst, inl, inr, is_some, arith, if◌then◌else◌, Option, None, Some, cases_Bool, false≢true, Pid, MsgId, Message, id_eq}
+use Rattle.dm_mirror.proofs.Names.{◌≡◌, ◌≢◌, ℕ, ◌+◌, ◌≤◌, ◌<◌, Bool, true, false, List, ◌∷◌, refl, ap, ◌∙◌, sym, subst, inl, inr, is_some, arith, if◌then◌else◌, Option, None, Some, cases_Bool, false≢true, Pid, MsgId, Message, id_eq, nat_tests}
 use Rattle.dm_mirror.proofs.Names.{PlainMessage, PlainWhat, plain_message, plain_what, with_what, Boot, IsValid, Label, OneKernel, bind, Step, entry, reception, after_step, id_eq-is, id_eq-same, Point, outcome, Spot, Queue, Held, Inbox}
 use Rattle.dm_mirror.proofs.Names.{times, standing, StandsAsBag, StandsNowhere, StandsOutside, StandsRight, is_kernels, stands_right, kernels_fresh, not_kernels, Sane, StandsAsBag-elsewhere, StandsAsBag-one, front, OwnTold, IsQueued, Run}
 use Rattle.dm_mirror.proofs.Names.{Front, Placed, Mirrors, MirrorsKernel, parts, there_of, plainly, plainly_is, handles, KernelState, Turned, turn, turns, MadeStands, AllOwnStand, AreMessages, KernelStands}
@@ -106,10 +106,7 @@ kept_of : (b : Boot) (m : ℕ) (pt : Point) (l : Placed) (k : KernelState) (y : 
 kept_of b m pt l k y w c = stands_right pt y.id c.run.based.phased.state (Some (plainly y w)) c.front.there
 
 pub not_it : (i j : MsgId) (f : MsgId → ℕ) → f i ≡ 0 → 1 ≤ f j → id_eq i j ≡ false
-not_it i j f none least = elim (cases_Bool (id_eq i j)) [
-  | inl same ↦ absurd (let e : f i ≡ f j = ap f (id_eq-is i j same) in omega (arith, none, least, e))
-  | inr off ↦ off
-]
+not_it i j f none least = grind (arith, nat_tests, id_eq-is)
 
 pub apart_at : (b : Boot) (m : ℕ) (pt : Point) (l : Placed) (k : KernelState) (y : Message) (w : PlainWhat) (c : Taking b m pt l k y w) (s : Spot) (j : MsgId) → s ≢ Inbox m → 1 ≤ standing pt.view j s → id_eq y.id j ≡ false
 apart_at b m pt l k y w c s j off least =

@@ -70,10 +70,7 @@ view_queue m t p v ids at covers = search
 
 -- it isn't this one
 same_there : (f : ℕ → List MsgId) (a n : ℕ) (x : List MsgId) → x ≡ f a → at_machine f a x n ≡ f n
-same_there f a n x e = elim (cases_Bool (a == n)) [
-  | inl same ↦ on_if (a == n) x (f n) same ∙ e ∙ ap f (let k : a ≡ n = grind (arith, nat_tests) in k)
-  | inr apart ↦ off_if (a == n) x (f n) apart
-]
+same_there f a n x e = grind (arith, nat_tests, on_if, off_if)
 
 pub view_not_handled : (m : ℕ) (t : Spot → Bool) (p : Pid) (v : View) (id : MsgId) → without_front id (v.inbox v.acting) ≡ v.inbox v.acting → ViewLeaves m t p v (handled v id)
 view_not_handled m t p v id e = search

@@ -187,10 +187,7 @@ pub record Stays (k n : KernelState) (p : Pid) : Type 0 where
   pub servers : n.servers ≡ k.servers
 
 server_apart : (p q : Pid) → is_server p ≡ false → is_server q ≡ true → pid_eq p q ≡ false
-server_apart p q off on = elim (cases_Bool (pid_eq p q)) [
-  | inl same ↦ absurd (false≢true (sym off ∙ ap is_server (pid_eq-is p q same) ∙ on))
-  | inr apart ↦ apart
-]
+server_apart p q off on = grind (arith, nat_tests, pid_eq-is)
 
 -- process p of the machine is set: where what is known of p, the ring, the inbox and the room stand, the kernel stands
 pub set_stands : (b : Boot) (m : ℕ) (t : Spot → Bool) (p : Pid) (pt next : Point) (l placed : Placed) (k n : KernelState) → Leaves m t p pt l next placed → Stays k n p → ((q : Pid) → pid_eq p q ≡ false → t (Queue m q) ≡ false) → ((q : Pid) → t (Held m q) ≡ false) → is_server p ≡ false

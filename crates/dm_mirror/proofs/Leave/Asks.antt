@@ -1,5 +1,5 @@
 -- A process is told to move: to where it is, or it is frozen, and the other machine is asked.
-use Rattle.dm_mirror.proofs.Names.{◌≡◌, ◌≢◌, ℕ, ◌+◌, ◌≤◌, ◌==◌, ◌&&◌, Bool, true, false, not, List, [], ◌∷◌, map, refl, ap, ◌∙◌, sym, subst, inl, inr, arith, if◌then◌else◌, None, Some, cases_Bool, eqb_tells, Pid, pid_eq, kernel_at, Message}
+use Rattle.dm_mirror.proofs.Names.{◌≡◌, ◌≢◌, ℕ, ◌+◌, ◌≤◌, ◌==◌, ◌&&◌, Bool, true, false, not, List, [], ◌∷◌, map, refl, ap, ◌∙◌, sym, subst, inl, inr, arith, if◌then◌else◌, None, Some, cases_Bool, eqb_tells, Pid, pid_eq, kernel_at, Message, nat_tests}
 use Rattle.dm_mirror.proofs.Names.{MsgId, What, MessageKind, Record, Line, Stage, Process, CanMove, ask_of, frozen, Taken, Boot, manager, switchboard, FreezesReceiverWhole, KnownIsWhole, freezes, with_frozen, KernelState, own, turned}
 use Rattle.dm_mirror.proofs.Names.{id_eq-same, pid_eq-is, pid_eq-same, to_kernel, Point, moved, Room, blocks_of, taken_by, takes_room, at_machine, at_record, without, without_front, times, Here, Frozen, Known, Of, front_told, own_id}
 use Rattle.dm_mirror.proofs.Names.{target_of, without_first, is_server, has_nothing_held, is_fixed, Placed, mirrors_view, told_of, KnownStands, LeavesStand, RoomStands, AllRecords, eq_not, or-right}
@@ -86,10 +86,7 @@ here_already b m pt l records k y machine h at_m is =
 
 -- what it takes of the room stays, where what is known of it takes the same
 room_at : (f : ℕ → Pid → Known) (m : ℕ) (p q : Pid) (n : Known) → takes_room n ≡ takes_room (f m p) → takes_room (at_record f m p n m q) ≡ takes_room (f m q)
-room_at f m p q n same = elim (cases_Bool (pid_eq p q)) [
-  | inl is ↦ subst (λ (z : Pid). takes_room (at_record f m p n m z) ≡ takes_room (f m z)) (pid_eq-is p q is) (ap takes_room (record_self f m p n (pid_eq-same p)) ∙ same)
-  | inr off ↦ ap takes_room (record_others f m p q n off)
-]
+room_at f m p q n same = grind (arith, nat_tests, pid_eq-is, record_self, pid_eq-same, record_others)
 
 pub taken_at_record : (pt next : Point) (m : ℕ) (p q : Pid) (n : Known) → next.kernel.processes ≡ pt.kernel.processes → next.view.known m q ≡ at_record pt.view.known m p n m q → takes_room n ≡ takes_room (pt.view.known m p) → taken_by next m q ≡ taken_by pt m q
 taken_at_record pt next m p q n lives known same =

@@ -1,5 +1,5 @@
 -- What is known of processes where at most one of them changes, and what the messages of migrations under way still carry.
-use Rattle.dm_mirror.proofs.Names.{◌≡◌, ℕ, ◌≤◌, true, false, List, refl, ap, ◌∙◌, sym, subst, inl, inr, slice_get, Option, None, Some, cases_Bool, Pid, pid_eq, MsgId, Process, Record, incoming_of, Departure, Boot, room_of, KernelState}
+use Rattle.dm_mirror.proofs.Names.{◌≡◌, ℕ, ◌≤◌, true, false, List, refl, ap, ◌∙◌, sym, subst, inl, inr, slice_get, Option, None, Some, cases_Bool, Pid, pid_eq, MsgId, Process, Record, incoming_of, Departure, Boot, room_of, KernelState, arith, nat_tests}
 use Rattle.dm_mirror.proofs.Names.{pid_eq-is, is_between, Point, taken_at, Spot, times, standing, Known, Unknown, Here, Frozen, Incoming, Forward, Ended, Of, Told, View, is_server, Placed, AllOwnStand, AreMessages, HereStands, KnownStands}
 use Rattle.dm_mirror.proofs.Names.{KernelStands, LeavesStand, RoomStands, servers_at, AllRecords, Carries, TokensStand, destination_of}
 use Rattle.dm_onekernel.specs.Step as kernel
@@ -54,10 +54,7 @@ known_one b pt next l placed m k s p q server w h = elim (cases_Bool (pid_eq p q
 ]
 
 servers_one : (b : Boot) (pt next : Point) (l placed : Placed) (m : ℕ) (k s : KernelState) (p q : Pid) → is_server q ≡ true → SetsOne pt next l placed m k s p → KernelStands b pt l m k → s.records q ≡ None
-servers_one b pt next l placed m k s p q server w h = elim (cases_Bool (pid_eq p q)) [
-  | inl same ↦ absurd (let e : false ≡ true = sym w.server ∙ ap is_server (pid_eq-is p q same) ∙ server in cc)
-  | inr apart ↦ w.records q apart ∙ h.no_server q server
-]
+servers_one b pt next l placed m k s p q server w h = grind (arith, nat_tests, pid_eq-is)
 
 pub stands_one : (b : Boot) (pt next : Point) (l placed : Placed) (m : ℕ) (k s : KernelState) (p : Pid) → SetsOne pt next l placed m k s p → KernelStands b pt l m k → s.ring ≡ next.view.ring m → AreMessages placed.bag (next.view.inbox m) s.inbox
     → s.made ≡ next.kernel.made m → RoomStands s.room (room_of (slice_get b.machines m)) (taken_at next m next.kernel.machines) → s.servers ≡ servers_at placed m → KernelStands b next placed m s

@@ -1,5 +1,5 @@
 -- A piece of a process that leaves goes to the machine that asks for it.
-use Rattle.dm_mirror.proofs.Names.{◌≡◌, ℕ, ◌+◌, ◌/◌, ◌≤◌, ◌==◌, Bool, true, false, List, [], ◌∷◌, length, map, refl, ap, ◌∙◌, sym, subst, inl, inr, arith, if◌then◌else◌, option_map, Option, None, Some, cases_Bool, Addr, Pid, pid_of}
+use Rattle.dm_mirror.proofs.Names.{◌≡◌, ℕ, ◌+◌, ◌/◌, ◌≤◌, ◌==◌, Bool, true, false, List, [], ◌∷◌, length, map, refl, ap, ◌∙◌, sym, subst, inl, inr, arith, if◌then◌else◌, option_map, Option, None, Some, cases_Bool, Addr, Pid, pid_of, nat_tests}
 use Rattle.dm_mirror.proofs.Names.{kernel_at, Message, MsgId, What, Line, MessageKind, kind_of, plain_what, with_what, Process, frozen_of, incoming_of, Departure, block_of, chunk_of, state_of, Boot, OneKernel, bind, plain_process}
 use Rattle.dm_mirror.proofs.Names.{PlainProcess, gives_piece, kernel_handles, KernelState, own, Addresses, Receiver, Sender, gets, own_gives, unmoved, kernel_told, is_between, is_of_source, Point, fits, free_room, kernel_hears}
 use Rattle.dm_mirror.proofs.Names.{at_machine, without_front, Inbox, standing, times, Frozen, Here, Known, Of, Told, Unknown, View, after_proto, handled, own_id, is_server, Run, Placed, enclosed, mirrors_view, about_of, told_of}
@@ -25,10 +25,7 @@ frozen_server true to e = cc
 frozen_server false to e = cc
 
 pub leaves_no_server : (b : Boot) (pt : Point) (m to : ℕ) (p : Pid) → Run b pt → pt.view.known m p ≡ Frozen to → is_server p ≡ false
-leaves_no_server b pt m to p run known = elim (cases_Bool (is_server p)) [
-  | inl server ↦ absurd (frozen_server (m == 0) to (sym known ∙ run.based.known.server m p server))
-  | inr off ↦ off
-]
+leaves_no_server b pt m to p run known = grind (arith, nat_tests, frozen_server)
 
 -- the record of a process that leaves
 pub departing : (b : Boot) (m : ℕ) (pt : Point) (l : Placed) (records : AllRecords) (k : KernelState) (y : Message) (p : Pid) → Hearing b m pt l records k y → (g : Leaving m pt y p) → IsLeaving l p (pt.view.queue m p) (pt.view.held m p) g.to (k.records p)

@@ -25,18 +25,11 @@ messages_append bag (i ∷ is) js (m ∷ ms) ns e f =
 
 -- a list that is emptied has nothing
 pub less_at : (f : ℕ → Pid → List MsgId) (m n : ℕ) (p q : Pid) (j : MsgId) → 1 ≤ times j (at_record f m p [] n q) → 1 ≤ times j (f n q)
-less_at f m n p q j least = less_if ((m == n) && pid_eq p q) least
-  where
-    less_if : (c : Bool) → 1 ≤ times j (if c then [] else f n q) → 1 ≤ times j (f n q)
-    less_if true e = absurd (omega (arith, e))
-    less_if false e = e
+less_at f m n p q j least = grind (arith, nat_tests)
 
 -- what stands in two lists stands in one of them
 pub in_one : (j : MsgId) (is js : List MsgId) → 1 ≤ times j (is ++ js) → (1 ≤ times j js) ⊎ (1 ≤ times j is)
-in_one j is js least = elim (cases_Bool (nat_le 1 (times j js))) [
-  | inl more ↦ inl (grind (arith, nat_tests))
-  | inr none ↦ inr (let e = times-append j is js in grind (arith, nat_tests))
-]
+in_one j is js least = grind (arith, nat_tests, nat_le, times-append)
 
 refuses : (b : Boot) (m : ℕ) (pt : Point) (l : Placed) (records : AllRecords) (k : KernelState) (y : Message) (p : Pid) (slots blocks : ℕ) → Hearing b m pt l records k (record y { what = What.Refuse p slots blocks }) → TurnsAt b m pt l records k
 refuses b m pt l records k y p slots blocks h =

@@ -47,11 +47,7 @@ pub low : (s : OneKernel) (p : Pid) → MadeStands s → is_some (s.processes p)
 low s p made there = made.first p there
 
 server_number : (p : Pid) → is_server p ≡ true → 1 ≤ p.num
-server_number p e = by (pid_eq p switchboard) refl e
-  where
-    by : (c : Bool) → pid_eq p switchboard ≡ c → (c || pid_eq p manager) ≡ true → 1 ≤ p.num
-    by true f g = grind (arith, nat_tests)
-    by false f g = grind (arith, nat_tests)
+server_number p e = grind (arith, nat_tests)
 
 abbrev is_create : PlainWhat → Bool
 is_create (PlainWhat.Create image links) = true

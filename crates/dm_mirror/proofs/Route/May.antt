@@ -1,5 +1,5 @@
 -- What may be put still may behind the put of another message.
-use Rattle.dm_mirror.proofs.Names.{◌≡◌, ℕ, ◌+◌, ◌≤◌, Bool, true, false, refl, ap, ◌∙◌, sym, subst, inl, inr, arith, if◌then◌else◌, List, [], ◌∷◌, Option, None, Some, cases_Bool, false≢true, Pid, pid_of, Message, MsgId, id_eq, id_of}
+use Rattle.dm_mirror.proofs.Names.{◌≡◌, ℕ, ◌+◌, ◌≤◌, Bool, true, false, refl, ap, ◌∙◌, sym, subst, inl, inr, arith, if◌then◌else◌, List, [], ◌∷◌, Option, None, Some, cases_Bool, false≢true, Pid, pid_of, Message, MsgId, id_eq, id_of, nat_tests}
 use Rattle.dm_mirror.proofs.Names.{kind_of, id_eq-is, Gets, Receiver, Sender, first_gives, given, own_gives, Point, at_machine, Told, is_kernels, is_own, own_id, not_kernels, put_told_off, Sane, Placed, Mirrors, AllRecords, not_first}
 use Rattle.dm_mirror.proofs.Turning.{Route, First, On, Own, MayOwn, MayPut, AllMayPut, Late, Nothing, Leaves, LateMay, late_owns, message_of, owns}
 use Rattle.dm_mirror.proofs.Turning as turning
@@ -66,10 +66,7 @@ none_some : (o : Option Message) (y : Message) → o ≡ None → o ≡ Some y �
 none_some o y e f = cc
 
 apart_bag : (l : Placed) (x y : Message) → l.bag x.id ≡ Some x → l.bag y.id ≡ None → id_eq x.id y.id ≡ false
-apart_bag l x y there none = elim (cases_Bool (id_eq x.id y.id)) [
-  | inl same ↦ absurd (false≢true (none_some (l.bag y.id) x none (ap l.bag (sym (id_eq-is x.id y.id same)) ∙ there)))
-  | inr apart ↦ apart
-]
+apart_bag l x y there none = grind (arith, nat_tests, none_some, id_eq-is)
 
 -- a put of a message that isn't the kernel's own keeps it
 keeps_own : (pt : Point) (l : Placed) (m c : ℕ) (x y : Message) (home out : Bool) → is_own x.id (pt.view.told x.id) ≡ false → first_gives (pt.view.told x.id) (own_gives pt.kernel pt.view pt.addresses x.id x.to.pid (kind_of x.what)) ≡ [] → id_eq x.id y.id ≡ false

@@ -1,5 +1,5 @@
 -- Behind the put of a message that is routed: what the kernel with places mirrors, and what the kernels' own messages carry.
-use Rattle.dm_mirror.proofs.Names.{◌≡◌, ℕ, ◌≤◌, Bool, true, false, [], refl, ap, ◌∙◌, sym, subst, inl, inr, arith, if◌then◌else◌, Option, None, Some, cases_Bool, false≢true, Pid, Message, MsgId, MessageKind, id_eq, kind_of, plain_kind}
+use Rattle.dm_mirror.proofs.Names.{◌≡◌, ℕ, ◌≤◌, Bool, true, false, [], refl, ap, ◌∙◌, sym, subst, inl, inr, arith, if◌then◌else◌, Option, None, Some, cases_Bool, false≢true, Pid, Message, MsgId, MessageKind, id_eq, kind_of, plain_kind, nat_tests}
 use Rattle.dm_mirror.proofs.Names.{plain_message, incoming_of, Boot, bind, id_eq-is, id_eq-same, first_gives, own_gives, is_between, Point, Spot, standing, Of, Told, View, after_put, first_told, is_kernels, own_id, put_at, put_spots}
 use Rattle.dm_mirror.proofs.Names.{PairsFit, put_told_off, Sane, plain_not, Placed, Mirrors, KeepsPlaces, lines_keep, routed_keeps, told_keeps, own_put_mirrors, WorldState, AllOwnStand, OwnStands, told_of, History, StandsWith, AllRecords}
 use Rattle.dm_mirror.proofs.Names.{Carries, TokenStands, TokensStand, destination_of, first_none}
@@ -26,10 +26,7 @@ none_some : (o : Option Message) (y : Message) → o ≡ None → o ≡ Some y �
 none_some o y e f = cc
 
 bag_kept : (l : Placed) (x : Message) → l.bag x.id ≡ None → (i : MsgId) (y : Message) → l.bag i ≡ Some y → (with_message l x.id (Some x)).bag i ≡ Some y
-bag_kept l x none i y e = elim (cases_Bool (id_eq x.id i)) [
-  | inl same ↦ absurd (false≢true (none_some (l.bag i) y (ap l.bag (sym (id_eq-is x.id i same)) ∙ none) e))
-  | inr apart ↦ bag_off l x i apart ∙ e
-]
+bag_kept l x none i y e = grind (arith, nat_tests, none_some, id_eq-is, bag_off)
 
 pub route_more : (pt : Point) (l : Placed) (records : AllRecords) (r : Route) → MayPut pt l records r → MoreBag l (after_route l r)
 route_more pt l records (Own x) may = record { bag = bag_kept l x may.bag; processes = λ p. refl; board = refl; manager = refl }
@@ -57,10 +54,7 @@ route_mirrors pt l records m (Own x) may h =
 
 -- what is told of the next own message is what it is
 pub own_told : (pt : Point) (l : Placed) (records : AllRecords) (m : ℕ) (x : Message) → MayOwn pt l records x → (after_put pt.view m x.to.at x.id (kind_of x.what) x.to.pid).told x.id ≡ Some (told_of x)
-own_told pt l records m x may =
-    put_at pt.view m x.to.at x.id (kind_of x.what) x.to.pid
-    ∙ first_none (pt.view.told x.id) (record { kind = kind_of x.what; receiver = x.to.pid; about = pt.view.topic }) may.untold
-    ∙ (λ i. Some (record { kind = kind_of x.what; receiver = x.to.pid; about = may.about i }))
+own_told pt l records m x may = grind (arith, nat_tests, put_at, first_none)
 
 own_mine : (pt : Point) (x : Message) → x.id ≡ own_id pt.view → is_kernels x.id ≡ true
 own_mine pt x e = ap is_kernels e

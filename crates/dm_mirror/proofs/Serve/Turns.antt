@@ -1,5 +1,5 @@
 -- A turn with an empty inbox: the machine idles, or serves the first process of its ring that can be served.
-use Rattle.dm_mirror.proofs.Names.{◌≡◌, ℕ, ◌+◌, ◌≤◌, ◌&&◌, not, Bool, true, false, List, [], ◌∷◌, map, refl, ap, ◌∙◌, sym, subst, arith, is_some, ◌≢◌, inl, inr, if◌then◌else◌, option_map, slice_get, Option, None, Some, cases_Bool}
+use Rattle.dm_mirror.proofs.Names.{◌≡◌, ℕ, ◌+◌, ◌≤◌, ◌&&◌, not, Bool, true, false, List, [], ◌∷◌, map, refl, ap, ◌∙◌, sym, subst, arith, is_some, ◌≢◌, inl, inr, if◌then◌else◌, option_map, slice_get, Option, None, Some, cases_Bool, nat_tests}
 use Rattle.dm_mirror.proofs.Names.{false≢true, Pid, pid_eq, pid_of, Message, MsgId, IsLawfulProcess, first_on, status_is_runnable, Process, Status, Line, Record, Boot, bind, Life, Alive, plain_process, plain_status, PlainProcess, pid_eq-is}
 use Rattle.dm_mirror.proofs.Names.{pid_eq-same, Point, View, Phase, Rests, knows, is_here, is_away, stands_right, letter_of, InPhases, rests_here, rings, both, Run, queue_drops, Placed, Mirrors, mirrors_view, room_of, IsLawfulState}
 use Rattle.dm_mirror.proofs.Names.{KernelState, turned, of_known, AllOwnStand, MadeStands, AreMessages, KernelStands, RoomStands}
@@ -159,10 +159,7 @@ idle_round b m pt l k h = record {
 
 -- a process that is here doesn't move
 here_apart : (v : View) (m : ℕ) (p q : Pid) → v.known m p ≡ view.Here → is_moving (v.known m q) ≡ true → pid_eq p q ≡ false
-here_apart v m p q here is = elim (cases_Bool (pid_eq p q)) [
-  | inl same ↦ absurd (false≢true (sym (ap is_moving here) ∙ ap (λ (z : Pid). is_moving (v.known m z)) (pid_eq-is p q same) ∙ is))
-  | inr apart ↦ apart
-]
+here_apart v m p q here is = grind (arith, nat_tests, pid_eq-is)
 
 round_of : (b : Boot) (m : ℕ) (pt : Point) (l : Placed) (k : KernelState) (o : Option Pid) → turn.first_runnable k.records k.ring ≡ o → Ready b m pt l k → Round b m pt l k o
 round_of b m pt l k None first h = idle_round b m pt l k h
