@@ -33,9 +33,7 @@ abbrev no_room : Room
 no_room = record { slots = 0; blocks = 0 }
 
 none_taken : (pt : Point) (n : ℕ) (p : Pid) (k : view.Known) → pt.view.known n p ≡ k → takes_room k ≡ 0 → taken_by pt n p ≡ no_room
-none_taken pt n p k e z =
-    ap (λ (c : view.Known). record { slots = takes_room c; blocks = if takes_room c == 0 then 0 else blocks_of (kernel.alive (pt.kernel.processes p)) }) e
-    ∙ ap (λ (c : ℕ). record { slots = c; blocks = if c == 0 then 0 else blocks_of (kernel.alive (pt.kernel.processes p)) }) z
+none_taken pt n p k e z = grind (arith, nat_tests)
 
 taken_life : (pt next : Point) (n : ℕ) (p : Pid) → next.view.known n p ≡ pt.view.known n p → next.kernel.processes p ≡ pt.kernel.processes p → taken_by next n p ≡ taken_by pt n p
 taken_life pt next n p known life = λ i. record { slots = takes_room (known i); blocks = if takes_room (known i) == 0 then 0 else blocks_of (kernel.alive (life i)) }

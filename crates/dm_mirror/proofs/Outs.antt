@@ -157,18 +157,14 @@ all_fresh c (Sends p ∷ outs) = All-append IsFresh (if to_of p == c then just_p
 
 -- a packet on the wires
 put_off : (packets : ℕ → ℕ → List Sent) (a b : ℕ) (bytes : List ℕ) (x y : ℕ) → x ≢ a → after_put packets a b bytes x y ≡ packets x y
-put_off packets a b bytes x y apart =
-    let e : (a == x) ≡ false = grind (arith, nat_tests) in
-    ap (λ (c : Bool). if c && (b == y) then packets x y ++ just_put bytes ∷ [] else packets x y) e
+put_off packets a b bytes x y apart = grind (arith, nat_tests)
 
 put_by : (packets : ℕ → ℕ → List Sent) (a b : ℕ) (bytes : List ℕ) (y : ℕ) (c : Bool) → (if c then packets a y ++ just_put bytes ∷ [] else packets a y) ≡ packets a y ++ (if c then just_put bytes ∷ [] else [])
 put_by packets a b bytes y true = refl
 put_by packets a b bytes y false = sym (append-nil (packets a y))
 
 put_on : (packets : ℕ → ℕ → List Sent) (a b : ℕ) (bytes : List ℕ) (y : ℕ) → after_put packets a b bytes a y ≡ packets a y ++ (if b == y then just_put bytes ∷ [] else [])
-put_on packets a b bytes y =
-    let e : (a == a) ≡ true = grind (arith, nat_tests) in
-    ap (λ (c : Bool). if c && (b == y) then packets a y ++ just_put bytes ∷ [] else packets a y) e ∙ put_by packets a b bytes y (b == y)
+put_on packets a b bytes y = grind (arith, nat_tests, put_by)
 
 packet_off : (wires : ℕ → ℕ → List Sent) (p : Packet) (x y : ℕ) → x ≢ from_of p → with_packet wires p x y ≡ wires x y
 packet_off wires (Packet.Data a b k m) x y apart = put_off wires a b (spelling (Packet.Data a b k m)) x y apart

@@ -1,5 +1,5 @@
 -- A packet goes on the wire of a pair: the world has it, and so have the lines.
-use Rattle.dm_mirror.proofs.Names.{◌≡◌, ◌≢◌, ℕ, ◌+◌, ◌≤◌, ◌==◌, ◌&&◌, Bool, true, false, List, [], ◌∷◌, ◌++◌, length, refl, ap, ◌∙◌, sym, subst, if◌then◌else◌, Option, Some, eqb-true, eq-eqb, length-map, Message, Sending, Stream, spelling}
+use Rattle.dm_mirror.proofs.Names.{◌≡◌, ◌≢◌, ℕ, ◌+◌, ◌≤◌, ◌==◌, ◌&&◌, Bool, true, false, List, [], ◌∷◌, ◌++◌, length, refl, ap, ◌∙◌, sym, subst, if◌then◌else◌, Option, Some, eqb-true, eq-eqb, length-map, Message, Sending, Stream, spelling, arith, nat_tests}
 use Rattle.dm_mirror.proofs.Names.{Boot, bind, NodeState, Out, Sends, Spoken, spoken, says, with_packet, Line, at_machine, at_pair, Load, Spot, Queue, Untaken, standing, times, About, Pair, View, after_packet, begins, pair_keeps, MsgId}
 use Rattle.dm_mirror.proofs.Names.{Part, Spelled, lines_of, spelled, Point, after, two_of, Placed, WorldState, History, NodeStands, PairStands, StandsWith, load_of, stream_of}
 use Rattle.dm_stream.specs.Packets as stream
@@ -31,9 +31,7 @@ wires_put wires a c (stream.Data n m) x y = refl
 wires_put wires a c (stream.Ack n) x y = refl
 
 wire_here : (wires : ℕ → ℕ → List wire.Sent) (a c : ℕ) (l : stream.Load Message) → with_packet wires (packet_of a c l) a c ≡ with_bytes a c (wires a c) l
-wire_here wires a c l =
-    let longer : List wire.Sent = with_bytes a c (wires a c) l in
-    wires_put wires a c l a c ∙ ap (λ (t : Bool). if t && (c == c) then longer else wires a c) (eq-eqb a a refl) ∙ ap (λ (t : Bool). if t then longer else wires a c) (eq-eqb c c refl)
+wire_here wires a c l = grind (arith, nat_tests, wires_put, eq-eqb)
 
 wire_other : (wires : ℕ → ℕ → List wire.Sent) (a c : ℕ) (l : stream.Load Message) (x y : ℕ) → ((a == x) && (c == y)) ≡ false → with_packet wires (packet_of a c l) x y ≡ wires x y
 wire_other wires a c l x y e = wires_put wires a c l x y ∙ ap (λ (t : Bool). if t then wires x y ++ wire.just_put (spelling (packet_of a c l)) ∷ [] else wires x y) e

@@ -66,9 +66,7 @@ put_leads pt m c x false true = refl
 -- the lines of a message whose kind, receiver and machine are these
 puts_are : (pt : Point) (m c : ℕ) (x : Message) (id : MsgId) (k : MessageKind) (q : Pid) (at_ : ℕ) (home out : Bool) → pt.view.acting ≡ m → at_ ≡ c → id ≡ x.id → k ≡ kind_of x.what → q ≡ x.to.pid → (m == c) ≡ home → goes_out (pt.view.pair m c) ≡ out
     → puts pt.view at_ id k q ≡ lines_put pt m c x home out
-puts_are pt m c x id k q at_ home out acting place name kind to same goes =
-    (λ i. Line.Put (acting i) (place i) (name i) (kind i) (to i) ∷ (if acting i == place i then [] else if goes_out (pt.view.pair (acting i) (place i)) then packet_with pt (acting i) (place i) ∷ [] else []))
-    ∙ (λ i. line_put m c x ∷ (if same i then [] else if goes i then packet_with pt m c ∷ [] else []))
+puts_are pt m c x id k q at_ home out acting place name kind to same goes = grind (arith, nat_tests)
 
 pub part_is : (pt : Point) (l : Placed) (records : AllRecords) (m : ℕ) (r : Route) (home out : Bool) → Mirrors pt.kernel pt.view pt.addresses l → pt.view.acting ≡ m → MayPut pt l records r → (m == (message_of r).to.at) ≡ home → goes_out (pt.view.pair m (message_of r).to.at) ≡ out
     → lines_of pt (rule_part_of r) ≡ Some (lines_put pt m (message_of r).to.at (message_of r) home out)

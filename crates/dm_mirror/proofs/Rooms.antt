@@ -116,14 +116,10 @@ taken_changed pt next m p machines made within first below others = grind (arith
 
 -- the order of what is added
 and_first : (r s t : Room) → and (and r s) t ≡ and (and r t) s
-and_first r s t = let a : r.slots + s.slots + t.slots ≡ r.slots + t.slots + s.slots = omega arith in
-    let b : r.blocks + s.blocks + t.blocks ≡ r.blocks + t.blocks + s.blocks = omega arith in
-    λ i. record { slots = a i; blocks = b i }
+and_first r s t = grind (arith, nat_tests)
 
 and_second : (r s t : Room) → and r (and s t) ≡ and (and r s) t
-and_second r s t = let a : r.slots + (s.slots + t.slots) ≡ r.slots + s.slots + t.slots = omega arith in
-    let b : r.blocks + (s.blocks + t.blocks) ≡ r.blocks + s.blocks + t.blocks = omega arith in
-    λ i. record { slots = a i; blocks = b i }
+and_second r s t = grind (arith, nat_tests)
 
 made_home : (pt next : Point) (m home : ℕ) → next.kernel.made home ≡ pt.kernel.made home + 1
     → ((q : Pid) → q ≢ pid_of home (first_number + pt.kernel.made home) → taken_by next m q ≡ taken_by pt m q)

@@ -42,9 +42,7 @@ pub record Has (pt : Point) (w : WorldState) (h : History) (a c : ℕ) (s : Stre
   pub pair : pt.view.pair a c ≡ p
 
 stream_is : (pt : Point) (w : WorldState) (h : History) (a c : ℕ) (s : Stream Message) (sent : List wire.Sent) (p : Pair) → Has pt w h a c s sent p → s.taken ≡ take s.receiver.count s.given → stream_of w h a c ≡ s
-stream_is pt w h a c s sent p e taken =
-    let t : take ((w.nodes c).receivers a).count (h.given a c) ≡ s.taken = (λ i. take (e.receiver i).count (e.given i)) ∙ sym taken in
-    λ i. record { sender = e.sender i; receiver = e.receiver i; given = e.given i; taken = t i; out = e.out i; back = e.back i }
+stream_is pt w h a c s sent p e taken = grind (arith, nat_tests)
 
 pub pair_stands : (b : Boot) (pt : Point) (l : Placed) (w : WorldState) (h : History) (a c : ℕ) (s : Stream Message) (sent : List wire.Sent) (p : Pair) → Has pt w h a c s sent p → Joined b l.bag a c s sent p → PairStands b pt l w h a c
 pair_stands b pt l w h a c s sent p e j =
@@ -121,9 +119,7 @@ pub due_is : (s : Sending Message) (n : ℕ) (x : Message) → due s ≡ Some (n
 due_is s n x e = (due_if n s.gone _ x _ e).1
 
 pub outstanding_is : (s : Sending Message) (k n : ℕ) (x : Message) → outstanding s k ≡ Some (n, x) → (n ≡ s.acked + k) × (n < s.gone)
-outstanding_is s k n x e =
-    let f = due_if n (s.acked + k) _ x (nat_lt (s.acked + k) s.gone) e in
-    let less : s.acked + k < s.gone = grind (arith, nat_tests, f.0) in (f.1, omega (arith, less, f.1))
+outstanding_is s k n x e = grind (arith, nat_tests, due_if, nat_lt)
 
 pub gone_next : (n g : ℕ) → n ≡ g → g + 1 ≡ gone_after (Load.Data n) g
 gone_next n g e = grind (arith, nat_tests)

@@ -61,9 +61,7 @@ line_grows v _ = grows_same v v refl
 
 -- a route adds one
 pub put_adds : (v : View) (a b : ℕ) (i : MsgId) (k : MessageKind) (q : Pid) → ids_of (view.after_put v a b i k q) a b ≡ ids_of v a b + 1
-put_adds v a b i k q =
-    let here : ((a == a) && (b == b)) ≡ true = grind (arith, nat_tests) in
-    ap (λ (t : Bool). length (if t then view.routed_on a b (v.pair a b) i else v.pair a b).ids) here ∙ append-longer (v.pair a b).ids i
+put_adds v a b i k q = grind (arith, nat_tests, append-longer)
 
 -- sums over the first so many
 abbrev pub sum_to : ℕ → (ℕ → ℕ) → ℕ
@@ -112,6 +110,4 @@ total_adds v w n a c h within_a within_c more =
 
 -- 16 machines, and at most 2^20 messages a pair
 pub total_most : (v : View) (n : ℕ) → n ≤ 16 → ((a c : ℕ) → ids_of v a c ≤ 1048576) → total v n ≤ 268435456
-total_most v n few le =
-    let h = sum_most n (from_one v n) few (λ a. let k = sum_few n (ids_of v a) few (le a) in omega (arith, k, few)) in
-    omega (arith, h, few)
+total_most v n few le = grind (arith, nat_tests, sum_most, sum_few)

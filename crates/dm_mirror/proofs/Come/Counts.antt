@@ -74,17 +74,11 @@ asked_after_chunk x n k asked there = chunk_next (is_last (state_of x) k) x n k 
 
 -- a block is the last where as many pieces were asked for as there are
 pub block_count : (more : Bool) (n j chunks blocks : ℕ) → nat_lt (j + 1) blocks ≡ more → n ≡ chunks + j + 1 → j < blocks → (n == chunks + blocks) ≡ not more
-block_count true n j chunks blocks e asked there =
-    let f = below_of (j + 1) blocks e in
-    test_below n (chunks + blocks) (omega (arith, f, asked))
-block_count false n j chunks blocks e asked there =
-    let f = not_below (j + 1) blocks e in
-    eq_is n (chunks + blocks) (omega (arith, f, asked, there))
+block_count true n j chunks blocks e asked there = grind (arith, nat_tests, below_of, test_below)
+block_count false n j chunks blocks e asked there = grind (arith, nat_tests, not_below, eq_is)
 
 pub block_last : (x : Process) (n j : ℕ) → length x.regs.r ≡ 16 → length x.memory ≡ 256 * (length x.memory / 256) → IsAsked x n (Block j) → (n == pieces_of (plain_process x)) ≡ not (nat_lt (j + 1) (length x.memory / 256))
-block_last x n j sixteen whole asked =
-    let there : j < length x.memory / 256 = (let f = asked.1 in omega (arith, f, whole)) in
-    ap (λ (c : ℕ). n == c + length x.memory / 256) (sym (chunks_same x sixteen)) ∙ block_count (nat_lt (j + 1) (length x.memory / 256)) n j (chunks x) (length x.memory / 256) refl asked.0 there
+block_last x n j sixteen whole asked = grind (arith, nat_tests, chunks_same, block_count, nat_lt)
 
 block_next : (more : Bool) (x : Process) (n j : ℕ) → IsAsked x n (Block j) → HasPiece x (if more then Block (j + 1) else Nothing) → IsAsked x (n + 1) (if more then Block (j + 1) else Nothing)
 block_next true x n j asked there = (omega (arith, asked.0), there)

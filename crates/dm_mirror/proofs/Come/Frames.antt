@@ -55,9 +55,7 @@ pub times_self : (i : MsgId) (is : List MsgId) → times i (i ∷ is) ≡ 1 + ti
 times_self i is = ap (λ (c : Bool). (if c then 1 else 0) + times i is) (id_eq-same i)
 
 pub front_stands : (pt : Point) (m : ℕ) (i : MsgId) (is : List MsgId) → pt.view.inbox m ≡ i ∷ is → 1 ≤ standing pt.view i (Inbox m)
-front_stands pt m i is box =
-    let e = times_self i is in
-    subst (λ (z : List MsgId). 1 ≤ times i z) (sym box) (omega (arith, e))
+front_stands pt m i is box = grind (arith, nat_tests, times_self)
 
 -- an own message stands nowhere else
 once_of : (c : Bool) (f : Spot → ℕ) (z : Spot) → c ≡ true → 1 ≤ f z → StandsOutside c f → StandsOnce f

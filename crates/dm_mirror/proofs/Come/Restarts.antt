@@ -65,9 +65,7 @@ elsewhere_by s d n i k false at_destination e f off h =
     away_only k (sym (ap (λ (t : Bool). if t then leaves MessageKind.Restart d k else if d == n then comes MessageKind.Restart s k else is_away k) e ∙ ap (λ (t : Bool). if t then comes MessageKind.Restart s k else is_away k) (f ∙ off)) ∙ h)
 
 not_elsewhere : (b : Boot) (m : ℕ) (pt : Point) (l : Placed) (k : KernelState) (y : Message) (p : Pid) (a : Arrives b m pt l k y p) (n : ℕ) → kind_of y.what ≡ MessageKind.Restart → n ≢ m → has_process (pt.view.known n p) ≡ false
-not_elsewhere b m pt l k y p a n is apart =
-    elsewhere_by a.source m n (Some y.id) (pt.view.known n p) (a.source == n) (m == n) refl refl (eq_off m n apart)
-    (ap (λ (j : MessageKind). knows (Moves j a.source m (Some y.id)) n (pt.view.known n p)) (sym is) ∙ a.phase.known n)
+not_elsewhere b m pt l k y p a n is apart = grind (arith, nat_tests, elsewhere_by, eq_off)
 
 -- where messages stand then
 back_box : (v : View) (m : ℕ) (p : Pid) (i : MsgId) (is : List MsgId) → v.inbox m ≡ i ∷ is → v.held m p ++ at_machine v.inbox m (without_first (v.inbox m)) m ≡ v.held m p ++ is

@@ -44,9 +44,7 @@ put_more f a b i j c d true e least = grind (arith, nat_tests, same_of, more_tim
 put_more f a b i j c d false e least = least
 
 put_there : (f : ℕ → ℕ → Pair) (a b : ℕ) (i : MsgId) → 1 ≤ times i (if (a == a) && (b == b) then routed_on a b (f a b) i else f a b).ids
-put_there f a b i =
-    let here : ((a == a) && (b == b)) ≡ true = grind (arith, nat_tests) in
-    subst (λ (t : Bool). 1 ≤ times i (if t then routed_on a b (f a b) i else f a b).ids) (sym here) (last_there i (f a b).ids)
+put_there f a b i = grind (arith, nat_tests, last_there)
 
 put_routed : (v : View) (a b : ℕ) (i : MsgId) (k : MessageKind) (q : Pid) → Routed v → Routed (after_put v a b i k q)
 put_routed v a b i k q h = λ j told. elim (cases_Bool (id_eq i j)) [

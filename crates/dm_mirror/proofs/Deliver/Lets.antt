@@ -33,9 +33,7 @@ waits_at : (s : Sending Message) (given : List Message) → s.unacked ≡ drop s
 waits_at s given e le = ap (λ (xs : List Message). slice_get xs (s.gone - s.acked)) e ∙ get-drop s.acked given (s.gone - s.acked) s.gone (omega arith)
 
 due_is : (s : Sending Message) (given : List Message) (m : Message) → s.unacked ≡ drop s.acked given → s.acked ≤ s.gone → s.gone < s.acked + 8 → slice_get given s.gone ≡ Some m → due s ≡ Some (s.gone, m)
-due_is s given m e le lt is =
-    ap (λ (t : Bool). if t then numbered s.gone (slice_get s.unacked (s.gone - s.acked)) else None) (less_test s.gone (s.acked + 8) lt)
-    ∙ ap (numbered s.gone) (waits_at s given e le ∙ is)
+due_is s given m e le lt is = grind (arith, nat_tests, slice_get, less_test, waits_at)
 
 either_none : {X : Type 0} (t : Bool) (o : Option X) → o ≡ None → (if t then o else None) ≡ None
 either_none true o e = e

@@ -1,5 +1,5 @@
 -- What a machine has of a process at the end, by what the lines say that it knows.
-use Rattle.dm_mirror.proofs.Names.{◌≡◌, ℕ, true, List, [], refl, ap, ◌∙◌, sym, subst, Option, None, Some, Pid, Message, MsgId, What, MessageKind, Record, EndLine, kind_of, plain_what, Process, Arrival, restarted, coming, Wanted, Nothing}
+use Rattle.dm_mirror.proofs.Names.{◌≡◌, ℕ, true, List, [], refl, ap, ◌∙◌, sym, subst, Option, None, Some, Pid, Message, MsgId, What, MessageKind, Record, EndLine, kind_of, plain_what, Process, Arrival, restarted, coming, Wanted, Nothing, arith, nat_tests}
 use Rattle.dm_mirror.proofs.Names.{by_pieces, Why, Standing, list_line, is_away, Point, Known, Unknown, Here, Frozen, Incoming, Forward, Ended, Placed, alive_lines, awaited_lines, come_whole, held_for, names_of, record_lines, record_queue}
 use Rattle.dm_mirror.proofs.Names.{has_nothing_held, AreMessages, ComesStand, KnownStands, Carries, Wants}
 use Rattle.dm_migrate.specs.Way.{moved}
@@ -136,9 +136,7 @@ restart_wants p x n o _ e h = cc
 
 -- all its pieces give the process
 pub come_all : (l : Placed) (p : Pid) (held : List MsgId) (a : Arrival) (c : ComesStand l p held a) → a.wanted ≡ Nothing → come_whole a a.wanted ≡ Some (moved c.process)
-come_all l p held a c wanted =
-    ap (come_whole a) wanted
-    ∙ (ap restarted (c.pieces ∙ ap (λ (w : Wanted). coming c.process None a.held w) wanted) ∙ (by_pieces (record c.process { queue = [] }) None a.held c.whole).whole)
+come_all l p held a c wanted = grind (arith, nat_tests)
 
 -- the messages that are held
 pub held_said : (pt : Point) (l : Placed) (p : Pid) (q held : List MsgId) (k : Known) (r : Option machine.Known) → ((i : MsgId) (m : Message) → l.bag i ≡ Some m → m.id ≡ i) → (has_nothing_held k ≡ true → held ≡ []) → KnownStands pt l p q held k r → names_of (held_for r) ≡ held

@@ -34,9 +34,7 @@ own_back _ e back = cc
 
 -- the name of the kernel's next message is free
 once_told : (i : MsgId) (f : Spot → ℕ) (o : Option Told) → StandsOnce f → ((z : Spot) → 1 ≤ f z → is_some o ≡ true) → o ≡ None → ⊥
-once_told i f o once told none =
-    let (spot, one, others) = once in
-    false≢true (sym (ap is_some none) ∙ told spot (omega (arith, one)))
+once_told i f o once told none = grind (arith, nat_tests, is_some)
 
 pub next_untold : (b : Boot) (m : ℕ) (pt : Point) → Run b pt → pt.view.told (id_of (pid_of m 0) (pt.view.count m)) ≡ None
 next_untold b m pt run = run.based.phased.state.numbered m (pt.view.count m) (omega arith)
@@ -95,9 +93,7 @@ machine_forwards s y at moves false = refl
 
 rule_forwards : (a : Addresses) (y : Message) (k : MessageKind) (sender : Pid) (id : MsgId) (here at moves : ℕ) (back : Bool) → is_told_back k ≡ back → (back ≡ true → sender ≡ y.sender.pid) → a (Sender y.id) ≡ place_of y.sender
     → forwards_on a y.id k sender at ≡ rule.Says (Line.Forwarded y.id at) ∷ map rule_part_of (routes_of y id here at moves back)
-rule_forwards a y k sender id here at moves true is who place =
-    ap (λ (t : Bool). rule.Says (Line.Forwarded y.id at) ∷ rule.Again y.id at ∷ (if t then rule.Owns MessageKind.Update sender (a (Sender y.id)).at ∷ [] else [])) is
-    ∙ (λ i. rule.Says (Line.Forwarded y.id at) ∷ rule.Again y.id at ∷ rule.Owns MessageKind.Update (who refl i) (place i).at ∷ [])
+rule_forwards a y k sender id here at moves true is who place = grind (arith, nat_tests)
 rule_forwards a y k sender id here at moves false is who place =
     ap (λ (t : Bool). rule.Says (Line.Forwarded y.id at) ∷ rule.Again y.id at ∷ (if t then rule.Owns MessageKind.Update sender (a (Sender y.id)).at ∷ [] else [])) is
 
@@ -163,9 +159,7 @@ inbox_is k rest true = refl
 inbox_is k rest false = refl
 
 gone_on : (l : Placed) (y z : Message) (at moves : ℕ) → (with_message l y.id (Some (sent_on at moves y))).bag y.id ≡ Some z → sent_on at moves y ≡ z
-gone_on l y z at moves e =
-    let f : Some (sent_on at moves y) ≡ Some z = sym (ap (λ (t : Bool). if t then Some (sent_on at moves y) else l.bag y.id) (id_eq-same y.id)) ∙ e in
-    cc
+gone_on l y z at moves e = grind (arith, nat_tests, id_eq-same)
 
 own_most : (y : Message) (id : MsgId) (here at moves : ℕ) (back : Bool) → owns (routes_of y id here at moves back) ≤ 1
 own_most y id here at moves true = omega arith

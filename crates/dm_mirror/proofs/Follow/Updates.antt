@@ -26,9 +26,7 @@ rests_away : (m n : ℕ) (k : Known) → n ≢ m → knows (Rests m) n k ≡ tru
 rests_away m n k apart e = sym (ap (λ (c : Bool). if c then is_here k else is_away k) (eq_off m n apart)) ∙ e
 
 rests_at : (b : Boot) (m : ℕ) (pt : Point) (p : Pid) (run : Run b pt) → pt.view.known m p ≡ Here → run.based.phased.phases.of p ≡ Rests m
-rests_at b m pt p run here =
-    let h = run.based.phased.phases in
-    rests_here (h.of p) m (sym (ap (knows (h.of p) m) here) ∙ (h.each p).known m)
+rests_at b m pt p run here = grind (arith, nat_tests, rests_here)
 
 nowhere_else : (b : Boot) (m n : ℕ) (pt : Point) (p : Pid) → Run b pt → pt.view.known m p ≡ Here → n ≢ m → has_process (pt.view.known n p) ≡ true → ⊥
 nowhere_else b m n pt p run here apart has =
@@ -138,9 +136,7 @@ first_servers l m e = ap (servers_at l) e
 
 -- the rule at a server
 server_board : (b : Boot) (pt : Point) (m : ℕ) (id : MsgId) (t : Told) (o : Option (List rule.Part)) → t.receiver ≡ switchboard → server_told pt id t t.kind ≡ o → hears b pt m id (Some t) ≡ o
-server_board b pt m id t o e h =
-    let p = t.receiver in
-    ap (λ (q : Pid). if q.num == 0 then kernel_hears b pt m id t.kind t.about else if pid_eq q switchboard then server_told pt id t t.kind else if pid_eq q manager then server_told pt id t t.kind else process_told pt m id t (pt.view.known m q)) e ∙ h
+server_board b pt m id t o e h = grind (arith, nat_tests)
 
 server_manager : (b : Boot) (pt : Point) (m : ℕ) (id : MsgId) (t : Told) (o : Option (List rule.Part)) → t.receiver ≡ manager → server_told pt id t t.kind ≡ o → hears b pt m id (Some t) ≡ o
 server_manager b pt m id t o e h =
@@ -148,14 +144,10 @@ server_manager b pt m id t o e h =
 
 -- the machine at a server
 machine_board : (b : Boot) (s : KernelState) (y : Message) (v : Servers) (about : Addr) → y.to.pid ≡ switchboard → s.servers ≡ Some v → y.what ≡ What.Update about → handles b s y ≡ board_follows s y v about
-machine_board b s y v about to there e =
-    ap (λ (q : Pid). if q.num == 0 then machine_handle.kernel_handles b s y y.what else if pid_eq q switchboard then machine_handle.board_handles s y s.servers else if pid_eq q manager then machine_handle.manager_handles s y s.servers else machine_handle.process_handles s y (s.records q)) to
-    ∙ ap (machine_handle.board_handles s y) there ∙ ap (λ (w : What). machine_handle.board_took s y v (board_.takes v.board w)) e ∙ ap (machine_handle.told_board s y v) e
+machine_board b s y v about to there e = grind (arith, nat_tests)
 
 machine_manager : (b : Boot) (s : KernelState) (y : Message) (v : Servers) (about : Addr) → y.to.pid ≡ manager → s.servers ≡ Some v → y.what ≡ What.Update about → handles b s y ≡ manager_follows s y v about
-machine_manager b s y v about to there e =
-    ap (λ (q : Pid). if q.num == 0 then machine_handle.kernel_handles b s y y.what else if pid_eq q switchboard then machine_handle.board_handles s y s.servers else if pid_eq q manager then machine_handle.manager_handles s y s.servers else machine_handle.process_handles s y (s.records q)) to
-    ∙ ap (machine_handle.manager_handles s y) there ∙ ap (λ (w : What). machine_handle.manager_took s y v (manage.takes v.manager y.id.n w)) e ∙ ap (machine_handle.told_manager s y v) e
+machine_manager b s y v about to there e = grind (arith, nat_tests)
 
 -- the switchboard's links follow
 pub updated_board_turn : (b : Boot) (m : ℕ) (pt : Point) (l : Placed) (records : AllRecords) (k : KernelState) (y : Message) (c : Fronts b m pt l records k y) (about : Addr) → y.to.pid ≡ switchboard → y.what ≡ What.Update about → TurnsAt b m pt l records k

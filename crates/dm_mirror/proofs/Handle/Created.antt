@@ -1,5 +1,5 @@
 -- A kernel makes a process.
-use Rattle.dm_mirror.proofs.Names.{◌≡◌, ◌≢◌, ℕ, ◌+◌, ◌/◌, ◌≤◌, ◌==◌, ◌&&◌, Bool, true, false, List, [], ◌∷◌, ◌++◌, length, map, refl, ap, ◌∙◌, sym, subst, is_some, arith, if◌then◌else◌, slice_get, Option, None, Some, false≢true, Pid}
+use Rattle.dm_mirror.proofs.Names.{◌≡◌, ◌≢◌, ℕ, ◌+◌, ◌/◌, ◌≤◌, ◌==◌, ◌&&◌, Bool, true, false, List, [], ◌∷◌, ◌++◌, length, map, refl, ap, ◌∙◌, sym, subst, is_some, arith, if◌then◌else◌, slice_get, Option, None, Some, false≢true, Pid, nat_tests}
 use Rattle.dm_mirror.proofs.Names.{pid_of, pid_eq, PlainLink, MsgId, Message, What, Record, Label, Line, PlainMessage, PlainWhat, plain_message, Process, begun_process, answer, Boot, BootImage, Format, first_number, image_is_valid}
 use Rattle.dm_mirror.proofs.Names.{slots_of, Alive, OneKernel, PlainProcess, bind, when, answer_id, answer_to, without_message, memory_of, slots_with, pid_eq-same, Part, Routes, Point, Room, and, blocks_of, taken_at, taken_by, takes_room}
 use Rattle.dm_mirror.proofs.Names.{at_record, without_front, Spot, Queue, Held, Inbox, standing, Known, after_label, is_kernels, bag_none, bag_created, has_no_queue, fresh_child, begun, Placed, plainly, create_what, child_of, with_child}
@@ -32,9 +32,7 @@ made_known b m pt l k y w c next on p held x r none is empty there known here =
     ((x.queue, there), ap (map on.bag) waits ∙ ap (map Some) (sym empty)))
 
 made_taken : (m : ℕ) (next : Point) (p : Pid) (g : BootImage) (x : PlainProcess) → next.view.known m p ≡ Known.Here → kernel.alive (next.kernel.processes p) ≡ Some x → x.memory ≡ memory_of g → image_is_valid g ≡ true → taken_by next m p ≡ record { slots = 1; blocks = g.blocks }
-made_taken m next p g x here alive memory valid =
-    ap (λ (z : Known). record { slots = takes_room z; blocks = if takes_room z == 0 then 0 else blocks_of (kernel.alive (next.kernel.processes p)) }) here
-    ∙ ap (λ (n : ℕ). record { slots = 1; blocks = n }) (ap blocks_of alive ∙ ap (λ (bytes : List ℕ). length bytes / 256) memory ∙ blocks_are (length (memory_of g)) g.blocks (memory_length g valid))
+made_taken m next p g x here alive memory valid = grind (arith, nat_tests, blocks_are, memory_length)
 
 pub created_row : (b : Boot) (m : ℕ) (pt : Point) (l : Placed) (k : KernelState) (y : Message) (image : ℕ) (ls : List PlainLink) (g : BootImage) → Taking b m pt l k y (PlainWhat.Create image ls) → (y.to.pid.num == 0) ≡ true → slice_get b.images image ≡ Some g
     → rule.has_room (rule.free_room b pt m) g.blocks ≡ true → image_is_valid g ≡ true → Row b m pt l k

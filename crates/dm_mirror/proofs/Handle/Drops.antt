@@ -56,9 +56,7 @@ abbrev dropped_point : Point → MsgId → Pid → Point
 dropped_point pt j p = record { kernel = without_message pt.kernel j; view = dropped_view pt.view j p; addresses = pt.addresses }
 
 one_after : (pt : Point) (j : MsgId) (p : Pid) (rest : List Line) → kernel.step pt.kernel (Label.Dropped j) ≡ Some (without_message pt.kernel j) → view.receiver_of (pt.view.told j) ≡ Some p → after pt (drop_line j ∷ rest) ≡ after (dropped_point pt j p) rest
-one_after pt j p rest step told =
-    ap (λ (o : Option OneKernel). bind (bind o (λ (s : OneKernel). Some (moved pt (drop_line j) s))) (λ (n : Point). after n rest)) step
-    ∙ ap (λ (o : Option Pid). after (record { kernel = without_message pt.kernel j; view = view.dropped_for (handled pt.view j) j o; addresses = pt.addresses }) rest) told
+one_after pt j p rest step told = grind (arith, nat_tests)
 
 one_mirrors : (pt : Point) (l : Placed) (j : MsgId) (p : Pid) → kernel.step pt.kernel (Label.Dropped j) ≡ Some (without_message pt.kernel j) → Mirrors pt.kernel pt.view pt.addresses l
     → Mirrors (without_message pt.kernel j) (dropped_view pt.view j p) pt.addresses (placed.without_message l j)

@@ -89,9 +89,7 @@ room_at : (f : ℕ → Pid → Known) (m : ℕ) (p q : Pid) (n : Known) → take
 room_at f m p q n same = grind (arith, nat_tests, pid_eq-is, record_self, pid_eq-same, record_others)
 
 pub taken_at_record : (pt next : Point) (m : ℕ) (p q : Pid) (n : Known) → next.kernel.processes ≡ pt.kernel.processes → next.view.known m q ≡ at_record pt.view.known m p n m q → takes_room n ≡ takes_room (pt.view.known m p) → taken_by next m q ≡ taken_by pt m q
-taken_at_record pt next m p q n lives known same =
-    let room : takes_room (next.view.known m q) ≡ takes_room (pt.view.known m q) = ap takes_room known ∙ room_at pt.view.known m p q n same in
-    λ i. record { slots = room i; blocks = if room i == 0 then 0 else blocks_of (kernel.alive (lives i q)) }
+taken_at_record pt next m p q n lives known same = grind (arith, nat_tests, room_at)
 
 -- to another machine
 asks_other : (b : Boot) (m : ℕ) (pt : Point) (l : Placed) (records : AllRecords) (k : KernelState) (y : Message) (machine : ℕ) → Hearing b m pt l records k (record y { what = What.Migrate machine }) → pt.view.known m y.to.pid ≡ Here → m ≢ machine

@@ -1,5 +1,5 @@
 -- A process has gone: the messages for it go on, and the other machine may restart it.
-use Rattle.dm_mirror.proofs.Names.{◌≡◌, ◌≢◌, ℕ, ◌+◌, ◌/◌, ◌≤◌, ◌==◌, Bool, true, false, not, List, [], ◌∷◌, ◌++◌, length, map, is_some, refl, ap, ◌∙◌, sym, subst, inl, arith, if◌then◌else◌, option_map, Option, Some, false≢true, Pid}
+use Rattle.dm_mirror.proofs.Names.{◌≡◌, ◌≢◌, ℕ, ◌+◌, ◌/◌, ◌≤◌, ◌==◌, Bool, true, false, not, List, [], ◌∷◌, ◌++◌, length, map, is_some, refl, ap, ◌∙◌, sym, subst, inl, arith, if◌then◌else◌, option_map, Option, Some, false≢true, Pid, nat_tests}
 use Rattle.dm_mirror.proofs.Names.{pid_eq, kernel_at, Message, MsgId, What, MessageKind, Record, Wanted, Line, Stage, Process, Taken, with_released, frozen_of, incoming_of, all_sent_on, Boot, Alive, Life, bind, plain_process, PlainProcess}
 use Rattle.dm_mirror.proofs.Names.{without_leaving, KernelState, own, turned, pid_eq-same, sends_on, to_kernel, Point, moved, Room, blocks_of, taken_at, taken_by, takes_room, at_machine, Spot, Held, Inbox, Queue, standing, times, Forward}
 use Rattle.dm_mirror.proofs.Names.{Frozen, Known, gone_to, own_id, without_first, MirrorsPoint, sent_all, Placed, sent_on_mirrors, mirrors_view, MadeStands, told_of, AreMessages, KnownStands, RoomStands, AllRecords, Wants}
@@ -27,9 +27,7 @@ gone_taken : (m : ℕ) (end : Point) (p : Pid) (to moves : ℕ) → end.view.kno
 gone_taken m end p to moves known = ap (λ (n : Known). record { slots = takes_room n; blocks = if takes_room n == 0 then 0 else blocks_of (kernel.alive (end.kernel.processes p)) }) known
 
 frozen_taken : (m : ℕ) (pt : Point) (p : Pid) (to : ℕ) (x : PlainProcess) → pt.view.known m p ≡ Frozen to → kernel.alive (pt.kernel.processes p) ≡ Some x → taken_by pt m p ≡ record { slots = 1; blocks = length x.memory / 256 }
-frozen_taken m pt p to x known life =
-    ap (λ (n : Known). record { slots = takes_room n; blocks = if takes_room n == 0 then 0 else blocks_of (kernel.alive (pt.kernel.processes p)) }) known
-    ∙ ap (λ (o : Option PlainProcess). record { slots = 1; blocks = blocks_of o }) life
+frozen_taken m pt p to x known life = grind (arith, nat_tests)
 
 room_released : (t given : Taken) (o n : Room) (blocks : ℕ) → RoomStands t given o → n.slots + 1 ≡ o.slots + 0 → n.blocks + blocks ≡ o.blocks + 0 → RoomStands (with_released t blocks) given n
 room_released t given o n blocks h slots pieces =

@@ -94,9 +94,7 @@ pub process_hears : (b : Boot) (pt : Point) (m : ℕ) (i : MsgId) (t : Told) (n 
 process_hears b pt m i t n loose is = grind (arith, nat_tests, three_off)
 
 pub to_kernel_hears : (b : Boot) (pt : Point) (m : ℕ) (i : MsgId) (t : Told) → (t.receiver.num == 0) ≡ true → hears b pt m i (Some t) ≡ kernel_hears b pt m i t.kind t.about
-to_kernel_hears b pt m i t num =
-    let p = t.receiver in
-    ap (λ (c : Bool). if c then kernel_hears b pt m i t.kind t.about else if pid_eq p switchboard then server_told pt i t t.kind else if pid_eq p manager then server_told pt i t t.kind else process_told pt m i t (pt.view.known m p)) num
+to_kernel_hears b pt m i t num = grind (arith, nat_tests)
 
 -- the records of all machines, where those of machine m are these
 pub records_as : (records : AllRecords) (m n : ℕ) (f g : Pid → Option machine.Known) (q : Pid) → records m ≡ f → g q ≡ f q → at_machine records m g n q ≡ records n q

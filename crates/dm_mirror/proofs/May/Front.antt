@@ -22,9 +22,7 @@ pub record FrontSo (pt : Point) (m : ℕ) (i : MsgId) (x : Message) (p : PlainMe
 
 with_what_is : (x : Message) (o : Option PlainWhat) (p : PlainMessage) → with_what x o ≡ Some p → (x.to.pid ≡ p.to) × (o ≡ Some p.what)
 with_what_is x None p e = cc
-with_what_is x (Some w) p e =
-    let f : record { id = x.id; to = x.to.pid; sender = x.sender.pid; what = w } ≡ p = cc in
-    (ap (λ (v : PlainMessage). v.to) f, ap (λ (v : PlainMessage). Some v.what) f)
+with_what_is x (Some w) p e = grind (arith, nat_tests)
 
 pub front_so : (b : Boot) (pt : Point) (l : Placed) (m : ℕ) (i : MsgId) (is : List MsgId) (x : Message) (p : PlainMessage) → Run b pt → Mirrors pt.kernel pt.view pt.addresses l → pt.view.inbox m ≡ i ∷ is → l.bag i ≡ Some x → plain_message x ≡ Some p → FrontSo pt m i x p
 front_so b pt l m i is x p run mirrors box there plainly =

@@ -28,9 +28,7 @@ kernels_not_own i None e = e
 kernels_not_own i (Some t) e = refl
 
 pub first_not_own : (pt : Point) (l : Placed) (records : AllRecords) (x : Message) → Sane pt → Mirrors pt.kernel pt.view pt.addresses l → MayPut pt l records (First x) → is_own x.id (pt.view.told x.id) ≡ false
-first_not_own pt l records x sane mirrors may =
-    let p : IsPlain (pt.kernel.bag x.id) x = plain_of pt l x mirrors may.0 may.1 in
-    kernels_not_own x.id (pt.view.told x.id) (not_kernels sane.r sane.e pt.kernel x.id p.m p.there sane.sound)
+first_not_own pt l records x sane mirrors may = grind (arith, nat_tests, plain_of, kernels_not_own, not_kernels)
 
 pub on_not_own : (pt : Point) (l : Placed) (records : AllRecords) (x : Message) → MayPut pt l records (On x) → is_own x.id (pt.view.told x.id) ≡ false
 on_not_own pt l records x may = not_first x.id (pt.view.told x.id) may.1.0 may.1.1

@@ -129,9 +129,7 @@ pub count_here : (pt : Point) (l : Placed) (records : AllRecords) (m : ℕ) (r :
 count_here pt l records m (First x) home out sane mirrors acting self may =
     ap (λ (f : ℕ → ℕ). f m) (same_end pt m x.to.at x home out).count
     ∙ ap (λ (t : Bool). (if t then at_machine pt.view.count x.id.from.home (pt.view.count x.id.from.home + 1) else pt.view.count) m) (first_not_own pt l records x sane mirrors may) ∙ omega arith
-count_here pt l records m (On x) home out sane mirrors acting self may =
-    ap (λ (f : ℕ → ℕ). f m) (same_end pt m x.to.at x home out).count
-    ∙ ap (λ (t : Bool). (if t then at_machine pt.view.count x.id.from.home (pt.view.count x.id.from.home + 1) else pt.view.count) m) (on_not_own pt l records x may) ∙ omega arith
+count_here pt l records m (On x) home out sane mirrors acting self may = grind (arith, nat_tests, same_end, on_not_own)
 count_here pt l records m (Own x) home out sane mirrors acting self may = grind (arith, nat_tests, same_end, own_counted, untold_own, set_here)
 
 pub count_off : (pt : Point) (l : Placed) (records : AllRecords) (m n : ℕ) (r : Route) (home out : Bool) → Sane pt → Mirrors pt.kernel pt.view pt.addresses l → pt.view.acting ≡ m → (m == n) ≡ false → MayPut pt l records r
@@ -139,7 +137,5 @@ pub count_off : (pt : Point) (l : Placed) (records : AllRecords) (m n : ℕ) (r 
 count_off pt l records m n (First x) home out sane mirrors acting off may =
     ap (λ (f : ℕ → ℕ). f n) (same_end pt m x.to.at x home out).count
     ∙ ap (λ (t : Bool). (if t then at_machine pt.view.count x.id.from.home (pt.view.count x.id.from.home + 1) else pt.view.count) n) (first_not_own pt l records x sane mirrors may)
-count_off pt l records m n (On x) home out sane mirrors acting off may =
-    ap (λ (f : ℕ → ℕ). f n) (same_end pt m x.to.at x home out).count
-    ∙ ap (λ (t : Bool). (if t then at_machine pt.view.count x.id.from.home (pt.view.count x.id.from.home + 1) else pt.view.count) n) (on_not_own pt l records x may)
+count_off pt l records m n (On x) home out sane mirrors acting off may = grind (arith, nat_tests, same_end, on_not_own)
 count_off pt l records m n (Own x) home out sane mirrors acting off may = grind (arith, nat_tests, same_end, own_counted, untold_own, set_off)

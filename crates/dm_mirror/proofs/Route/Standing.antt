@@ -20,9 +20,7 @@ all_gone i j (x ∷ xs) (suc n) e h = all_gone i j xs n (omega (arith, e)) h
 
 pair_grows : (a b : ℕ) (p : Pair) (i j : MsgId) (c : Bool) → (a == b) ≡ c → p.taken ≤ length p.ids → (c ≡ true → p.taken ≡ length p.ids) → 1 ≤ times j (untaken p) → 1 ≤ times j (untaken (routed_on a b p i))
 pair_grows a b p i j true e few full h = absurd (all_gone i j p.ids p.taken (full refl) h)
-pair_grows a b p i j false e few full h =
-    subst (λ (c : Bool). 1 ≤ times j (drop (if c then p.taken + 1 else p.taken) (p.ids ++ i ∷ []))) (sym e)
-    (subst (λ (xs : List MsgId). 1 ≤ times j xs) (sym (drop-append-le p.taken p.ids (i ∷ []) few)) (more_times j (drop p.taken p.ids) (i ∷ []) h))
+pair_grows a b p i j false e few full h = grind (arith, nat_tests, drop-append-le, more_times)
 
 pair_if : (f : ℕ → ℕ → Pair) (a b c d : ℕ) (i j : MsgId) (t : Bool) → ((a == c) && (b == d)) ≡ t → (f a b).taken ≤ length (f a b).ids → ((a == b) ≡ true → (f a b).taken ≡ length (f a b).ids) → 1 ≤ times j (untaken (f c d)) → 1 ≤ times j (untaken (if t then routed_on a b (f a b) i else f c d))
 pair_if f a b c d i j true e few full h = grind (arith, nat_tests, two_of, pair_grows)

@@ -1,15 +1,12 @@
 -- What a message that changes its places keeps, and one whose addresses nobody reads.
-use Rattle.dm_places.proofs.Names.{◌≡◌, ℕ, Bool, false, [], ◌∷◌, refl, ap, ◌∙◌, sym, subst, inl, inr, if◌then◌else◌, option_map, Option, None, Some, cases_Bool, Pid, Place, MsgId, Message, id_eq, PlainWhat, plain_message, plain_what}
+use Rattle.dm_places.proofs.Names.{◌≡◌, ℕ, Bool, false, [], ◌∷◌, refl, ap, ◌∙◌, sym, subst, inl, inr, if◌then◌else◌, option_map, Option, None, Some, cases_Bool, Pid, Place, MsgId, Message, id_eq, PlainWhat, plain_message, plain_what, arith, nat_tests}
 use Rattle.dm_places.proofs.Names.{with_what, sent_on, OneKernel, bind, id_eq-is, id_eq-same, View, Addresses, Receiver, gets, given, SameMessage, SameProcess, SameServers, two, two_off, two_process, Placed, Mirrors, MirrorsKernel}
 use Rattle.dm_places.proofs.Names.{MirrorsMessage, MirrorsPlaces, with_message}
 use Rattle.dm_places.proofs.Keeps.{message_same, process_same}
 
 -- a message that means the same
 bag_again : (s : OneKernel) (l : Placed) (id : MsgId) (m : Option Message) (i : MsgId) → bind m plain_message ≡ s.bag id → MirrorsKernel s l → bind ((with_message l id m).bag i) plain_message ≡ s.bag i
-bag_again s l id m i e h = elim (cases_Bool (id_eq id i)) [
-  | inl same ↦ ap (λ (c : Bool). bind (if c then m else l.bag i) plain_message) same ∙ e ∙ ap s.bag (id_eq-is id i same)
-  | inr apart ↦ ap (λ (c : Bool). bind (if c then m else l.bag i) plain_message) apart ∙ h.bag i
-]
+bag_again s l id m i e h = grind (arith, nat_tests, id_eq-is)
 
 pub kernel_again : (s : OneKernel) (l : Placed) (id : MsgId) (m : Option Message) → bind m plain_message ≡ s.bag id → MirrorsKernel s l → MirrorsKernel s (with_message l id m)
 kernel_again s l id m e h = search bag_again
@@ -75,10 +72,7 @@ sent_on_any s v a l id None place none h =
 
 -- the addresses of a message that isn't there
 pub free_off : (l : Placed) (i j : MsgId) (m : Message) → l.bag i ≡ None → l.bag j ≡ Some m → id_eq i j ≡ false
-free_off l i j m none there = elim (cases_Bool (id_eq i j)) [
-  | inl same ↦ absurd (let f : None ≡ Some m = sym none ∙ ap l.bag (id_eq-is i j same) ∙ there in cc)
-  | inr apart ↦ apart
-]
+free_off l i j m none there = grind (arith, nat_tests, id_eq-is)
 
 pub free_mirrors : (s : OneKernel) (v : View) (a : Addresses) (l : Placed) (i : MsgId) (to from : Place) → l.bag i ≡ None → Mirrors s v a l → Mirrors s v (given a (two i to from)) l
 free_mirrors s v a l i to from none h =

@@ -62,10 +62,7 @@ found_at name (k ∷ ks) n w e = elim (cases_Bool (bytes_eq k.name name)) [
 ]
 
 found_one : (a : Addresses) (sent : MsgId) (pl : Place) (l : Link) → pl ≡ place_of l.addr → (n : ℕ) (w : Link) → slice_get (l ∷ []) n ≡ Some w → given a (gets (Enclosed sent 0) pl ∷ []) (Enclosed sent n) ≡ place_of w.addr
-found_one a sent pl l at zero w e =
-    let f : l ≡ w = cc in
-    let same : (id_eq sent sent && (0 == 0)) ≡ true = let g = id_eq-same sent in grind (arith, nat_tests) in
-    ap (λ (c : Bool). if c then pl else a (Enclosed sent 0)) same ∙ at ∙ ap (λ (k : Link). place_of k.addr) f
+found_one a sent pl l at zero w e = grind (arith, nat_tests, id_eq-same)
 found_one a sent pl l at (suc n) w e = absurd (let f : None ≡ Some w = e in cc)
 
 looks_up_kept : (a : Addresses) (id sent : MsgId) (names : List Named) (op : ℕ) (name : List ℕ) (o : Option Link) → board.link_named name names ≡ o → NamesKept a names

@@ -22,11 +22,7 @@ use Rattle.dm_places.proofs.Whats.{user_what, created_what, no_room_what}
 -- the link of an answer about a child, if it carries one
 enclosed_one : (a : Addresses) (sent : MsgId) (pl : Place) (ls : List Link) → ((k : ℕ) (w : Link) → slice_get ls k ≡ Some w → (k ≡ 0) × (pl ≡ place_of w.addr)) → (k : ℕ) (w : Link) → slice_get ls k ≡ Some w
     → given a (gets (Enclosed sent 0) pl ∷ []) (Enclosed sent k) ≡ place_of w.addr
-enclosed_one a sent pl ls h k w e =
-    let f = h k w e in
-    let zero_is = f.0 in
-    let same : (id_eq sent sent && (0 == k)) ≡ true = let g = id_eq-same sent in grind (arith, nat_tests) in
-    ap (λ (c : Bool). if c then pl else a (Enclosed sent k)) same ∙ f.1
+enclosed_one a sent pl ls h k w e = grind (arith, nat_tests, id_eq-same)
 
 one_link : (place : Place) (w : Link) → place ≡ place_of w.addr → (k : ℕ) (u : Link) → slice_get (w ∷ []) k ≡ Some u → (k ≡ 0) × (place ≡ place_of u.addr)
 one_link place w at zero u e = let f : w ≡ u = cc in (refl, at ∙ ap (λ (z : Link). place_of z.addr) f)
