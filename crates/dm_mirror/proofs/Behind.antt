@@ -59,12 +59,7 @@ unless_behind false more o p e = e
 
 -- what follows is the same with more directives behind
 pub following_behind : (machines : ℕ) (first : ℕ → ℕ → Option ℕ) (mail : ℕ → Bool) (quiet : Bool) (t : Todo) (more : List Directive) (n : Next) → following machines first mail quiet t ≡ Some n → following machines first mail quiet (behind more t) ≡ Some (next_behind more n)
-following_behind machines first mail quiet t more n is =
-    let over = is_over t.pass quiet in
-    let here = in_pass mail t (next_delivery first t.pairs) in
-    let also = in_pass mail (behind more t) (next_delivery first t.pairs) in
-    or_behind more (if over then None else here) (next_pass machines first mail quiet t.pass t.directives) (if over then None else also) (next_pass machines first mail quiet t.pass (t.directives ++ more)) n
-    (unless_behind over more here also (pass_behind mail more t (next_delivery first t.pairs))) (later_behind machines first mail quiet t.pass t.directives more n) is
+following_behind machines first mail quiet t more n is = search (or_behind, unless_behind, pass_behind, later_behind)
 
 pub run_behind : (b : Boot) (gs : List (List Line)) (pt end : Point) (t left : Todo) (more : List Directive) → IsRun b pt t gs end left → IsRun b pt (behind more t) gs end (behind more left)
 run_behind b [] pt end t left more (e, f) = (e, ap (behind more) f)

@@ -37,9 +37,6 @@ module _ (b : Boot) (w : WorldState) (pt : Point) (l : Placed) (h : History) (a 
   there : PairIs b l a c (ends_of w h a c) (w.wires a c) (pt.view.pair a c)
   there = there_pair b w pt l h a c s a_in c_in apart
 
-  back : PairIs b l c a (ends_of w h c a) (w.wires c a) (pt.view.pair c a)
-  back = back_pair b w pt l h a c s a_in c_in apart
-
   abbrev Does : Load Message → List Part → Type 0
   Does carried ps = Comes b w pt l h a c k s a_in c_in apart carried ps
 
@@ -70,9 +67,7 @@ module _ (b : Boot) (w : WorldState) (pt : Point) (l : Placed) (h : History) (a 
 
   -- the directive's group, from what its parts say
   due_by : (ps : List Part) (z : Spelled) → group.arrives a c (pt.view.pair a c) (pt.view.pair c a) (slice_get (pt.view.pair a c).wire k) ≡ ps → spelled (begun pt a c k) ps ≡ Some z → group.group_of b pt (Step.Deliver a c k) ≡ Some (headed (Line.Head (Step.Deliver a c k)) z)
-  due_by ps z e f =
-      ap (λ (qs : List Part). bind (spelled (begun pt a c k) qs) (λ y. Some (headed (Line.Head (Step.Deliver a c k)) y))) e
-      ∙ ap (λ (o : Option Spelled). bind o (λ y. Some (headed (Line.Head (Step.Deliver a c k)) y))) f
+  due_by ps z e f = grind (arith, nat_tests)
 
   same_of : (ps : List Part) (z : Spelled) → group.arrives a c (pt.view.pair a c) (pt.view.pair c a) (slice_get (pt.view.pair a c).wire k) ≡ ps → spelled (begun pt a c k) ps ≡ Some z → Same pt z.point
   same_of ps z e f =
@@ -104,9 +99,7 @@ module _ (b : Boot) (w : WorldState) (pt : Point) (l : Placed) (h : History) (a 
 
   -- each count that was ever acknowledged is small
   small_ack : (n : ℕ) → load_at (h.packets a c) k ≡ Some (Ack n) → n < 2 ^ 32
-  small_ack n e =
-      let v = stream_with (ends_of w h c a) in
-      omega (arith, (MayCome-stands v back.stream).ack k n e, back.stream.in_order.gone_given, back.stream.counted.given, back.stream.counted.allowed, back.stream.counted.small)
+  small_ack n e = grind (arith, nat_tests, MayCome-stands)
 
   -- the packet, by what it carries
   goes_with : (p : stream.Packet Message) (carried : Load Message) → a < 16 → c < 16 → slice_get (h.packets a c) k ≡ Some p → p.load ≡ carried → ReadsAs w h a c k → GoesOn b w pt (Step.Deliver a c k)

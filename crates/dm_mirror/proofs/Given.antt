@@ -1,5 +1,5 @@
 -- What the laws rest on.
-use Rattle.dm_mirror.proofs.Names.{◌≡◌, ℕ, ◌<◌, ◌≤◌, true, List, length, refl, ap, ◌∙◌, sym, subst, inl, nat_le, arith, option_map, Some, nat_tests, length-map, Pid, IsMachine, plain_link, Boot, IsValid, slots_of, Alive, plain_process}
+use Rattle.dm_mirror.proofs.Names.{◌≡◌, ℕ, ◌<◌, ◌≤◌, true, List, length, ap, ◌∙◌, sym, subst, inl, nat_le, arith, option_map, Some, nat_tests, length-map, Pid, IsMachine, plain_link, Boot, IsValid, slots_of, Alive, plain_process}
 use Rattle.dm_mirror.proofs.Names.{PlainProcess, Step, Leads, Point, first_point, run_always, run_group, run_start, format_always, tables_always, Placed, MayStep, AreWhole, WorldState, EndIsSaid, EndMay, RunGoesOn, StepsStand, Steps}
 use Rattle.dm_mirror.proofs.Names.{History, Stands, StandsWith, RanGoesOn, alive-is}
 use Rattle.dm_onekernel.specs.Step as kernel
@@ -42,22 +42,8 @@ turn_stands tables b es w pt m valid leads ((l, h, st), sent) lt may whole =
     let within = below b es pt m leads lt in
     let node = st.nodes m within in
     turn_goes run_group b w pt l h m valid both.run both.own may.1.kernel st sent within
-    (turns_all b m pt l (λ n. (w.nodes n).kernel.records) (w.nodes m).kernel (record {
-      valid = valid;
-      below = within;
-      run = both.run;
-      told = both.own;
-      made = made_always b es pt valid leads;
-      mirrors = st.mirrors;
-      stands = node.kernel;
-      lawful = node.lawful;
-      own = st.own;
-      tokens = st.tokens;
-      mine = refl;
-      counted = sent m within;
-      around = around_of tables b es w pt l h valid leads st;
-      whole = whole;
-    }))
+    (turns_all b m pt l (λ n. (w.nodes n).kernel.records) (w.nodes m).kernel (search
+    (made_always b es pt valid leads, sent m within, around_of tables b es w pt l h valid leads st)))
 
 few : (b : Boot) (m : ℕ) → IsValid b → m < length b.machines → m ≤ 15
 few b m valid lt = let most : nat_le (length b.machines) 16 ≡ true = valid.few_machines in grind (arith, nat_tests)
@@ -72,15 +58,7 @@ move_stands b es w pt p m valid leads ((l, h, st), sent) lt may =
     let node = st.nodes 0 first in
     let machine : IsMachine m = few b m valid lt in
     move_goes run_group b w pt l h p m valid both.run both.own may.1.kernel.here machine st sent first (below b es pt m leads lt)
-    (asks_turn b pt l (λ n. (w.nodes n).kernel.records) (w.nodes 0).kernel p m (record {
-      run = both.run;
-      mirrors = st.mirrors;
-      stands = node.kernel;
-      own = st.own;
-      tokens = st.tokens;
-      mine = refl;
-      counted = sent 0 first;
-    }))
+    (asks_turn b pt l (λ n. (w.nodes n).kernel.records) (w.nodes 0).kernel p m (search (sent 0 first)))
 
 steps_stand_by : FewAlways → TablesAlways → StepsStand
 steps_stand_by fews tables b es w pt (Step.Turn m) valid leads stands able readable lt =

@@ -60,11 +60,7 @@ goes_on b ds gs pt left w n valid machines r is fits may g again =
     let ((l, h, stands), count) = g.stands in
     let kept : IsKept b g.group.point = record { once = λ id. stands_once_always b (r.steps ++ n.step ∷ []) g.group.point id valid on; counts = stands.counts } in
     record {
-      good = record {
-        run = run_last b gs (first_point b) pt (all_of ds) left n g.group g.said.lines r.good.run is g.due lines kept;
-        replays = replays;
-        received = λ i. received_once b (labels (joined (gs ++ g.said.lines ∷ []))) g.group.point.kernel i valid replays;
-      };
+      good = search (run_last b gs (first_point b) pt (all_of ds) left n g.group g.said.lines r.good.run is g.due lines kept, received_once);
       steps = r.steps ++ n.step ∷ [];
       leads = on;
       todo = fits.left;

@@ -13,50 +13,12 @@ use Rattle.dm_mirror.proofs.Turning.{TurnsAt}
 
 module _ (b : Boot) (m : ℕ) (pt : Point) (l : Placed) (records : AllRecords) (k : KernelState) (y : Message) (h : Hearing b m pt l records k y) (plain : plain_message y ≡ None) (below : m < pt.kernel.machines) (made : MadeStands pt.kernel) (around : Around b pt l) (whole : FreezesWhole k k.inbox) where
   fronts : Fronts b m pt l records k y
-  fronts = record {
-    below = below;
-    run = h.run;
-    own_told = h.sorts;
-    mirrors = h.mirrors;
-    stands = h.stands;
-    own = h.own;
-    tokens = h.tokens;
-    mine = h.records_here;
-    counted = h.sent;
-    there = h.there;
-    ids = h.ids;
-    box = h.box;
-    rest = h.rest;
-    inbox = h.inbox;
-    others = h.others;
-    told = told_of y;
-    told_is = h.told;
-    kind = refl;
-    receiver = refl;
-  }
+  fronts = search
 
   -- what the machine that a process leaves says
   comes : (p : Pid) (w : What) → y.what ≡ w → is_between (kind_of w) ≡ true → is_of_source (kind_of w) ≡ true → about_of w ≡ Of p → TurnsAt b m pt l records k
-  comes p w e between source about = turns_come b m pt l records k y p (record {
-    run = h.run;
-    made = made;
-    mirrors = h.mirrors;
-    stands = h.stands;
-    own = h.own;
-    tokens = h.tokens;
-    mine = h.records_here;
-    count = h.sent;
-    there = h.there;
-    plain = plain;
-    between = ap (λ (x : What). is_between (kind_of x)) e ∙ between;
-    of_source = ap (λ (x : What). is_of_source (kind_of x)) e ∙ source;
-    about = ap about_of e ∙ about;
-    ids = h.ids;
-    box = h.box;
-    rest = h.rest;
-    inbox = h.inbox;
-    others = h.others;
-  }) around
+  comes p w e between source about = turns_come b m pt l records k y p (search
+      (ap (λ (x : What). is_between (kind_of x)) e ∙ between, ap (λ (x : What). is_of_source (kind_of x)) e ∙ source, ap about_of e ∙ about)) around
 
   -- the process at hand can be carried whole
   receiver_whole : FreezesReceiverWhole k y

@@ -1,5 +1,5 @@
 -- The world after what a turn says, before the messages that it sends are routed.
-use Rattle.dm_mirror.proofs.Names.{◌≡◌, ◌≢◌, ℕ, ◌<◌, ◌≤◌, ◌==◌, Bool, true, false, length, refl, ap, ◌∙◌, sym, subst, inl, inr, if◌then◌else◌, eqb_tells, Boot, Point, at_machine, Untaken, Pair, Placed, Mirrors, IsLawfulState, KernelState}
+use Rattle.dm_mirror.proofs.Names.{◌≡◌, ◌≢◌, ℕ, ◌<◌, ◌≤◌, ◌==◌, Bool, true, false, length, refl, ap, ◌∙◌, sym, subst, inl, inr, if◌then◌else◌, eqb_tells, Boot, Point, at_machine, Untaken, Pair, Placed, Mirrors, IsLawfulState, KernelState, arith, nat_tests}
 use Rattle.dm_mirror.proofs.Names.{NodeState, WorldState, AllOwnStand, KernelStands, NodeStands, History, StandsWith, AllRecords, TokensStand}
 use Rattle.dm_mirror.proofs.Turning.{Elsewhere}
 use Rattle.dm_mirror.proofs.Others.{MadeHere, apart_tells, kernel_stays, pair_stays}
@@ -20,20 +20,10 @@ turned_there w m n k h = ap (λ (c : Bool). if c then with_kernel (w.nodes m) k 
 
 -- the streams stay
 turned_senders : (w : WorldState) (m n c : ℕ) (k : KernelState) → ((with_turned w m k).nodes n).senders c ≡ (w.nodes n).senders c
-turned_senders w m n c k =
-    elim (eqb_tells m n) [
-      | inl e ↦
-          ap (λ (t : Bool). (if t then with_kernel (w.nodes m) k else w.nodes n).senders c) e.0 ∙ ap (λ (i : ℕ). (w.nodes i).senders c) e.1
-      | inr e ↦ ap (λ (t : Bool). (if t then with_kernel (w.nodes m) k else w.nodes n).senders c) e.0
-    ]
+turned_senders w m n c k = grind (arith, nat_tests, eqb_tells)
 
 turned_receivers : (w : WorldState) (m n c : ℕ) (k : KernelState) → ((with_turned w m k).nodes n).receivers c ≡ (w.nodes n).receivers c
-turned_receivers w m n c k =
-    elim (eqb_tells m n) [
-      | inl e ↦
-          ap (λ (t : Bool). (if t then with_kernel (w.nodes m) k else w.nodes n).receivers c) e.0 ∙ ap (λ (i : ℕ). (w.nodes i).receivers c) e.1
-      | inr e ↦ ap (λ (t : Bool). (if t then with_kernel (w.nodes m) k else w.nodes n).receivers c) e.0
-    ]
+turned_receivers w m n c k = grind (arith, nat_tests, eqb_tells)
 
 -- what the machines know then
 records_if : (w : WorldState) (m n : ℕ) (k : KernelState) (t : Bool) → (if t then with_kernel (w.nodes m) k else w.nodes n).kernel.records ≡ (if t then k.records else (w.nodes n).kernel.records)
@@ -46,22 +36,14 @@ turned_records w m k n = records_if w m n k (m == n)
 -- the machine that turns, and another one
 node_turns : (b : Boot) (m : ℕ) (pt next : Point) (l placed : Placed) (n : NodeState) (k : KernelState) → next.kernel.machines ≡ pt.kernel.machines → next.view.pair m m ≡ pt.view.pair m m
     → KernelStands b next placed m k → IsLawfulState k → NodeStands b pt l m n → NodeStands b next placed m (with_kernel n k)
-node_turns b m pt next l placed n k machines pair kernel lawful h = record {
-  kernel = kernel;
-  lawful = lawful;
-  machines = h.machines ∙ sym machines;
-  numbers = h.numbers;
-  home = h.home ∙ sym (ap (λ (p : Pair). length p.ids) pair);
-}
+node_turns b m pt next l placed n k machines pair kernel lawful h = search (h.machines ∙ sym machines, h.home ∙ sym (ap (λ (p : Pair). length p.ids) pair))
 
 node_stays : (b : Boot) (m i : ℕ) (pt next : Point) (l placed : Placed) (n : NodeState) → i ≢ m → MadeHere m i pt next → Elsewhere m pt l next placed → NodeStands b pt l i n → NodeStands b next placed i n
-node_stays b m i pt next l placed n apart made e h = record {
-  kernel = kernel_stays b m i pt next l placed n.kernel apart made e h.kernel;
-  lawful = h.lawful;
-  machines = h.machines ∙ sym e.machines;
-  numbers = h.numbers;
-  home = h.home ∙ sym (ap (λ (p : Pair). length p.ids) (e.pair i i));
-}
+node_stays b m i pt next l placed n apart made e h = search (
+  kernel_stays b m i pt next l placed n.kernel apart made e h.kernel,
+  h.machines ∙ sym e.machines,
+  h.home ∙ sym (ap (λ (p : Pair). length p.ids) (e.pair i i)),
+)
 
 -- the world stands for the point behind what is said
 pub turned_stands : (b : Boot) (w : WorldState) (pt next : Point) (l placed : Placed) (h : History) (m : ℕ) (k : KernelState) → StandsWith b w pt l h → m < pt.kernel.machines → ((i : ℕ) → i ≢ m → MadeHere m i pt next) → Elsewhere m pt l next placed

@@ -1,6 +1,6 @@
 -- A directive acts on one machine.
 use Rattle.dm_mirror.proofs.Names.{◌≡◌, ℕ, zero, suc, ◌+◌, ◌==◌, ◌&&◌, Bool, true, false, List, [], ◌∷◌, map, refl, ap, ◌∙◌, sym, subst, arith, ⊤, if◌then◌else◌, Option, None, Some, Result, Err, nat_tests, append-nil, All-nil, Message}
-use Rattle.dm_mirror.proofs.Names.{Packet, Line, PacketError, packet_of, Sent, bytes_at, after_mark, Data, Ack, Boot, Step, KernelState, Turned, Pid, NodeState, here, Acted, Acts, Goes, Worn, StaysAt, asks_move_stays, WorldState, Said}
+use Rattle.dm_mirror.proofs.Names.{Packet, Line, PacketError, packet_of, Sent, bytes_at, after_mark, Data, Ack, Boot, Step, KernelState, Turned, Pid, NodeState, here, Acted, Acts, Goes, StaysAt, asks_move_stays, WorldState, Said}
 use Rattle.dm_mirror.proofs.Names.{acted, arrives, reads, delivers, world_step, IsFresh, PutsFrom, marked_by, ActsLocally, SamePacket, unnumbered, DoesSame, ReadsLocally, NothingComes}
 use Rattle.std.specs.declared.result.Result.TheVariants.{Ok}
 use Rattle.dm_wire.specs.Sent.{marked}
@@ -83,10 +83,7 @@ marked_none (p ∷ ps) zero e = cc
 marked_none (p ∷ ps) (suc k) e = ap (λ (qs : List Sent). p ∷ qs) (marked_none ps k e)
 
 mark_by : (wires : ℕ → ℕ → List Sent) (a c k x y : ℕ) (b : Bool) → ((a == x) && (c == y)) ≡ b → bytes_at (wires a c) k ≡ None → (if b then marked (wires x y) k else wires x y) ≡ wires x y
-mark_by wires a c k x y true e none =
-    let f : a ≡ x = grind (arith, nat_tests) in
-    let g : c ≡ y = grind (arith, nat_tests) in
-    marked_none (wires x y) k (ap (λ (n : ℕ). bytes_at (wires n y) k) (sym f) ∙ (ap (λ (n : ℕ). bytes_at (wires a n) k) (sym g) ∙ none))
+mark_by wires a c k x y true e none = grind (arith, nat_tests, marked_none)
 mark_by wires a c k x y false e none = refl
 
 mark_none : (wires : ℕ → ℕ → List Sent) (a c k x y : ℕ) → bytes_at (wires a c) k ≡ None → after_mark wires a c k x y ≡ wires x y

@@ -1,5 +1,5 @@
 -- The lines that a machine says hang on the wires only by the numbers of its packets.
-use Rattle.dm_mirror.proofs.Names.{◌≡◌, ℕ, Bool, true, false, List, [], ◌∷◌, ◌++◌, length, map, refl, ap, ◌∙◌, sym, arith, if◌then◌else◌, length-append, Packet, Load, spelling, Sent, is_pair, Step, Line, Out, Sends, Acted, with_packet}
+use Rattle.dm_mirror.proofs.Names.{◌≡◌, ℕ, Bool, true, false, List, [], ◌∷◌, ◌++◌, length, map, refl, ap, ◌∙◌, sym, arith, if◌then◌else◌, length-append, Packet, Load, spelling, Sent, is_pair, Step, Line, Out, Sends, Acted, with_packet, nat_tests}
 use Rattle.dm_mirror.proofs.Names.{spoken, WorldState, acted, AsLong, marked_by, unnumbered, length_marked}
 use Rattle.dm_wire.specs.Sent.{just_put, marked}
 use Rattle.dm_wire.specs.Wire.{after_put}
@@ -41,12 +41,8 @@ packet_long m v w (Packet.Data a c k x) h = put_long m v w a c (spelling (Packet
 packet_long m v w (Packet.Ack a c k) h = put_long m v w a c (spelling (Packet.Ack a c k)) h
 
 packet_same : (m : ℕ) (v w : Wires) (p : Packet) (outs : List Out) → AreFrom m (Sends p ∷ outs) → Long m v w → packet_line v p ≡ packet_line w p
-packet_same m v w (Packet.Data a c k x) outs from h =
-    let is : length (v a c) ≡ length (w a c) = ap (λ (y : ℕ). length (v y c)) from.0 ∙ h c ∙ sym (ap (λ (y : ℕ). length (w y c)) from.0) in
-    ap (λ (n : ℕ). Line.Packet a c n (Load.Data k)) is
-packet_same m v w (Packet.Ack a c k) outs from h =
-    let is : length (v a c) ≡ length (w a c) = ap (λ (y : ℕ). length (v y c)) from.0 ∙ h c ∙ sym (ap (λ (y : ℕ). length (w y c)) from.0) in
-    ap (λ (n : ℕ). Line.Packet a c n (Load.Ack k)) is
+packet_same m v w (Packet.Data a c k x) outs from h = grind (arith, nat_tests)
+packet_same m v w (Packet.Ack a c k) outs from h = grind (arith, nat_tests)
 
 spoken_same : (m : ℕ) (v w : Wires) (outs : List Out) → AreFrom m outs → Long m v w → (spoken v outs).lines ≡ (spoken w outs).lines
 spoken_same m v w [] from h = refl

@@ -4,7 +4,7 @@ use Rattle.dm_mirror.proofs.Names.{Label, IsValid, first_number, process_named, 
 use Rattle.dm_mirror.proofs.Names.{labels, group_of, group_replay, MadeStands}
 use Rattle.dm_onekernel.specs.Start.{begun}
 use Rattle.dm_onekernel.specs.Step as kernel
-use Rattle.dm_mirror.proofs.Numbering.{life_named, named_all, named_is}
+use Rattle.dm_mirror.proofs.Numbering.{life_named, named_all, named_is, some_of as some_is}
 use Rattle.dm_mirror.proofs.Raises.{Stays}
 use Rattle.dm_mirror.proofs.RaisesMade.{Makes, step_makes}
 
@@ -52,18 +52,7 @@ made_if s t p false k e h there =
 
 all_if : (s t : OneKernel) (home n : ℕ) (c : Bool) (k : Makes s t) → pid_eq (child_of s t k) (pid_of home (first_number + n)) ≡ c → MadeStands s → home < t.machines → n < t.made home → is_some (t.processes (pid_of home (first_number + n))) ≡ true
 all_if s t home n true k e h within below = ap (λ v. is_some (t.processes v)) (sym (pid_eq-is (child_of s t k) (pid_of home (first_number + n)) e)) ∙ k.there
-all_if s t home n false k e h within below =
-    let machines = k.machines in
-    k.lives (pid_of home (first_number + n)) e ∙ h.all home n (omega (arith, within, machines)) (less (home == k.home) refl)
-  where
-    less : (d : Bool) → (home == k.home) ≡ d → n < s.made home
-    less true f =
-        let same : home ≡ k.home = grind (arith, nat_tests) in
-        let made : t.made home ≡ s.made home + 1 = subst (λ v. t.made v ≡ s.made v + 1) (sym same) k.made in
-        let count : s.made k.home ≡ s.made home = ap s.made (sym same) in
-        let off : n ≢ s.made home = (λ g. false≢true (sym e ∙ (let x : pid_eq (child_of s t k) (pid_of home (first_number + n)) ≡ true = grind (arith, nat_tests) in x))) in
-        omega (arith, below, made, off)
-    less false f = let e = k.others home (grind (arith, nat_tests)) in omega (arith, below, e)
+all_if s t home n false k e h within below = grind (arith, nat_tests)
 
 makes_stands : (s t : OneKernel) → Makes s t → MadeStands s → MadeStands t
 makes_stands s t k h = record {
@@ -94,16 +83,8 @@ start_life : (b : Boot) (p : Pid) (o : Option BootProcess) → process_named p b
 start_life b p None e there = absurd (false≢true (sym (ap is_some (life_named b b.processes p ∙ ap (λ (o : Option BootProcess). bind o (first_life b)) e)) ∙ there))
 start_life b p (Some x) e there = (x, e)
 
-some_is : {X : Type 0} (o : Option X) → is_some o ≡ true → (x : X) × (o ≡ Some x)
-some_is None e = absurd (false≢true e)
-some_is (Some x) e = (x, refl)
-
-first_alive : (b : Boot) (p : BootProcess) (i : BootImage) → slice_get b.images p.image ≡ Some i → first_life b p ≡ Some (Alive (begun b.format i (map plain_link p.links)))
-first_alive b p i there = ap (λ (o : Option BootImage). life_in o) there
-  where
-    life_in : Option BootImage → Option Life
-    life_in None = None
-    life_in (Some j) = Some (Alive (begun b.format j (map plain_link p.links)))
+pub first_alive : (b : Boot) (p : BootProcess) (i : BootImage) → slice_get b.images p.image ≡ Some i → first_life b p ≡ Some (Alive (begun b.format i (map plain_link p.links)))
+first_alive b p i there = search
 
 pub made_start : (b : Boot) → IsValid b → MadeStands (start b)
 made_start b valid = record {

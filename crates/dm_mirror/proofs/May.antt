@@ -68,10 +68,7 @@ may_step_migrate b es w pt p m valid leads counts ((l, h, st), sent) acts lt =
     let same = sent 0 within in
     let few = counts.own 0 in (
       lt,
-      record {
-        acts = acts.each 0 (omega (arith, some));
-        kernel = record { here = omega (arith, here); sent = omega (arith, same, few); servers = servers_are (w.nodes 0).kernel.servers (servers_at l 0) node.kernel.servers refl };
-      },
+      (search (acts.each 0 (omega (arith, some)), arith, same, few, servers_are (w.nodes 0).kernel.servers (servers_at l 0) node.kernel.servers refl)),
       node.lawful,
     )
 
@@ -89,13 +86,7 @@ few_numbers b valid = let k = valid.most_numbers in let n : b.numbers ≤ 104857
 
 pub acts_start : (b : Boot) → IsValid b → AllMayAct b (first_world b)
 acts_start b valid = record {
-  each = λ m lt. record {
-    here = (opened_may b m valid lt).here;
-    machines = few_machines b valid;
-    numbers = few_numbers b valid;
-    home = omega arith;
-    unacked = λ c small. All-nil IsLawfulMessage;
-  };
+  each = λ m lt. (search ((opened_may b m valid lt).here, few_machines b valid, few_numbers b valid, arith, All-nil IsLawfulMessage));
 }
 
 -- and after each directive: a kernel stays on its machine

@@ -107,9 +107,7 @@ later_same : (machines : ℕ) (f g : ℕ → ℕ → Option ℕ) (mail mail' : �
     → next_pass machines f mail quiet p ds ≡ next_pass machines g mail' quiet p ds
 later_same machines f g mail mail' quiet (Pass.Round zero) ds first same = directive_same machines f g mail mail' quiet ds first same
 later_same machines f g mail mail' quiet (Pass.Round (suc k)) ds first same = begin_same machines f g mail mail' (Pass.Round k) ds first same
-later_same machines f g mail mail' quiet Pass.Settle ds first same =
-    ap (λ (o : Option Next). settles quiet o (next_directive machines f mail quiet ds)) (begin_same machines f g mail mail' Pass.Settle ds first same)
-    ∙ ap (settles quiet (begin_pass machines g mail' Pass.Settle ds)) (directive_same machines f g mail mail' quiet ds first same)
+later_same machines f g mail mail' quiet Pass.Settle ds first same = grind (arith, nat_tests, begin_same, directive_same)
 
 following_same : (machines : ℕ) (f g : ℕ → ℕ → Option ℕ) (mail mail' : ℕ → Bool) (quiet : Bool) (t : Todo) → Agrees machines f g → SameMail machines mail mail' → All (IsTwo machines) t.pairs → All (IsBelow machines) t.machines
     → following machines f mail quiet t ≡ following machines g mail' quiet t

@@ -28,7 +28,7 @@ pub record Listed (b : Boot) (earlier : List BootProcess) (p : BootProcess) (ps 
   pub there : slice_get b.images p.image ≡ Some image
   pub rest : processes_are_valid b (earlier ++ p ∷ []) ps ≡ true
 
-some_of : {X : Type 0} (o : Option X) → is_some o ≡ true → (x : X) × (o ≡ Some x)
+pub some_of : {X : Type 0} (o : Option X) → is_some o ≡ true → (x : X) × (o ≡ Some x)
 some_of None e = absurd (false≢true e)
 some_of (Some x) e = (x, refl)
 
@@ -70,13 +70,7 @@ none_below b earlier (p ∷ ps) q h low =
 
 -- the first of a list isn't named again
 pub none_again : (b : Boot) (earlier : List BootProcess) (p : BootProcess) (ps : List BootProcess) (q : Pid) → Listed b earlier p ps → pid_eq p.pid q ≡ true → process_named q ps ≡ None
-none_again b earlier p ps q k same =
-    let is = pid_eq-is p.pid q same in
-    let n = number_of b earlier p ps q k is in
-    let more = starting-last q.home earlier p in
-    let home : p.pid.home ≡ q.home = ap (λ (v : Pid). v.home) is in
-    let one : one_if (p.pid.home == q.home) ≡ 1 = (let e : (p.pid.home == q.home) ≡ true = grind (arith, nat_tests) in ap one_if e) in
-    none_below b (earlier ++ p ∷ []) ps q k.rest (omega (arith, n, more, one))
+none_again b earlier p ps q k same = grind (arith, nat_tests, pid_eq-is, number_of, starting-last, none_below)
 
 -- a process that a list names
 pub record Named (b : Boot) (earlier ps : List BootProcess) (q : Pid) (p : BootProcess) : Type 0 where
@@ -113,18 +107,7 @@ named_is b earlier (p ∷ ps) q x h is =
 
 -- each number that a home has given is a process's
 past_one : (b : Boot) (earlier : List BootProcess) (p : BootProcess) (ps : List BootProcess) (home n : ℕ) → Listed b earlier p ps → pid_eq p.pid (pid_of home (3 + n)) ≡ false → starting_at home earlier ≤ n → starting_at home (earlier ++ p ∷ []) ≤ n
-past_one b earlier p ps home n k apart least =
-    let more = starting-last home earlier p in
-    let number = k.number in
-    elim (cases_Bool (p.pid.home == home)) [
-      | inl same ↦
-          let e : p.pid.home ≡ home = grind (arith, nat_tests) in
-          let f : p.pid.num ≡ 3 + starting_at home earlier = number ∙ ap (λ h. 3 + starting_at h earlier) e in
-          let one : one_if (p.pid.home == home) ≡ 1 = ap one_if same in
-          let off : p.pid.num ≢ 3 + n = (λ g. false≢true (sym apart ∙ (let t : pid_eq p.pid (pid_of home (3 + n)) ≡ true = grind (arith, nat_tests) in t))) in
-          omega (arith, least, more, f, one, off)
-      | inr other ↦ let zero_ : one_if (p.pid.home == home) ≡ 0 = ap one_if other in omega (arith, least, more, zero_)
-    ]
+past_one b earlier p ps home n k apart least = grind (arith, nat_tests, starting-last)
 
 pub named_all : (b : Boot) (earlier ps : List BootProcess) (home n : ℕ) → processes_are_valid b earlier ps ≡ true → starting_at home earlier ≤ n → n < starting_at home earlier + starting_at home ps → is_some (process_named (pid_of home (3 + n)) ps) ≡ true
 named_all b earlier [] home n h least most = absurd (omega (arith, least, most))

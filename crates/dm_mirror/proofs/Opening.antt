@@ -1,5 +1,5 @@
 -- What a machine has as the boot file has it, field by field.
-use Rattle.dm_mirror.proofs.Names.{◌≡◌, ℕ, ◌+◌, ◌==◌, Bool, true, false, List, [], ◌∷◌, ◌++◌, refl, ap, ◌∙◌, sym, subst, append_assoc, arith, if◌then◌else◌, slice_get, Option, None, Some, append-nil, Pid, pid_eq, Process, BootImage}
+use Rattle.dm_mirror.proofs.Names.{◌≡◌, ℕ, ◌+◌, ◌==◌, Bool, true, false, List, [], ◌∷◌, ◌++◌, refl, ap, ◌∙◌, sym, subst, append_assoc, arith, if◌then◌else◌, slice_get, Option, None, Some, append-nil, Pid, pid_eq, Process, BootImage, nat_tests}
 use Rattle.dm_mirror.proofs.Names.{BootProcess, Boot, starting_at, blocks_at, blocks_of_image, processes_are_valid, process_named, pid_eq-is, started, ring_at, KernelState, child_of, with_all, with_child}
 use Rattle.dm_records.specs.declared.record.Record.TheVariants.{Here}
 use Rattle.dm_kernel.specs.State.{Known}
@@ -31,26 +31,16 @@ pub record Opens (b : Boot) (m : ℕ) (ps : List BootProcess) (s t : KernelState
 -- a record that is set
 set_record : (b : Boot) (m : ℕ) (p : BootProcess) (x : Process) (q : Pid) (c d : Bool) (before : Option Known) → pid_eq p.pid q ≡ c → (p.pid.home == m) ≡ true → first_here (started b p) ≡ Some (Here x)
     → (if c then Some (Here x) else before) ≡ first_record b m q (if c then Some p else None) before
-set_record b m p x q true d before is home e =
-    let name : p.pid ≡ q = pid_eq-is p.pid q is in
-    let at : (q.home == m) ≡ true = ap (λ (v : Pid). v.home == m) (sym name) ∙ home in
-    sym (ap (λ (t : Bool). if t then first_here (started b p) else before) at ∙ e)
+set_record b m p x q true d before is home e = grind (arith, nat_tests, pid_eq-is)
 set_record b m p x q false d before is home e = refl
 
 off_record : (b : Boot) (m : ℕ) (p : BootProcess) (q : Pid) (c : Bool) (before : Option Known) → pid_eq p.pid q ≡ c → (p.pid.home == m) ≡ false → before ≡ first_record b m q (if c then Some p else None) before
-off_record b m p q true before is home =
-    let name : p.pid ≡ q = pid_eq-is p.pid q is in
-    let at : (q.home == m) ≡ false = ap (λ (v : Pid). v.home == m) (sym name) ∙ home in
-    sym (ap (λ (t : Bool). if t then first_here (started b p) else before) at)
+off_record b m p q true before is home = grind (arith, nat_tests, pid_eq-is)
 off_record b m p q false before is home = refl
 
 -- one of them
 pub first_started : (b : Boot) (p : BootProcess) (i : BootImage) → slice_get b.images p.image ≡ Some i → first_here (started b p) ≡ Some (Here (child_of b p.pid i p.links))
-first_started b p i there = ap (λ (o : Option BootImage). first_here (start_of o)) there
-  where
-    start_of : Option BootImage → Option Process
-    start_of None = None
-    start_of (Some j) = Some (child_of b p.pid j p.links)
+first_started b p i there = search
 
 abbrev blocks_if : Bool → ℕ → ℕ
 blocks_if c n = if c then n else 0
@@ -61,33 +51,11 @@ begin_on b m p i s true home here there =
     let blocks : blocks_of_image (slice_get b.images p.image) ≡ i.blocks = ap blocks_of_image there in
     let one : one_if (p.pid.home == m) ≡ 1 = ap one_if home in
     let many : blocks_if (p.pid.home == m) (blocks_of_image (slice_get b.images p.image)) ≡ i.blocks = ap (λ (t : Bool). blocks_if t (blocks_of_image (slice_get b.images p.image))) home ∙ blocks in
-    record {
-      here = here;
-      records = λ q. set_record b m p (child_of b p.pid i p.links) q (pid_eq p.pid q) true (s.records q) refl home (first_started b p i there);
-      ring = sym (ap (λ (t : Bool). s.ring ++ (if t then p.pid ∷ [] else [])) home);
-      inbox = refl;
-      made = omega (arith, one);
-      slots = refl;
-      blocks = refl;
-      taken_slots = omega (arith, one);
-      taken_blocks = omega (arith, many);
-      servers = refl;
-    }
+    search (set_record, child_of, pid_eq, s.records, first_started, sym (ap (λ (t : Bool). s.ring ++ (if t then p.pid ∷ [] else [])) home), arith, one, many)
 begin_on b m p i s false home here there =
     let one : one_if (p.pid.home == m) ≡ 0 = ap one_if home in
     let many : blocks_if (p.pid.home == m) (blocks_of_image (slice_get b.images p.image)) ≡ 0 = ap (λ (t : Bool). blocks_if t (blocks_of_image (slice_get b.images p.image))) home in
-    record {
-      here = here;
-      records = λ q. off_record b m p q (pid_eq p.pid q) (s.records q) refl home;
-      ring = sym (ap (λ (t : Bool). s.ring ++ (if t then p.pid ∷ [] else [])) home ∙ append-nil s.ring);
-      inbox = refl;
-      made = omega (arith, one);
-      slots = refl;
-      blocks = refl;
-      taken_slots = omega (arith, one);
-      taken_blocks = omega (arith, many);
-      servers = refl;
-    }
+    search (off_record, pid_eq, s.records, sym (ap (λ (t : Bool). s.ring ++ (if t then p.pid ∷ [] else [])) home ∙ append-nil s.ring), arith, one, many)
 
 begin_one : (b : Boot) (m : ℕ) (p : BootProcess) (i : BootImage) (s : KernelState) → s.here ≡ m → slice_get b.images p.image ≡ Some i → Opens b m (p ∷ []) s (begins b s p (slice_get b.images p.image))
 begin_one b m p i s here there =
@@ -106,18 +74,7 @@ ring_then p ps m true = refl
 ring_then p ps m false = refl
 
 pub opens_all : (b : Boot) (m : ℕ) (earlier ps : List BootProcess) (s : KernelState) → processes_are_valid b earlier ps ≡ true → s.here ≡ m → Opens b m ps s (with_all b s ps)
-opens_all b m earlier [] s h here = record {
-  here = here;
-  records = λ q. refl;
-  ring = sym (append-nil s.ring);
-  inbox = refl;
-  made = omega arith;
-  slots = refl;
-  blocks = refl;
-  taken_slots = omega arith;
-  taken_blocks = omega arith;
-  servers = refl;
-}
+opens_all b m earlier [] s h here = search (sym (append-nil s.ring), arith)
 opens_all b m earlier (p ∷ ps) s h here =
     let k = listed b earlier p ps h in
     let u = begins b s p (slice_get b.images p.image) in

@@ -1,5 +1,5 @@
 -- A turn on one machine leaves the kernels of the others as they stand, and each pair.
-use Rattle.dm_mirror.proofs.Names.{◌≡◌, ◌≢◌, ℕ, zero, suc, ◌+◌, ◌≤◌, ◌==◌, Bool, true, not, List, [], ◌∷◌, map, refl, ap, ◌∙◌, sym, subst, is_some, inl, inr, arith, if◌then◌else◌, drop, take, slice_get, Option, None, Some, eqb_tells, Pid}
+use Rattle.dm_mirror.proofs.Names.{◌≡◌, ◌≢◌, ℕ, zero, suc, ◌+◌, ◌≤◌, ◌==◌, Bool, true, not, List, [], ◌∷◌, map, refl, ap, ◌∙◌, sym, subst, is_some, inl, inr, arith, if◌then◌else◌, drop, take, slice_get, Option, None, Some, eqb_tells, Pid, nat_tests}
 use Rattle.dm_mirror.proofs.Names.{pid_of, Message, MsgId, Record, Process, Receiving, kept_under, Sending, Boot, first_number, id_eq-same, Point, Room, and, blocks_of, has, takes_room, taken_at, taken_by, taken_of_home, Queue, Held, Inbox}
 use Rattle.dm_mirror.proofs.Names.{Untaken, times, standing, Pair, Placed, KernelState, room_of, WorldState, AreMessages, HereStands, KnownStands, RoomStands, servers_at, KernelStands, History, PairStands}
 use Rattle.dm_stream.specs.Order as order
@@ -8,14 +8,7 @@ use Rattle.dm_rule.specs.View as view
 use Rattle.dm_kernel.specs.State as machine
 use Rattle.dm_mirror.proofs.Turning.{Elsewhere, has_process}
 pub use Rattle.dm_rule.proofs.QuietTests.{eq_not as apart_tells}
-
--- the messages of a list stay
-messages_same : (f g : MsgId → Option Message) (ids : List MsgId) → ((i : MsgId) → 1 ≤ times i ids → g i ≡ f i) → map g ids ≡ map f ids
-messages_same f g [] h = refl
-messages_same f g (j ∷ js) h =
-    let one : times j (j ∷ js) ≡ 1 + times j js = ap (λ (c : Bool). (if c then 1 else 0) + times j js) (id_eq-same j) in
-    let first : g j ≡ f j = h j (omega (arith, one)) in
-    λ k. first k ∷ messages_same f g js (λ i e. h i (omega (arith, e))) k
+use Rattle.dm_mirror.proofs.Kernel.Sets.{map_same as messages_same}
 
 pub messages_stay : (f g : MsgId → Option Message) (ids : List MsgId) (ms : List Message) → ((i : MsgId) → 1 ≤ times i ids → g i ≡ f i) → AreMessages f ids ms → AreMessages g ids ms
 messages_stay f g ids ms h e = messages_same f g ids h ∙ e
@@ -40,9 +33,7 @@ abbrev no_room : Room
 no_room = record { slots = 0; blocks = 0 }
 
 none_taken : (pt : Point) (n : ℕ) (p : Pid) (k : view.Known) → pt.view.known n p ≡ k → takes_room k ≡ 0 → taken_by pt n p ≡ no_room
-none_taken pt n p k e z =
-    ap (λ (c : view.Known). record { slots = takes_room c; blocks = if takes_room c == 0 then 0 else blocks_of (kernel.alive (pt.kernel.processes p)) }) e
-    ∙ ap (λ (c : ℕ). record { slots = c; blocks = if c == 0 then 0 else blocks_of (kernel.alive (pt.kernel.processes p)) }) z
+none_taken pt n p k e z = grind (arith, nat_tests)
 
 taken_life : (pt next : Point) (n : ℕ) (p : Pid) → next.view.known n p ≡ pt.view.known n p → next.kernel.processes p ≡ pt.kernel.processes p → taken_by next n p ≡ taken_by pt n p
 taken_life pt next n p known life = λ i. record { slots = takes_room (known i); blocks = if takes_room (known i) == 0 then 0 else blocks_of (kernel.alive (life i)) }
@@ -67,10 +58,7 @@ module _ (pt next : Point) (n m : ℕ) (made : MadeHere m n pt next) (same : (p 
   home_same home (suc k) = λ i. and (home_same home k i) (same (pid_of home (first_number + k)) i)
 
   and_none : (r s : Room) → s ≡ no_room → and r s ≡ r
-  and_none r s e =
-      let a : r.slots + 0 ≡ r.slots = omega arith in
-      let c : r.blocks + 0 ≡ r.blocks = omega arith in
-      ap (and r) e ∙ (λ i. record { slots = a i; blocks = c i })
+  and_none r s e = grind (arith, nat_tests)
 
   -- those that were made now take nothing there
   home_more : (k j : ℕ) → j ≡ pt.kernel.made m + k → taken_of_home next n m j ≡ taken_of_home pt n m (pt.kernel.made m)
@@ -104,15 +92,7 @@ module _ (pt next : Point) (n m : ℕ) (made : MadeHere m n pt next) (same : (p 
 
 -- the servers are on machine 0
 servers_stay : (l placed : Placed) (m n : ℕ) → n ≢ m → (m ≢ 0 → placed.board ≡ l.board) → (m ≢ 0 → placed.manager ≡ l.manager) → servers_at placed n ≡ servers_at l n
-servers_stay l placed m n apart board manager =
-    elim (eqb_tells n 0) [
-      | inl e ↦
-          let other : m ≢ 0 = (λ z. apart (e.1 ∙ sym z)) in
-          λ i. if n == 0 then Some (record { board = board other i; manager = manager other i }) else None
-      | inr e ↦
-          ap (λ (c : Bool). if c then Some (record { board = placed.board; manager = placed.manager }) else None) e.0
-          ∙ sym (ap (λ (c : Bool). if c then Some (record { board = l.board; manager = l.manager }) else None) e.0)
-    ]
+servers_stay l placed m n apart board manager = grind (arith, nat_tests, eqb_tells)
 
 -- the kernel of another machine stays
 pub kernel_stays : (b : Boot) (m n : ℕ) (pt next : Point) (l placed : Placed) (k : KernelState) → n ≢ m → MadeHere m n pt next → Elsewhere m pt l next placed → KernelStands b pt l n k

@@ -1,5 +1,5 @@
 -- A packet goes on the wire of a pair: the world has it, and so have the lines.
-use Rattle.dm_mirror.proofs.Names.{◌≡◌, ◌≢◌, ℕ, ◌+◌, ◌≤◌, ◌==◌, ◌&&◌, Bool, true, false, List, [], ◌∷◌, ◌++◌, length, refl, ap, ◌∙◌, sym, subst, if◌then◌else◌, Option, Some, eqb-true, eq-eqb, length-map, Message, Sending, Stream, spelling}
+use Rattle.dm_mirror.proofs.Names.{◌≡◌, ◌≢◌, ℕ, ◌+◌, ◌≤◌, ◌==◌, ◌&&◌, Bool, true, false, List, [], ◌∷◌, ◌++◌, length, refl, ap, ◌∙◌, sym, subst, if◌then◌else◌, Option, Some, eqb-true, eq-eqb, length-map, Message, Sending, Stream, spelling, arith, nat_tests}
 use Rattle.dm_mirror.proofs.Names.{Boot, bind, NodeState, Out, Sends, Spoken, spoken, says, with_packet, Line, at_machine, at_pair, Load, Spot, Queue, Untaken, standing, times, About, Pair, View, after_packet, begins, pair_keeps, MsgId}
 use Rattle.dm_mirror.proofs.Names.{Part, Spelled, lines_of, spelled, Point, after, two_of, Placed, WorldState, History, NodeStands, PairStands, StandsWith, load_of, stream_of}
 use Rattle.dm_stream.specs.Packets as stream
@@ -14,10 +14,7 @@ use Rattle.dm_mirror.proofs.Stays.{apart_is, at_here, at_other, both_false, mirr
 
 -- the parts of a group, one after the other
 pub spelled_on : (pt next : Point) (p : Part) (ls : List Line) (ps : List Part) (w : Spelled) → lines_of pt p ≡ Some ls → after pt ls ≡ Some next → spelled next ps ≡ Some w → spelled pt (p ∷ ps) ≡ Some (behind ls w)
-spelled_on pt next p ls ps w lines comes rest =
-    ap (λ (o : Option (List Line)). bind o (λ (xs : List Line). bind (after pt xs) (λ (n : Point). bind (spelled n ps) (λ (z : Spelled). Some (behind xs z))))) lines
-    ∙ ap (λ (o : Option Point). bind o (λ (n : Point). bind (spelled n ps) (λ (z : Spelled). Some (behind ls z)))) comes
-    ∙ ap (λ (o : Option Spelled). bind o (λ (z : Spelled). Some (behind ls z))) rest
+spelled_on pt next p ls ps w lines comes rest = search
 
 -- what is given to the outside, one after the other
 abbrev pub spoken_then : Spoken → List Out → Spoken
@@ -34,9 +31,7 @@ wires_put wires a c (stream.Data n m) x y = refl
 wires_put wires a c (stream.Ack n) x y = refl
 
 wire_here : (wires : ℕ → ℕ → List wire.Sent) (a c : ℕ) (l : stream.Load Message) → with_packet wires (packet_of a c l) a c ≡ with_bytes a c (wires a c) l
-wire_here wires a c l =
-    let longer : List wire.Sent = with_bytes a c (wires a c) l in
-    wires_put wires a c l a c ∙ ap (λ (t : Bool). if t && (c == c) then longer else wires a c) (eq-eqb a a refl) ∙ ap (λ (t : Bool). if t then longer else wires a c) (eq-eqb c c refl)
+wire_here wires a c l = grind (arith, nat_tests, wires_put, eq-eqb)
 
 wire_other : (wires : ℕ → ℕ → List wire.Sent) (a c : ℕ) (l : stream.Load Message) (x y : ℕ) → ((a == x) && (c == y)) ≡ false → with_packet wires (packet_of a c l) x y ≡ wires x y
 wire_other wires a c l x y e = wires_put wires a c l x y ∙ ap (λ (t : Bool). if t then wires x y ++ wire.just_put (spelling (packet_of a c l)) ∷ [] else wires x y) e
@@ -50,7 +45,7 @@ pub wire_length : (b : Boot) (pt : Point) (l : Placed) (w : WorldState) (h : His
 wire_length b pt l w h a c s = ap length s.bytes ∙ length-map (h.packets a c) _ ∙ sym (ap length (sym s.packets) ∙ length-map (h.packets a c) _)
 
 -- a pair that is set has the messages that it had
-ids_if : (f : ℕ → ℕ → Pair) (a c : ℕ) (p : Pair) (x y : ℕ) (t : Bool) → ((a == x) && (c == y)) ≡ t → p.ids ≡ (f a c).ids → (if t then p else f x y).ids ≡ (f x y).ids
+pub ids_if : (f : ℕ → ℕ → Pair) (a c : ℕ) (p : Pair) (x y : ℕ) (t : Bool) → ((a == x) && (c == y)) ≡ t → p.ids ≡ (f a c).ids → (if t then p else f x y).ids ≡ (f x y).ids
 ids_if f a c p x y true e same = let k = two_of a c x y e in same ∙ (λ i. (f (k.0 i) (k.1 i)).ids)
 ids_if f a c p x y false e same = refl
 

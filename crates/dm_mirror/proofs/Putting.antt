@@ -1,5 +1,5 @@
 -- The line of a message that is routed, as the machine says it and as the rule has it.
-use Rattle.dm_mirror.proofs.Names.{◌≡◌, ℕ, ◌==◌, Bool, true, false, is_some, List, [], ◌∷◌, length, refl, ap, ◌∙◌, sym, subst, if◌then◌else◌, Option, None, Some, Message, What, Load, IsKindOfPlain, kind_of, plain_kind, PlainMessage}
+use Rattle.dm_mirror.proofs.Names.{◌≡◌, ℕ, ◌==◌, Bool, true, false, is_some, List, [], ◌∷◌, length, refl, ap, ◌∙◌, sym, subst, if◌then◌else◌, Option, None, Some, Message, What, Load, IsKindOfPlain, kind_of, plain_kind, PlainMessage, arith, nat_tests}
 use Rattle.dm_mirror.proofs.Names.{PlainWhat, plain_message, plain_what, with_what, bind, Line, Receiver, goes_out, lines_of, packet_line, puts, Point, after, moved, Told, own_id, Pid, MsgId, MessageKind, Placed, Mirrors, AllRecords}
 use Rattle.dm_mirror.proofs.Turning.{Route, First, On, Own, MayPut, message_of, rule_part_of}
 
@@ -31,7 +31,7 @@ meaning_is x None m e = cc
 meaning_is x (Some w) m e =
     let f : record { id = x.id; to = x.to.pid; sender = x.sender.pid; what = w } ≡ m = cc in (ap (λ (z : PlainMessage). Some z.what) f, sym (ap (λ (z : PlainMessage). z.to) f))
 
-some_plain : (o : Option PlainMessage) → is_some o ≡ true → (m : PlainMessage) × (o ≡ Some m)
+pub some_plain : (o : Option PlainMessage) → is_some o ≡ true → (m : PlainMessage) × (o ≡ Some m)
 some_plain None e = cc
 some_plain (Some m) e = (m, refl)
 
@@ -39,12 +39,7 @@ pub plain_of : (pt : Point) (l : Placed) (x : Message) → Mirrors pt.kernel pt.
 plain_of pt l x mirrors there plain =
     let (m, is) = some_plain (plain_message x) plain in
     let k = meaning_is x (plain_what x.what) m is in
-    record {
-      m = m;
-      there = sym (mirrors.plain.bag x.id) ∙ ap (λ (o : Option Message). bind o plain_message) there ∙ is;
-      kind = subst (IsKindOfPlain x.what) k.0 (kind_plain x.what);
-      to = k.1;
-    }
+    search (sym (mirrors.plain.bag x.id) ∙ ap (λ (o : Option Message). bind o plain_message) there ∙ is, subst (IsKindOfPlain x.what) k.0 (kind_plain x.what))
 
 -- the packet that goes with it
 abbrev pub packet_with : Point → ℕ → ℕ → Line
@@ -71,9 +66,7 @@ put_leads pt m c x false true = refl
 -- the lines of a message whose kind, receiver and machine are these
 puts_are : (pt : Point) (m c : ℕ) (x : Message) (id : MsgId) (k : MessageKind) (q : Pid) (at_ : ℕ) (home out : Bool) → pt.view.acting ≡ m → at_ ≡ c → id ≡ x.id → k ≡ kind_of x.what → q ≡ x.to.pid → (m == c) ≡ home → goes_out (pt.view.pair m c) ≡ out
     → puts pt.view at_ id k q ≡ lines_put pt m c x home out
-puts_are pt m c x id k q at_ home out acting place name kind to same goes =
-    (λ i. Line.Put (acting i) (place i) (name i) (kind i) (to i) ∷ (if acting i == place i then [] else if goes_out (pt.view.pair (acting i) (place i)) then packet_with pt (acting i) (place i) ∷ [] else []))
-    ∙ (λ i. line_put m c x ∷ (if same i then [] else if goes i then packet_with pt m c ∷ [] else []))
+puts_are pt m c x id k q at_ home out acting place name kind to same goes = grind (arith, nat_tests)
 
 pub part_is : (pt : Point) (l : Placed) (records : AllRecords) (m : ℕ) (r : Route) (home out : Bool) → Mirrors pt.kernel pt.view pt.addresses l → pt.view.acting ≡ m → MayPut pt l records r → (m == (message_of r).to.at) ≡ home → goes_out (pt.view.pair m (message_of r).to.at) ≡ out
     → lines_of pt (rule_part_of r) ≡ Some (lines_put pt m (message_of r).to.at (message_of r) home out)
@@ -82,9 +75,6 @@ part_is pt l records m (First x) home out mirrors acting may same goes =
     let place : (pt.addresses (Receiver x.id)).at ≡ x.to.at = ap (λ z. z.at) (mirrors.places.message x.id x may.0).receiver in
     ap (λ (o : Option PlainMessage). bind o (λ (z : PlainMessage). Some (puts pt.view (pt.addresses (Receiver x.id)).at x.id (plain_kind z.what) z.to))) p.there
     ∙ ap Some (puts_are pt m x.to.at x x.id (plain_kind p.m.what) p.m.to (pt.addresses (Receiver x.id)).at home out acting place refl p.kind p.to same goes)
-part_is pt l records m (On x) home out mirrors acting may same goes =
-    let t : Told = may.1.0 in
-    ap (λ (o : Option Told). bind o (λ (z : Told). Some (puts pt.view x.to.at x.id z.kind z.receiver))) may.1.1
-    ∙ ap Some (puts_are pt m x.to.at x x.id t.kind t.receiver x.to.at home out acting refl refl may.1.2 may.1.3 same goes)
+part_is pt l records m (On x) home out mirrors acting may same goes = grind (arith, nat_tests, puts_are)
 part_is pt l records m (Own x) home out mirrors acting may same goes =
     ap Some (puts_are pt m x.to.at x (own_id pt.view) (kind_of x.what) x.to.pid x.to.at home out acting refl (sym may.id) refl refl same goes)

@@ -20,26 +20,10 @@ home_quiet p h = let e = h.taken in let f : (p.taken == length p.ids) ≡ true =
 
 -- between different machines nothing is on its way exactly where the sender keeps nothing
 kept_quiet : (k taken acked n : ℕ) → acked ≤ taken → taken ≤ n → k ≡ n - acked → (k == 0) ≡ ((taken == n) && (acked == n))
-kept_quiet k taken acked n h g e = by ((taken == n) && (acked == n)) refl
-  where
-    all : (x y : Bool) → (x && y) ≡ true → y ≡ true
-    all true y e = e
-    all false y e = let f : y ≡ true = cc in f
-
-    by : (t : Bool) → ((taken == n) && (acked == n)) ≡ t → (k == 0) ≡ ((taken == n) && (acked == n))
-    by t is = grind (arith, nat_tests)
+kept_quiet k taken acked n h g e = grind (arith, nat_tests)
 
 pair_quiet : (b : Boot) (w : WorldState) (pt : Point) (l : Placed) (h : History) (a c : ℕ) → PairStands b pt l w h a c → (length ((w.nodes a).senders c).unacked == 0) ≡ (((pt.view.pair a c).taken == length (pt.view.pair a c).ids) && ((pt.view.pair a c).acked == length (pt.view.pair a c).ids))
-pair_quiet b w pt l h a c p =
-    let order = p.stream.in_order in
-    let all : length (h.given a c) ≡ length (pt.view.pair a c).ids = sym (length-map (h.given a c) id_of) ∙ ap length p.ids in
-    let kept : length ((w.nodes a).senders c).unacked ≡ length (h.given a c) - ((w.nodes a).senders c).acked = ap length order.unacked ∙ length-drop ((w.nodes a).senders c).acked (h.given a c) in
-    let acked = p.acked in
-    let taken = p.taken in
-    let one = order.acked_taken in
-    let two = order.taken_gone in
-    let three = order.gone_given in
-    kept_quiet (length ((w.nodes a).senders c).unacked) (pt.view.pair a c).taken (pt.view.pair a c).acked (length (pt.view.pair a c).ids) (omega (arith, acked, taken, one)) (omega (arith, taken, two, three, all)) (omega (arith, kept, all, acked))
+pair_quiet b w pt l h a c p = grind (arith, nat_tests, length-map, length-drop, kept_quiet)
 
 heard_same : (b : Boot) (w : WorldState) (pt : Point) (l : Placed) (h : History) (a c : ℕ) (same : Bool) → (a == c) ≡ same → (same ≡ true → HomeStands (pt.view.pair a c)) → (same ≡ false → PairStands b pt l w h a c)
     → (same || (length ((w.nodes a).senders c).unacked == 0)) ≡ pair_is_quiet same (pt.view.pair a c)

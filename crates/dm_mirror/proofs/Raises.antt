@@ -1,6 +1,6 @@
 -- How much a step of the kernel without machines raises its counts, and which processes there are behind it: what processes say.
-use Rattle.dm_mirror.proofs.Names.{◌≡◌, ℕ, ◌+◌, ◌≤◌, Bool, true, false, refl, ap, ◌∙◌, sym, subst, is_some, arith, length, if◌then◌else◌, Option, None, Some, Pid, pid_eq, MsgId, Label, Called, Reply, Why, bind, PlainProcess, PlainStatus}
-use Rattle.dm_mirror.proofs.Names.{Ready, Waiting, Moving, Life, Alive, Switchboard, Manager, OneKernel, with_process, without_message, pid_eq-is, bind-is, when-is, Nexts, nexts, alive-is, Completing, completing}
+use Rattle.dm_mirror.proofs.Names.{◌≡◌, ℕ, ◌+◌, ◌≤◌, Bool, true, false, refl, ap, ◌∙◌, sym, subst, is_some, arith, length, if◌then◌else◌, Option, None, Some, Pid, pid_eq, MsgId, Label, Called, Reply, Why, bind, PlainProcess, PlainStatus, nat_tests}
+use Rattle.dm_mirror.proofs.Names.{Ready, Life, Alive, Switchboard, Manager, OneKernel, with_process, without_message, pid_eq-is, bind-is, when-is, Nexts, nexts, alive-is, Completing, completing}
 use Rattle.dm_onekernel.specs.Kernel.{Ended, with_sent}
 use Rattle.dm_onekernel.specs.Receiving as receiving
 use Rattle.dm_onekernel.specs.Step as step
@@ -91,9 +91,7 @@ ready_is y Ready x e = stopped_is y y.stopped x e
 ready_is y _ x e = cc
 
 runs_alive : (s : OneKernel) (p : Pid) (x : PlainProcess) → step.running s p ≡ Some x → s.processes p ≡ Some (Alive x)
-runs_alive s p x e =
-    let (y, is, ready) = bind-is (step.alive (s.processes p)) (λ v. step.if_ready v v.status) x e in
-    alive-is (s.processes p) x (is ∙ ap Some (ready_is y y.status x ready))
+runs_alive s p x e = grind (arith, nat_tests, bind-is, alive-is, ready_is)
 
 pub ran_raises : (s t : OneKernel) (p : Pid) (k : ℕ) → step.step s (Label.Ran p k) ≡ Some t → Raises 0 s t
 ran_raises s t p k is =

@@ -9,7 +9,7 @@ use Rattle.dm_onekernel.specs.Manager as manage
 use Rattle.dm_onekernel.specs.Service as service
 use Rattle.dm_onekernel.specs.Step as step
 use Rattle.dm_mirror.proofs.Raises.{Within, Stays, Raises, sent_of, ran_raises, call_raises, send_raises, wait_raises, out_raises, end_raises, receive_raises, refuse_raises}
-use Rattle.dm_mirror.proofs.RaisesServed.{sent_raise, board_raises, dropped_raises, gone_raises, no_space_raises, served_raises}
+use Rattle.dm_mirror.proofs.RaisesServed.{sent_raise, board_raises, dropped_raises, gone_raises, no_space_raises, served_raises, append-longer}
 
 -- a child comes only with an answer
 abbrev Paid : Manager → manage.Took → Type 0
@@ -44,10 +44,6 @@ paid_controls : (g : Manager) (child : Option Pid) (body : List ℕ) (links : Li
 paid_controls g (Some child) (a ∷ []) links = paid_control g child (manage.control_of a) links
 paid_controls g None (a ∷ []) links = paid_bad g links
 paid_controls g _ _ links = paid_bad g links
-
-append-longer : {A : Type 0} (xs : List A) (y : A) → length (xs ++ y ∷ []) ≡ length xs + 1
-append-longer [] y = refl
-append-longer (x ∷ xs) y = omega (arith, append-longer xs y)
 
 paid_created : (g : Manager) (n : ℕ) (child : Pid) (o : Option Pending) (k : manage.Took) → manage.takes_created g n child o ≡ Some k → Paid g k
 paid_created g n child None k e = cc
@@ -167,14 +163,7 @@ makes s id m home links image within =
       others = λ h apart. made_same s home h apart;
       there = ap (λ (c : Bool). is_some (if c then Some life else s.processes child)) (pid_eq-same child);
       lives = λ p apart. ap (λ (c : Bool). is_some (if c then Some life else s.processes p)) apart;
-      counts = record {
-        sent = λ p. child_sent s (pid_eq child p) p life refl;
-        board = omega arith;
-        names = omega arith;
-        manager = omega arith;
-        children = omega arith;
-        made = λ h. made_more (s.made h) (home == h);
-      };
+      counts = search (child_sent, pid_eq, arith, made_more, s.made, home);
     }
 
 created_of : (s t : OneKernel) (id : MsgId) (m : PlainMessage) (child : Pid) (links : List PlainLink) (image : BootImage) → service.creates_of s id m child links image ≡ Some t → Makes s t

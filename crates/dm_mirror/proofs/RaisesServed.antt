@@ -1,5 +1,5 @@
 -- How much a step raises counts: what kernels and servers say.
-use Rattle.dm_mirror.proofs.Names.{◌≡◌, ℕ, ◌+◌, ◌≤◌, ◌==◌, List, [], ◌∷◌, ◌++◌, length, Bool, true, false, refl, ap, sym, subst, arith, if◌then◌else◌, take, drop, Option, None, Some, MsgId, Label, Why, PlainMessage, PlainWhat, is_general}
+use Rattle.dm_mirror.proofs.Names.{◌≡◌, ℕ, ◌+◌, ◌≤◌, ◌==◌, List, [], ◌∷◌, ◌++◌, length, Bool, true, false, refl, ap, sym, subst, arith, if◌then◌else◌, take, drop, Option, None, Some, MsgId, Label, Why, PlainMessage, PlainWhat, is_general, nat_tests}
 use Rattle.dm_mirror.proofs.Names.{switchboard, bind, PlainProcess, Alive, NamedLink, Switchboard, OneKernel, with_process, answer_to, PlainLink, without_message, is_of_memory, is_dropped, bind-is, when-is, alive-is, LandsSo, lands-is}
 use Rattle.dm_mirror.proofs.Names.{ServerSends, board_takes, if_some-is}
 use Rattle.dm_onekernel.specs.Kernel.{Ended, with_sent}
@@ -111,7 +111,7 @@ board_sent n after None h = let e : after ≡ n = h in omega (arith, e)
 board_sent n after (Some m) h = h.1
 
 -- a request keeps at most one name more
-append-longer : {A : Type 0} (xs : List A) (y : A) → length (xs ++ y ∷ []) ≡ length xs + 1
+pub append-longer : {A : Type 0} (xs : List A) (y : A) → length (xs ++ y ∷ []) ≡ length xs + 1
 append-longer [] y = refl
 append-longer (x ∷ xs) y = omega (arith, append-longer xs y)
 
@@ -124,9 +124,7 @@ names_if names true x y h k = h
 names_if names false x y h k = k
 
 names_registered : (names : List NamedLink) (name : List ℕ) (others : List PlainLink) → length (board.asks_to_register names name others).names ≤ length names + 1
-names_registered names name (l ∷ []) =
-    names_if names (board.is_name name) (board.registers names name l) (board.bad_request names)
-    (names_if names (is_general l.kind) (board.registers_new names name l (board.link_named name names)) (record { names = names; answer = board.BadLink }) (names_new names name l (board.link_named name names)) (omega arith)) (omega arith)
+names_registered names name (l ∷ []) = grind (arith, nat_tests, names_if, names_new)
 names_registered names name _ = omega arith
 
 names_looked : (names : List NamedLink) (name : List ℕ) (others : List PlainLink) → length (board.asks_to_look_up names name others).names ≤ length names + 1
@@ -135,18 +133,14 @@ names_looked names name (l ∷ ls) = omega arith
 
 names_asked : (names : List NamedLink) (body : List ℕ) (others : List PlainLink) → length (board.asks names body others).names ≤ length names + 1
 names_asked names [] others = omega arith
-names_asked names (operation ∷ name) others =
-    names_if names (operation == 1) (board.asks_to_register names name others) (if operation == 2 then board.asks_to_look_up names name others else board.bad_request names) (names_registered names name others)
-    (names_if names (operation == 2) (board.asks_to_look_up names name others) (board.bad_request names) (names_looked names name others) (omega arith))
+names_asked names (operation ∷ name) others = grind (arith, nat_tests, names_if, names_registered, names_looked)
 
 names_requested : (b : Switchboard) (body : List ℕ) (links : List PlainLink) → length (board.takes_request b body links).switchboard.names ≤ length b.names + sent_raise (board.takes_request b body links).answer
 names_requested b body [] = omega arith
 names_requested b body (l ∷ others) = names_asked b.names body others
 
 names_took : (b : Switchboard) (m : PlainMessage) (w : PlainWhat) (k : board.Took) → board.takes b m w ≡ Some k → length k.switchboard.names ≤ length b.names + sent_raise k.answer
-names_took b m (PlainWhat.User code channel body links) k e =
-    let f : board.takes_request b body links ≡ k = cc in
-    subst (λ (t : board.Took). length t.switchboard.names ≤ length b.names + sent_raise t.answer) f (names_requested b body links)
+names_took b m (PlainWhat.User code channel body links) k e = grind (arith, nat_tests, names_requested)
 names_took b m _ k e = cc
 
 board_raises_of : (s : OneKernel) (id : MsgId) (b : Switchboard) (o : Option PlainMessage) (k : ℕ) → b.sent ≡ s.switchboard.sent + k → length b.names ≤ length s.switchboard.names + k → Raises k s (with_sent (record (without_message s id) { switchboard = b }) o)

@@ -1,6 +1,6 @@
 -- What the processes of the lines take of a machine's room: it stays where each of them takes the same, and changes with one
 -- that takes something else, or is made.
-use Rattle.dm_mirror.proofs.Names.{◌≡◌, ◌≢◌, ℕ, zero, suc, ◌+◌, ◌<◌, ◌≤◌, refl, ap, ◌∙◌, sym, subst, inl, inr, arith, eqb_tells, Pid, pid_of, first_number, Point, Room, and, taken_by, taken_of_home, taken_at}
+use Rattle.dm_mirror.proofs.Names.{◌≡◌, ◌≢◌, ℕ, zero, suc, ◌+◌, ◌<◌, ◌≤◌, refl, ap, ◌∙◌, sym, subst, inl, inr, arith, eqb_tells, Pid, pid_of, first_number, Point, Room, and, taken_by, taken_of_home, taken_at, nat_tests}
 
 -- a process of another home, or with another number
 home_apart : (home n : ℕ) (p : Pid) → home ≢ p.home → pid_of home n ≢ p
@@ -112,31 +112,19 @@ pub taken_changed : (pt next : Point) (m : ℕ) (p : Pid) → next.kernel.machin
     → ((q : Pid) → q ≢ p → taken_by next m q ≡ taken_by pt m q)
     → ((taken_at next m next.kernel.machines).slots + (taken_by pt m p).slots ≡ (taken_at pt m pt.kernel.machines).slots + (taken_by next m p).slots)
     × ((taken_at next m next.kernel.machines).blocks + (taken_by pt m p).blocks ≡ (taken_at pt m pt.kernel.machines).blocks + (taken_by next m p).blocks)
-taken_changed pt next m p machines made within first below others =
-    let h : Changed (taken_at pt m pt.kernel.machines) (taken_at next m next.kernel.machines) (taken_by pt m p) (taken_by next m p) =
-    subst (λ (n : ℕ). Changed (taken_at pt m pt.kernel.machines) (taken_at next m n) (taken_by pt m p) (taken_by next m p)) (sym machines)
-    (changed_homes pt next m p pt.kernel.machines made within first below others) in
-    (h.slots, h.blocks)
+taken_changed pt next m p machines made within first below others = grind (arith, nat_tests, changed_homes)
 
 -- the order of what is added
 and_first : (r s t : Room) → and (and r s) t ≡ and (and r t) s
-and_first r s t = let a : r.slots + s.slots + t.slots ≡ r.slots + t.slots + s.slots = omega arith in
-    let b : r.blocks + s.blocks + t.blocks ≡ r.blocks + t.blocks + s.blocks = omega arith in
-    λ i. record { slots = a i; blocks = b i }
+and_first r s t = grind (arith, nat_tests)
 
 and_second : (r s t : Room) → and r (and s t) ≡ and (and r s) t
-and_second r s t = let a : r.slots + (s.slots + t.slots) ≡ r.slots + s.slots + t.slots = omega arith in
-    let b : r.blocks + (s.blocks + t.blocks) ≡ r.blocks + s.blocks + t.blocks = omega arith in
-    λ i. record { slots = a i; blocks = b i }
+and_second r s t = grind (arith, nat_tests)
 
 made_home : (pt next : Point) (m home : ℕ) → next.kernel.made home ≡ pt.kernel.made home + 1
     → ((q : Pid) → q ≢ pid_of home (first_number + pt.kernel.made home) → taken_by next m q ≡ taken_by pt m q)
     → taken_of_home next m home (next.kernel.made home) ≡ and (taken_of_home pt m home (pt.kernel.made home)) (taken_by next m (pid_of home (first_number + pt.kernel.made home)))
-made_home pt next m home made others =
-    let more : next.kernel.made home ≡ suc (pt.kernel.made home) = omega (arith, made) in
-    ap (taken_of_home next m home) more
-    ∙ ap (λ (r : Room). and r (taken_by next m (pid_of home (first_number + pt.kernel.made home))))
-    (same_home pt next m home (pt.kernel.made home) (λ k h. others (pid_of home (first_number + k)) (number_apart home (first_number + k) (pid_of home (first_number + pt.kernel.made home)) (λ z. omega (arith, h, z)))))
+made_home pt next m home made others = grind (arith, nat_tests, same_home, number_apart)
 
 made_homes : (pt next : Point) (m home homes : ℕ) → home < homes → next.kernel.made home ≡ pt.kernel.made home + 1 → ((h : ℕ) → h ≢ home → next.kernel.made h ≡ pt.kernel.made h)
     → ((q : Pid) → q ≢ pid_of home (first_number + pt.kernel.made home) → taken_by next m q ≡ taken_by pt m q)

@@ -45,18 +45,14 @@ get_last xs x k e = ap (slice_get (xs ++ x ∷ [])) e ∙ last xs
 
 -- the new message is due, or the window is full
 due_new : (s : Sending Message) (x : Message) → none_waits s ≡ true → nat_lt s.gone (s.acked + 8) ≡ true → due (with_given s x) ≡ Some (s.gone, x)
-due_new s x none win =
-    let k : s.gone - s.acked ≡ length s.unacked = grind (arith, nat_tests, none) in
-    ap (λ (t : Bool). if t then numbered s.gone (slice_get (s.unacked ++ x ∷ []) (s.gone - s.acked)) else None) win ∙ ap (numbered s.gone) (get_last s.unacked x (s.gone - s.acked) k)
+due_new s x none win = grind (arith, nat_tests, slice_get, get_last)
 
 due_none : (s : Sending Message) (x : Message) → nat_lt s.gone (s.acked + 8) ≡ false → due (with_given s x) ≡ None
 due_none s x win = ap (λ (t : Bool). if t then numbered s.gone (slice_get (s.unacked ++ x ∷ []) (s.gone - s.acked)) else None) win
 
 -- the first put is the one that is worn
 pub worn_first : (numbers : ℕ) (pt : Point) (m c : ℕ) (x : Message) (home out : Bool) (ls : List Line) → numbers ≤ length (pt.view.pair m c).ids → worn_in numbers pt.view (lines_put pt m c x home out ++ ls) ≡ Some (record { from = m; to = c })
-worn_first numbers pt m c x home out ls full =
-    let e : is_full numbers pt.view m c ≡ true = grind (arith, nat_tests) in
-    ap (λ (t : Bool). or (if t then Some (record { from = m; to = c }) else None) (worn_in numbers (view_after pt.view (line_put m c x)) ((if home then [] else if out then packet_with pt m c ∷ [] else []) ++ ls))) e
+worn_first numbers pt m c x home out ls full = grind (arith, nat_tests)
 
 -- and a put on a pair that isn't full is none
 pub worn_past : (numbers : ℕ) (pt : Point) (m c : ℕ) (x : Message) (home out : Bool) (ls : List Line) → is_full numbers pt.view m c ≡ false → worn_in numbers pt.view (lines_put pt m c x home out ++ ls) ≡ worn_in numbers (put_end pt m c x home out).view ls

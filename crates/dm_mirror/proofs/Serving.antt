@@ -1,5 +1,5 @@
 -- The process that a turn serves, and what serving it gives by the machine and by the rule.
-use Rattle.dm_mirror.proofs.Names.{◌≡◌, ◌≢◌, ℕ, ◌+◌, ◌≤◌, ◌&&◌, Bool, true, false, List, [], ◌∷◌, ◌++◌, map, length, refl, ap, ◌∙◌, sym, subst, inl, inr, arith, if◌then◌else◌, Option, None, Some, cases_Bool, false≢true, Pid, pid_eq}
+use Rattle.dm_mirror.proofs.Names.{◌≡◌, ◌≢◌, ℕ, ◌+◌, ◌≤◌, ◌&&◌, Bool, true, false, List, [], ◌∷◌, ◌++◌, map, length, refl, ap, ◌∙◌, sym, subst, inl, inr, arith, if◌then◌else◌, Option, None, Some, cases_Bool, false≢true, Pid, pid_eq, nat_tests}
 use Rattle.dm_mirror.proofs.Names.{Message, MsgId, id_eq, PlainMessage, Process, Record, Boot, Alive, OneKernel, plain_process, id_eq-is, pid_eq-same, Sound, Line, Point, after, moved_back, Spot, Queue, times, standing, StandsOutside}
 use Rattle.dm_mirror.proofs.Names.{StandsRight, View, receiver_of, is_kernels, once_at, Droppable, IsFor, Placed, Mirrors, with_queue, KernelState, Turned, with_here, AllOwnStand, MadeStands, AreMessages, KernelStands}
 use Rattle.dm_kernel.specs.declared.part.Part.{Part}
@@ -44,23 +44,7 @@ pub record Acts (b : Boot) (m : ℕ) (pt : Point) (l : Placed) (k : KernelState)
   pub records : (q : Pid) → pid_eq p q ≡ false → state.records q ≡ k.records q
 
 pub acts_as : (b : Boot) (m : ℕ) (pt : Point) (l : Placed) (k : KernelState) (p : Pid) (t u : Option Turned) (ps qs : Option (List rule.Part)) → t ≡ u → ps ≡ qs → Acts b m pt l k p u qs → Acts b m pt l k p t ps
-acts_as b m pt l k p t u ps qs e f h = record {
-  state = h.state;
-  says = h.says;
-  route = h.route;
-  turn = e ∙ h.turn;
-  outcome = f ∙ h.outcome;
-  next = h.next;
-  after = h.after;
-  placed = h.placed;
-  mirrors = h.mirrors;
-  kernel = h.kernel;
-  leaves = h.leaves;
-  sent = h.sent;
-  still = h.still;
-  count = h.count;
-  records = h.records;
-}
+acts_as b m pt l k p t u ps qs e f h = search (e ∙ h.turn, f ∙ h.outcome)
 
 -- the machine's kernel with the process at the ring's back
 abbrev pub moved_round : KernelState → Pid → KernelState
@@ -88,10 +72,7 @@ is_for s p (j ∷ js) i h least = elim (cases_Bool (id_eq i j)) [
 
 -- a message that stands at a spot stands nowhere else
 outside_elsewhere : (c : Bool) (f : Spot → ℕ) (x y : Spot) → 1 ≤ f x → y ≢ x → StandsOutside c f → f y ≡ 0
-outside_elsewhere true f x y least apart h = elim h [
-  | inl none ↦ none y
-  | inr once ↦ (once_at f x once least).1 y apart
-]
+outside_elsewhere true f x y least apart h = grind (arith, nat_tests, once_at)
 outside_elsewhere false f x y least apart h = h y
 
 right_elsewhere : (i : MsgId) (o : Option PlainMessage) (f : Spot → ℕ) (x y : Spot) → 1 ≤ f x → y ≢ x → StandsRight i o f → f y ≡ 0

@@ -1,6 +1,6 @@
 -- Elementary directives, one by one.
 use Rattle.dm_mirror.proofs.Names.{◌≡◌, ℕ, List, [], ◌∷◌, ◌++◌, length, refl, ap, ◌∙◌, sym, subst, arith, map-append, All-nil, Boot, IsValid, received_once, Step, Directive, Line, Todo, all_of, next_step, undelivered, IsKept, IsRun, IsStep}
-use Rattle.dm_mirror.proofs.Names.{Leads, has_mail, is_quiet, Point, first_point, labels, stands_once_always, WorldState, MayStep, AreReadBack, gave, IsTwo, IsTodo, joined, GoesOn, StepsStand, ones, Ran, RanBegins, RanGoesOn, RunIsRan}
+use Rattle.dm_mirror.proofs.Names.{Leads, has_mail, is_quiet, Point, first_point, stands_once_always, WorldState, MayStep, AreReadBack, gave, IsTwo, IsTodo, GoesOn, StepsStand, ones, Ran, RanBegins, RanGoesOn, RunIsRan}
 use Rattle.dm_mirror.proofs.Behind.{run_behind}
 use Rattle.dm_mirror.proofs.Deliver.Keeps.{first_readable}
 use Rattle.dm_mirror.proofs.Going.{leads_last, replays_last, run_last}
@@ -36,17 +36,12 @@ single_on b es gs pt w e valid r fits may g again =
     let replays = replays_last b gs pt e g.group g.said.lines r.good.replays g.due lines in
     let ((l, h, stands), count) = g.stands in
     let kept : IsKept b g.group.point = record { once = λ id. stands_once_always b (es ++ e ∷ []) g.group.point id valid on; counts = stands.counts } in
-    record {
-      good = record {
-        run = run_last b gs (first_point b) pt (all_of (ones (es ++ e ∷ []))) (all_of (Directive.One e ∷ [])) (record { step = e; left = all_of [] }) g.group g.said.lines (run_before b es gs pt e r.good.run) refl g.due lines kept;
-        replays = replays;
-        received = λ i. received_once b (labels (joined (gs ++ g.said.lines ∷ []))) g.group.point.kernel i valid replays;
-      };
-      leads = on;
-      stands = g.stands;
-      able = acts_step kernel_stays b w e g.said valid may g.happens r.able;
-      readable = readable_step b w e g.said may g.happens again r.readable;
-    }
+    search (
+      run_last b gs (first_point b) pt (all_of (ones (es ++ e ∷ []))) (all_of (Directive.One e ∷ [])) (record { step = e; left = all_of [] }) g.group g.said.lines (run_before b es gs pt e r.good.run) refl g.due lines kept,
+      received_once,
+      acts_step kernel_stays b w e g.said valid may g.happens r.able,
+      readable_step b w e g.said may g.happens again r.readable,
+    )
 
 pub ran_goes_on_by : StepsStand → RanGoesOn
 ran_goes_on_by steps b es gs pt w e valid r fits =
@@ -74,11 +69,5 @@ pub run_is_ran : RunIsRan
 run_is_ran b ds gs pt left w valid fit r =
     let k = elements b gs (first_point b) pt (all_of ds) left refl (record { pairs = All-nil (IsTwo (length b.machines)); machines_ = All-nil _; directives = fit }) r.good.run in (
       k.steps,
-      record {
-        good = record { run = k.run; replays = r.good.replays; received = r.good.received };
-        leads = k.leads;
-        stands = r.stands;
-        able = r.able;
-        readable = r.readable;
-      },
+      (search),
     )

@@ -6,6 +6,7 @@ use Rattle.dm_onekernel.specs.Start.{begun}
 use Rattle.dm_onekernel.specs.Step as kernel
 use Rattle.dm_mirror.proofs.StartKnown.{known_of_life, first_known}
 use Rattle.dm_mirror.proofs.Numbering.{Listed, listed, named_is, none_again, life_named, one_if, starting-last}
+pub use Rattle.dm_mirror.proofs.Made.{first_alive}
 
 abbrev nothing : Room
 nothing = record { slots = 0; blocks = 0 }
@@ -15,13 +16,6 @@ first_apart b m q valid off = first_known b m q valid ∙ ap (λ (c : Bool). if 
 
 no_server : (q : Pid) → 3 ≤ q.num → is_server q ≡ false
 no_server q least = grind (arith, nat_tests)
-
-pub first_alive : (b : Boot) (p : BootProcess) (i : BootImage) → slice_get b.images p.image ≡ Some i → first_life b p ≡ Some (Alive (begun b.format i (map plain_link p.links)))
-first_alive b p i there = ap (λ (o : Option BootImage). life_in o) there
-  where
-    life_in : Option BootImage → Option Life
-    life_in None = None
-    life_in (Some j) = Some (Alive (begun b.format j (map plain_link p.links)))
 
 pub first_mine : (b : Boot) (m : ℕ) (q : Pid) (p : BootProcess) → IsValid b → (q.home == m) ≡ true → process_named q b.processes ≡ Some p → (first_point b).view.known m q ≡ Known.Here
 first_mine b m q p valid on named =
@@ -48,13 +42,7 @@ memory_blocks : (i : BootImage) → image_is_valid i ≡ true → length (memory
 memory_blocks i valid = let e : length (memory_of i) ≡ 256 * i.blocks = grind (arith, common_steps, nat_tests) in omega (arith, e)
 
 taken_on : (b : Boot) (m : ℕ) (q : Pid) (p : BootProcess) → IsValid b → (q.home == m) ≡ true → process_named q b.processes ≡ Some p → taken_by (first_point b) m q ≡ record { slots = 1; blocks = blocks_of_image (slice_get b.images p.image) }
-taken_on b m q p valid on named =
-    let n = named_is b [] b.processes q p valid.processes named in
-    let life : (first_point b).kernel.processes q ≡ Some (Alive (begun b.format n.image (map plain_link p.links))) =
-    life_named b b.processes q ∙ ap (λ (o : Option BootProcess). bind o (first_life b)) named ∙ first_alive b p n.image n.there in
-    ap (λ (k : Known). record { slots = takes_room k; blocks = if takes_room k == 0 then 0 else blocks_of (kernel.alive ((first_point b).kernel.processes q)) }) (first_mine b m q p valid on named)
-    ∙ ap (λ (o : Option Life). record { slots = 1; blocks = blocks_of (kernel.alive o) }) life
-    ∙ ap (λ (k : ℕ). record { slots = 1; blocks = k }) (memory_blocks n.image (image_fits b.images p.image n.image valid.images n.there) ∙ sym (ap blocks_of_image n.there))
+taken_on b m q p valid on named = grind (arith, nat_tests, named_is, life_named, first_alive, first_mine, memory_blocks, image_fits)
 
 -- those of the list that are here, in order
 abbrev AreOfFile : Boot → List BootProcess → Type 0

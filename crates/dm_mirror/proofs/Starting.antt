@@ -48,11 +48,7 @@ known_first b m q false off server valid =
 
 -- servers aren't named
 server_low : (q : Pid) → is_server q ≡ true → q.num < 3
-server_low q e = by (pid_eq q switchboard) refl e
-  where
-    by : (c : Bool) → pid_eq q switchboard ≡ c → (c || pid_eq q manager) ≡ true → q.num < 3
-    by true f g = grind (arith, nat_tests)
-    by false f g = grind (arith, nat_tests)
+server_low q e = grind (arith, nat_tests)
 
 no_server_named : (b : Boot) (m : ℕ) (q : Pid) → IsValid b → is_server q ≡ true → first_record b m q (process_named q b.processes) None ≡ None
 no_server_named b m q valid server = ap (λ o. first_record b m q o None) (none_below b [] b.processes q valid.processes (let low = server_low q server in omega (arith, low)))
@@ -126,19 +122,13 @@ pair_first : (b : Boot) (a c : ℕ) → IsValid b → c < length b.machines → 
 pair_first b a c valid lt =
     let within : nat_lt c 16 ≡ true = (let k = few b valid in grind (arith, nat_tests)) in
     let sender : fresh_sender b.numbers c ≡ fresh_sending b.numbers = ap (λ (t : Bool). fresh_sending (if t then b.numbers else 0)) within in
-    record {
-      stream = subst (λ (s : Sending Message). order.Stands (record { sender = s; receiver = fresh_receiving; given = []; taken = []; out = []; back = [] })) (sym sender) (Stands-start b.numbers (small b valid));
-      ids = refl;
-      untaken = refl;
-      taken = refl;
-      gone = ap (λ (s : Sending Message). s.gone) sender;
-      acked = ap (λ (s : Sending Message). s.acked) sender;
-      numbers = ap (λ (s : Sending Message). s.numbers) sender;
-      kept = λ n. none_kept n;
-      packets = refl;
-      bytes = refl;
-      lawful = All-nil IsLawfulMessage;
-    }
+    search (
+      subst (λ (s : Sending Message). order.Stands (record { sender = s; receiver = fresh_receiving; given = []; taken = []; out = []; back = [] })) (sym sender) (Stands-start b.numbers (small b valid)),
+      ap (λ (s : Sending Message). s.gone) sender,
+      ap (λ (s : Sending Message). s.numbers) sender,
+      none_kept,
+      All-nil IsLawfulMessage,
+    )
 
 pub start_stands : StartStands
 start_stands b valid = (

@@ -57,43 +57,19 @@ module _ (b : Boot) (pt : Point) (l : Placed) (v : View) where
   taken_same m zero = refl
   taken_same m (suc n) = λ i. and (taken_same m n i) (home_same m n (pt.kernel.made n) i)
 
-  known_same : (p : Pid) (queue held : List MsgId) (k : Known) (r : Option machine.Known) → KnownStands pt l p queue held k r → KnownStands (with_view pt v) l p queue held k r
-  known_same p queue held Unknown None h = h
-  known_same p queue held Here (Some (Record.Here x)) h = h
-  known_same p queue held (Frozen to) (Some (Record.Frozen d)) h = h
-  known_same p queue held (Incoming from) (Some (Record.Incoming x)) h = h
-  known_same p queue held (Forward to moves) (Some (Record.Forward at n)) h = h
-  known_same p queue held Ended (Some (Record.Ended y)) h = h
-  known_same p queue held k r h = h
-
   room_same : (m : ℕ) (k : KernelState) → RoomStands k.room (room_of (slice_get b.machines m)) (taken_at pt m pt.kernel.machines)
       → RoomStands k.room (room_of (slice_get b.machines m)) (taken_at (with_view pt v) m pt.kernel.machines)
   room_same m k h = subst (λ r. RoomStands k.room (room_of (slice_get b.machines m)) r) (sym (taken_same m pt.kernel.machines)) h
 
   -- the kernel with this inbox
   pub kernel_box : (m : ℕ) (k : KernelState) (box : List Message) → AreMessages l.bag (v.inbox m) box → KernelStands b pt l m k → KernelStands b (with_view pt v) l m (record k { inbox = box })
-  kernel_box m k box e h = record {
-    here = h.here;
-    known = λ p no_server. known_same p (pt.view.queue m p) (pt.view.held m p) (pt.view.known m p) (k.records p) (h.known p no_server);
-    no_server = h.no_server;
-    ring = h.ring;
-    inbox = e;
-    made = h.made;
-    room = room_same m k h.room;
-    servers = h.servers;
-  }
+  kernel_box m k box e h = search (h.known, room_same m k h.room)
 
   pub kernel_same : (m : ℕ) (k : KernelState) → v.inbox m ≡ pt.view.inbox m → KernelStands b pt l m k → KernelStands b (with_view pt v) l m k
   kernel_same m k e h = kernel_box m k k.inbox (subst (λ (is : List MsgId). AreMessages l.bag is k.inbox) (sym e) h.inbox) h
 
   pub node_same : (m : ℕ) (n : NodeState) → v.inbox m ≡ pt.view.inbox m → (v.pair m m).ids ≡ (pt.view.pair m m).ids → NodeStands b pt l m n → NodeStands b (with_view pt v) l m n
-  node_same m n e own h = record {
-    kernel = kernel_same m n.kernel e h.kernel;
-    lawful = h.lawful;
-    machines = h.machines;
-    numbers = h.numbers;
-    home = h.home ∙ ap length (sym own);
-  }
+  node_same m n e own h = search (kernel_same m n.kernel e h.kernel, h.home ∙ ap length (sym own))
 
   pub mirrors_same : Mirrors pt.kernel pt.view pt.addresses l → Mirrors pt.kernel (with_view pt v).view pt.addresses l
   mirrors_same h = record {
@@ -132,11 +108,5 @@ pub tokens_same : (v u : View) (l : Placed) (r s : AllRecords) → ((i : MsgId) 
 tokens_same v u l r s told asked spots records h p i t z is between about st =
     let k = h p i t z (sym (told i) ∙ is) between about (subst (λ (n : ℕ). 1 ≤ n) (spots i z) st) in
     let d : ℕ = destination_of i t in
-    record {
-      process = k.process;
-      there = k.there;
-      message = k.message;
-      is = k.is;
-      sender = k.sender;
-      carries = subst (λ (n : ℕ). Carries p k.process n (incoming_of (s d p)) k.message.what) (sym (asked p)) (subst (λ (f : Pid → Option machine.Known). Carries p k.process (v.asked p) (incoming_of (f p)) k.message.what) (sym (records d)) k.carries);
-    }
+    search
+    (subst (λ (n : ℕ). Carries p k.process n (incoming_of (s d p)) k.message.what) (sym (asked p)) (subst (λ (f : Pid → Option machine.Known). Carries p k.process (v.asked p) (incoming_of (f p)) k.message.what) (sym (records d)) k.carries))

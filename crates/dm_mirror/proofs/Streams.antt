@@ -25,34 +25,10 @@ pub record Joined (b : Boot) (bag : MsgId → Option Message) (a c : ℕ) (s : S
   pub lawful : All IsLawfulMessage s.given
 
 pub joined : (b : Boot) (pt : Point) (l : Placed) (w : WorldState) (h : History) (a c : ℕ) → PairStands b pt l w h a c → Joined b l.bag a c (stream_of w h a c) (w.wires a c) (pt.view.pair a c)
-joined b pt l w h a c s = record {
-  stream = s.stream;
-  ids = s.ids;
-  untaken = s.untaken;
-  taken = s.taken;
-  gone = s.gone;
-  acked = s.acked;
-  numbers = s.numbers;
-  kept = s.kept;
-  packets = s.packets;
-  bytes = s.bytes;
-  lawful = s.lawful;
-}
+joined b pt l w h a c s = search
 
 pair_of : (b : Boot) (pt : Point) (l : Placed) (w : WorldState) (h : History) (a c : ℕ) → Joined b l.bag a c (stream_of w h a c) (w.wires a c) (pt.view.pair a c) → PairStands b pt l w h a c
-pair_of b pt l w h a c s = record {
-  stream = s.stream;
-  ids = s.ids;
-  untaken = s.untaken;
-  taken = s.taken;
-  gone = s.gone;
-  acked = s.acked;
-  numbers = s.numbers;
-  kept = s.kept;
-  packets = s.packets;
-  bytes = s.bytes;
-  lawful = s.lawful;
-}
+pair_of b pt l w h a c s = search
 
 -- where the world, the history and the view have this stream, these bytes and this pair, the pair stands; what was taken is
 -- the beginning of what was given
@@ -66,9 +42,7 @@ pub record Has (pt : Point) (w : WorldState) (h : History) (a c : ℕ) (s : Stre
   pub pair : pt.view.pair a c ≡ p
 
 stream_is : (pt : Point) (w : WorldState) (h : History) (a c : ℕ) (s : Stream Message) (sent : List wire.Sent) (p : Pair) → Has pt w h a c s sent p → s.taken ≡ take s.receiver.count s.given → stream_of w h a c ≡ s
-stream_is pt w h a c s sent p e taken =
-    let t : take ((w.nodes c).receivers a).count (h.given a c) ≡ s.taken = (λ i. take (e.receiver i).count (e.given i)) ∙ sym taken in
-    λ i. record { sender = e.sender i; receiver = e.receiver i; given = e.given i; taken = t i; out = e.out i; back = e.back i }
+stream_is pt w h a c s sent p e taken = grind (arith, nat_tests)
 
 pub pair_stands : (b : Boot) (pt : Point) (l : Placed) (w : WorldState) (h : History) (a c : ℕ) (s : Stream Message) (sent : List wire.Sent) (p : Pair) → Has pt w h a c s sent p → Joined b l.bag a c s sent p → PairStands b pt l w h a c
 pair_stands b pt l w h a c s sent p e j =
@@ -125,28 +99,17 @@ untaken_then bag n ids xs x few less there e =
     ∙ ap (map Some) (sym (drop-append-le n xs (x ∷ []) less))
 
 pub is_given : (b : Boot) (bag : MsgId → Option Message) (a c : ℕ) (s : Stream Message) (sent : List wire.Sent) (p : Pair) (x : Message) → is_worn s.sender ≡ false → bag x.id ≡ Some x → IsLawfulMessage x → Joined b bag a c s sent p → Joined b bag a c (record s { sender = with_given s.sender x; given = s.given ++ x ∷ [] }) sent (record p { ids = p.ids ++ x.id ∷ [] })
-is_given b bag a c s sent p x fresh there lawful j = record {
-  stream = subst (λ (z : Bool). order.Stands (gives s x z)) fresh (Stands-happens s (Give x) j.stream);
-  ids = map-append id_of s.given (x ∷ []) ∙ ap (λ (is : List MsgId). is ++ x.id ∷ []) j.ids;
-  untaken = untaken_then bag p.taken p.ids s.given x (let k = taken_within b bag a c s sent p j in omega (arith, k, given_length b bag a c s sent p j)) (taken_within b bag a c s sent p j) there j.untaken;
-  taken = j.taken;
-  gone = j.gone;
-  acked = j.acked;
-  numbers = j.numbers;
-  kept = j.kept;
-  packets = j.packets;
-  bytes = j.bytes;
-  lawful = All-push IsLawfulMessage s.given x j.lawful lawful;
-}
+is_given b bag a c s sent p x fresh there lawful j = search (
+  subst (λ (z : Bool). order.Stands (gives s x z)) fresh (Stands-happens s (Give x) j.stream),
+  map-append id_of s.given (x ∷ []) ∙ ap (λ (is : List MsgId). is ++ x.id ∷ []) j.ids,
+  untaken_then bag p.taken p.ids s.given x (let k = taken_within b bag a c s sent p j in omega (arith, k, given_length b bag a c s sent p j)) (taken_within b bag a c s sent p j) there j.untaken,
+  All-push IsLawfulMessage s.given x j.lawful lawful,
+)
 
 -- the message that is due goes out, with the next number
 numbered_is : (n k : ℕ) (o : Option Message) (x : Message) → numbered k o ≡ Some (n, x) → n ≡ k
 numbered_is n k None x e = cc
-numbered_is n k (Some y) x e = sym (ap number_in e)
-  where
-    number_in : Option (ℕ × Message) → ℕ
-    number_in None = 0
-    number_in (Some q) = q.0
+numbered_is n k (Some y) x e = grind (arith, nat_tests)
 
 due_if : (n k : ℕ) (o : Option Message) (x : Message) (t : Bool) → (if t then numbered k o else None) ≡ Some (n, x) → (t ≡ true) × (n ≡ k)
 due_if n k o x true e = (refl, numbered_is n k o x e)
@@ -156,9 +119,7 @@ pub due_is : (s : Sending Message) (n : ℕ) (x : Message) → due s ≡ Some (n
 due_is s n x e = (due_if n s.gone _ x _ e).1
 
 pub outstanding_is : (s : Sending Message) (k n : ℕ) (x : Message) → outstanding s k ≡ Some (n, x) → (n ≡ s.acked + k) × (n < s.gone)
-outstanding_is s k n x e =
-    let f = due_if n (s.acked + k) _ x (nat_lt (s.acked + k) s.gone) e in
-    let less : s.acked + k < s.gone = grind (arith, nat_tests, f.0) in (f.1, omega (arith, less, f.1))
+outstanding_is s k n x e = grind (arith, nat_tests, due_if, nat_lt)
 
 pub gone_next : (n g : ℕ) → n ≡ g → g + 1 ≡ gone_after (Load.Data n) g
 gone_next n g e = grind (arith, nat_tests)
@@ -168,52 +129,26 @@ gone_again n g e = grind (arith, nat_tests)
 
 pub went_out : (b : Boot) (bag : MsgId → Option Message) (a c : ℕ) (s : Stream Message) (sent : List wire.Sent) (p : Pair) (n : ℕ) (x : Message) → due s.sender ≡ Some (n, x) → Joined b bag a c s sent p
     → Joined b bag a c (record s { sender = with_sent s.sender; out = s.out ++ stream.just_put (stream.Data n x) ∷ [] }) (with_bytes a c sent (stream.Data n x)) (with_line p (Load.Data n))
-went_out b bag a c s sent p n x next j = record {
-  stream = subst (λ (z : Option (ℕ × Message)). order.Stands (goes_out s z)) next (Stands-happens s GoOut j.stream);
-  ids = j.ids;
-  untaken = j.untaken;
-  taken = j.taken;
-  gone = ap (λ (g : ℕ). g + 1) j.gone ∙ gone_next n p.gone (due_is s.sender n x next ∙ j.gone);
-  acked = j.acked;
-  numbers = j.numbers;
-  kept = j.kept;
-  packets = lines_put s.out (stream.Data n x) p.wire j.packets;
-  bytes = bytes_put a c s.out (stream.Data n x) sent j.bytes;
-  lawful = j.lawful;
-}
+went_out b bag a c s sent p n x next j = search (
+  subst (λ (z : Option (ℕ × Message)). order.Stands (goes_out s z)) next (Stands-happens s GoOut j.stream),
+  ap (λ (g : ℕ). g + 1) j.gone ∙ gone_next n p.gone (due_is s.sender n x next ∙ j.gone),
+  lines_put s.out (stream.Data n x) p.wire j.packets,
+  bytes_put a c s.out (stream.Data n x) sent j.bytes,
+)
 
 -- one that is outstanding goes out again
 pub went_again : (b : Boot) (bag : MsgId → Option Message) (a c : ℕ) (s : Stream Message) (sent : List wire.Sent) (p : Pair) (k n : ℕ) (x : Message) → outstanding s.sender k ≡ Some (n, x) → Joined b bag a c s sent p
     → Joined b bag a c (with_out s (stream.Data n x)) (with_bytes a c sent (stream.Data n x)) (with_line p (Load.Data n))
-went_again b bag a c s sent p k n x out j = record {
-  stream = subst (λ (z : Option (ℕ × Message)). order.Stands (goes_again s z)) out (Stands-happens s (GoAgain k) j.stream);
-  ids = j.ids;
-  untaken = j.untaken;
-  taken = j.taken;
-  gone = j.gone ∙ gone_again n p.gone (let f = outstanding_is s.sender k n x out in omega (arith, f.1, j.gone));
-  acked = j.acked;
-  numbers = j.numbers;
-  kept = j.kept;
-  packets = lines_put s.out (stream.Data n x) p.wire j.packets;
-  bytes = bytes_put a c s.out (stream.Data n x) sent j.bytes;
-  lawful = j.lawful;
-}
+went_again b bag a c s sent p k n x out j = search (
+  subst (λ (z : Option (ℕ × Message)). order.Stands (goes_again s z)) out (Stands-happens s (GoAgain k) j.stream),
+  j.gone ∙ gone_again n p.gone (let f = outstanding_is s.sender k n x out in omega (arith, f.1, j.gone)),
+  lines_put s.out (stream.Data n x) p.wire j.packets,
+  bytes_put a c s.out (stream.Data n x) sent j.bytes,
+)
 
 -- a packet on the wire back leaves all but that wire
 back_put : (b : Boot) (bag : MsgId → Option Message) (a c : ℕ) (s : Stream Message) (sent : List wire.Sent) (p : Pair) (l : stream.Load Message) → order.Stands (with_back s l) → Joined b bag a c s sent p → Joined b bag a c (with_back s l) sent p
-back_put b bag a c s sent p l stands j = record {
-  stream = stands;
-  ids = j.ids;
-  untaken = j.untaken;
-  taken = j.taken;
-  gone = j.gone;
-  acked = j.acked;
-  numbers = j.numbers;
-  kept = j.kept;
-  packets = j.packets;
-  bytes = j.bytes;
-  lawful = j.lawful;
-}
+back_put b bag a c s sent p l stands j = search
 
 -- data of the stream the other way
 pub put_back : (b : Boot) (bag : MsgId → Option Message) (a c : ℕ) (s : Stream Message) (sent : List wire.Sent) (p : Pair) (n : ℕ) (x : Message) → Joined b bag a c s sent p → Joined b bag a c (with_back s (stream.Data n x)) sent p

@@ -12,6 +12,7 @@ use Rattle.dm_rule.specs.Rule as rules
 use Rattle.dm_mirror.proofs.Streams.{joined, put_back, went_again}
 use Rattle.dm_mirror.proofs.Stays.{at_same, node_same}
 use Rattle.dm_mirror.proofs.Puts.{ids_same, line_put, same_senders, spelled_on, spoken-append, stands_begins, stands_put, wire_length}
+use Rattle.dm_mirror.proofs.Deliver.Lets.{given_at as get_there}
 
 pub stands_begun : (b : Boot) (w : WorldState) (pt : Point) (l : Placed) (h : History) (m : ℕ) → StandsWith b w pt l h → StandsWith b (record w { groups = w.groups + 1 }) (record pt { view = begins pt.view m NothingElse }) l h
 stands_begun b w pt l h m st = stands_begins b w pt l h m NothingElse st
@@ -77,12 +78,6 @@ apart_of m c e = grind (arith, nat_tests)
 numbers_next : (n k : ℕ) → numbers_from n (suc k) ≡ numbers_from n k ++ (n + k) ∷ []
 numbers_next n zero = ap (λ (z : ℕ). z ∷ []) (omega arith)
 numbers_next n (suc k) = ap (λ (ns : List ℕ). n ∷ ns) (numbers_next (n + 1) k ∙ ap (λ (z : ℕ). numbers_from (n + 1) k ++ z ∷ []) (omega arith))
-
--- what is outstanding is there
-get_there : (xs : List Message) (k : ℕ) → k < length xs → (x : Message) × (slice_get xs k ≡ Some x)
-get_there [] k e = absurd (omega arith)
-get_there (x ∷ xs) zero e = (x, refl)
-get_there (x ∷ xs) (suc k) e = get_there xs k (omega arith)
 
 out_there : (s : Stream Message) (k : ℕ) → order.Stands s → suc k ≤ count_out s.sender → (x : Message) × (outstanding s.sender k ≡ Some (s.sender.acked + k, x))
 out_there s k st few =

@@ -1,6 +1,6 @@
 -- How many messages were routed, pair by pair and in all: no line takes any away, and a route adds one.
 use Rattle.dm_mirror.proofs.Names.{◌≡◌, inl, inr, ℕ, zero, suc, ◌+◌, ◌*◌, ◌<◌, ◌≤◌, ◌==◌, ◌&&◌, Bool, true, false, not, filter, List, [], ◌∷◌, ◌++◌, length, refl, ap, ◌∙◌, subst, arith, if◌then◌else◌, cases_Bool, nat_tests, Pid, MsgId}
-use Rattle.dm_mirror.proofs.Names.{MessageKind, Label, Step, Line, at_pair, View, Pair, view_after, handled, eq_is, queued_pair, held_pair, forwarded_pair, taken_pair, label_pair, stage_pair, proto_pair}
+use Rattle.dm_mirror.proofs.Names.{MessageKind, Step, Line, at_pair, View, Pair, view_after, handled, eq_is, queued_pair, held_pair, forwarded_pair, taken_pair, label_pair, stage_pair, proto_pair}
 use Rattle.dm_rule.specs.View as view
 use Rattle.dm_rule.proofs.Lines.{parts}
 
@@ -18,16 +18,7 @@ pub grows_on : (u v w : View) → Grows u v → Grows v w → Grows u w
 grows_on u v w h k = record { ids = λ a c. omega (arith, h.ids a c, k.ids a c) }
 
 pair_grows : (f : ℕ → ℕ → Pair) (a b : ℕ) (p : Pair) → length (f a b).ids ≤ length p.ids → (c d : ℕ) → length (f c d).ids ≤ length (at_pair f a b p c d).ids
-pair_grows f a b p le c d = elim (cases_Bool ((a == c) && (b == d))) [
-  | inl same ↦
-      let k = parts (a == c) (b == d) same in
-      let here : length (at_pair f a b p c d).ids ≡ length p.ids = ap (λ (t : Bool). length (if t then p else f c d).ids) same in
-      let was : length (f a b).ids ≡ length (f c d).ids = ap (λ x. length (f x b).ids) (eq_is a c k.0) ∙ ap (λ x. length (f c x).ids) (eq_is b d k.1) in
-      omega (arith, here, was, le)
-  | inr apart ↦
-      let off : length (at_pair f a b p c d).ids ≡ length (f c d).ids = ap (λ (t : Bool). length (if t then p else f c d).ids) apart in
-      omega (arith, off)
-]
+pair_grows f a b p le c d = grind (arith, nat_tests, parts, eq_is)
 
 set_grows : (v w : View) (a b : ℕ) (p : Pair) → w.pair ≡ at_pair v.pair a b p → length (v.pair a b).ids ≤ length p.ids → Grows v w
 set_grows v w a b p e le = record {
@@ -70,9 +61,7 @@ line_grows v _ = grows_same v v refl
 
 -- a route adds one
 pub put_adds : (v : View) (a b : ℕ) (i : MsgId) (k : MessageKind) (q : Pid) → ids_of (view.after_put v a b i k q) a b ≡ ids_of v a b + 1
-put_adds v a b i k q =
-    let here : ((a == a) && (b == b)) ≡ true = grind (arith, nat_tests) in
-    ap (λ (t : Bool). length (if t then view.routed_on a b (v.pair a b) i else v.pair a b).ids) here ∙ append-longer (v.pair a b).ids i
+put_adds v a b i k q = grind (arith, nat_tests, append-longer)
 
 -- sums over the first so many
 abbrev pub sum_to : ℕ → (ℕ → ℕ) → ℕ
@@ -121,6 +110,4 @@ total_adds v w n a c h within_a within_c more =
 
 -- 16 machines, and at most 2^20 messages a pair
 pub total_most : (v : View) (n : ℕ) → n ≤ 16 → ((a c : ℕ) → ids_of v a c ≤ 1048576) → total v n ≤ 268435456
-total_most v n few le =
-    let h = sum_most n (from_one v n) few (λ a. let k = sum_few n (ids_of v a) few (le a) in omega (arith, k, few)) in
-    omega (arith, h, few)
+total_most v n few le = grind (arith, nat_tests, sum_most, sum_few)

@@ -187,20 +187,10 @@ module _ (b : Boot) (w : WorldState) (pt : Point) (l : Placed) (h : History) (m 
   head_is = let f : Some (moved pt head pt.kernel) ≡ Some start = e.head in cc
 
   wears : RoutesWorn b world t.next m t.routes t.late v → StopsWorn b w pt d
-  wears k = record {
-    from = k.from;
-    to = k.to;
-    happens = does (Worn k.from k.to) k.worn;
-    worn = record {
-      group = group;
-      due = due;
-      first =
-          ap (worn_in b.numbers pt.view) (ap (λ (y : Spelled). y.lines) (sym spells.2))
-          ∙ ap (λ (p : Point). worn_in b.numbers p.view (t.says ++ v.lines)) head_is
-          ∙ worn_behind b.numbers t.says start t.next v.lines rest sayable t.after
-          ∙ k.first;
-    };
-  }
+  wears k = search (
+    does (Worn k.from k.to) k.worn,
+    ap (worn_in b.numbers pt.view) (ap (λ (y : Spelled). y.lines) (sym spells.2)) ∙ ap (λ (p : Point). worn_in b.numbers p.view (t.says ++ v.lines)) head_is ∙ worn_behind b.numbers t.says start t.next v.lines rest sayable t.after ∙ k.first,
+  )
 
   pub turn_steps : Steps b w pt d
   turn_steps = elim (routes_go b world t.next t.placed h m (at_machine (λ (n : ℕ). (w.nodes n).kernel.records) m t.state.records) t.routes t.late v going) as (λ z. Steps b w pt d) [

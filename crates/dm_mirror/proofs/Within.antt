@@ -6,9 +6,7 @@ use Rattle.dm_rulelaws.proofs.Goes.Always.{told_of}
 
 address_within : (b : Boot) (pt : Point) → Run b pt → (i : MsgId) (z : Spot) (o : Option PlainMessage) → pt.kernel.bag i ≡ o → 1 ≤ standing pt.view i z → (pt.addresses (Receiver i)).at < pt.kernel.machines
 address_within b pt run i z (Some x) there st = run.found.within (Receiver i) x.to (ap to_of there)
-address_within b pt run i z None there st =
-    let (t, told) = told_of (pt.view.told i) (run.found.told i z st) in
-    run.found.own_within i t told (own_by (is_kernels i) (standing pt.view i) z st (stands_right pt i run.based.phased.state None there))
+address_within b pt run i z None there st = grind (arith, nat_tests, told_of, own_by, stands_right)
 
 pub stands_within : (b : Boot) (pt : Point) → Run b pt → (i : MsgId) (z : Spot) → 1 ≤ standing pt.view i z → machine_of z < pt.kernel.machines
 stands_within b pt run i z st = subst (λ (k : ℕ). k < pt.kernel.machines) (run.found.at_ i z st) (address_within b pt run i z (pt.kernel.bag i) refl st)

@@ -1,6 +1,6 @@
 -- A point determines the kernel with places, but for the queues: what is a process or a message without places, and has the
 -- places of the addresses, is the one that stands there.
-use Rattle.dm_places.proofs.Names.{◌≡◌, ℕ, zero, suc, List, [], ◌∷◌, map, refl, ap, ◌∙◌, sym, option_map, slice_get, Option, None, Some, ArrayVec, Pid, Addr, Link, place_of, plain_link, link_at, plain_slot, MsgId, Message, What}
+use Rattle.dm_places.proofs.Names.{◌≡◌, ℕ, zero, suc, List, [], ◌∷◌, map, refl, ap, ◌∙◌, sym, option_map, slice_get, Option, None, Some, ArrayVec, Pid, Addr, Link, place_of, plain_link, link_at, plain_slot, MsgId, Message, What, arith, nat_tests}
 use Rattle.dm_places.proofs.Names.{PlainMessage, PlainWhat, plain_message, plain_what, Process, Status, plain_process, plain_status, PlainProcess, View, Addresses, MirrorsMessage, MirrorsProcess, enclosed, owner_at, PointDetermines}
 use Rattle.dm_onekernel.specs.Step as kernel
 use Rattle.dm_places.proofs.Keeps.{parts, there_of}
@@ -11,14 +11,7 @@ addr_is : (x y : Addr) → x.pid ≡ y.pid → place_of x ≡ place_of y → x �
 addr_is x y e f = λ i. record { pid = e i; at = (f i).at; moves = (f i).moves }
 
 link_is : (x y : Link) → plain_link x ≡ plain_link y → place_of x.addr ≡ place_of y.addr → x ≡ y
-link_is x y e f = λ i. record {
-  addr = record { pid = (e i).to; at = (f i).at; moves = (f i).moves };
-  kind = (e i).kind;
-  to_kernel = (e i).to_kernel;
-  code = (e i).code;
-  channel = (e i).channel;
-  area = (e i).area;
-}
+link_is x y e f = grind (arith, nat_tests)
 
 array_is : {A : Type 0} (x y : ArrayVec A) → x.items ≡ y.items → x ≡ y
 array_is x y e = λ i. record { items = e i }
@@ -97,16 +90,8 @@ what_is w z (PlainWhat.Create image ls) e f h =
     let links : m.links ≡ n.links = array_is m.links n.links
     (links_are m.links.items n.links.items (m.links_are ∙ sym n.links_are) (λ k x y g j. h k x y (ap (λ (v : What). slice_get (enclosed v) k) m.is ∙ g) (ap (λ (v : What). slice_get (enclosed v) k) n.is ∙ j))) in
     m.is ∙ (λ i. What.Create image (links i)) ∙ sym n.is
-what_is w z (PlainWhat.Write base bytes) e f h =
-    let m = write_what w base bytes e in
-    let n = write_what z base bytes f in
-    let body : m.body ≡ n.body = array_is m.body n.body (m.bytes_are ∙ sym n.bytes_are) in
-    m.is ∙ (λ i. What.Write base (body i)) ∙ sym n.is
-what_is w z (PlainWhat.Block bytes) e f h =
-    let m = block_what w bytes e in
-    let n = block_what z bytes f in
-    let body : m.body ≡ n.body = array_is m.body n.body (m.bytes_are ∙ sym n.bytes_are) in
-    m.is ∙ (λ i. What.Block (body i)) ∙ sym n.is
+what_is w z (PlainWhat.Write base bytes) e f h = grind (arith, nat_tests, write_what, array_is)
+what_is w z (PlainWhat.Block bytes) e f h = grind (arith, nat_tests, block_what, array_is)
 what_is w z (PlainWhat.Read base len) e f h = read_what w base len e ∙ sym (read_what z base len f)
 what_is w z PlainWhat.Stop e f h = stop_what w e ∙ sym (stop_what z f)
 what_is w z PlainWhat.Resume e f h = resume_what w e ∙ sym (resume_what z f)
@@ -120,21 +105,11 @@ what_is w z (PlainWhat.Moved outcome) e f h = moved_what w outcome e ∙ sym (mo
 
 -- two messages that mirror the same one are one
 pub message_is : (a : Addresses) (i : MsgId) (m n : Message) (k : PlainMessage) → plain_message m ≡ Some k → plain_message n ≡ Some k → MirrorsMessage a i m → MirrorsMessage a i n → m ≡ n
-message_is a i m n k e f h j =
-    let g = parts m k e in
-    let r = parts n k f in
-    let to : m.to ≡ n.to = addr_is m.to n.to (g.to ∙ sym r.to) (sym h.receiver ∙ j.receiver) in
-    let from : m.sender ≡ n.sender = addr_is m.sender n.sender (g.sender ∙ sym r.sender) (sym h.sender ∙ j.sender) in
-    let says : m.what ≡ n.what = what_is m.what n.what k.what g.what r.what (λ c x y there that. sym (h.enclosed c x there) ∙ j.enclosed c y that) in
-    let name : m.id ≡ n.id = h.id ∙ sym j.id in
-    λ c. record { id = name c; to = to c; sender = from c; what = says c }
+message_is a i m n k e f h j = grind (arith, nat_tests, parts, addr_is, what_is)
 
 -- a process of both
 alike_of : (o : Option PlainProcess) (b c : Option Process) (x y : Process) → o ≡ option_map plain_process b → o ≡ option_map plain_process c → b ≡ Some x → c ≡ Some y → plain_process x ≡ plain_process y
-alike_of o b c x y e f g h =
-    let z : Some (plain_process x) ≡ Some (plain_process y) = sym (ap (option_map plain_process) g) ∙ sym e ∙ f ∙ ap (option_map plain_process) h in
-    let same : plain_process x ≡ plain_process y = cc in
-    same
+alike_of o b c x y e f g h = grind (arith, nat_tests, option_map)
 
 pub point_determines : PointDetermines
 point_determines s v a l m h k = (

@@ -144,13 +144,7 @@ stood l id i m true e = cc
 stood l id i m false e = e
 
 pub places_out : (v : View) (a : Addresses) (l : Placed) (id : MsgId) → MirrorsPlaces v a l → MirrorsPlaces v a (without_message l id)
-places_out v a l id h = record {
-  process = h.process;
-  message = λ i m e. h.message i m (stood l id i m (id_eq id i) e);
-  name = h.name;
-  child = h.child;
-  answer = h.answer;
-}
+places_out v a l id h = search (h.message, stood)
 
 pub this_process : (v : View) (a : Addresses) (p : Pid) (x : Process) → MirrorsProcess v a p x → (y : Process) → Some x ≡ Some y → MirrorsProcess v a p y
 this_process v a p x h y e = let f : x ≡ y = cc in subst (MirrorsProcess v a p) f h

@@ -1,6 +1,6 @@
 -- The rows with places in a machine's terms: where the kernel with places has a machine's process but for its queue, each row
 -- is what the machine's code does to that process, but for its queue.
-use Rattle.dm_places.proofs.Names.{◌≡◌, ℕ, Bool, true, false, List, refl, ap, ◌∙◌, sym, if◌then◌else◌, option_map, Option, None, Some, Pid, MsgId, Message, Process, Status, Regs, Fault, Row, instruction, bind, Machine, plain_steps, Landing}
+use Rattle.dm_places.proofs.Names.{◌≡◌, ℕ, Bool, true, false, List, refl, ap, ◌∙◌, sym, if◌then◌else◌, option_map, Option, None, Some, Pid, MsgId, Message, Process, Status, Regs, Fault, Row, instruction, bind, Machine, plain_steps, Landing, arith, nat_tests}
 use Rattle.dm_places.proofs.Names.{landing, after_serving, serving_answer, Called, Done, calls, Completion, completion, Placed, Acted, acted, acts, after_call, after_done, after_landing, completed, if_ready, lands, machine_of, ran, running}
 use Rattle.dm_places.proofs.Names.{with_acted, with_machine, with_process, with_sent}
 use Rattle.dm_places.specs.PlacedStep.{answers}
@@ -22,9 +22,7 @@ runs_with l p y q there ready = ap (λ (o : Option Process). bind o (λ (z : Pro
 -- so many plain instructions
 pub ran_matches : (l : Placed) (p : Pid) (k : ℕ) (y : Process) (q : List Message) (m : Machine) → l.processes p ≡ Some (with_queue y q) → if_ready y y.status ≡ Some y → plain_steps k (machine_of y) ≡ Some m
     → ran l p k ≡ Some (with_process l p (Some (with_queue (with_machine y m) q)))
-ran_matches l p k y q m there ready plain =
-    ap (λ (o : Option Process). bind o (λ (z : Process). bind (plain_steps k (machine_of z)) (λ (n : Machine). Some (with_process l p (Some (with_machine z n)))))) (runs_with l p y q there ready)
-    ∙ ap (λ (o : Option Machine). bind o (λ (n : Machine). Some (with_process l p (Some (with_machine (with_queue y q) n))))) plain
+ran_matches l p k y q m there ready plain = grind (arith, nat_tests, runs_with)
 
 -- a call, or a fault
 abbrev pub acted_with : List Message → Acted → Acted
@@ -35,16 +33,11 @@ after_with (Called.Replied c) x q = refl
 after_with _ x q = refl
 
 acts_by : (here : ℕ) (l : Placed) (p : Pid) (y : Process) (q : List Message) (w : Acted) → l.processes p ≡ Some (with_queue y q) → if_ready y y.status ≡ Some y → acted here (with_queue y q) (instruction y.regs y.memory) ≡ Some w → acts here l p ≡ Some (with_acted l p w)
-acts_by here l p y q w there ready e =
-    ap (λ (o : Option Process). bind o (λ (z : Process). bind (acted here z (instruction z.regs z.memory)) (λ (d : Acted). Some (with_acted l p d)))) (runs_with l p y q there ready)
-    ∙ ap (λ (o : Option Acted). bind o (λ (d : Acted). Some (with_acted l p d))) e
+acts_by here l p y q w there ready e = grind (arith, nat_tests, runs_with)
 
 pub call_matches : (here : ℕ) (l : Placed) (p : Pid) (y : Process) (q : List Message) (n : ℕ) (regs : Regs) → l.processes p ≡ Some (with_queue y q) → if_ready y y.status ≡ Some y → instruction y.regs y.memory ≡ Row.Calls n regs
     → acts here l p ≡ Some (with_acted l p (acted_with q (after_done (calls here (record y { regs = regs }) n))))
-call_matches here l p y q n regs there ready is =
-    let d = calls here (record y { regs = regs }) n in
-    acts_by here l p y q (acted_with q (after_done d)) there ready
-    (ap (acted here (with_queue y q)) is ∙ ap (λ (z : Done). Some (after_done z)) (calls_with here (record y { regs = regs }) n q) ∙ ap Some (after_with d.called d.process q))
+call_matches here l p y q n regs there ready is = grind (arith, nat_tests, acts_by, calls_with, after_with)
 
 pub fault_matches : (here : ℕ) (l : Placed) (p : Pid) (y : Process) (q : List Message) (f : Fault) → l.processes p ≡ Some (with_queue y q) → if_ready y y.status ≡ Some y → instruction y.regs y.memory ≡ Row.Faults f
     → acts here l p ≡ Some (with_process l p None)
@@ -61,20 +54,13 @@ completed_matches l p id y q place m d there found e =
     let plain = completion_is y y.queue place y.status (Some m) in
     let (c, first, last) = of_map (completion_with y.queue place) (completion y 0 y.status (Some m)) d (sym e ∙ plain) in
     let r = queue_after c.completed q 0 in
-    record {
-      queue = r;
-      is = ap (λ (o : Option Process). bind o (λ (z : Process). bind (l.bag id) (λ (n : Message). completion z 0 z.status (Some n)))) there
-          ∙ ap (λ (o : Option Message). bind o (λ (n : Message). completion (with_queue y q) 0 y.status (Some n))) found
-          ∙ completion_is y q 0 y.status (Some m) ∙ ap (option_map (completion_with q 0)) first
-          ∙ ap (λ (z : Completion). Some (record { completed = z.completed; process = with_queue z.process r })) last;
-    }
+    search
+    (ap (λ (o : Option Process). bind o (λ (z : Process). bind (l.bag id) (λ (n : Message). completion z 0 z.status (Some n)))) there ∙ ap (λ (o : Option Message). bind o (λ (n : Message). completion (with_queue y q) 0 y.status (Some n))) found ∙ completion_is y q 0 y.status (Some m) ∙ ap (option_map (completion_with q 0)) first ∙ ap (λ (z : Completion). Some (record { completed = z.completed; process = with_queue z.process r })) last)
 
 -- a piece that is served, and one that lands
 pub answers_match : (here : ℕ) (l : Placed) (m a : Message) (y : Process) (q : List Message) → serving_answer here y m ≡ Some a
     → answers here l m (with_queue y q) ≡ Some (with_sent (with_process l m.to.pid (Some (with_queue (after_serving y m.what) q))) (Some a))
-answers_match here l m a y q e =
-    ap (λ (o : Option Message). bind o (λ (z : Message). Some (with_sent (with_process l m.to.pid (Some (after_serving (with_queue y q) m.what))) (Some z)))) (serving_with here y m q ∙ e)
-    ∙ ap (λ (z : Process). Some (with_sent (with_process l m.to.pid (Some z)) (Some a))) (after_serving_with y m.what q)
+answers_match here l m a y q e = grind (arith, nat_tests, serving_with, after_serving_with)
 
 pub lands_match : (here : ℕ) (l : Placed) (m : Message) (y : Process) (q : List Message) (d : Landing) → landing here y m.what y.status ≡ Some d → lands here l m (with_queue y q) ≡ Some (after_landing l m.to.pid d.landed (with_queue d.process q))
 lands_match here l m y q d e =

@@ -1,5 +1,5 @@
 -- A message that a machine's kernel sends itself, where it is put for the first time.
-use Rattle.dm_places.proofs.Names.{◌≡◌, ℕ, zero, suc, ◌+◌, Bool, false, List, [], ◌∷◌, map, refl, ap, ◌∙◌, sym, subst, ◌⊎◌, inl, inr, arith, if◌then◌else◌, cond, slice_get, Option, None, Some, cases_Bool, Pid, Addr, Link, Place, pid_eq}
+use Rattle.dm_places.proofs.Names.{◌≡◌, ℕ, zero, suc, ◌+◌, Bool, false, List, [], ◌∷◌, map, refl, ap, ◌∙◌, sym, subst, ◌⊎◌, inl, inr, arith, if◌then◌else◌, cond, slice_get, Option, None, Some, cases_Bool, Pid, Addr, Link, Place, pid_eq, nat_tests}
 use Rattle.dm_places.proofs.Names.{pid_of, place_of, MsgId, Message, What, Line, MessageKind, id_eq, id_of, plain_message, address, plain_child, child_named, manager, Manager, OneKernel, pid_eq-swap, at_machine, Told, View, is_own, own_id}
 use Rattle.dm_places.proofs.Names.{view_after, Addresses, Child, Gets, Receiver, Sender, child_from, child_number, first_gives, given, own_gives, place_of_child, unmoved, Point, moved, SameMessage, SameProcess, SameServers, two, two_off}
 use Rattle.dm_places.proofs.Names.{two_process, two_servers, Placed, Mirrors, MirrorsMessage, enclosed, MirrorsPoint, with_message, KeepsPlaces, Sort, sort_of, own_given}
@@ -132,6 +132,4 @@ pub put_addresses : (pt : Point) (from to : ℕ) (id : MsgId) (k : MessageKind) 
 put_addresses pt from to id k q keeps = ap (λ (g : List Gets). given pt.addresses g) keeps
 
 pub put_own_id : (pt : Point) (from to : ℕ) (id : MsgId) (k : MessageKind) (q : Pid) (t : Told) → pt.view.told id ≡ Some t → own_id (moved pt (Line.Put from to id k q) pt.kernel).view ≡ own_id pt.view
-put_own_id pt from to id k q t told =
-    let v = pt.view in
-    ap (λ (o : Option Told). id_of (pid_of v.acting 0) ((if is_own id o then at_machine v.count id.from.home (v.count id.from.home + 1) else v.count) v.acting)) told
+put_own_id pt from to id k q t told = grind (arith, nat_tests)

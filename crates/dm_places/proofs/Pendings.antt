@@ -8,16 +8,7 @@ numbered_below ps from to n r e f = numbered_from (map plain_pending ps) from to
 
 pub pending_last : (ps : List Pending) (to n : ℕ) (l : Link) (r : Pending) → ((q : Pending) → pending_numbered n ps ≡ Some q → (to == n) ≡ false) → pending_numbered n (ps ++ record { n = to; answer = l } ∷ []) ≡ Some r
     → (((to == n) ≡ true) × (l ≡ r.answer)) ⊎ (((to == n) ≡ false) × (pending_numbered n ps ≡ Some r))
-pending_last [] to n l r h e = elim (cases_Bool (to == n)) [
-  | inl same ↦
-      let z : Pending = record { n = to; answer = l } in
-      let f : Some z ≡ Some r = sym (ap (λ (b : Bool). if b then Some z else None) same) ∙ e in
-      let g : z ≡ r = cc in
-      inl (same, ap (λ (v : Pending). v.answer) g)
-  | inr apart ↦
-      let z : Pending = record { n = to; answer = l } in
-      absurd (let f : None ≡ Some r = sym (ap (λ (b : Bool). if b then Some z else None) apart) ∙ e in cc)
-]
+pending_last [] to n l r h e = grind (arith, nat_tests)
 pending_last (p ∷ ps) to n l r h e =
     let z : Pending = record { n = to; answer = l } in
     elim (cases_Bool (p.n == n)) [

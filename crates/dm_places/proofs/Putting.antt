@@ -1,5 +1,5 @@
 -- The lines of a message that is put: the put, and a packet where it goes out at once.
-use Rattle.dm_places.proofs.Names.{◌≡◌, ℕ, ◌==◌, Bool, true, false, List, [], ◌∷◌, length, refl, ap, ◌∙◌, sym, subst, inl, inr, if◌then◌else◌, Option, Some, cases_Bool, Pid, MsgId, MessageKind, id_eq, plain_kind, PlainMessage, bind}
+use Rattle.dm_places.proofs.Names.{◌≡◌, ℕ, ◌==◌, Bool, true, false, List, [], ◌∷◌, length, refl, ap, ◌∙◌, sym, subst, inl, inr, if◌then◌else◌, Option, Some, cases_Bool, Pid, MsgId, MessageKind, id_eq, plain_kind, PlainMessage, bind, arith, nat_tests}
 use Rattle.dm_places.proofs.Names.{id_eq-is, bind-is, Line, Load, Told, first_told, own_id, Receiver, Again, Routes, goes_out, lines_of, puts, Point, after, moved, Placed, MirrorsPoint}
 use Rattle.dm_places.proofs.Lines.{lines_keep, routed_keeps, told_keeps}
 use Rattle.dm_places.proofs.OwnPuts.{put_addresses, put_own_id}
@@ -40,24 +40,11 @@ routes_mirrors pt pt' l id ls h is next =
     (puts_same pt pt' b id (plain_kind m.what) m.to (ap (after pt) f ∙ next)).mirrors l (lines_keep pt (moved pt x pt.kernel) l x (routed_keeps pt pt.view.acting b id m) h refl)
 
 pub routes_kernel : (pt pt' : Point) (id : MsgId) (ls : List Line) → lines_of pt (Routes id) ≡ Some ls → after pt ls ≡ Some pt' → pt'.kernel ≡ pt.kernel
-routes_kernel pt pt' id ls is next =
-    let b = (pt.addresses (Receiver id)).at in
-    let (m, there, last) = bind-is (pt.kernel.bag id) (λ (x : PlainMessage). Some (puts pt.view b id (plain_kind x.what) x.to)) ls is in
-    let f : puts pt.view b id (plain_kind m.what) m.to ≡ ls = cc in
-    (puts_same pt pt' b id (plain_kind m.what) m.to (ap (after pt) f ∙ next)).kernel
+routes_kernel pt pt' id ls is next = grind (arith, nat_tests, bind-is, puts_same)
 
 -- a message that goes on: it was told of before, so all stays
 told_stays : (pt : Point) (a b : ℕ) (id : MsgId) (k : MessageKind) (q : Pid) (t : Told) (i : MsgId) → pt.view.told id ≡ Some t → (moved pt (Line.Put a b id k q) pt.kernel).view.told i ≡ pt.view.told i
-told_stays pt a b id k q t i told =
-    let about : Told = record { kind = k; receiver = q; about = pt.view.topic } in
-    elim (cases_Bool (id_eq id i)) [
-      | inl same ↦
-          ap (λ (c : Bool). if c then Some (first_told (pt.view.told id) about) else pt.view.told i) same
-          ∙ ap (λ (o : Option Told). Some (first_told o about)) told
-          ∙ sym told
-          ∙ ap pt.view.told (id_eq-is id i same)
-      | inr apart ↦ ap (λ (c : Bool). if c then Some (first_told (pt.view.told id) about) else pt.view.told i) apart
-    ]
+told_stays pt a b id k q t i told = grind (arith, nat_tests, id_eq-is)
 
 pub again_same : (pt pt' : Point) (id : MsgId) (b : ℕ) (t : Told) (ls : List Line) → pt.view.told id ≡ Some t → lines_of pt (Again id b) ≡ Some ls → after pt ls ≡ Some pt' → SamePoint pt pt'
 again_same pt pt' id b t ls told is next =

@@ -1,6 +1,6 @@
 -- The messages that wait for a process change nothing of what it does: each function of the machines' code commutes with
 -- setting the queue, which a received message leaves.
-use Rattle.dm_places.proofs.Names.{◌≡◌, ℕ, ◌-◌, ◌==◌, Bool, true, false, List, map, refl, ap, ◌∙◌, if◌then◌else◌, option_map, remove, Option, None, Some, Link, plain_link, first_empty, link_at, Message, MsgId, What, Called, Process}
+use Rattle.dm_places.proofs.Names.{◌≡◌, ℕ, ◌-◌, ◌==◌, Bool, true, false, List, map, refl, ap, ◌∙◌, if◌then◌else◌, option_map, remove, Option, None, Some, Link, plain_link, first_empty, link_at, Message, MsgId, What, Called, Process, arith, nat_tests}
 use Rattle.dm_places.proofs.Names.{Direction, Status, direction_numbered, Reply, CallNumber, Make, Copy, Drop, Send, Receive, Move, call_number, is_outside, is_reply, make_refusals, move_refusals, send_refusals, plain_process, reg}
 use Rattle.dm_places.proofs.Names.{piece_of, written_at, receive_refusals, first_failed, Rest, Landing, after_serving, serving_answer, answer_of, answer_with, Completed, Done, Completion}
 use Rattle.dm_datamove.specs.Landing as landing
@@ -28,9 +28,7 @@ puts_with x w (Some slot) q = refl
 
 copies_with : (x : Process) (o : Option Link) (q : List Message) → calls.copies (with_queue x q) o ≡ done_with (calls.copies x o) q
 copies_with x None q = refl
-copies_with x (Some w) q =
-    ap (λ (d : Done). if is_reply w.kind then calls.replied Reply.NotCopyable (with_queue x q) else d) (puts_with x w (first_empty x.table) q)
-    ∙ if_with (is_reply w.kind) (calls.replied Reply.NotCopyable x) (calls.puts_link x w (first_empty x.table)) q
+copies_with x (Some w) q = grind (arith, nat_tests, puts_with, if_with)
 
 drops_with : (x : Process) (o : Option Link) (q : List Message) → calls.drops (with_queue x q) o ≡ done_with (calls.drops x o) q
 drops_with x None q = refl
@@ -47,22 +45,14 @@ begins_with here x w Direction.IntoArea q = refl
 
 over_with : (here : ℕ) (x : Process) (w : Link) (o : Option Direction) (q : List Message) → calls.moves_over here (with_queue x q) w o ≡ done_with (calls.moves_over here x w o) q
 over_with here x w None q = refl
-over_with here x w (Some dir) q =
-    let o = first_failed (move_refusals (plain_process x) (plain_link w) dir) in
-    let b = reg x.regs 5 == 0 in
-    ap (λ (d : Done). calls.unless_refused o (with_queue x q) (if b then calls.replied Reply.Done (with_queue x q) else d)) (begins_with here x w dir q)
-    ∙ ap (calls.unless_refused o (with_queue x q)) (if_with b (calls.replied Reply.Done x) (calls.begins here x (calls.whole x w dir)) q)
-    ∙ unless_with o x (calls.moves_bytes here x w dir) q
+over_with here x w (Some dir) q = grind (arith, nat_tests, begins_with, if_with, unless_with)
 
 moves_with : (here : ℕ) (x : Process) (o : Option Link) (q : List Message) → calls.moves here (with_queue x q) o ≡ done_with (calls.moves here x o) q
 moves_with here x None q = refl
 moves_with here x (Some w) q = over_with here x w (direction_numbered (reg x.regs 2)) q
 
 does_with : (here : ℕ) (x : Process) (n : CallNumber) (q : List Message) → calls.does_call here (with_queue x q) n ≡ done_with (calls.does_call here x n) q
-does_with here x Make q =
-    let o = first_failed (make_refusals (plain_process x)) in
-    ap (calls.unless_refused o (with_queue x q)) (puts_with x (calls.own_link here x) (first_empty x.table) q)
-    ∙ unless_with o x (calls.puts_link x (calls.own_link here x) (first_empty x.table)) q
+does_with here x Make q = grind (arith, nat_tests, puts_with, unless_with)
 does_with here x Copy q = copies_with x (link_at x.table (reg x.regs 1)) q
 does_with here x Drop q = drops_with x (link_at x.table (reg x.regs 1)) q
 does_with here x Send q = sends_with here x (link_at x.table (reg x.regs 1)) q
@@ -122,10 +112,7 @@ asks_with : (here : ℕ) (x : Process) (dir : Direction) (r : Rest) (q : List Me
 asks_with here x dir r q e = refl
 
 goes_on_with : (here : ℕ) (x : Process) (r : Rest) (q : List Message) → landing.goes_on here (with_queue x q) r ≡ landing_with q (landing.goes_on here x r)
-goes_on_with here x r q =
-    let b = r.left - piece_of r.left == 0 in
-    ap (λ (d : Landing). if b then landing.done Reply.Done (with_queue x q) else d) (asks_with here x r.dir (landing.behind r) q refl)
-    ∙ if_landing b (landing.done Reply.Done x) (landing.asks here x (landing.behind r)) q
+goes_on_with here x r q = grind (arith, nat_tests, asks_with, if_landing)
 
 lands_with : (here : ℕ) (x : Process) (r : Rest) (dir : Direction) (w : What) (q : List Message) → landing.lands_what here (with_queue x q) r dir w ≡ option_map (landing_with q) (landing.lands_what here x r dir w)
 lands_with here x r Direction.FromArea (What.Block bytes) q = ap Some (goes_on_with here (record x { memory = written_at x.memory r.own bytes.items }) r q)

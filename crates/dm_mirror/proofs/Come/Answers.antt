@@ -2,7 +2,7 @@
 use Rattle.dm_mirror.proofs.Names.{◌≡◌, ◌≢◌, ℕ, ◌+◌, ◌/◌, ◌<◌, ◌==◌, ◌&&◌, Bool, true, false, nat_le, List, [], length, map, refl, ap, ◌∙◌, sym, subst, inl, inr, arith, if◌then◌else◌, slice_get, Option, None, Some, cases_Bool, false≢true}
 use Rattle.dm_mirror.proofs.Names.{All-nil, Pid, pid_eq, Message, MsgId, What, Record, Line, Stage, MessageKind, kind_of, IsLawfulMessage, Process, Taken, free_blocks, free_slots, with_reserved, incoming_of, Chunk, expected, CanMove}
 use Rattle.dm_mirror.proofs.Names.{HasChunk, state_of, coming, Boot, BootMachine, slots_of, plain_process, PlainProcess, pid_eq-is, pid_eq-same, kernel_told, Moves, comes, knows, leaves, Point, Room, fits, free_room, taken_at, taken_by}
-use Rattle.dm_mirror.proofs.Names.{at_pid, at_record, Known, Unknown, Here, Frozen, Incoming, Forward, Ended, front_of, without_first, is_server, has_nothing_held, Placed, room_of, accepts, with_expected, kernel_handles, KernelState}
+use Rattle.dm_mirror.proofs.Names.{at_pid, at_record, Known, Unknown, Frozen, Incoming, Forward, front_of, without_first, is_server, has_nothing_held, Placed, room_of, accepts, with_expected, kernel_handles, KernelState}
 use Rattle.dm_mirror.proofs.Names.{KnownStands, KernelStands, RoomStands, AllRecords, Carries, source_knows, and_false}
 use Rattle.dm_room.specs.Room as room_
 use Rattle.dm_onekernel.specs.Step as kernel
@@ -15,11 +15,8 @@ use Rattle.dm_mirror.proofs.Come.Pieces.{room_kept}
 use Rattle.dm_mirror.proofs.Come.Turns.{come_point, come_view, eq_off, eq_self, known_same, turns_answer}
 use Rattle.dm_mirror.proofs.Rooms.{taken_changed}
 use Rattle.dm_mirror.proofs.Turning.{TurnsAt}
-
--- what is free is what the lines say
-free_as : (t : Taken) (o : Option BootMachine) (r : Room) → RoomStands t (room_of o) r → (free_slots t ≡ (rule.free_of o r).slots) × (free_blocks t ≡ (rule.free_of o r).blocks)
-free_as t None r h = let a = h.slots in let c = h.blocks in (omega (arith, a), omega (arith, c))
-free_as t (Some g) r h = let a = h.slots in let c = h.blocks in let d = h.taken_slots in let e = h.taken_blocks in (omega (arith, a, d), omega (arith, c, e))
+use Rattle.dm_mirror.proofs.Handle.Frames.{pid_apart as pid_off}
+use Rattle.dm_mirror.proofs.Handle.Makes.{free_of as free_as}
 
 room_as : (t : Taken) (r : Room) (n : ℕ) → (free_slots t ≡ r.slots) × (free_blocks t ≡ r.blocks) → room_.has_room t n ≡ rule.has_room r n
 room_as t r n h = λ i. nat_le 1 (h.0 i) && nat_le n (h.1 i)
@@ -89,40 +86,14 @@ lacks_row b m pt l records k y p c a is handles none =
     let free = free_as k.room (slice_get b.machines m) (taken_at pt m pt.kernel.machines) c.stands.room in
     let box = without_first (v.inbox m) in
     let next = come_point pt (come_view v m p box v.known v.asked) in
-    turns_answer b m pt l records k y p c a (record {
-      line = Line.Lacks p (free_slots k.room) (free_blocks k.room);
-      what = What.Refuse p (free_slots k.room) (free_blocks k.room);
-      state = machine.with_sent s;
-      box = box;
-      known = v.known;
-      asked = v.asked;
-      turn = turn_kernel b m pt l records k y p c a (accepts b s y p (length a.process.memory / 256) a.process.moves (length (state_of a.process)) None false) handles;
-      outcome = outcome_kernel b m pt l records k y p c a _
-          (ap (kernel_told pt m y.id p (fits r (length a.process.memory / 256)) (plain_process a.process)) is
-          ∙ ap (λ (d : Bool). Some (rule_moves.accepts y.id.from.home p d r.slots r.blocks)) none
-          ∙ (λ i. Some (rule_moves.accepts y.id.from.home p false (sym free.0 i) (sym free.1 i))));
-      after = after_lacks pt m p (free_slots k.room) (free_blocks k.room);
-      is_box = first_gone y.id c.ids (v.inbox m) c.box;
-      known_off = λ n q off. refl;
-      known_away = λ n q off. refl;
-      asked_off = λ q off. refl;
-      here = refl;
-      records_off = λ q off. refl;
-      ring = refl;
-      inbox = refl;
-      made = refl;
-      sent = refl;
-      servers = refl;
-      room = room_kept b pt m p box v.asked l records k y c;
-      mine = known_same pt (come_view v m p box v.known v.asked) l p (v.queue m p) (v.held m p) (v.known m p) (k.records p) (c.stands.known p a.server);
-      between = refl;
-      is_reply = refl;
-      about = refl;
-      plain = refl;
-      encloses = refl;
-      gives = λ w i q. refl;
-      carries = refl;
-    })
+    turns_answer b m pt l records k y p c a (search (
+      turn_kernel b m pt l records k y p c a (accepts b s y p (length a.process.memory / 256) a.process.moves (length (state_of a.process)) None false) handles,
+      outcome_kernel b m pt l records k y p c a _ (ap (kernel_told pt m y.id p (fits r (length a.process.memory / 256)) (plain_process a.process)) is ∙ ap (λ (d : Bool). Some (rule_moves.accepts y.id.from.home p d r.slots r.blocks)) none ∙ (λ i. Some (rule_moves.accepts y.id.from.home p false (sym free.0 i) (sym free.1 i)))),
+      after_lacks pt m p (free_slots k.room) (free_blocks k.room),
+      first_gone y.id c.ids (v.inbox m) c.box,
+      room_kept b pt m p box v.asked l records k y c,
+      known_same pt (come_view v m p box v.known v.asked) l p (v.queue m p) (v.held m p) (v.known m p) (k.records p) (c.stands.known p a.server),
+    ))
 
 -- there is
 record_self : (f : ℕ → Pid → Known) (m : ℕ) (p : Pid) (x : Known) → at_record f m p x m p ≡ x
@@ -133,12 +104,6 @@ record_off f m n p q x off = ap (λ (d : Bool). if d then x else f n q) (and_fal
 
 record_away : (f : ℕ → Pid → Known) (m n : ℕ) (p q : Pid) (x : Known) → n ≢ m → at_record f m p x n q ≡ f n q
 record_away f m n p q x off = ap (λ (d : Bool). if d && pid_eq p q then x else f n q) (eq_off m n off)
-
-pid_off : (p q : Pid) → q ≢ p → pid_eq p q ≡ false
-pid_off p q apart = elim (cases_Bool (pid_eq p q)) [
-  | inl same ↦ absurd (apart (sym (pid_eq-is p q same)))
-  | inr off ↦ off
-]
 
 -- what the process takes here then
 taken_then : (b : Boot) (m : ℕ) (pt : Point) (l : Placed) (records : AllRecords) (k : KernelState) (y : Message) (p : Pid) (c : Comes b m pt l records k y p) (a : Arrives b m pt l k y p) (box : List MsgId) (from : ℕ) (asked : Pid → ℕ) → Absent (pt.view.known m p)

@@ -1,7 +1,7 @@
 -- A chunk of the state of a process that comes, and a block of its memory.
-use Rattle.dm_mirror.proofs.Names.{◌≡◌, ℕ, ◌+◌, ◌/◌, ◌==◌, Bool, true, false, not, nat_lt, [], length, refl, ap, ◌∙◌, sym, subst, arith, if◌then◌else◌, Option, None, Some, nat_tests, Pid, pid_eq, Message, What, MessageKind, Record, Line}
+use Rattle.dm_mirror.proofs.Names.{◌≡◌, ℕ, ◌+◌, ◌/◌, ◌==◌, Bool, true, false, not, nat_lt, [], length, ap, ◌∙◌, sym, subst, arith, if◌then◌else◌, Option, None, Some, nat_tests, Pid, pid_eq, Message, What, MessageKind, Record, Line}
 use Rattle.dm_mirror.proofs.Names.{Stage, kind_of, Process, incoming_of, Wanted, Chunk, Block, Nothing, Arrival, after_chunk, with_piece, CanMove, block_of, chunk_of, is_last, state_of, ComesByPieces, coming, by_pieces, Boot, bind}
-use Rattle.dm_mirror.proofs.Names.{plain_process, pid_eq-same, chunks_of, kernel_told, pieces_of, takes_block, takes_chunk, is_early, Point, fits, free_room, at_pid, without_front, without_first, Placed, takes_piece, kernel_handles}
+use Rattle.dm_mirror.proofs.Names.{plain_process, pid_eq-same, chunks_of, kernel_told, pieces_of, takes_block, takes_chunk, is_early, Point, fits, free_room, at_pid, Placed, takes_piece, kernel_handles}
 use Rattle.dm_mirror.proofs.Names.{KernelState, ComesStand, AllRecords, Carries, IsAsked, Wants}
 use Rattle.dm_kernel.specs.State as machine
 use Rattle.dm_mirror.proofs.Come.Counts.{asked_after_block, asked_after_chunk, block_last, chunk_last, whole_memory}
@@ -27,13 +27,7 @@ before b m pt l records k y p c a w late wants =
     let h = e.comes_ in
     let same : h.process ≡ a.process = same_process h.process a.process (sym h.there ∙ a.there) in
     let is_wanted : e.arrival.wanted ≡ w = subst (λ (o : Option machine.Known). Wants (incoming_of o) w) e.is wants in
-    record {
-      arrival = e.arrival;
-      is = e.is;
-      comes_ = h;
-      whole = subst (λ (z : Process). CanMove (record z { queue = [] })) same h.whole;
-      pieces = h.pieces ∙ (λ i. coming (same i) None e.arrival.held (is_wanted i));
-    }
+    search (subst (λ (z : Process). CanMove (record z { queue = [] })) same h.whole, h.pieces ∙ (λ i. coming (same i) None e.arrival.held (is_wanted i)))
 
 asked_more : (f : Pid → ℕ) (p : Pid) (n : ℕ) → at_pid f p n p ≡ n
 asked_more f p n = ap (λ (d : Bool). if d then n else f p) (pid_eq-same p)
@@ -47,46 +41,26 @@ state_by : (b : Boot) (m : ℕ) (pt : Point) (l : Placed) (records : AllRecords)
     → with_piece h.arrival y.what ≡ Some (coming a.process None h.arrival.held (after_chunk chunk d)) → IsAsked a.process (pt.view.asked p + 1) (after_chunk chunk d) → (pt.view.asked p == chunks_of (plain_process a.process)) ≡ d → TurnsAt b m pt l records k
 state_by b m pt l records k y p c a chunk h true is takes took asked test =
     let v = pt.view in
-    turns_piece b m pt l records k y p c a (record {
-      late = ap is_early is;
-      arrival = h.arrival;
-      is = h.is;
-      whole = h.whole;
-      held = h.comes_;
-      wanted = Block 0;
-      line = Line.Migration Stage.StateTaken p;
-      box = without_first (v.inbox m);
-      asked = at_pid v.asked p (v.asked p + 1);
-      takes = takes;
-      took = took;
-      says = refl;
-      told = ap (kernel_told pt m y.id p (fits (free_room b pt m) (length a.process.memory / 256)) (plain_process a.process)) is ∙ ap (λ (e : Bool). Some (takes_chunk y.id p e)) test;
-      after = after_state_taken pt m p;
-      is_box = first_gone y.id c.ids (v.inbox m) c.box;
-      asked_off = λ q off. asked_others v.asked p q (v.asked p + 1) off;
-      is_asked = subst (λ (n : ℕ). IsAsked a.process n (Block 0)) (sym (asked_more v.asked p (v.asked p + 1))) asked;
-    })
+    turns_piece b m pt l records k y p c a (search (
+      ap is_early is,
+      at_pid v.asked p (v.asked p + 1),
+      ap (kernel_told pt m y.id p (fits (free_room b pt m) (length a.process.memory / 256)) (plain_process a.process)) is ∙ ap (λ (e : Bool). Some (takes_chunk y.id p e)) test,
+      after_state_taken pt m p,
+      first_gone y.id c.ids (v.inbox m) c.box,
+      asked_others,
+      subst (λ (n : ℕ). IsAsked a.process n (Block 0)) (sym (asked_more v.asked p (v.asked p + 1))) asked,
+    ))
 state_by b m pt l records k y p c a chunk h false is takes took asked test =
     let v = pt.view in
-    turns_piece b m pt l records k y p c a (record {
-      late = ap is_early is;
-      arrival = h.arrival;
-      is = h.is;
-      whole = h.whole;
-      held = h.comes_;
-      wanted = Chunk (chunk + 1);
-      line = Line.Proto y.id;
-      box = without_front y.id (v.inbox m);
-      asked = at_pid v.asked p (v.asked p + 1);
-      takes = takes;
-      took = took;
-      says = refl;
-      told = ap (kernel_told pt m y.id p (fits (free_room b pt m) (length a.process.memory / 256)) (plain_process a.process)) is ∙ ap (λ (e : Bool). Some (takes_chunk y.id p e)) test;
-      after = after_piece pt m p y.to.pid y.id (kind_of y.what) is (told_about b m pt l records k y p c a);
-      is_box = front_gone y.id c.ids (v.inbox m) c.box;
-      asked_off = λ q off. asked_others v.asked p q (v.asked p + 1) off;
-      is_asked = subst (λ (n : ℕ). IsAsked a.process n (Chunk (chunk + 1))) (sym (asked_more v.asked p (v.asked p + 1))) asked;
-    })
+    turns_piece b m pt l records k y p c a (search (
+      ap is_early is,
+      at_pid v.asked p (v.asked p + 1),
+      ap (kernel_told pt m y.id p (fits (free_room b pt m) (length a.process.memory / 256)) (plain_process a.process)) is ∙ ap (λ (e : Bool). Some (takes_chunk y.id p e)) test,
+      after_piece pt m p y.to.pid y.id (kind_of y.what) is (told_about b m pt l records k y p c a),
+      front_gone y.id c.ids (v.inbox m) c.box,
+      asked_others,
+      subst (λ (n : ℕ). IsAsked a.process n (Chunk (chunk + 1))) (sym (asked_more v.asked p (v.asked p + 1))) asked,
+    ))
 
 chunk_pid : (q r : Pid) (i j : ℕ) (d e : Bool) (f g : _) → What.State q i d f ≡ What.State r j e g → q ≡ r
 chunk_pid q r i j d e f g is = cc
@@ -115,46 +89,24 @@ memory_by : (b : Boot) (m : ℕ) (pt : Point) (l : Placed) (records : AllRecords
     → (pt.view.asked p == pieces_of (plain_process a.process)) ≡ not more → (block + 1 == 0) ≡ false → TurnsAt b m pt l records k
 memory_by b m pt l records k y p c a block h true is takes took asked test later =
     let v = pt.view in
-    turns_piece b m pt l records k y p c a (record {
-      late = ap is_early is;
-      arrival = h.arrival;
-      is = h.is;
-      whole = h.whole;
-      held = h.comes_;
-      wanted = Block (block + 1);
-      line = Line.Proto y.id;
-      box = without_front y.id (v.inbox m);
-      asked = at_pid v.asked p (v.asked p + 1);
-      takes = takes;
-      took = took;
-      says = ap (λ (e : Bool). if e then Line.Migration Stage.StateTaken p else Line.Proto y.id) later;
-      told = ap (kernel_told pt m y.id p (fits (free_room b pt m) (length a.process.memory / 256)) (plain_process a.process)) is ∙ ap (λ (e : Bool). Some (takes_block y.id p e)) test;
-      after = after_block_line pt m p y.to.pid y.id (kind_of y.what) is (told_about b m pt l records k y p c a);
-      is_box = front_gone y.id c.ids (v.inbox m) c.box;
-      asked_off = λ q off. asked_others v.asked p q (v.asked p + 1) off;
-      is_asked = subst (λ (n : ℕ). IsAsked a.process n (Block (block + 1))) (sym (asked_more v.asked p (v.asked p + 1))) asked;
-    })
+    turns_piece b m pt l records k y p c a (search (
+      ap is_early is,
+      at_pid v.asked p (v.asked p + 1),
+      ap (λ (e : Bool). if e then Line.Migration Stage.StateTaken p else Line.Proto y.id) later,
+      ap (kernel_told pt m y.id p (fits (free_room b pt m) (length a.process.memory / 256)) (plain_process a.process)) is ∙ ap (λ (e : Bool). Some (takes_block y.id p e)) test,
+      after_block_line pt m p y.to.pid y.id (kind_of y.what) is (told_about b m pt l records k y p c a),
+      front_gone y.id c.ids (v.inbox m) c.box,
+      asked_others,
+      subst (λ (n : ℕ). IsAsked a.process n (Block (block + 1))) (sym (asked_more v.asked p (v.asked p + 1))) asked,
+    ))
 memory_by b m pt l records k y p c a block h false is takes took asked test later =
     let v = pt.view in
-    turns_piece b m pt l records k y p c a (record {
-      late = ap is_early is;
-      arrival = h.arrival;
-      is = h.is;
-      whole = h.whole;
-      held = h.comes_;
-      wanted = Nothing;
-      line = Line.Migration Stage.MemoryTaken p;
-      box = without_first (v.inbox m);
-      asked = v.asked;
-      takes = takes;
-      took = took;
-      says = refl;
-      told = ap (kernel_told pt m y.id p (fits (free_room b pt m) (length a.process.memory / 256)) (plain_process a.process)) is ∙ ap (λ (e : Bool). Some (takes_block y.id p e)) test;
-      after = after_memory_taken pt m p;
-      is_box = first_gone y.id c.ids (v.inbox m) c.box;
-      asked_off = λ q off. refl;
-      is_asked = tt;
-    })
+    turns_piece b m pt l records k y p c a (search (
+      ap is_early is,
+      ap (kernel_told pt m y.id p (fits (free_room b pt m) (length a.process.memory / 256)) (plain_process a.process)) is ∙ ap (λ (e : Bool). Some (takes_block y.id p e)) test,
+      after_memory_taken pt m p,
+      first_gone y.id c.ids (v.inbox m) c.box,
+    ))
 
 block_pid : (q r : Pid) (i j : ℕ) (f g : _) → What.Memory q i f ≡ What.Memory r j g → q ≡ r
 block_pid q r i j f g is = cc

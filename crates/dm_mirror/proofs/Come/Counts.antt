@@ -25,24 +25,11 @@ unfolding registers
 registers_length xs e = omega (arith, e, numbers_size xs)
 
 front_length : (s : Shell) → length s.regs.r ≡ 16 → length (front.spell (front_of s)) ≡ 86 + status_size (plain_status s.status)
-front_length s sixteen =
-    let st = spell_status (256 * s.blocks) s.status in
-    let r = registers.spell s.regs.r in
-    let pc = (number 4).spell s.regs.pc in
-    let counts = (number 4).spell s.sent ++ ((number 4).spell s.moves ++ (r ++ pc)) in
-    let regs_len : length (r ++ pc) ≡ 68 = length-append r pc ∙ omega (arith, registers_length s.regs.r sixteen) in
-    let counts_len : length counts ≡ 76 = omega (arith, regs_len) in
-    let front_len : length (front.spell (front_of s)) ≡ 9 + (length st + 76) = omega (arith, length-append st counts, counts_len) in
-    omega (arith, front_len, status_length (256 * s.blocks) s.status)
+front_length s sixteen = grind (arith, nat_tests, length-append, registers_length, status_length)
 
 shell_length : (s : Shell) → length s.regs.r ≡ 16 → length (spelling s) ≡ 102 + status_size (plain_status s.status) + links_size (map (option_map plain_link) s.table)
 unfolding spelling
-shell_length s sixteen =
-    let links = flat_map spell_slot s.table in
-    let mask = (number 16).spell (mask_of s.table) in
-    let table_len : length (mask ++ links) ≡ 16 + length links = omega arith in
-    let whole : length (spelling s) ≡ length (front.spell (front_of s)) + length (mask ++ links) = length-append (front.spell (front_of s)) (mask ++ links) in
-    omega (arith, whole, table_len, front_length s sixteen, slots_length s.table)
+shell_length s sixteen = grind (arith, nat_tests, flat_map, length-append, front_length, slots_length)
 
 -- the state bytes of a process are as many as the rule says
 pub state_length : (x : Process) → length x.regs.r ≡ 16 → length (state_of x) ≡ state_size (plain_process x)
@@ -68,14 +55,8 @@ not_below a c e = grind (arith, nat_tests)
 
 -- a chunk is the last where as many were asked for as there are
 pub chunk_count : (last : Bool) (n k size : ℕ) → nat_le size (512 * (k + 1)) ≡ last → n ≡ k + 1 → 512 * k < size → (n == (size + 511) / 512) ≡ last
-chunk_count true n k size e asked there =
-    let f = least_of size (512 * (k + 1)) e in
-    let g : (size + 511) / 512 ≡ k + 1 = omega (arith, f, there) in
-    eq_is n ((size + 511) / 512) (asked ∙ sym g)
-chunk_count false n k size e asked there =
-    let f = more_than size (512 * (k + 1)) e in
-    let g : k + 2 ≤ (size + 511) / 512 = omega (arith, f) in
-    test_below n ((size + 511) / 512) (omega (arith, asked, g))
+chunk_count true n k size e asked there = grind (arith, nat_tests, least_of, eq_is)
+chunk_count false n k size e asked there = grind (arith, nat_tests, more_than, test_below)
 
 pub chunk_last : (x : Process) (n k : ℕ) → length x.regs.r ≡ 16 → IsAsked x n (Chunk k) → (n == chunks_of (plain_process x)) ≡ is_last (state_of x) k
 chunk_last x n k sixteen asked =
@@ -93,17 +74,11 @@ asked_after_chunk x n k asked there = chunk_next (is_last (state_of x) k) x n k 
 
 -- a block is the last where as many pieces were asked for as there are
 pub block_count : (more : Bool) (n j chunks blocks : ℕ) → nat_lt (j + 1) blocks ≡ more → n ≡ chunks + j + 1 → j < blocks → (n == chunks + blocks) ≡ not more
-block_count true n j chunks blocks e asked there =
-    let f = below_of (j + 1) blocks e in
-    test_below n (chunks + blocks) (omega (arith, f, asked))
-block_count false n j chunks blocks e asked there =
-    let f = not_below (j + 1) blocks e in
-    eq_is n (chunks + blocks) (omega (arith, f, asked, there))
+block_count true n j chunks blocks e asked there = grind (arith, nat_tests, below_of, test_below)
+block_count false n j chunks blocks e asked there = grind (arith, nat_tests, not_below, eq_is)
 
 pub block_last : (x : Process) (n j : ℕ) → length x.regs.r ≡ 16 → length x.memory ≡ 256 * (length x.memory / 256) → IsAsked x n (Block j) → (n == pieces_of (plain_process x)) ≡ not (nat_lt (j + 1) (length x.memory / 256))
-block_last x n j sixteen whole asked =
-    let there : j < length x.memory / 256 = (let f = asked.1 in omega (arith, f, whole)) in
-    ap (λ (c : ℕ). n == c + length x.memory / 256) (sym (chunks_same x sixteen)) ∙ block_count (nat_lt (j + 1) (length x.memory / 256)) n j (chunks x) (length x.memory / 256) refl asked.0 there
+block_last x n j sixteen whole asked = grind (arith, nat_tests, chunks_same, block_count, nat_lt)
 
 block_next : (more : Bool) (x : Process) (n j : ℕ) → IsAsked x n (Block j) → HasPiece x (if more then Block (j + 1) else Nothing) → IsAsked x (n + 1) (if more then Block (j + 1) else Nothing)
 block_next true x n j asked there = (omega (arith, asked.0), there)
@@ -114,7 +89,4 @@ asked_after_block x n j asked there = block_next (nat_lt (j + 1) (length x.memor
 
 -- the memory of a process is one of whole blocks
 pub whole_memory : (x : Process) → IsLawfulProcess x → length x.memory ≡ 256 * (length x.memory / 256)
-whole_memory x h =
-    let e : length x.memory ≡ 256 * h.size.0 = h.size.1 in
-    let d : length x.memory / 256 ≡ h.size.0 = omega (arith, e) in
-    omega (arith, e, d)
+whole_memory x h = grind (arith, nat_tests)

@@ -6,6 +6,7 @@ use Rattle.dm_mirror.proofs.Names.{token_is, token_at, is_server, Run, Placed, M
 use Rattle.dm_mirror.proofs.Names.{inbox_is, about_same}
 use Rattle.dm_onekernel.specs.Kernel.{Ended}
 use Rattle.dm_onekernel.specs.Step as kernel
+use Rattle.dm_mirror.proofs.Leave.Goes.{life_some as alive_made}
 
 -- machine m, with kernel k, has at its inbox's front message y, which the machine that process p leaves sends
 pub record Comes (b : Boot) (m : ℕ) (pt : Point) (l : Placed) (records : AllRecords) (k : KernelState) (y : Message) (p : Pid) : Type 0 where
@@ -54,9 +55,7 @@ pub times_self : (i : MsgId) (is : List MsgId) → times i (i ∷ is) ≡ 1 + ti
 times_self i is = ap (λ (c : Bool). (if c then 1 else 0) + times i is) (id_eq-same i)
 
 pub front_stands : (pt : Point) (m : ℕ) (i : MsgId) (is : List MsgId) → pt.view.inbox m ≡ i ∷ is → 1 ≤ standing pt.view i (Inbox m)
-front_stands pt m i is box =
-    let e = times_self i is in
-    subst (λ (z : List MsgId). 1 ≤ times i z) (sym box) (omega (arith, e))
+front_stands pt m i is box = grind (arith, nat_tests, times_self)
 
 -- an own message stands nowhere else
 once_of : (c : Bool) (f : Spot → ℕ) (z : Spot) → c ≡ true → 1 ≤ f z → StandsOutside c f → StandsOnce f
@@ -88,18 +87,8 @@ fresh_own b pt l i run mirrors own mine untold = by_bag (l.bag i) refl
 pub next_untold : (b : Boot) (pt : Point) (m : ℕ) → Run b pt → pt.view.told (id_of (pid_of m 0) (pt.view.count m)) ≡ None
 next_untold b pt m run = run.based.phased.state.numbered m (pt.view.count m) (omega arith)
 
--- a process that is alive is none of the servers
-alive_made : (o : Option Life) (v : PlainProcess) → kernel.alive o ≡ Some v → is_some o ≡ true
-alive_made None v e = cc
-alive_made (Some (Alive x)) v e = refl
-alive_made (Some (Ended y)) v e = refl
-
 no_server : (s : OneKernel) (p : Pid) → Made s → is_some (s.processes p) ≡ true → is_server p ≡ false
-no_server s p h there =
-    let k = h.least p there in
-    let e : pid_eq p switchboard ≡ false = grind (arith, nat_tests) in
-    let d : pid_eq p manager ≡ false = grind (arith, nat_tests) in
-    ap (λ (c : Bool). c || pid_eq p manager) e ∙ d
+no_server s p h there = grind (arith, nat_tests)
 
 the_told : (t u : Told) → Some t ≡ Some u → t ≡ u
 the_told t u e = cc
@@ -152,22 +141,10 @@ arrives b m pt l records k y p c =
     let records_is : records (destination_of y.id (told_of y)) p ≡ k.records p = ap (λ (n : ℕ). records n p) (destination_is m y c.of_source t.to) ∙ (λ i. c.mine i p) in
     let alive : kernel.alive (pt.kernel.processes p) ≡ Some (plain_process token.process) = c.mirrors.plain.processes p ∙ ap (option_map plain_process) token.there in
     let is_made = alive_made (pt.kernel.processes p) (plain_process token.process) alive in
-    record {
-      source = t.source;
-      told = stood.told;
-      mine = stood.mine;
-      unplain = sym (c.mirrors.plain.bag y.id) ∙ ap (λ (o : Option Message). bind o plain_message) c.there ∙ c.plain;
-      first = first;
-      phase = t.phase;
-      to = t.to;
-      from = t.from;
-      sender = sym (ap (λ (x : Message). x.sender) same) ∙ token.sender;
-      process = token.process;
-      there = token.there;
-      carries = subst (λ (x : Message). Carries p token.process (pt.view.asked p) (incoming_of (k.records p)) x.what) same
-          (subst (λ o. Carries p token.process (pt.view.asked p) (incoming_of o) token.message.what) records_is token.carries);
-      named = (c.mirrors.places.process p token.process token.there).pid;
-      alive = alive;
-      is_made = is_made;
-      server = no_server pt.kernel p c.run.based.phased.sane.sound.made is_made;
-    }
+    search (
+      sym (c.mirrors.plain.bag y.id) ∙ ap (λ (o : Option Message). bind o plain_message) c.there ∙ c.plain,
+      sym (ap (λ (x : Message). x.sender) same) ∙ token.sender,
+      subst (λ (x : Message). Carries p token.process (pt.view.asked p) (incoming_of (k.records p)) x.what) same (subst (λ o. Carries p token.process (pt.view.asked p) (incoming_of o) token.message.what) records_is token.carries),
+      (c.mirrors.places.process p token.process token.there).pid,
+      no_server pt.kernel p c.run.based.phased.sane.sound.made is_made,
+    )

@@ -1,43 +1,24 @@
 -- What a machine and the rule do with a message about a process that comes, and where the lines of it lead.
-use Rattle.dm_mirror.proofs.Names.{◌≡◌, ℕ, ◌+◌, ◌/◌, ◌==◌, Bool, true, false, List, [], ◌∷◌, length, refl, ap, ◌∙◌, sym, subst, if◌then◌else◌, Option, None, Some, false≢true, Pid, Message, MsgId, MessageKind, Record, Step, Line, Stage}
+use Rattle.dm_mirror.proofs.Names.{◌≡◌, ℕ, ◌+◌, ◌/◌, ◌==◌, Bool, true, false, List, [], ◌∷◌, length, refl, ap, ◌∙◌, sym, subst, if◌then◌else◌, Option, Some, false≢true, Pid, Message, MsgId, MessageKind, Record, Step, Line, Stage, arith, nat_tests}
 use Rattle.dm_mirror.proofs.Names.{kind_of, Arrival, Boot, bind, plain_process, PlainProcess, id_eq-same, kernel_told, Part, comes, is_away, is_between, is_early, leaves, Point, after, fits, free_room, kernel_hears, outcome, at_pid}
-use Rattle.dm_mirror.proofs.Names.{at_record, without_front, About, Known, Here, Frozen, Incoming, Forward, Ended, Of, Told, after_proto, front_of, handled, without_first, Placed, kernel_handles, KernelState, Turned, turn, turns, about_of}
+use Rattle.dm_mirror.proofs.Names.{at_record, without_front, About, Known, Incoming, Of, Told, after_proto, front_of, handled, without_first, Placed, kernel_handles, KernelState, Turned, turn, turns, about_of}
 use Rattle.dm_mirror.proofs.Names.{ComesStand, KnownStands, AllRecords, apart_is, expects_is}
 use Rattle.dm_rule.specs.Rule as rule
 use Rattle.dm_kernel.specs.State as machine
 use Rattle.dm_mirror.proofs.Come.Frames.{Arrives, Comes}
 use Rattle.dm_mirror.proofs.Come.Turns.{come_point, come_view, eq_self}
 use Rattle.dm_mirror.proofs.Turning.{begun}
-
--- the machine's turn, and the rule's
-if_true : {X : Type 0} (d : Bool) (x z : X) → d ≡ true → (if d then x else z) ≡ x
-if_true true x z e = refl
-if_true false x z e = absurd (false≢true e)
+use Rattle.dm_mirror.proofs.Kernel.Sets.{on_if as if_true}
 
 pub turn_kernel : (b : Boot) (m : ℕ) (pt : Point) (l : Placed) (records : AllRecords) (k : KernelState) (y : Message) (p : Pid) (c : Comes b m pt l records k y p) (a : Arrives b m pt l k y p) (o : Option Turned) → kernel_handles b (record k { inbox = c.rest }) y y.what ≡ o → turn b k ≡ o
-turn_kernel b m pt l records k y p c a o e =
-    let s = record k { inbox = c.rest } in
-    let num : (y.to.pid.num == 0) ≡ true = ap (λ (q : Pid). q.num == 0) a.to in
-    ap (turns b k) c.inbox ∙ if_true (y.to.pid.num == 0) (kernel_handles b s y y.what) _ num ∙ e
+turn_kernel b m pt l records k y p c a o e = grind (arith, nat_tests, if_true)
 
 pub outcome_kernel : (b : Boot) (m : ℕ) (pt : Point) (l : Placed) (records : AllRecords) (k : KernelState) (y : Message) (p : Pid) (c : Comes b m pt l records k y p) (a : Arrives b m pt l k y p) (o : Option (List Part))
     → kernel_told pt m y.id p (fits (free_room b pt m) (length a.process.memory / 256)) (plain_process a.process) (kind_of y.what) ≡ o → outcome b pt (Step.Turn m) ≡ o
-outcome_kernel b m pt l records k y p c a o e =
-    let num : (y.to.pid.num == 0) ≡ true = ap (λ (q : Pid). q.num == 0) a.to in
-    ap (rule.turns b pt m) c.box
-    ∙ ap (rule.comes_to b pt m y.id) a.unplain
-    ∙ ap (rule.hears b pt m y.id) a.told
-    ∙ if_true (y.to.pid.num == 0) (kernel_hears b pt m y.id (kind_of y.what) (about_of y.what)) _ num
-    ∙ ap (kernel_hears b pt m y.id (kind_of y.what)) c.about
-    ∙ ap (λ (q : Option PlainProcess). bind q (λ (x : PlainProcess). kernel_told pt m y.id p (fits (free_room b pt m) (length x.memory / 256)) x (kind_of y.what))) a.alive
-    ∙ e
+outcome_kernel b m pt l records k y p c a o e = search if_true
 
 pub comes_known : (b : Boot) (m : ℕ) (pt : Point) (l : Placed) (k : KernelState) (y : Message) (p : Pid) (a : Arrives b m pt l k y p) → comes (kind_of y.what) a.source (pt.view.known m p) ≡ true
-comes_known b m pt l k y p a =
-    let j = kind_of y.what in
-    let n = pt.view.known m p in
-    let off = apart_is (is_between j) a.source m a.phase.apart in
-    sym (ap (λ (d : Bool). if d then leaves j m n else if m == m then comes j a.source n else is_away n) off ∙ ap (λ (d : Bool). if d then comes j a.source n else is_away n) (eq_self m)) ∙ a.phase.known m
+comes_known b m pt l k y p a = grind (arith, nat_tests, apart_is, eq_self)
 
 pub known_incoming : (b : Boot) (m : ℕ) (pt : Point) (l : Placed) (k : KernelState) (y : Message) (p : Pid) (a : Arrives b m pt l k y p) → is_early (kind_of y.what) ≡ false → pt.view.known m p ≡ Incoming a.source
 known_incoming b m pt l k y p a late = expects_is (kind_of y.what) a.source (pt.view.known m p) late (comes_known b m pt l k y p a)

@@ -1,6 +1,6 @@
 -- A piece comes of a process that comes, and the next is asked for, or all is said to have come.
 use Rattle.dm_mirror.proofs.Names.{◌≡◌, ℕ, ◌/◌, Bool, true, false, List, [], ◌∷◌, length, refl, ap, ◌∙◌, sym, subst, if◌then◌else◌, slice_get, Option, None, Some, Pid, pid_eq, Message, MsgId, kind_of, plain_what, Process, Record}
-use Rattle.dm_mirror.proofs.Names.{incoming_of, with_record, Wanted, Chunk, Block, Nothing, Arrival, pull, with_piece, CanMove, coming, Boot, OneKernel, bind, plain_process, pid_eq-same, Line, Addresses, goes_between, own_gives}
+use Rattle.dm_mirror.proofs.Names.{incoming_of, with_record, Wanted, Chunk, Nothing, Arrival, pull, with_piece, CanMove, coming, Boot, OneKernel, bind, plain_process, pid_eq-same, Line, Addresses, goes_between, own_gives}
 use Rattle.dm_mirror.proofs.Names.{kernel_told, to_kernel, Part, is_between, is_early, is_of_source, Point, after, fits, free_room, taken_at, Incoming, Known, Of, View, Placed, enclosed, room_of, piece_line, takes_piece, took_piece}
 use Rattle.dm_mirror.proofs.Names.{kernel_handles, KernelState, about_of, ComesStand, KnownStands, RoomStands, AllRecords, Carries, IsAsked}
 use Rattle.dm_kernel.specs.declared.part.Part.TheVariants as part

@@ -1,5 +1,5 @@
 -- A process that has come goes on: it is here, at the ring's back, and what was held for it comes before the inbox.
-use Rattle.dm_mirror.proofs.Names.{◌≡◌, ◌≢◌, ◌⊎◌, ℕ, ◌+◌, ◌/◌, ◌≤◌, ◌==◌, ◌&&◌, Bool, true, false, List, [], ◌∷◌, ◌++◌, length, map, refl, ap, ◌∙◌, sym, subst, inl, inr, arith, if◌then◌else◌, slice_get, Option, None, Some, cases_Bool}
+use Rattle.dm_mirror.proofs.Names.{◌≡◌, ◌≢◌, ◌⊎◌, ℕ, ◌+◌, ◌/◌, ◌≤◌, ◌==◌, ◌&&◌, Bool, true, false, List, [], ◌∷◌, ◌++◌, length, map, refl, ap, ◌∙◌, sym, subst, inl, inr, arith, if◌then◌else◌, slice_get, Option, None, Some, cases_Bool, nat_tests}
 use Rattle.dm_mirror.proofs.Names.{false≢true, Pid, pid_eq, Message, MsgId, What, Record, Line, Stage, Part, MessageKind, kind_of, Process, incoming_of, with_record, Nothing, restarted, ComesByPieces, by_pieces, Boot, bind, plain_process}
 use Rattle.dm_mirror.proofs.Names.{pid_eq-is, pid_eq-same, kernel_told, Moves, comes, is_away, is_early, knows, leaves, Point, moved, Room, fits, free_room, taken_at, taken_by, at_machine, at_record, Spot, Held, Inbox, standing, times}
 use Rattle.dm_mirror.proofs.Names.{Known, Unknown, Here, Frozen, Incoming, Forward, Ended, Of, View, without_first, once_at, times-append, is_server, has_no_queue, Placed, restarted_mirrors, mirrors_view, room_of, restarts, restarts_as}
@@ -16,6 +16,7 @@ use Rattle.dm_mirror.proofs.Come.Handled.{first_gone, known_incoming, outcome_ke
 use Rattle.dm_mirror.proofs.Come.Turns.{come_view, eq_off, fewer, gone, machine_off, machine_self, others_known}
 use Rattle.dm_mirror.proofs.Rooms.{taken_same}
 use Rattle.dm_mirror.proofs.Turning.{Nothing as NoLate, TurnsAt, begun, has_process}
+use Rattle.dm_mirror.proofs.Leave.Stays.{messages_append as are_both}
 
 abbrev pub back_point : Point → ℕ → Pid → Point
 back_point pt m p = moved (begun pt m) (Line.Migration Stage.Restarted p) pt.kernel
@@ -25,13 +26,8 @@ known_apart : (pt next : Point) (l placed : Placed) (p : Pid) (queue held_ : Lis
     → KnownStands pt l p queue held_ k r → KnownStands next placed p queue held_ k r
 known_apart pt next l placed p queue held_ Unknown None same bag life h = tt
 known_apart pt next l placed p queue held_ Here (Some (Record.Here x)) same bag life h = ((h.0.0, same ∙ h.0.1), ap (λ f. map f queue) bag ∙ h.1)
-known_apart pt next l placed p queue held_ (Frozen to) (Some (Record.Frozen d)) same bag life h = record {
-  to = h.to;
-  asker = h.asker;
-  here = ((h.here.0.0, same ∙ h.here.0.1), ap (λ f. map f queue) bag ∙ h.here.1);
-  held = ap (λ f. map f held_) bag ∙ h.held;
-  whole = h.whole;
-}
+known_apart pt next l placed p queue held_ (Frozen to) (Some (Record.Frozen d)) same bag life h = search
+    (same ∙ h.here.0.1, ap (λ f. map f queue) bag ∙ h.here.1, ap (λ f. map f held_) bag ∙ h.held)
 known_apart pt next l placed p queue held_ (Incoming from) (Some (Record.Incoming a)) same bag life h =
     record { process = h.process; there = same ∙ h.there; whole = h.whole; pieces = h.pieces; held = ap (λ f. map f held_) bag ∙ h.held }
 known_apart pt next l placed p queue held_ (Forward at_ moves) (Some (Record.Forward to count)) same bag life h = h
@@ -49,17 +45,6 @@ set_off f p q x off = ap (λ (d : Bool). if d then x else f q) off
 
 set_self : {X : Type 0} (f : Pid → X) (p : Pid) (x : X) → (if pid_eq p p then x else f p) ≡ x
 set_self f p x = ap (λ (d : Bool). if d then x else f p) (pid_eq-same p)
-
--- messages behind messages
-are_both : (bag : MsgId → Option Message) (is js : List MsgId) (xs ys : List Message) → AreMessages bag is xs → AreMessages bag js ys → AreMessages bag (is ++ js) (xs ++ ys)
-are_both bag [] js [] ys e f = f
-are_both bag [] js (x ∷ xs) ys e f = cc
-are_both bag (i ∷ is) js [] ys e f = cc
-are_both bag (i ∷ is) js (x ∷ xs) ys e f =
-    let first : bag i ≡ Some x = cc in
-    let more : map bag is ≡ map Some xs = cc in
-    let rest = are_both bag is js xs ys more f in
-    λ c. first c ∷ rest c
 
 -- no other machine has the process
 forward_only : (d : ℕ) (n : Known) → leaves MessageKind.Restart d n ≡ true → has_process n ≡ false
@@ -80,9 +65,7 @@ elsewhere_by s d n i k false at_destination e f off h =
     away_only k (sym (ap (λ (t : Bool). if t then leaves MessageKind.Restart d k else if d == n then comes MessageKind.Restart s k else is_away k) e ∙ ap (λ (t : Bool). if t then comes MessageKind.Restart s k else is_away k) (f ∙ off)) ∙ h)
 
 not_elsewhere : (b : Boot) (m : ℕ) (pt : Point) (l : Placed) (k : KernelState) (y : Message) (p : Pid) (a : Arrives b m pt l k y p) (n : ℕ) → kind_of y.what ≡ MessageKind.Restart → n ≢ m → has_process (pt.view.known n p) ≡ false
-not_elsewhere b m pt l k y p a n is apart =
-    elsewhere_by a.source m n (Some y.id) (pt.view.known n p) (a.source == n) (m == n) refl refl (eq_off m n apart)
-    (ap (λ (j : MessageKind). knows (Moves j a.source m (Some y.id)) n (pt.view.known n p)) (sym is) ∙ a.phase.known n)
+not_elsewhere b m pt l k y p a n is apart = grind (arith, nat_tests, elsewhere_by, eq_off)
 
 -- where messages stand then
 back_box : (v : View) (m : ℕ) (p : Pid) (i : MsgId) (is : List MsgId) → v.inbox m ≡ i ∷ is → v.held m p ++ at_machine v.inbox m (without_first (v.inbox m)) m ≡ v.held m p ++ is
@@ -94,11 +77,7 @@ held_fewer v m n p q j false = omega arith
 
 inbox_back : (v : View) (m n : ℕ) (p : Pid) (j : MsgId) (d : Bool) → (m == n) ≡ d
     → times j (if d then v.held m p ++ at_machine v.inbox m (without_first (v.inbox m)) m else at_machine v.inbox m (without_first (v.inbox m)) n) ≤ times j (at_machine v.inbox m (without_first (v.inbox m)) n) + times j (v.held m p)
-inbox_back v m n p j true e =
-    let both = times-append j (v.held m p) (at_machine v.inbox m (without_first (v.inbox m)) m) in
-    let here : at_machine v.inbox m (without_first (v.inbox m)) n ≡ at_machine v.inbox m (without_first (v.inbox m)) m = ap (λ (t : Bool). if t then without_first (v.inbox m) else v.inbox n) e ∙ sym (machine_self v.inbox m (without_first (v.inbox m))) in
-    let same : times j (at_machine v.inbox m (without_first (v.inbox m)) n) ≡ times j (at_machine v.inbox m (without_first (v.inbox m)) m) = ap (times j) here in
-    omega (arith, both, same)
+inbox_back v m n p j true e = grind (arith, nat_tests, times-append, machine_self)
 inbox_back v m n p j false e = omega arith
 
 back_standing : (pt : Point) (m : ℕ) (p : Pid) (j : MsgId) (z : Spot)
@@ -130,14 +109,10 @@ tokens_back b m pt l records k y p c a o s records_off q i t z told between abou
           let h = c.tokens q i t where_ told between about least in
           let n = destination_of i t in
           let r : at_machine records m s.records n q ≡ records n q = others_known records m n s k q c.mine (records_off q off) (m == n) refl in
-          record {
-            process = h.process;
-            there = set_off l.processes p q o off ∙ h.there;
-            message = h.message;
-            is = h.is;
-            sender = h.sender;
-            carries = subst (λ (x : Option machine.Known). Carries q h.process (v.asked q) (incoming_of x) h.message.what) (sym r) h.carries;
-          }
+          search (
+            set_off l.processes p q o off ∙ h.there,
+            subst (λ (x : Option machine.Known). Carries q h.process (v.asked q) (incoming_of x) h.message.what) (sym r) h.carries,
+          )
     ]
   where
     came : (1 ≤ standing (come_view pt.view m p (without_first (pt.view.inbox m)) pt.view.known pt.view.asked) i z) ⊎ (1 ≤ standing pt.view i (Held m p)) → (x : Spot) × (1 ≤ standing pt.view i x)
@@ -185,10 +160,7 @@ taken_back b m pt l k y p a incoming = taken_same pt (back_point pt m p) m refl 
     ]
 
 no_server_back : (b : Boot) (m : ℕ) (pt : Point) (l : Placed) (k s : KernelState) (y : Message) (p : Pid) → Arrives b m pt l k y p → KernelStands b pt l m k → (r : Pid) → is_server r ≡ true → ((z : Pid) → pid_eq p z ≡ false → s.records z ≡ k.records z) → s.records r ≡ None
-no_server_back b m pt l k s y p a stands r server others = elim (cases_Bool (pid_eq p r)) [
-  | inl same ↦ absurd (false≢true (sym a.server ∙ ap is_server (pid_eq-is p r same) ∙ server))
-  | inr off ↦ others r off ∙ stands.no_server r server
-]
+no_server_back b m pt l k s y p a stands r server others = grind (arith, nat_tests, pid_eq-is)
 
 pub turns_restart : (b : Boot) (m : ℕ) (pt : Point) (l : Placed) (records : AllRecords) (k : KernelState) (y : Message) (p : Pid) (q : Pid) → Comes b m pt l records k y p → y.what ≡ What.Restart q → TurnsAt b m pt l records k
 turns_restart b m pt l records k y p q c e =

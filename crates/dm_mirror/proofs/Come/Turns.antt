@@ -9,6 +9,7 @@ use Rattle.dm_mirror.proofs.Come.Frames.{Arrives, Comes, fresh_own, next_untold,
 use Rattle.dm_mirror.proofs.Turning.{IsCarried, MayOwn, Nothing, Own, TurnsAt, begun}
 pub use Rattle.dm_rule.proofs.Lines.{eq_self}
 pub use Rattle.dm_rule.proofs.Lines.{at_machine_at as machine_self}
+pub use Rattle.dm_mirror.proofs.End.Where.{off as eq_off}
 
 -- the view behind the line: the message is handled, and what is known of p here and asked for of it may be new
 abbrev pub come_view : View → ℕ → Pid → List MsgId → (ℕ → Pid → Known) → (Pid → ℕ) → View
@@ -27,21 +28,12 @@ known_same pt v l p queue held (Forward at_ moves) (Some (Record.Forward to coun
 known_same pt v l p queue held Ended (Some (Record.Ended y)) h = h
 known_same pt v l p queue held k r h = absurd h
 
-pub eq_off : (m n : ℕ) → n ≢ m → (m == n) ≡ false
-eq_off m n apart = elim (cases_Bool (m == n)) [
-  | inl same ↦ absurd (apart (let e : n ≡ m = grind (arith, nat_tests) in e))
-  | inr off ↦ off
-]
-
 pub machine_off : {X : Type 0} (f : ℕ → X) (m n : ℕ) (x : X) → n ≢ m → at_machine f m x n ≡ f n
 machine_off f m n x apart = ap (λ (c : Bool). if c then x else f n) (eq_off m n apart)
 
 -- the handled message is gone, and no other has come
 fewer_at : (f : ℕ → List MsgId) (m n : ℕ) (i j : MsgId) (is box : List MsgId) → f m ≡ i ∷ is → box ≡ is → (c : Bool) → (m == n) ≡ c → times j (if c then box else f n) ≤ times j (f n)
-fewer_at f m n i j is box e b true same =
-    let here : m ≡ n = eq_is m n same in
-    let g : f n ≡ i ∷ is = ap f (sym here) ∙ e in
-    subst (λ (xs : List MsgId). times j box ≤ times j xs) (sym g) (subst (λ (xs : List MsgId). times j xs ≤ times j (i ∷ is)) (sym b) (omega arith))
+fewer_at f m n i j is box e b true same = grind (arith, nat_tests, eq_is)
 fewer_at f m n i j is box e b false off = omega arith
 
 pub fewer : (v : View) (m : ℕ) (p : Pid) (is box : List MsgId) (known : ℕ → Pid → Known) (asked : Pid → ℕ) (i j : MsgId) (z : Spot) → v.inbox m ≡ i ∷ is → box ≡ is → standing (come_view v m p box known asked) j z ≤ standing v j z
@@ -128,15 +120,8 @@ tokens_kept b m pt l records k y p c a box known asked s is_box asked_off record
           let h = c.tokens q i t z told between about least in
           let n = destination_of i t in
           let r : at_machine records m s.records n q ≡ records n q = others_known records m n s k q c.mine (records_off q off) (m == n) refl in
-          record {
-            process = h.process;
-            there = h.there;
-            message = h.message;
-            is = h.is;
-            sender = h.sender;
-            carries = subst (λ (o : Option machine.Known). Carries q h.process (asked q) (incoming_of o) h.message.what) (sym r)
-                (subst (λ (j : ℕ). Carries q h.process j (incoming_of (records n q)) h.message.what) (sym (asked_off q off)) h.carries);
-          }
+          search
+          (subst (λ (o : Option machine.Known). Carries q h.process (asked q) (incoming_of o) h.message.what) (sym r) (subst (λ (j : ℕ). Carries q h.process j (incoming_of (records n q)) h.message.what) (sym (asked_off q off)) h.carries))
     ]
 
 known_by : (b : Boot) (m : ℕ) (pt : Point) (l : Placed) (records : AllRecords) (k : KernelState) (y : Message) (p : Pid) (c : Comes b m pt l records k y p) (a : Arrives b m pt l k y p) (h : Answer b m pt l records k y p c a) (q : Pid) → is_server q ≡ false
@@ -153,10 +138,7 @@ known_by b m pt l records k y p c a h q server =
     ]
 
 server_by : (b : Boot) (m : ℕ) (pt : Point) (l : Placed) (records : AllRecords) (k : KernelState) (y : Message) (p : Pid) (c : Comes b m pt l records k y p) (a : Arrives b m pt l k y p) (h : Answer b m pt l records k y p c a) (q : Pid) → is_server q ≡ true → h.state.records q ≡ None
-server_by b m pt l records k y p c a h q server = elim (cases_Bool (pid_eq p q)) [
-  | inl same ↦ absurd (false≢true (sym a.server ∙ ap is_server (pid_eq-is p q same) ∙ server))
-  | inr off ↦ h.records_off q off ∙ c.stands.no_server q server
-]
+server_by b m pt l records k y p c a h q server = grind (arith, nat_tests, pid_eq-is)
 
 -- the next message of the kernel may be put
 may_answer : (b : Boot) (m : ℕ) (pt : Point) (l : Placed) (records : AllRecords) (k : KernelState) (y : Message) (p : Pid) (c : Comes b m pt l records k y p) (a : Arrives b m pt l k y p) (h : Answer b m pt l records k y p c a)
@@ -184,12 +166,8 @@ may_answer b m pt l records k y p c a h =
       asker = λ e. absurd (false≢true (sym (ap is_between e) ∙ h.between));
       carried = λ between q about.
           let e : p ≡ q = of_same p q (sym h.about ∙ about) in
-          subst (λ (z : Pid). IsCarried l (h.asked z) (at_machine records m h.state.records) z x) e (record {
-            process = a.process;
-            there = a.there;
-            sender = refl;
-            carries = subst (λ (o : Option machine.Known). Carries p a.process (h.asked p) (incoming_of o) h.what) (sym known) h.carries;
-          });
+          subst (λ (z : Pid). IsCarried l (h.asked z) (at_machine records m h.state.records) z x) e (search
+          (subst (λ (o : Option machine.Known). Carries p a.process (h.asked p) (incoming_of o) h.what) (sym known) h.carries));
     }
   where
     of_same : (i j : Pid) → Of i ≡ Of j → i ≡ j
@@ -213,37 +191,17 @@ turns_answer b m pt l records k y p c a h =
       after = h.after;
       placed = l;
       mirrors = mirrors_view pt.kernel pt.view v pt.addresses l refl c.mirrors;
-      kernel = record {
-        here = h.here ∙ stands.here;
-        known = λ q server. known_by b m pt l records k y p c a h q server;
-        no_server = λ q server. server_by b m pt l records k y p c a h q server;
-        ring = h.ring ∙ stands.ring;
-        inbox = ap (map l.bag) (machine_self pt.view.inbox m h.box ∙ h.is_box) ∙ c.others ∙ ap (map Some) (sym h.inbox);
-        made = h.made ∙ stands.made;
-        room = h.room;
-        servers = h.servers ∙ stands.servers;
-      };
+      kernel = search (
+        h.here ∙ stands.here,
+        known_by b m pt l records k y p c a h,
+        server_by b m pt l records k y p c a h,
+        h.ring ∙ stands.ring,
+        ap (map l.bag) (machine_self pt.view.inbox m h.box ∙ h.is_box) ∙ c.others ∙ ap (map Some) (sym h.inbox),
+        h.made ∙ stands.made,
+        h.servers ∙ stands.servers,
+      );
       sent = λ e. let f = h.sent in omega (arith, e, f);
-      elsewhere = record {
-        acting = refl;
-        groups = refl;
-        pair = λ d e. refl;
-        inbox = λ n off. machine_off pt.view.inbox m n h.box off;
-        ring = λ n off. refl;
-        known = λ n q off. h.known_away n q off;
-        queue = λ n q off. refl;
-        held = λ n q off. refl;
-        count = λ n. refl;
-        told = refl;
-        machines = refl;
-        made = λ n off. refl;
-        process = λ n q off is. refl;
-        ended = λ n q off is. refl;
-        life = λ n q off is. refl;
-        bag = λ i s is least. refl;
-        board = λ off. refl;
-        manager = λ off. refl;
-      };
+      elsewhere = search (machine_off, h.known_away);
       may = (may_answer b m pt l records k y p c a h, tt);
       late_may = tt;
       single = omega arith;

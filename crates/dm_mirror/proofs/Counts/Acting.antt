@@ -1,5 +1,5 @@
 -- The acting machine stays, but for heads and what comes over wires.
-use Rattle.dm_mirror.proofs.Names.{◌≡◌, false, refl, sym, false≢true, Pid, Label, Line, Stage, View, handled, view_after, touches, proto_acting, queued_acting, held_acting, forwarded_acting, acting_label}
+use Rattle.dm_mirror.proofs.Names.{◌≡◌, false, refl, sym, false≢true, Pid, Line, Stage, View, handled, view_after, touches, proto_acting, queued_acting, held_acting, forwarded_acting, acting_label}
 use Rattle.dm_rule.specs.View as view
 
 stage_acting : (v : View) (p : Pid) (s : Stage) → (view.after_stage v p s).acting ≡ v.acting

@@ -24,10 +24,7 @@ moves_still n v w g s h =
 
 -- one that routes a message
 pub puts_total : (n : ℕ) (v w : View) → Grows v w → PutsOne v w → PairsWithin n w → total v n + 1 ≤ total w n
-puts_total n v w g u within =
-    let more = u.more in
-    let at_ = within u.from u.to (omega (arith, more)) in
-    total_adds v w n u.from u.to g at_.0 at_.1 more
+puts_total n v w g u within = grind (arith, nat_tests, total_adds)
 
 pub moves_put : (n : ℕ) (v w : View) → total v n + 1 ≤ total w n → w.moves ≡ v.moves → MovesFew n v → MovesFew n w
 moves_put n v w more same h = record {
@@ -41,10 +38,7 @@ forward_at d (Known.Forward k j) e = (k, j, refl)
 forward_at d _ e = absurd (false≢true e)
 
 incoming_from : (s : ℕ) (n : Known) → comes MessageKind.Restart s n ≡ true → n ≡ Known.Incoming s
-incoming_from s (Known.Incoming from) e = ap (λ (m : ℕ). Known.Incoming m) (sym (same s from e))
-  where
-    same : (x y : ℕ) → (x == y) ≡ true → x ≡ y
-    same x y t = grind (arith, nat_tests)
+incoming_from s (Known.Incoming from) e = grind (arith, nat_tests)
 incoming_from s _ e = absurd (false≢true e)
 
 may_move : (b : Boot) (pt : Point) (m : ℕ) (p : Pid) (n : ℕ) → Run b pt → FrontRestarts pt m p → MovesFew n pt.view → pt.view.moves p + 1 ≤ total pt.view n
@@ -69,11 +63,7 @@ moves_at f p q n true e le other = le
 moves_at f p q n false e le other = other
 
 known_off : (f : ℕ → Pid → Known) (m : ℕ) (p : Pid) (n : ℕ) (q : Pid) (c : Bool) → pid_eq p q ≡ false → (if c && pid_eq p q then Known.Here else f n q) ≡ f n q
-known_off f m p n q c e = ap (λ (d : Bool). if c && d then Known.Here else f n q) e ∙ either c
-  where
-    either : (c : Bool) → (if c && false then Known.Here else f n q) ≡ f n q
-    either true = refl
-    either false = refl
+known_off f m p n q c e = grind (arith, nat_tests)
 
 known_here : (f : ℕ → Pid → Known) (m : ℕ) (p : Pid) → at_record f m p Known.Here m p ≡ Known.Here
 known_here f m p = ap (λ (c : Bool). if c then Known.Here else f m p) (let t : ((m == m) && pid_eq p p) ≡ true = grind (arith, nat_tests) in t)
@@ -84,12 +74,7 @@ moving_by n m v w p q d s k j true e more moves known phases h at_d at_s =
     let same = pid_eq-is p q e in
     let here : w.known m q ≡ Known.Here = ap (w.known m) (sym same) ∙ ap (λ (f : ℕ → Pid → Known). f m p) known ∙ known_here v.known m p in
     absurd (rests_alone w m d s q phases here at_d)
-moving_by n m v w p q d s k j false e more moves known phases h at_d at_s =
-    let was_d : v.known d q ≡ Known.Incoming s = sym (ap (λ (f : ℕ → Pid → Known). f d q) known ∙ known_off v.known m p d q (m == d) e) ∙ at_d in
-    let was_s : v.known s q ≡ Known.Forward k j = sym (ap (λ (f : ℕ → Pid → Known). f s q) known ∙ known_off v.known m p s q (m == s) e) ∙ at_s in
-    let few = h.moving q d s k j was_d was_s in
-    let same : w.moves q ≡ v.moves q = ap (λ (f : Pid → ℕ). f q) moves ∙ ap (λ (c : Bool). if c then v.moves p + 1 else v.moves q) e in
-    omega (arith, few, same, more)
+moving_by n m v w p q d s k j false e more moves known phases h at_d at_s = grind (arith, nat_tests, known_off)
 
 pub moves_restart : (b : Boot) (pt : Point) (m n : ℕ) (p : Pid) (w : View) → Run b pt → FrontRestarts pt m p → total pt.view n ≤ total w n → w.moves ≡ at_pid pt.view.moves p (pt.view.moves p + 1) → w.known ≡ at_record pt.view.known m p Known.Here → InPhases w → MovesFew n pt.view → MovesFew n w
 moves_restart b pt m n p w run f more moves known phases h =

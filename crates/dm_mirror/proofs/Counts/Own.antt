@@ -35,10 +35,7 @@ abbrev pub OwnFew : ℕ → View → Type 0
 OwnFew n v = PairsWithin n v → (m : ℕ) → v.count m ≤ total v n
 
 at_machine_most : (f : ℕ → ℕ) (home m : ℕ) (c : Bool) → (home == m) ≡ c → (if c then f home + 1 else f m) ≤ f m + 1
-at_machine_most f home m true e = let same : home ≡ m = same_of home m e in let g = ap f same in omega (arith, g)
-  where
-    same_of : (x y : ℕ) → (x == y) ≡ true → x ≡ y
-    same_of x y t = grind (arith, nat_tests)
+at_machine_most f home m true e = grind (arith, nat_tests)
 at_machine_most f home m false e = omega arith
 
 count_if : (f : ℕ → ℕ) (home m : ℕ) (own : Bool) → (if own then (λ (k : ℕ). if home == k then f home + 1 else f k) else f) m ≤ f m + 1

@@ -10,6 +10,7 @@ use Rattle.dm_mirror.proofs.Counts.Own.{PairsWithin}
 use Rattle.dm_mirror.proofs.Totals.{ids_of}
 use Rattle.dm_rule.proofs.Lines.{parts}
 pub use Rattle.dm_rule.proofs.Lines.{eq_is as same_of}
+pub use Rattle.dm_mirror.proofs.Puts.{ids_if as set_ids}
 
 -- a pair that had no message before has it from the acting machine, which it goes to at once, or it isn't taken yet
 pub record Fresh (u : View) (m : ℕ) (v : View) : Type 0 where
@@ -74,13 +75,6 @@ fresh_put u m v b i k q h =
     fresh_by u m v (after_put v v.acting b i k q) v.acting h refl h.acting
     (λ c d off. set_taken v.pair v.acting b (routed_on v.acting b (v.pair v.acting b) i) c d ((v.acting == c) && (b == d)) refl (λ apart. put_taken v v.acting b i apart) off)
     (λ c d off. ap (λ (ids : List MsgId). length ids) (set_other v.pair v.acting b (routed_on v.acting b (v.pair v.acting b) i) c d (v.acting == c) refl off))
-
--- a line that isn't a put leaves what was routed
-pub set_ids : (f : ℕ → ℕ → Pair) (a b : ℕ) (p : Pair) (c d : ℕ) (t : Bool) → ((a == c) && (b == d)) ≡ t → p.ids ≡ (f a b).ids → (if t then p else f c d).ids ≡ (f c d).ids
-set_ids f a b p c d true e h =
-    let k = parts (a == c) (b == d) e in
-    h ∙ ap (λ (g : ℕ). (f g b).ids) (same_of a c k.0) ∙ ap (λ (g : ℕ). (f c g).ids) (same_of b d k.1)
-set_ids f a b p c d false e h = refl
 
 fresh_packet : (u : View) (m : ℕ) (v : View) (a b k : ℕ) (l : Load) → Fresh u m v → Fresh u m (view_after v (Line.Packet a b k l))
 fresh_packet u m v a b k l h =

@@ -1,9 +1,7 @@
 -- What a group may do to counts: raise them and route a message, put a message of a kernel's own, or restart a process.
-use Rattle.dm_mirror.proofs.Names.{◌≡◌, ◌∙◌, ℕ, ◌==◌, Bool, true, false, List, [], ◌∷◌, ◌++◌, length, refl, ⊤, ◌/◌, if◌then◌else◌, slice_get, Option, None, Some, Pid, pid_eq, MsgId, MessageKind, Line, Stage, PlainMessage, Boot, manager}
-use Rattle.dm_mirror.proofs.Names.{switchboard, bind, PlainProcess, Step, Addresses, child_number, chunks_of, ended_told, here_told, kernel_told, migrates, migrates_child, pieces_of, process_told, sends_on, server_told, takes_block}
-use Rattle.dm_mirror.proofs.Names.{takes_chunk, to_kernel, updates, Part, Says, Routes, Again, Owns, Transmits, Point, outcome, About, Known, Told, actor, target_of, arrives_net, resends_net, by_migrates, by_hears}
-use Rattle.dm_onekernel.specs.Step as kernel
-use Rattle.dm_rule.specs.Migrating.{accepts, leaves}
+use Rattle.dm_mirror.proofs.Names.{◌≡◌, ◌∙◌, ℕ, true, List, [], ◌∷◌, ◌++◌, refl, ⊤, slice_get, Option, None, Some, Pid, MsgId, MessageKind, Line, Stage, PlainMessage, Boot, manager}
+use Rattle.dm_mirror.proofs.Names.{Step, migrates, sends_on}
+use Rattle.dm_mirror.proofs.Names.{to_kernel, updates, Part, Says, Routes, Again, Owns, Transmits, Point, outcome, About, Told, actor, arrives_net, resends_net, by_migrates, by_hears}
 use Rattle.dm_rule.specs.Rule as rule
 use Rattle.dm_mirror.proofs.Counts.Still.{bears}
 use Rattle.dm_mirror.proofs.Paying.{AreMute, Paid, PaidIf, forwards_paid, front_paid, mute_paid, net_paid, round_paid}

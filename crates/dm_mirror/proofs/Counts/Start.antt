@@ -34,11 +34,7 @@ sum_within zero k f le h = omega arith
 sum_within (suc n) k f le h = let r = sum_within n k f (omega (arith, le)) h in let one = h n (omega (arith, le)) in omega (arith, r, one)
 
 few_processes : (b : Boot) → IsValid b → length b.processes ≤ 1024
-few_processes b valid =
-    let all = all_processes b [] b.processes valid.processes in
-    let most = sum_within (length b.machines) (length b.machines) (λ m. starting_at m b.processes) (omega arith) (λ m lt. first_of_home b m valid lt) in
-    let few = few_machines b valid in
-    omega (arith, all, most, few)
+few_processes b valid = grind (arith, nat_tests, all_processes, sum_within, first_of_home, few_machines)
 
 starting_few : (m : ℕ) (ps : List BootProcess) → starting_at m ps ≤ length ps
 starting_few m [] = omega arith

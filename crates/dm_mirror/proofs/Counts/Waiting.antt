@@ -40,21 +40,11 @@ more_times : (j i : MsgId) (ids : List MsgId) → times j ids ≤ times j (ids +
 more_times j i ids = let e = times-append j ids (i ∷ []) in omega (arith, e)
 
 put_more : (f : ℕ → ℕ → Pair) (a b : ℕ) (i j : MsgId) (c d : ℕ) (t : Bool) → ((a == c) && (b == d)) ≡ t → 1 ≤ times j (f c d).ids → 1 ≤ times j (if t then routed_on a b (f a b) i else f c d).ids
-put_more f a b i j c d true e least =
-    let k = parts (a == c) (b == d) e in
-    let same : times j (f a b).ids ≡ times j (f c d).ids = ap (λ (g : ℕ). times j (f g b).ids) (same_of a c k.0) ∙ ap (λ (g : ℕ). times j (f c g).ids) (same_of b d k.1) in
-    let more = more_times j i (f a b).ids in
-    omega (arith, same, more, least)
-  where
-    parts : (c d : Bool) → (c && d) ≡ true → (c ≡ true) × (d ≡ true)
-    parts true d e = (refl, e)
-    parts false d e = absurd (false≢true e)
+put_more f a b i j c d true e least = grind (arith, nat_tests, same_of, more_times)
 put_more f a b i j c d false e least = least
 
 put_there : (f : ℕ → ℕ → Pair) (a b : ℕ) (i : MsgId) → 1 ≤ times i (if (a == a) && (b == b) then routed_on a b (f a b) i else f a b).ids
-put_there f a b i =
-    let here : ((a == a) && (b == b)) ≡ true = grind (arith, nat_tests) in
-    subst (λ (t : Bool). 1 ≤ times i (if t then routed_on a b (f a b) i else f a b).ids) (sym here) (last_there i (f a b).ids)
+put_there f a b i = grind (arith, nat_tests, last_there)
 
 put_routed : (v : View) (a b : ℕ) (i : MsgId) (k : MessageKind) (q : Pid) → Routed v → Routed (after_put v a b i k q)
 put_routed v a b i k q h = λ j told. elim (cases_Bool (id_eq i j)) [

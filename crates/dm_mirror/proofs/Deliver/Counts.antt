@@ -1,6 +1,6 @@
 -- A delivery counts none of the kernels' own messages, by the lines and by the machine.
-use Rattle.dm_mirror.proofs.Names.{◌≡◌, ℕ, zero, suc, ◌<◌, List, [], ◌∷◌, refl, ap, ◌∙◌, sym, subst, inl, inr, if◌then◌else◌, Option, None, Some, eqb_tells, bind-is, Message, MsgId, Data, Ack, after_arrival, after_next, arrival, next, due}
-use Rattle.dm_mirror.proofs.Names.{window, with_acked, with_sent, Arrived, Old, Early, bind, Line, Part, Spelled, packet_line, spelled, Point, after, moved, at_machine, View, view_after, IsNet, IsNetLine, comes_in, lets_go, lets_next}
+use Rattle.dm_mirror.proofs.Names.{◌≡◌, ℕ, zero, suc, ◌<◌, List, [], ◌∷◌, refl, ap, ◌∙◌, sym, subst, inl, inr, if◌then◌else◌, Option, None, Some, eqb_tells, bind-is, Message, MsgId, Data, Ack, after_arrival, after_next, arrival, next, due, arith, nat_tests}
+use Rattle.dm_mirror.proofs.Names.{window, with_acked, with_sent, Arrived, bind, Line, Part, Spelled, packet_line, spelled, Point, after, moved, at_machine, View, view_after, IsNet, IsNetLine, comes_in, lets_go, lets_next}
 use Rattle.dm_mirror.proofs.Names.{takes_kept, takes_next, Acted, NodeState, with_message, with_receiver, with_sender, OneKernel, WorldState, CountsStand}
 use Rattle.dm_stream.specs.Packets.{Load}
 use Rattle.dm_stream.specs.declared.receiver.Arrived.TheVariants.{Taken}
@@ -88,10 +88,7 @@ arrives_sent n a (Data k m) = comes_in_sent (with_receiver n a (after_arrival (n
 arrives_sent n a (Ack k) = lets_go_sent window (with_sender n a (with_acked (n.senders a) k)) a
 
 pub sent_at : (nodes : ℕ → NodeState) (c : ℕ) (n : NodeState) (m : ℕ) → n.kernel.sent ≡ (nodes c).kernel.sent → (at_machine nodes c n m).kernel.sent ≡ (nodes m).kernel.sent
-sent_at nodes c n m e = elim (eqb_tells c m) [
-  | inl f ↦ ap (λ (t : _). (if t then n else nodes m).kernel.sent) f.0 ∙ e ∙ ap (λ (i : ℕ). (nodes i).kernel.sent) f.1
-  | inr f ↦ ap (λ (t : _). (if t then n else nodes m).kernel.sent) f.0
-]
+sent_at nodes c n m e = grind (arith, nat_tests, eqb_tells)
 
 -- a machine acts, and has counted as many as the lines then
 pub counts_on : (w v : WorldState) (pt end : Point) (c : ℕ) (n : NodeState) → v.nodes ≡ at_machine w.nodes c n → n.kernel.sent ≡ (w.nodes c).kernel.sent → Same pt end → CountsStand w pt → CountsStand v end

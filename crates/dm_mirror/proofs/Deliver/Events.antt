@@ -73,36 +73,21 @@ gone_is n gone e = grind (arith, nat_tests)
 module _ (b : Boot) (l : Placed) (a c : ℕ) (x : Ends) (w : List Sent) (p : Pair) where
   -- a message comes again: it was taken before
   pub old_comes : (k n : ℕ) (m : Message) → load_at x.out k ≡ Some (Data n m) → n < x.receiver.count → PairIs b l a c x w p → PairIs b l a c (record x { out = marked x.out k }) (wire.marked w k) (view.marked p k)
-  old_comes k n m e lt h = record {
-    stream = event_stands x (record x { out = marked x.out k }) (Deliver k) (arrives (record (stream_with x) { out = marked x.out k }) (Some (Data n m))) (delivered (stream_with x) k (Some (Data n m)) e) h.stream refl (sym (after_old_is x.receiver n m lt)) refl refl refl;
-    ids = h.ids;
-    untaken = h.untaken;
-    taken = h.taken;
-    gone = h.gone;
-    acked = h.acked;
-    numbers = h.numbers;
-    kept = h.kept;
-    packets = packets_marked x.out p.wire k h.packets;
-    bytes = wire_marked a c w x.out k h.bytes;
-    lawful = h.lawful;
-  }
+  old_comes k n m e lt h = search (
+    event_stands x (record x { out = marked x.out k }) (Deliver k) (arrives (record (stream_with x) { out = marked x.out k }) (Some (Data n m))) (delivered (stream_with x) k (Some (Data n m)) e) h.stream refl (sym (after_old_is x.receiver n m lt)) refl refl refl,
+    packets_marked x.out p.wire k h.packets,
+    wire_marked a c w x.out k h.bytes,
+  )
 
   -- a message comes early, and is kept
   pub early_comes : (k n : ℕ) (m : Message) → load_at x.out k ≡ Some (Data n m) → x.receiver.count < n → PairIs b l a c x w p
       → PairIs b l a c (record x { receiver = record { count = x.receiver.count; kept = kept_once x.receiver.kept (n - x.receiver.count) m }; out = marked x.out k }) (wire.marked w k) (record (view.marked p k) { kept = n ∷ off n p.kept })
-  early_comes k n m e gt h = record {
-    stream = event_stands x (record x { receiver = record { count = x.receiver.count; kept = kept_once x.receiver.kept (n - x.receiver.count) m }; out = marked x.out k }) (Deliver k) (arrives (record (stream_with x) { out = marked x.out k }) (Some (Data n m))) (delivered (stream_with x) k (Some (Data n m)) e) h.stream refl (sym (after_early_is x.receiver n m gt)) refl refl refl;
-    ids = h.ids;
-    untaken = h.untaken;
-    taken = h.taken;
-    gone = h.gone;
-    acked = h.acked;
-    numbers = h.numbers;
-    kept = kept_early x.receiver p.kept n m gt ((MayCome-stands (stream_with x) h.stream).in_window k n m e) h.stream.counted.places h.kept;
-    packets = packets_marked x.out p.wire k h.packets;
-    bytes = wire_marked a c w x.out k h.bytes;
-    lawful = h.lawful;
-  }
+  early_comes k n m e gt h = search (
+    event_stands x (record x { receiver = record { count = x.receiver.count; kept = kept_once x.receiver.kept (n - x.receiver.count) m }; out = marked x.out k }) (Deliver k) (arrives (record (stream_with x) { out = marked x.out k }) (Some (Data n m))) (delivered (stream_with x) k (Some (Data n m)) e) h.stream refl (sym (after_early_is x.receiver n m gt)) refl refl refl,
+    kept_early x.receiver p.kept n m gt ((MayCome-stands (stream_with x) h.stream).in_window k n m e) h.stream.counted.places h.kept,
+    packets_marked x.out p.wire k h.packets,
+    wire_marked a c w x.out k h.bytes,
+  )
 
   -- the next message comes, and is taken
   pub taken_comes : (k n : ℕ) (m : Message) → load_at x.out k ≡ Some (Data n m) → n ≡ x.receiver.count → PairIs b l a c x w p
@@ -140,113 +125,48 @@ module _ (b : Boot) (l : Placed) (a c : ℕ) (x : Ends) (w : List Sent) (p : Pai
 
   -- an acknowledgement for the stream the other way comes
   pub other_comes : (k n : ℕ) → load_at x.out k ≡ Some (Ack n) → PairIs b l a c x w p → PairIs b l a c (record x { out = marked x.out k }) (wire.marked w k) (view.marked p k)
-  other_comes k n e h = record {
-    stream = event_stands x (record x { out = marked x.out k }) (Deliver k) (arrives (record (stream_with x) { out = marked x.out k }) (Some (Ack n))) (delivered (stream_with x) k (Some (Ack n)) e) h.stream refl refl refl refl refl;
-    ids = h.ids;
-    untaken = h.untaken;
-    taken = h.taken;
-    gone = h.gone;
-    acked = h.acked;
-    numbers = h.numbers;
-    kept = h.kept;
-    packets = packets_marked x.out p.wire k h.packets;
-    bytes = wire_marked a c w x.out k h.bytes;
-    lawful = h.lawful;
-  }
+  other_comes k n e h = search (
+    event_stands x (record x { out = marked x.out k }) (Deliver k) (arrives (record (stream_with x) { out = marked x.out k }) (Some (Ack n))) (delivered (stream_with x) k (Some (Ack n)) e) h.stream refl refl refl refl refl,
+    packets_marked x.out p.wire k h.packets,
+    wire_marked a c w x.out k h.bytes,
+  )
 
   -- on the wire back a message comes, or an acknowledgement
   pub back_comes : (k n : ℕ) (m : Message) → load_at x.back k ≡ Some (Data n m) → PairIs b l a c x w p → PairIs b l a c (record x { back = marked x.back k }) w p
-  back_comes k n m e h = record {
-    stream = event_stands x (record x { back = marked x.back k }) (DeliverBack k) (hears (record (stream_with x) { back = marked x.back k }) (Some (Data n m))) (delivered_back (stream_with x) k (Some (Data n m)) e) h.stream refl refl refl refl refl;
-    ids = h.ids;
-    untaken = h.untaken;
-    taken = h.taken;
-    gone = h.gone;
-    acked = h.acked;
-    numbers = h.numbers;
-    kept = h.kept;
-    packets = h.packets;
-    bytes = h.bytes;
-    lawful = h.lawful;
-  }
+  back_comes k n m e h = search
+      (event_stands x (record x { back = marked x.back k }) (DeliverBack k) (hears (record (stream_with x) { back = marked x.back k }) (Some (Data n m))) (delivered_back (stream_with x) k (Some (Data n m)) e) h.stream refl refl refl refl refl)
 
   pub acked_comes : (k n : ℕ) → load_at x.back k ≡ Some (Ack n) → PairIs b l a c x w p → PairIs b l a c (record x { sender = with_acked x.sender n; back = marked x.back k }) w (record p { acked = at_least p.acked n })
-  acked_comes k n e h = record {
-    stream = event_stands x (record x { sender = with_acked x.sender n; back = marked x.back k }) (DeliverBack k) (hears (record (stream_with x) { back = marked x.back k }) (Some (Ack n))) (delivered_back (stream_with x) k (Some (Ack n)) e) h.stream refl refl refl refl refl;
-    ids = h.ids;
-    untaken = h.untaken;
-    taken = h.taken;
-    gone = h.gone;
-    acked = ap (λ (i : ℕ). max i n) h.acked ∙ max_is p.acked n;
-    numbers = h.numbers;
-    kept = h.kept;
-    packets = h.packets;
-    bytes = h.bytes;
-    lawful = h.lawful;
-  }
+  acked_comes k n e h = search (
+    event_stands x (record x { sender = with_acked x.sender n; back = marked x.back k }) (DeliverBack k) (hears (record (stream_with x) { back = marked x.back k }) (Some (Ack n))) (delivered_back (stream_with x) k (Some (Ack n)) e) h.stream refl refl refl refl refl,
+    ap (λ (i : ℕ). max i n) h.acked ∙ max_is p.acked n,
+  )
 
   -- the receiver acknowledges what it has taken
   pub acknowledges : PairIs b l a c x w p → PairIs b l a c (record x { back = x.back ++ just_put (Ack x.receiver.count) ∷ [] }) w p
-  acknowledges h = record {
-    stream = event_stands x (record x { back = x.back ++ just_put (Ack x.receiver.count) ∷ [] }) (Acknowledge) (happens (stream_with x) Acknowledge) (refl) h.stream refl refl refl refl refl;
-    ids = h.ids;
-    untaken = h.untaken;
-    taken = h.taken;
-    gone = h.gone;
-    acked = h.acked;
-    numbers = h.numbers;
-    kept = h.kept;
-    packets = h.packets;
-    bytes = h.bytes;
-    lawful = h.lawful;
-  }
+  acknowledges h = search
+      (event_stands x (record x { back = x.back ++ just_put (Ack x.receiver.count) ∷ [] }) (Acknowledge) (happens (stream_with x) Acknowledge) (refl) h.stream refl refl refl refl refl)
 
   -- on the wire out, for the stream the other way
   pub other_acknowledges : (n : ℕ) → PairIs b l a c x w p
       → PairIs b l a c (record x { out = x.out ++ just_put (Ack n) ∷ [] }) (w ++ wire.just_put (spelling (packet.Ack a c n)) ∷ []) (record p { gone = gone_after (load.Ack n) p.gone; wire = p.wire ++ record { load = load.Ack n; delivered = false } ∷ [] })
-  other_acknowledges n h = record {
-    stream = event_stands x (record x { out = x.out ++ just_put (Ack n) ∷ [] }) (OtherAck n) (happens (stream_with x) (OtherAck n)) (refl) h.stream refl refl refl refl refl;
-    ids = h.ids;
-    untaken = h.untaken;
-    taken = h.taken;
-    gone = h.gone;
-    acked = h.acked;
-    numbers = h.numbers;
-    kept = h.kept;
-    packets = map-append line_of x.out (just_put (Ack n) ∷ []) ∙ ap (λ (s : List view.Sent). s ++ record { load = load.Ack n; delivered = false } ∷ []) h.packets;
-    bytes = ap (λ (s : List Sent). s ++ wire.just_put (spelling (packet.Ack a c n)) ∷ []) h.bytes ∙ sym (map-append (bytes_of a c) x.out (just_put (Ack n) ∷ []));
-    lawful = h.lawful;
-  }
+  other_acknowledges n h = search (
+    event_stands x (record x { out = x.out ++ just_put (Ack n) ∷ [] }) (OtherAck n) (happens (stream_with x) (OtherAck n)) (refl) h.stream refl refl refl refl refl,
+    map-append line_of x.out (just_put (Ack n) ∷ []) ∙ ap (λ (s : List view.Sent). s ++ record { load = load.Ack n; delivered = false } ∷ []) h.packets,
+    ap (λ (s : List Sent). s ++ wire.just_put (spelling (packet.Ack a c n)) ∷ []) h.bytes ∙ sym (map-append (bytes_of a c) x.out (just_put (Ack n) ∷ [])),
+  )
 
   -- the message that is due goes out
   pub due_goes : (n : ℕ) (m : Message) → due x.sender ≡ Some (n, m) → n ≡ x.sender.gone → PairIs b l a c x w p
       → PairIs b l a c (record x { sender = with_sent x.sender; out = x.out ++ just_put (Data n m) ∷ [] }) (w ++ wire.just_put (spelling (packet.Data a c n m)) ∷ []) (record p { gone = gone_after (load.Data n) p.gone; wire = p.wire ++ record { load = load.Data n; delivered = false } ∷ [] })
-  due_goes n m e is h = record {
-    stream = event_stands x (record x { sender = with_sent x.sender; out = x.out ++ just_put (Data n m) ∷ [] }) (GoOut) (goes_out (stream_with x) (Some (n, m))) (ap (goes_out (stream_with x)) e) h.stream refl refl refl refl refl;
-    ids = h.ids;
-    untaken = h.untaken;
-    taken = h.taken;
-    gone = ap (λ (i : ℕ). i + 1) h.gone ∙ gone_is n p.gone (is ∙ h.gone);
-    acked = h.acked;
-    numbers = h.numbers;
-    kept = h.kept;
-    packets = map-append line_of x.out (just_put (Data n m) ∷ []) ∙ ap (λ (s : List view.Sent). s ++ record { load = load.Data n; delivered = false } ∷ []) h.packets;
-    bytes = ap (λ (s : List Sent). s ++ wire.just_put (spelling (packet.Data a c n m)) ∷ []) h.bytes ∙ sym (map-append (bytes_of a c) x.out (just_put (Data n m) ∷ []));
-    lawful = h.lawful;
-  }
+  due_goes n m e is h = search (
+    event_stands x (record x { sender = with_sent x.sender; out = x.out ++ just_put (Data n m) ∷ [] }) (GoOut) (goes_out (stream_with x) (Some (n, m))) (ap (goes_out (stream_with x)) e) h.stream refl refl refl refl refl,
+    ap (λ (i : ℕ). i + 1) h.gone ∙ gone_is n p.gone (is ∙ h.gone),
+    map-append line_of x.out (just_put (Data n m) ∷ []) ∙ ap (λ (s : List view.Sent). s ++ record { load = load.Data n; delivered = false } ∷ []) h.packets,
+    ap (λ (s : List Sent). s ++ wire.just_put (spelling (packet.Data a c n m)) ∷ []) h.bytes ∙ sym (map-append (bytes_of a c) x.out (just_put (Data n m) ∷ [])),
+  )
 
   -- one of the stream the other way goes out on the wire back
   pub other_goes : (n : ℕ) (m : Message) → PairIs b l a c x w p → PairIs b l a c (record x { back = x.back ++ just_put (Data n m) ∷ [] }) w p
-  other_goes n m h = record {
-    stream = event_stands x (record x { back = x.back ++ just_put (Data n m) ∷ [] }) (OtherData n m) (happens (stream_with x) (OtherData n m)) (refl) h.stream refl refl refl refl refl;
-    ids = h.ids;
-    untaken = h.untaken;
-    taken = h.taken;
-    gone = h.gone;
-    acked = h.acked;
-    numbers = h.numbers;
-    kept = h.kept;
-    packets = h.packets;
-    bytes = h.bytes;
-    lawful = h.lawful;
-  }
+  other_goes n m h = search
+      (event_stands x (record x { back = x.back ++ just_put (Data n m) ∷ [] }) (OtherData n m) (happens (stream_with x) (OtherData n m)) (refl) h.stream refl refl refl refl refl)

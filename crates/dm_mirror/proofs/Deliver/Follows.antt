@@ -12,17 +12,10 @@ machine_other f m x n apart = let e : (m == n) ≡ false = grind (arith, nat_tes
 
 -- set again, and set to what it was
 pub machine_again : {X : Type 0} (f : ℕ → X) (m : ℕ) (x y : X) → at_machine (at_machine f m x) m y ≡ at_machine f m y
-machine_again f m x y = fun_ext (λ n. again_at f m x y n (m == n))
-  where
-    again_at : {X : Type 0} (f : ℕ → X) (m : ℕ) (x y : X) (n : ℕ) (c : Bool) → (if c then y else if c then x else f n) ≡ (if c then y else f n)
-    again_at f m x y n true = refl
-    again_at f m x y n false = refl
+machine_again f m x y = grind (arith, nat_tests)
 
 pub machine_kept : {X : Type 0} (f : ℕ → X) (m : ℕ) → at_machine f m (f m) ≡ f
-machine_kept f m = fun_ext (λ n. elim (eqb_tells m n) [
-  | inl e ↦ ap (λ (c : Bool). if c then f m else f n) e.0 ∙ ap f e.1
-  | inr e ↦ ap (λ (c : Bool). if c then f m else f n) e.0
-])
+machine_kept f m = grind (arith, nat_tests, eqb_tells)
 
 -- the world after machine c has acted, but for the count of directives
 abbrev pub acted_on : WorldState → ℕ → Acted → WorldState
@@ -48,10 +41,7 @@ nothing b c w pt l h n e s = record {
 }
 
 spelled_on : (pt q : Point) (p : Part) (x : Line) (ps : List Part) (z : Spelled) → rule.lines_of pt p ≡ Some (x ∷ []) → after_line pt x ≡ Some q → spelled q ps ≡ Some z → spelled pt (p ∷ ps) ≡ Some (behind (x ∷ []) z)
-spelled_on pt q p x ps z lines next rest =
-    ap (λ (o : Option (List Line)). bind o (λ ls. bind (after pt ls) (λ next. bind (spelled next ps) (λ rest. Some (behind ls rest))))) lines
-    ∙ ap (λ (o : Option Point). bind (bind o (λ next. after next [])) (λ next. bind (spelled next ps) (λ rest. Some (behind (x ∷ []) rest)))) next
-    ∙ ap (λ (o : Option Spelled). bind o (λ rest. Some (behind (x ∷ []) rest))) rest
+spelled_on pt q p x ps z lines next rest = search
 
 -- a line first
 pub says_on : (b : Boot) (c : ℕ) (w : WorldState) (pt q : Point) (l : Placed) (n : NodeState) (x y : Line) (d : Acted) (ps : List Part) → x ≡ y → after_line pt y ≡ Some q → Follows b c (record w { nodes = at_machine w.nodes c n }) q l d ps

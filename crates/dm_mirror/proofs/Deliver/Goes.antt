@@ -1,5 +1,5 @@
 -- The delivery of a packet: the machines do what the rule says.
-use Rattle.dm_mirror.proofs.Names.{◌≡◌, ◌≢◌, ℕ, ◌+◌, ◌-◌, ◌<◌, ◌≤◌, List, [], ◌∷◌, length, refl, ap, ◌∙◌, sym, subst, arith, Some, Message, Sending, with_acked, Receiving, after_arrival, Arrived, Data, Ack, load_at, Sent, after_mark, Boot}
+use Rattle.dm_mirror.proofs.Names.{◌≡◌, ◌≢◌, ℕ, ◌+◌, ◌-◌, ◌<◌, ◌≤◌, List, [], ◌∷◌, length, refl, ap, ◌∙◌, sym, subst, arith, Some, Message, Sending, with_acked, Receiving, after_arrival, Arrived, Data, Ack, load_at, Sent, after_mark, Boot, nat_tests}
 use Rattle.dm_mirror.proofs.Names.{Line, at_pair, Part, Pair, oldest, at_least, Point, moved, has, kept_from, less, more, numbers_from, repeats, taken_pair, Placed, NodeState, here, with_message, with_receiver, with_sender, acknowledges}
 use Rattle.dm_mirror.proofs.Names.{before, lets_go, takes_kept, then_acknowledges, WorldState, History, StandsWith, less-right, more-is}
 use Rattle.dm_stream.specs.Packets.{Load}
@@ -18,9 +18,7 @@ use Rattle.dm_mirror.proofs.Deliver.Lets.{lets_follow, room_of}
 
 -- at most the window goes out
 room_small : (b : Boot) (l : Placed) (a c : ℕ) (x : Ends) (sent : List Sent) (p : Pair) → PairIs b l a c x sent p → room_of p ≤ 8
-room_small b l a c x sent p k =
-    let few : room_of p ≤ p.acked + 8 - p.gone = less-right (length p.ids - p.gone) (p.acked + 8 - p.gone) in
-    omega (arith, few, k.acked, k.gone, k.stream.in_order.acked_taken, k.stream.in_order.taken_gone)
+room_small b l a c x sent p k = grind (arith, nat_tests, less-right)
 
 -- the world of a delivery before the machine acts
 abbrev marked_world : WorldState → ℕ → ℕ → ℕ → WorldState

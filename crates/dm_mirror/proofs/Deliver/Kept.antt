@@ -33,28 +33,16 @@ module _ {M : Type 0} where
   arrival_taken r n m e = ap (λ (c : Bool). if c then Taken m else if nat_lt n r.count then Old else Early) (eq_is n r.count e)
 
   pub after_old_is : (r : Receiving M) (n : ℕ) (m : M) → n < r.count → after_arrival r n m ≡ r
-  after_old_is r n m e =
-      let apart : n ≢ r.count = omega arith in
-      ap (λ (c : Bool). record { count = if c then r.count + 1 else r.count; kept = if c then moved_up r.kept else if nat_lt n r.count then r.kept else kept_once r.kept (n - r.count) m }) (eq_not n r.count apart)
-      ∙ ap (λ (c : Bool). record { count = r.count; kept = if c then r.kept else kept_once r.kept (n - r.count) m }) (less_test n r.count e)
+  after_old_is r n m e = grind (arith, nat_tests, nat_lt, eq_not, less_test)
 
   pub arrival_old : (r : Receiving M) (n : ℕ) (m : M) → n < r.count → arrival r n m ≡ Old
-  arrival_old r n m e =
-      let apart : n ≢ r.count = omega arith in
-      ap (λ (c : Bool). if c then Taken m else if nat_lt n r.count then Old else Early) (eq_not n r.count apart)
-      ∙ ap (λ (c : Bool). if c then Old else Early) (less_test n r.count e)
+  arrival_old r n m e = grind (arith, nat_tests, nat_lt, eq_not, less_test)
 
   pub after_early_is : (r : Receiving M) (n : ℕ) (m : M) → r.count < n → after_arrival r n m ≡ record { count = r.count; kept = kept_once r.kept (n - r.count) m }
-  after_early_is r n m e =
-      let apart : n ≢ r.count = omega arith in
-      ap (λ (c : Bool). record { count = if c then r.count + 1 else r.count; kept = if c then moved_up r.kept else if nat_lt n r.count then r.kept else kept_once r.kept (n - r.count) m }) (eq_not n r.count apart)
-      ∙ ap (λ (c : Bool). record { count = r.count; kept = if c then r.kept else kept_once r.kept (n - r.count) m }) (not_less_test n r.count (omega arith))
+  after_early_is r n m e = grind (arith, nat_tests, nat_lt, eq_not, not_less_test)
 
   pub arrival_early : (r : Receiving M) (n : ℕ) (m : M) → r.count < n → arrival r n m ≡ Early
-  arrival_early r n m e =
-      let apart : n ≢ r.count = omega arith in
-      ap (λ (c : Bool). if c then Taken m else if nat_lt n r.count then Old else Early) (eq_not n r.count apart)
-      ∙ ap (λ (c : Bool). if c then Old else Early) (not_less_test n r.count (omega arith))
+  arrival_early r n m e = grind (arith, nat_tests, nat_lt, eq_not, not_less_test)
 
   -- the next kept message is the one under the count
   pub next_is : (r : Receiving M) → next r ≡ kept_under r r.count

@@ -20,13 +20,10 @@ room_less : (i g a j : ℕ) → suc j ≡ less (i - g) (a + 8 - g) → (j ≡ le
 room_less i g a j e = (grind (arith, nat_tests), grind (arith, nat_tests), grind (arith, nat_tests))
 
 room_none : (i g a : ℕ) → 0 ≡ less (i - g) (a + 8 - g) → (i ≤ g) ⊎ (a + 8 ≤ g)
-room_none i g a e = elim (cases_Bool (nat_le i g)) [
-  | inl on ↦ inl (grind (arith, nat_tests))
-  | inr off ↦ inr (grind (arith, nat_tests))
-]
+room_none i g a e = grind (arith, nat_tests, nat_le)
 
 -- the message under this number is due
-given_at : (xs : List Message) (n : ℕ) → n < length xs → (m : Message) × (slice_get xs n ≡ Some m)
+pub given_at : (xs : List Message) (n : ℕ) → n < length xs → (m : Message) × (slice_get xs n ≡ Some m)
 given_at xs n lt = elim (slice_get_cases xs n).1 [
   | inl k ↦ (k.0, k.2)
   | inr k ↦ absurd (omega (arith, k.0))
@@ -36,9 +33,7 @@ waits_at : (s : Sending Message) (given : List Message) → s.unacked ≡ drop s
 waits_at s given e le = ap (λ (xs : List Message). slice_get xs (s.gone - s.acked)) e ∙ get-drop s.acked given (s.gone - s.acked) s.gone (omega arith)
 
 due_is : (s : Sending Message) (given : List Message) (m : Message) → s.unacked ≡ drop s.acked given → s.acked ≤ s.gone → s.gone < s.acked + 8 → slice_get given s.gone ≡ Some m → due s ≡ Some (s.gone, m)
-due_is s given m e le lt is =
-    ap (λ (t : Bool). if t then numbered s.gone (slice_get s.unacked (s.gone - s.acked)) else None) (less_test s.gone (s.acked + 8) lt)
-    ∙ ap (numbered s.gone) (waits_at s given e le ∙ is)
+due_is s given m e le lt is = grind (arith, nat_tests, slice_get, less_test, waits_at)
 
 either_none : {X : Type 0} (t : Bool) (o : Option X) → o ≡ None → (if t then o else None) ≡ None
 either_none true o e = e

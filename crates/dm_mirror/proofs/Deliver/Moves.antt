@@ -13,6 +13,7 @@ use Rattle.dm_mirror.proofs.Deliver.Stood.{came_one, took_set}
 use Rattle.dm_mirror.proofs.Deliver.Stands.{IsOther, Moves, moves_stand}
 use Rattle.dm_mirror.proofs.Deliver.Follows.{machine_same, machine_other}
 pub use Rattle.dm_rule.proofs.Lines.{pair_at as two_same}
+pub use Rattle.dm_mirror.proofs.Puts.{ids_same as ids_set}
 
 pub two_other : {X : Type 0} (f : ℕ → ℕ → X) (a c : ℕ) (x : X) (m n : ℕ) → IsOther a c m n → at_pair f a c x m n ≡ f m n
 two_other f a c x m n e = ap (λ (t : Bool). if t then x else f m n) e
@@ -36,14 +37,6 @@ back_other a c apart = grind (arith, nat_tests)
 pub there_other : (a c : ℕ) → a ≢ c → IsOther c a a c
 there_other a c apart = grind (arith, nat_tests)
 
-pub ids_set : (f : ℕ → ℕ → Pair) (a c : ℕ) (p : Pair) → p.ids ≡ (f a c).ids → (m n : ℕ) → (at_pair f a c p m n).ids ≡ (f m n).ids
-ids_set f a c p e m n = elim (cases_Bool ((a == m) && (c == n))) [
-  | inl same ↦
-      let two = two_of a c m n same in
-      ap (λ (t : Bool). (if t then p else f m n).ids) same ∙ e ∙ ap (λ (i : ℕ). (f i c).ids) two.0 ∙ ap (λ (i : ℕ). (f m i).ids) two.1
-  | inr other ↦ ap (λ (t : Bool). (if t then p else f m n).ids) other
-]
-
 -- one more message of an inbox
 pub messages_push : (bag : MsgId → Option Message) (ids : List MsgId) (ms : List Message) (i : MsgId) (m : Message) → AreMessages bag ids ms → bag i ≡ Some m → AreMessages bag (ids ++ i ∷ []) (ms ++ m ∷ [])
 messages_push bag ids ms i m box is = map-append bag ids (i ∷ []) ∙ (λ j. box j ++ is j ∷ []) ∙ sym (map-append Some ms (m ∷ []))
@@ -58,11 +51,10 @@ pub taking : (b : Boot) (l : Placed) (a c : ℕ) (x : Ends) (sent : List wire.Se
 taking b l a c x sent p m is h =
     let at : slice_get x.given p.taken ≡ Some m = ap (slice_get x.given) (sym h.taken) ∙ is in
     let first : slice_get p.ids p.taken ≡ Some m.id = oldest_is x.given p.ids p.taken m h.ids at in
-    record {
-      there = message_is l.bag p.ids x.given p.taken m.id m h.untaken first at;
-      first = first;
-      lawful = subst IsLawfulMessage (get_or_from_slice_get x.given p.taken m m at) (All-get_or IsLawfulMessage x.given p.taken m (slice_get_within x.given p.taken m at) h.lawful);
-    }
+    search (
+      message_is l.bag p.ids x.given p.taken m.id m h.untaken first at,
+      subst IsLawfulMessage (get_or_from_slice_get x.given p.taken m m at) (All-get_or IsLawfulMessage x.given p.taken m (slice_get_within x.given p.taken m at) h.lawful),
+    )
 
 module _ (b : Boot) (w : WorldState) (pt : Point) (l : Placed) (h : History) (a c : ℕ) (s : StandsWith b w pt l h) (a_in : a < pt.kernel.machines) (c_in : c < pt.kernel.machines) (apart : a ≢ c) where
   pub there_pair : PairIs b l a c (ends_of w h a c) (w.wires a c) (pt.view.pair a c)
@@ -83,48 +75,30 @@ module _ (b : Boot) (w : WorldState) (pt : Point) (l : Placed) (h : History) (a 
         topic = pt.view.topic;
         pair = at_pair pt.view.pair a c p;
         inbox = at_machine pt.view.inbox c (pt.view.inbox c ++ m.id ∷ []);
+        messages = (w.nodes c).kernel.inbox ++ m ∷ [];
+        senders = (w.nodes c).senders;
+        receivers = at_machine (w.nodes c).receivers a (after_next ((w.nodes c).receivers a));
+        there = record (ends_of w h a c) { receiver = advanced ((w.nodes c).receivers a) };
+        there_wire = w.wires a c;
+        there_pair = p;
+        back = ends_of w h c a;
+        back_wire = w.wires c a;
+        back_pair = pt.view.pair c a;
         point = ap (λ (o : Option MsgId). record { kernel = pt.kernel; view = view.taken_id (view.with_pair pt.view a c p) c o; addresses = pt.addresses }) t.first;
         counted = s.groups;
         mirrors = lines_keep pt (moved pt (Line.Taken a c ((w.nodes c).receivers a).count) pt.kernel) l (Line.Taken a c ((w.nodes c).receivers a).count) tt s.mirrors refl;
-        boxes = λ i off. machine_other pt.view.inbox c (pt.view.inbox c ++ m.id ∷ []) i off;
         pairs = λ x y t k. two_other pt.view.pair a c p x y t;
         ids = ids_set pt.view.pair a c p refl;
         took = took_set pt.view.pair a c p (omega arith);
         came = λ i least. came_one pt.view a c m.id i t.first (subst (λ (ids : List MsgId). 1 ≤ times i ids) (machine_same pt.view.inbox c (pt.view.inbox c ++ m.id ∷ [])) least);
-        messages = (w.nodes c).kernel.inbox ++ m ∷ [];
-        senders = (w.nodes c).senders;
-        receivers = at_machine (w.nodes c).receivers a (after_next ((w.nodes c).receivers a));
-        node = machine_same w.nodes c (with_message (with_receiver (w.nodes c) a (after_next ((w.nodes c).receivers a))) m);
-        nodes = λ i off. machine_other w.nodes c (with_message (with_receiver (w.nodes c) a (after_next ((w.nodes c).receivers a))) m) i off;
         box = subst (λ (ids : List MsgId). AreMessages l.bag ids ((w.nodes c).kernel.inbox ++ m ∷ [])) (sym (machine_same pt.view.inbox c (pt.view.inbox c ++ m.id ∷ []))) (messages_push l.bag (pt.view.inbox c) (w.nodes c).kernel.inbox m.id m (s.nodes c c_in).kernel.inbox t.there);
         lawful = All-push IsLawfulMessage (w.nodes c).kernel.inbox m (s.nodes c c_in).lawful.inbox t.lawful;
-        other_senders = λ y off. refl;
-        other_receivers = λ y off. machine_other (w.nodes c).receivers a (after_next ((w.nodes c).receivers a)) y off;
-        wires = λ x y there back. refl;
-        given = λ x y. refl;
-        packets = λ x y there back. refl;
-        there = record (ends_of w h a c) { receiver = advanced ((w.nodes c).receivers a) };
-        there_wire = w.wires a c;
-        there_pair = p;
         there_stands = kept_comes b l a c (ends_of w h a c) (w.wires a c) (pt.view.pair a c) ((w.nodes c).receivers a).count m e refl there_pair;
-        there_sender = refl;
         there_receiver = machine_same (w.nodes c).receivers a (after_next ((w.nodes c).receivers a)) ∙ after_next_is ((w.nodes c).receivers a) m e;
-        there_given = refl;
-        there_out = refl;
-        there_back = refl;
-        there_sent = refl;
         there_said = two_same pt.view.pair a c p;
-        back = ends_of w h c a;
-        back_wire = w.wires c a;
-        back_pair = pt.view.pair c a;
         back_stands = back_pair;
-        back_sender = refl;
-        back_receiver = refl;
-        back_given = refl;
-        back_out = refl;
-        back_back = refl;
-        back_sent = refl;
         back_said = two_other pt.view.pair a c p c a (back_other a c apart);
+        alone = search (machine_same, machine_other);
       } in
       moves_stand b w pt l h a c (record w { nodes = at_machine w.nodes c (with_message (with_receiver (w.nodes c) a (after_next ((w.nodes c).receivers a))) m) }) (moved pt (Line.Taken a c ((w.nodes c).receivers a).count) pt.kernel) h k s apart
 
@@ -138,48 +112,30 @@ module _ (b : Boot) (w : WorldState) (pt : Point) (l : Placed) (h : History) (a 
         topic = pt.view.topic;
         pair = at_pair pt.view.pair c a p;
         inbox = pt.view.inbox;
+        messages = (w.nodes c).kernel.inbox;
+        senders = (w.nodes c).senders;
+        receivers = (w.nodes c).receivers;
+        there = record (ends_of w h a c) { back = h.packets c a ++ just_put (Ack ((w.nodes c).receivers a).count) ∷ [] };
+        there_wire = w.wires a c;
+        there_pair = pt.view.pair a c;
+        back = record (ends_of w h c a) { out = h.packets c a ++ just_put (Ack ((w.nodes c).receivers a).count) ∷ [] };
+        back_wire = w.wires c a ++ wire.just_put (spelling (Packet.Ack c a ((w.nodes c).receivers a).count)) ∷ [];
+        back_pair = p;
         point = refl;
         counted = s.groups;
         mirrors = lines_keep pt (moved pt (rule.packet_line pt.view c a (Load.Ack ((w.nodes c).receivers a).count)) pt.kernel) l (rule.packet_line pt.view c a (Load.Ack ((w.nodes c).receivers a).count)) tt s.mirrors refl;
-        boxes = λ m off. refl;
         pairs = λ x y t k. two_other pt.view.pair c a p x y k;
         ids = ids_set pt.view.pair c a p refl;
         took = took_set pt.view.pair c a p (omega arith);
         came = λ i least. (Inbox c, least);
-        messages = (w.nodes c).kernel.inbox;
-        senders = (w.nodes c).senders;
-        receivers = (w.nodes c).receivers;
-        node = machine_same w.nodes c (w.nodes c);
-        nodes = λ m off. machine_other w.nodes c (w.nodes c) m off;
         box = (s.nodes c c_in).kernel.inbox;
         lawful = (s.nodes c c_in).lawful.inbox;
-        other_senders = λ y off. refl;
-        other_receivers = λ y off. refl;
-        wires = λ x y t k. put_other w.wires c a (spelling (Packet.Ack c a ((w.nodes c).receivers a).count)) x y k;
-        given = λ x y. refl;
-        packets = λ x y t k. two_other h.packets c a (h.packets c a ++ just_put (Ack ((w.nodes c).receivers a).count) ∷ []) x y k;
-        there = record (ends_of w h a c) { back = h.packets c a ++ just_put (Ack ((w.nodes c).receivers a).count) ∷ [] };
-        there_wire = w.wires a c;
-        there_pair = pt.view.pair a c;
         there_stands = acknowledges b l a c (ends_of w h a c) (w.wires a c) (pt.view.pair a c) there_pair;
-        there_sender = refl;
         there_receiver = refl;
-        there_given = refl;
-        there_out = two_other h.packets c a (h.packets c a ++ just_put (Ack ((w.nodes c).receivers a).count) ∷ []) a c (there_other a c apart);
-        there_back = two_same h.packets c a (h.packets c a ++ just_put (Ack ((w.nodes c).receivers a).count) ∷ []);
-        there_sent = put_other w.wires c a (spelling (Packet.Ack c a ((w.nodes c).receivers a).count)) a c (there_other a c apart);
         there_said = two_other pt.view.pair c a p a c (there_other a c apart);
-        back = record (ends_of w h c a) { out = h.packets c a ++ just_put (Ack ((w.nodes c).receivers a).count) ∷ [] };
-        back_wire = w.wires c a ++ wire.just_put (spelling (Packet.Ack c a ((w.nodes c).receivers a).count)) ∷ [];
-        back_pair = p;
         back_stands = other_acknowledges b l c a (ends_of w h c a) (w.wires c a) (pt.view.pair c a) ((w.nodes c).receivers a).count back_pair;
-        back_sender = refl;
-        back_receiver = refl;
-        back_given = refl;
-        back_out = two_same h.packets c a (h.packets c a ++ just_put (Ack ((w.nodes c).receivers a).count) ∷ []);
-        back_back = two_other h.packets c a (h.packets c a ++ just_put (Ack ((w.nodes c).receivers a).count) ∷ []) a c (there_other a c apart);
-        back_sent = put_same w.wires c a (spelling (Packet.Ack c a ((w.nodes c).receivers a).count));
         back_said = two_same pt.view.pair c a p;
+        alone = search (machine_same, machine_other, put_same, put_other, two_same, two_other, there_other a c apart);
       } in
       moves_stand b w pt l h a c (record w { nodes = at_machine w.nodes c (w.nodes c); wires = after_put w.wires c a (spelling (Packet.Ack c a ((w.nodes c).receivers a).count)) }) (moved pt (rule.packet_line pt.view c a (Load.Ack ((w.nodes c).receivers a).count)) pt.kernel) (record h { packets = at_pair h.packets c a (h.packets c a ++ just_put (Ack ((w.nodes c).receivers a).count) ∷ []) }) k s apart
 
@@ -193,47 +149,29 @@ module _ (b : Boot) (w : WorldState) (pt : Point) (l : Placed) (h : History) (a 
         topic = pt.view.topic;
         pair = at_pair pt.view.pair c a p;
         inbox = pt.view.inbox;
+        messages = (w.nodes c).kernel.inbox;
+        senders = at_machine (w.nodes c).senders a (with_sent ((w.nodes c).senders a));
+        receivers = (w.nodes c).receivers;
+        there = record (ends_of w h a c) { back = h.packets c a ++ just_put (Data n m) ∷ [] };
+        there_wire = w.wires a c;
+        there_pair = pt.view.pair a c;
+        back = record (ends_of w h c a) { sender = with_sent ((w.nodes c).senders a); out = h.packets c a ++ just_put (Data n m) ∷ [] };
+        back_wire = w.wires c a ++ wire.just_put (spelling (Packet.Data c a n m)) ∷ [];
+        back_pair = p;
         point = refl;
         counted = s.groups;
         mirrors = lines_keep pt (moved pt (rule.packet_line pt.view c a (Load.Data n)) pt.kernel) l (rule.packet_line pt.view c a (Load.Data n)) tt s.mirrors refl;
-        boxes = λ m off. refl;
         pairs = λ x y t k. two_other pt.view.pair c a p x y k;
         ids = ids_set pt.view.pair c a p refl;
         took = took_set pt.view.pair c a p (omega arith);
         came = λ i least. (Inbox c, least);
-        messages = (w.nodes c).kernel.inbox;
-        senders = at_machine (w.nodes c).senders a (with_sent ((w.nodes c).senders a));
-        receivers = (w.nodes c).receivers;
-        node = machine_same w.nodes c (with_sender (w.nodes c) a (with_sent ((w.nodes c).senders a)));
-        nodes = λ i off. machine_other w.nodes c (with_sender (w.nodes c) a (with_sent ((w.nodes c).senders a))) i off;
         box = (s.nodes c c_in).kernel.inbox;
         lawful = (s.nodes c c_in).lawful.inbox;
-        other_senders = λ y off. machine_other (w.nodes c).senders a (with_sent ((w.nodes c).senders a)) y off;
-        other_receivers = λ y off. refl;
-        wires = λ x y t k. put_other w.wires c a (spelling (Packet.Data c a n m)) x y k;
-        given = λ x y. refl;
-        packets = λ x y t k. two_other h.packets c a (h.packets c a ++ just_put (Data n m) ∷ []) x y k;
-        there = record (ends_of w h a c) { back = h.packets c a ++ just_put (Data n m) ∷ [] };
-        there_wire = w.wires a c;
-        there_pair = pt.view.pair a c;
         there_stands = other_goes b l a c (ends_of w h a c) (w.wires a c) (pt.view.pair a c) n m there_pair;
-        there_sender = refl;
         there_receiver = refl;
-        there_given = refl;
-        there_out = two_other h.packets c a (h.packets c a ++ just_put (Data n m) ∷ []) a c (there_other a c apart);
-        there_back = two_same h.packets c a (h.packets c a ++ just_put (Data n m) ∷ []);
-        there_sent = put_other w.wires c a (spelling (Packet.Data c a n m)) a c (there_other a c apart);
         there_said = two_other pt.view.pair c a p a c (there_other a c apart);
-        back = record (ends_of w h c a) { sender = with_sent ((w.nodes c).senders a); out = h.packets c a ++ just_put (Data n m) ∷ [] };
-        back_wire = w.wires c a ++ wire.just_put (spelling (Packet.Data c a n m)) ∷ [];
-        back_pair = p;
         back_stands = due_goes b l c a (ends_of w h c a) (w.wires c a) (pt.view.pair c a) n m e is back_pair;
-        back_sender = machine_same (w.nodes c).senders a (with_sent ((w.nodes c).senders a));
-        back_receiver = refl;
-        back_given = refl;
-        back_out = two_same h.packets c a (h.packets c a ++ just_put (Data n m) ∷ []);
-        back_back = two_other h.packets c a (h.packets c a ++ just_put (Data n m) ∷ []) a c (there_other a c apart);
-        back_sent = put_same w.wires c a (spelling (Packet.Data c a n m));
         back_said = two_same pt.view.pair c a p;
+        alone = search (machine_same, machine_other, put_same, put_other, two_same, two_other, there_other a c apart);
       } in
       moves_stand b w pt l h a c (record w { nodes = at_machine w.nodes c (with_sender (w.nodes c) a (with_sent ((w.nodes c).senders a))); wires = after_put w.wires c a (spelling (Packet.Data c a n m)) }) (moved pt (rule.packet_line pt.view c a (Load.Data n)) pt.kernel) (record h { packets = at_pair h.packets c a (h.packets c a ++ just_put (Data n m) ∷ []) }) k s apart

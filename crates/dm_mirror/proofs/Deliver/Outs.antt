@@ -1,7 +1,7 @@
 -- Where all packets that an event sends are read as they were put, what the machine has out then is so too, and each packet on
 -- the wires is read.
 use Rattle.dm_mirror.proofs.Names.{◌≡◌, ◌⊎◌, ℕ, zero, suc, ◌==◌, ◌&&◌, Bool, true, false, List, [], ◌∷◌, ◌++◌, refl, ap, ◌∙◌, sym, subst, inl, inr, ⊤, if◌then◌else◌, Ok, Option, None, Some, eqb_tells, Message, Packet, packet_of, spelling}
-use Rattle.dm_mirror.proofs.Names.{Data, Ack, Sending, due, window, with_acked, with_given, with_sent, after_arrival, after_next, arrival, next, Arrived, Old, Early, Sent, bytes_at, after_mark, Turned, Out, NodeState, here, with_message}
+use Rattle.dm_mirror.proofs.Names.{Data, Ack, Sending, due, window, with_acked, with_given, with_sent, after_arrival, after_next, arrival, next, Arrived, Sent, bytes_at, after_mark, Turned, Out, NodeState, here, with_message}
 use Rattle.dm_mirror.proofs.Names.{with_receiver, with_sender, Acted, Acts, Goes, Worn, behind, then_, acts, comes_in, gives, is_worn, lets_go, lets_next, none_waits, routes, routes_away, routes_home, sends_due, takes_kept, takes_next}
 use Rattle.dm_mirror.proofs.Names.{FitsLoad, spoken, with_packet, AreReadBack, NodeReads, SenderReads, WiresRead}
 use Rattle.dm_stream.specs.Packets.{Load}

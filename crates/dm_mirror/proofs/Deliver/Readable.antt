@@ -17,24 +17,6 @@ use Rattle.dm_mirror.proofs.Deliver.Reads.{ReadsAs, bytes_are, bytes_for, load_i
 
 -- ---- the opening of a packet is read as it was spelled
 
-not_same : (a b : ℕ) → not (eqb b a) ≡ true → b ≢ a
-not_same a b e same = absurd (grind (arith, nat_tests))
-
-not_same_test : (a b : ℕ) → b ≢ a → not (eqb b a) ≡ true
-not_same_test a b apart = grind (arith, nat_tests)
-
-opening_is : IsField opening (λ o. IsRoute o.from o.to)
-opening_is =
-    let four = IsField-for version (λ v. (v < 256 ^ 1) × (eqb v 4 ≡ true)) (λ v. v ≡ 4) (IsField-tested (number 1) (λ v. v < 256 ^ 1) (IsField-number 1) (λ v. v == 4) PacketError.Version) (λ v fits. eqb-true v 4 fits.1) (λ v e. (omega (arith, e), eq-eqb v 4 e)) in
-    let others = λ (a : ℕ). IsField-for (other_machine a) (λ b. IsMachine b × (not (eqb b a) ≡ true)) (λ b. IsMachine b × (b ≢ a)) (IsField-tested machine IsMachine machine_is (λ b. not (b == a)) PacketError.Machine) (λ b fits. (fits.0, not_same a b fits.1)) (λ b fits. (fits.0, not_same_test a b fits.1)) in
-    let from_machines = IsField-both machine IsMachine machine_is other_machine (λ a b. IsMachine b × (b ≢ a)) others in
-    let from_kind = IsField-both packet_kind (λ _. Unit {0}) packet_kind_is (λ _. both machine other_machine) (λ _ m. IsMachine m.0 × (IsMachine m.1 × (m.1 ≢ m.0))) (λ _. from_machines) in
-    let parts = IsField-both version (λ v. v ≡ 4) four (λ _. both packet_kind (λ _. both machine other_machine)) (λ _ o. Unit {0} × (IsMachine o.1.0 × (IsMachine o.1.1 × (o.1.1 ≢ o.1.0)))) (λ _. from_kind) in
-    IsField-made (both version (λ _. both packet_kind (λ _. both machine other_machine))) (λ o. (o.0 ≡ 4) × (Unit {0} × (IsMachine o.1.1.0 × (IsMachine o.1.1.1 × (o.1.1.1 ≢ o.1.1.0))))) parts
-    (λ o. record { kind = o.1.0; from = o.1.1.0; to = o.1.1.1 }) (λ o. (4, (o.kind, (o.from, o.to)))) (λ o. IsRoute o.from o.to)
-    (λ o fits. ((λ i. (sym fits.0 i, o.1)), record { from = fits.1.1.0; to = fits.1.1.1.0; apart = fits.1.1.1.1 }))
-    (λ o fits. ((refl, (tt, (fits.from, (fits.to, fits.apart)))), refl))
-
 -- ---- a packet with a message is read as a packet with the same number
 
 abbrev numbered_of : ℕ → Message × List ℕ → Result ((ℕ × Message) × List ℕ) PacketError
@@ -43,19 +25,12 @@ numbered_of n y = Ok ((n, y.0), y.1)
 abbrev data_of : ℕ → ℕ → (ℕ × Message) × List ℕ → Result (Packet × List ℕ) PacketError
 data_of a c x = Ok (Packet.Data a c x.0.0 x.0.1, x.1)
 
-abbrev message_behind : ℕ × List ℕ → Result ((ℕ × Message) × List ℕ) PacketError
-message_behind x = message.read x.1 >>= numbered_of x.0
-
 abbrev with_number : ℕ → ℕ → ℕ → Result (Message × List ℕ) PacketError → Result Packet PacketError
 with_number a c n r = ((r >>= numbered_of n) >>= data_of a c) >>= ended
 
 read_on : (a c n : ℕ) (m : Message) → IsRoute a c → n < 256 ^ 4 → packet_of (spelling (Packet.Data a c n m)) ≡ with_number a c n (message.read (spell_message m))
 unfolding packet_of read_rest spelling
-read_on a c n m route small =
-    let first = opening_is.again (record { kind = PacketKind.Data; from = a; to = c }) (numbered_message.spell (n, m)) route in
-    let second = (IsField-number 4).again n (spell_message m) small in
-    ap (λ (r : Result (Opening × List ℕ) PacketError). r >>= λ o. read_rest o.0.kind o.0.from o.0.to o.1 >>= ended) first
-    ∙ ap (λ (r : Result (ℕ × List ℕ) PacketError). ((r >>= message_behind) >>= data_of a c) >>= ended) second
+read_on a c n m route small = grind (arith, nat_tests, IsField-number)
 
 numbered : (a c n : ℕ) (r : Result (Message × List ℕ) PacketError) (p : Packet) → with_number a c n r ≡ Ok p → (x : Message) × (p ≡ Packet.Data a c n x)
 numbered a c n (Ok y) p e = (y.0, sym (guard_ok (eqb (length y.1) 0) PacketError.Trailing (Packet.Data a c n y.0) p e).1)
@@ -74,12 +49,7 @@ few b m n valid are lt = let most : nat_le (length b.machines) 16 ≡ true = val
 
 -- a number between those acknowledged and those that have gone out is outstanding
 outstanding_is : (s : Sending Message) (given : List Message) (n : ℕ) (m : Message) → s.unacked ≡ drop s.acked given → s.acked ≤ n → n < s.gone → slice_get given n ≡ Some m → outstanding s (n - s.acked) ≡ Some (n, m)
-outstanding_is s given n m e above below is =
-    let here : s.acked + (n - s.acked) ≡ n = omega arith in
-    let waits : slice_get s.unacked (n - s.acked) ≡ Some m = ap (λ (xs : List Message). slice_get xs (n - s.acked)) e ∙ get-drop s.acked given (n - s.acked) n (omega arith) ∙ is in
-    ap (λ (i : ℕ). if nat_lt i s.gone then sending.numbered i (slice_get s.unacked (n - s.acked)) else None) here
-    ∙ ap (λ (t : Bool). if t then sending.numbered n (slice_get s.unacked (n - s.acked)) else None) (less_test n s.gone below)
-    ∙ ap (sending.numbered n) waits
+outstanding_is s given n m e above below is = grind (arith, nat_tests, slice_get, get-drop, nat_lt, less_test)
 
 put_is : (a c : ℕ) (o : Option (stream.Packet Message)) (carried : Load Message) → load_in o ≡ Some carried → option_map (bytes_for a c) o ≡ Some (spelling (out.packet_of a c carried))
 put_is a c None carried e = cc

@@ -1,5 +1,5 @@
 -- The packet of a delivery is read as it was put, and its machine may take it.
-use Rattle.dm_mirror.proofs.Names.{◌≡◌, ◌≢◌, ℕ, ◌^◌, ◌<◌, ◌≤◌, List, refl, ap, ◌∙◌, sym, arith, slice_get, option_map, Ok, Option, None, Some, slice_get-map, Message, Packet, packet_of, spelling, packet_again, Data, Ack, load_at, load_in}
+use Rattle.dm_mirror.proofs.Names.{◌≡◌, ◌≢◌, ℕ, ◌^◌, ◌<◌, ◌≤◌, List, refl, ap, ◌∙◌, sym, arith, slice_get, option_map, Ok, Option, None, Some, slice_get-map, Message, Packet, packet_of, spelling, packet_again, Data, load_at, load_in, nat_tests}
 use Rattle.dm_mirror.proofs.Names.{Sent, bytes_at, Boot, Pair, Placed, WorldState, History, bytes_of, line_of}
 use Rattle.dm_stream.specs.Packets as stream
 use Rattle.dm_rule.specs.View as view
@@ -24,10 +24,7 @@ of_some f None = refl
 of_some f (Some p) = refl
 
 pub bytes_are : (b : Boot) (l : Placed) (a c : ℕ) (x : Ends) (sent : List Sent) (p : Pair) (k : ℕ) → PairIs b l a c x sent p → bytes_at sent k ≡ option_map (bytes_for a c) (slice_get x.out k)
-bytes_are b l a c x sent p k h =
-    ap (λ (ws : List Sent). bytes_at ws k) h.bytes
-    ∙ ap (option_map (λ (s : Sent). s.bytes)) (slice_get-map (bytes_of a c) x.out k)
-    ∙ of_some (bytes_of a c) (slice_get x.out k)
+bytes_are b l a c x sent p k h = grind (arith, nat_tests, option_map, slice_get-map, of_some, slice_get)
 
 pub lines_are : (b : Boot) (l : Placed) (a c : ℕ) (x : Ends) (sent : List Sent) (p : Pair) (k : ℕ) → PairIs b l a c x sent p → slice_get p.wire k ≡ option_map line_of (slice_get x.out k)
 lines_are b l a c x sent p k h = ap (λ (ss : List view.Sent). slice_get ss k) (sym h.packets) ∙ slice_get-map line_of x.out k

@@ -36,10 +36,7 @@ is_out s j n m e =
     record { number = t.is; below = grind (arith, nat_tests); there = t.there }
 
 outstanding_at : (s : Sending Message) (j n : ℕ) (m : Message) → IsOut s j n m → outstanding s j ≡ Some (n, m)
-outstanding_at s j n m h =
-    ap (λ (t : Bool). if t then numbered (s.acked + j) (slice_get s.unacked j) else None) (less_test (s.acked + j) s.gone h.below)
-    ∙ ap (numbered (s.acked + j)) h.there
-    ∙ ap (λ (i : ℕ). Some (i, m)) (sym h.number)
+outstanding_at s j n m h = grind (arith, nat_tests, slice_get, less_test)
 
 get_front : {X : Type 0} (xs ys : List X) (j : ℕ) → j < length xs → slice_get (xs ++ ys) j ≡ slice_get xs j
 get_front [] ys j lt = absurd (omega arith)

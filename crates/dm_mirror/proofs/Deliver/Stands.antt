@@ -20,30 +20,40 @@ node_on n ms senders receivers = record n { kernel = record n.kernel { inbox = m
 
 kernel_on : (b : Boot) (pt : Point) (l : Placed) (m acting groups : ℕ) (topic : About) (pair : ℕ → ℕ → Pair) (inbox : ℕ → List MsgId) (n : NodeState) (ms : List Message) → AreMessages l.bag (inbox m) ms → KernelStands b pt l m n.kernel
     → KernelStands b (told_on pt acting groups topic pair inbox) l m (record n.kernel { inbox = ms })
-kernel_on b pt l m acting groups topic pair inbox n ms box h = record {
-  here = h.here;
-  known = h.known;
-  no_server = h.no_server;
-  ring = h.ring;
-  inbox = box;
-  made = h.made;
-  room = h.room;
-  servers = h.servers;
-}
+kernel_on b pt l m acting groups topic pair inbox n ms box h = search
 
 node_stands_on : (b : Boot) (pt : Point) (l : Placed) (m acting groups : ℕ) (topic : About) (pair : ℕ → ℕ → Pair) (inbox : ℕ → List MsgId) (n : NodeState) (ms : List Message) (ss : ℕ → Sending Message) (rs : ℕ → Receiving Message)
     → AreMessages l.bag (inbox m) ms → All IsLawfulMessage ms → (pair m m).ids ≡ (pt.view.pair m m).ids → NodeStands b pt l m n → NodeStands b (told_on pt acting groups topic pair inbox) l m (node_on n ms ss rs)
-node_stands_on b pt l m acting groups topic pair inbox n ms ss rs box lawful ids h = record {
-  kernel = kernel_on b pt l m acting groups topic pair inbox n ms box h.kernel;
-  lawful = record { records = h.lawful.records; room = h.lawful.room; inbox = lawful; servers = h.lawful.servers };
-  machines = h.machines;
-  numbers = h.numbers;
-  home = h.home ∙ ap length (sym ids);
-}
+node_stands_on b pt l m acting groups topic pair inbox n ms ss rs box lawful ids h = search
+    (kernel_on b pt l m acting groups topic pair inbox n ms box h.kernel, h.home ∙ ap length (sym ids))
 
 -- not this pair of machines
 abbrev pub IsOther : ℕ → ℕ → ℕ → ℕ → Type 0
 IsOther a c x y = ((a == x) && (c == y)) ≡ false
+
+-- what it leaves of the other machines, wires and streams, and what both streams' parts are then
+pub record MovesAlone (w : WorldState) (pt : Point) (h : History) (a c : ℕ) (v : WorldState) (g : History) (inbox : ℕ → List MsgId) (messages : List Message) (senders : ℕ → Sending Message) (receivers : ℕ → Receiving Message)
+    (there : Ends) (there_wire : List Sent) (back : Ends) (back_wire : List Sent) : Type 0 where
+  pub boxes : (m : ℕ) → m ≢ c → inbox m ≡ pt.view.inbox m
+  pub node : v.nodes c ≡ node_on (w.nodes c) messages senders receivers
+  pub nodes : (m : ℕ) → m ≢ c → v.nodes m ≡ w.nodes m
+  pub other_senders : (y : ℕ) → y ≢ a → senders y ≡ (w.nodes c).senders y
+  pub other_receivers : (y : ℕ) → y ≢ a → receivers y ≡ (w.nodes c).receivers y
+  -- the wires
+  pub wires : (x y : ℕ) → IsOther a c x y → IsOther c a x y → v.wires x y ≡ w.wires x y
+  pub given : (x y : ℕ) → g.given x y ≡ h.given x y
+  pub packets : (x y : ℕ) → IsOther a c x y → IsOther c a x y → g.packets x y ≡ h.packets x y
+  pub there_sender : (w.nodes a).senders c ≡ there.sender
+  pub there_given : h.given a c ≡ there.given
+  pub there_out : g.packets a c ≡ there.out
+  pub there_back : g.packets c a ≡ there.back
+  pub there_sent : v.wires a c ≡ there_wire
+  pub back_sender : senders a ≡ back.sender
+  pub back_receiver : (w.nodes a).receivers c ≡ back.receiver
+  pub back_given : h.given c a ≡ back.given
+  pub back_out : g.packets c a ≡ back.out
+  pub back_back : g.packets a c ≡ back.back
+  pub back_sent : v.wires c a ≡ back_wire
 
 -- what an event on machine c, of a packet from machine a, changes
 pub record Moves (b : Boot) (w : WorldState) (pt : Point) (l : Placed) (h : History) (a c : ℕ) (v : WorldState) (q : Point) (g : History) : Type 0 where
@@ -53,70 +63,42 @@ pub record Moves (b : Boot) (w : WorldState) (pt : Point) (l : Placed) (h : Hist
   pub topic : About
   pub pair : ℕ → ℕ → Pair
   pub inbox : ℕ → List MsgId
-  pub point : q ≡ told_on pt acting groups topic pair inbox
-  pub counted : v.groups ≡ groups
-  pub mirrors : Mirrors q.kernel q.view q.addresses l
-  pub boxes : (m : ℕ) → m ≢ c → inbox m ≡ pt.view.inbox m
-  pub pairs : (x y : ℕ) → IsOther a c x y → IsOther c a x y → pair x y ≡ pt.view.pair x y
-  pub ids : (x y : ℕ) → (pair x y).ids ≡ (pt.view.pair x y).ids
-  pub took : (x y : ℕ) → (pt.view.pair x y).taken ≤ (pair x y).taken
-  pub came : (i : MsgId) → 1 ≤ times i (inbox c) → Stood pt.view i
   -- the machine
   pub messages : List Message
   pub senders : ℕ → Sending Message
   pub receivers : ℕ → Receiving Message
-  pub node : v.nodes c ≡ node_on (w.nodes c) messages senders receivers
-  pub nodes : (m : ℕ) → m ≢ c → v.nodes m ≡ w.nodes m
-  pub box : AreMessages l.bag (inbox c) messages
-  pub lawful : All IsLawfulMessage messages
-  pub other_senders : (y : ℕ) → y ≢ a → senders y ≡ (w.nodes c).senders y
-  pub other_receivers : (y : ℕ) → y ≢ a → receivers y ≡ (w.nodes c).receivers y
-  -- the wires
-  pub wires : (x y : ℕ) → IsOther a c x y → IsOther c a x y → v.wires x y ≡ w.wires x y
-  pub given : (x y : ℕ) → g.given x y ≡ h.given x y
-  pub packets : (x y : ℕ) → IsOther a c x y → IsOther c a x y → g.packets x y ≡ h.packets x y
   -- the stream from a to c
   pub there : Ends
   pub there_wire : List Sent
   pub there_pair : Pair
-  pub there_stands : PairIs b l a c there there_wire there_pair
-  pub there_sender : (w.nodes a).senders c ≡ there.sender
-  pub there_receiver : receivers a ≡ there.receiver
-  pub there_given : h.given a c ≡ there.given
-  pub there_out : g.packets a c ≡ there.out
-  pub there_back : g.packets c a ≡ there.back
-  pub there_sent : v.wires a c ≡ there_wire
-  pub there_said : pair a c ≡ there_pair
   -- and the one that leads back
   pub back : Ends
   pub back_wire : List Sent
   pub back_pair : Pair
+  pub point : q ≡ told_on pt acting groups topic pair inbox
+  pub counted : v.groups ≡ groups
+  pub mirrors : Mirrors q.kernel q.view q.addresses l
+  pub pairs : (x y : ℕ) → IsOther a c x y → IsOther c a x y → pair x y ≡ pt.view.pair x y
+  pub ids : (x y : ℕ) → (pair x y).ids ≡ (pt.view.pair x y).ids
+  pub took : (x y : ℕ) → (pt.view.pair x y).taken ≤ (pair x y).taken
+  pub came : (i : MsgId) → 1 ≤ times i (inbox c) → Stood pt.view i
+  pub box : AreMessages l.bag (inbox c) messages
+  pub lawful : All IsLawfulMessage messages
+  pub there_stands : PairIs b l a c there there_wire there_pair
+  pub there_receiver : receivers a ≡ there.receiver
+  pub there_said : pair a c ≡ there_pair
   pub back_stands : PairIs b l c a back back_wire back_pair
-  pub back_sender : senders a ≡ back.sender
-  pub back_receiver : (w.nodes a).receivers c ≡ back.receiver
-  pub back_given : h.given c a ≡ back.given
-  pub back_out : g.packets c a ≡ back.out
-  pub back_back : g.packets a c ≡ back.back
-  pub back_sent : v.wires c a ≡ back_wire
   pub back_said : pair c a ≡ back_pair
+  pub alone : MovesAlone w pt h a c v g inbox messages senders receivers there there_wire back back_wire
+  pub open alone use *
 
 other_sender : (w v : WorldState) (a c x y : ℕ) (ms : List Message) (ss : ℕ → Sending Message) (rs : ℕ → Receiving Message) → v.nodes c ≡ node_on (w.nodes c) ms ss rs → ((m : ℕ) → m ≢ c → v.nodes m ≡ w.nodes m) → ((z : ℕ) → z ≢ a → ss z ≡ (w.nodes c).senders z)
     → IsOther c a x y → (v.nodes x).senders y ≡ (w.nodes x).senders y
-other_sender w v a c x y ms ss rs node nodes others other = elim (eqb_tells x c) [
-  | inl e ↦
-      let apart : y ≢ a = let f : x ≡ c = e.1 in grind (arith, nat_tests) in
-      subst (λ (m : ℕ). (v.nodes m).senders y ≡ (w.nodes m).senders y) (sym e.1) (ap (λ (n : NodeState). n.senders y) node ∙ others y apart)
-  | inr e ↦ ap (λ (n : NodeState). n.senders y) (nodes x (let f : (x == c) ≡ false = e.0 in grind (arith, nat_tests)))
-]
+other_sender w v a c x y ms ss rs node nodes others other = grind (arith, nat_tests, eqb_tells)
 
 other_receiver : (w v : WorldState) (a c x y : ℕ) (ms : List Message) (ss : ℕ → Sending Message) (rs : ℕ → Receiving Message) → v.nodes c ≡ node_on (w.nodes c) ms ss rs → ((m : ℕ) → m ≢ c → v.nodes m ≡ w.nodes m) → ((z : ℕ) → z ≢ a → rs z ≡ (w.nodes c).receivers z)
     → IsOther a c x y → (v.nodes y).receivers x ≡ (w.nodes y).receivers x
-other_receiver w v a c x y ms ss rs node nodes others other = elim (eqb_tells y c) [
-  | inl e ↦
-      let apart : x ≢ a = let f : y ≡ c = e.1 in grind (arith, nat_tests) in
-      subst (λ (m : ℕ). (v.nodes m).receivers x ≡ (w.nodes m).receivers x) (sym e.1) (ap (λ (n : NodeState). n.receivers x) node ∙ others x apart)
-  | inr e ↦ ap (λ (n : NodeState). n.receivers x) (nodes y (let f : (y == c) ≡ false = e.0 in grind (arith, nat_tests)))
-]
+other_receiver w v a c x y ms ss rs node nodes others other = grind (arith, nat_tests, eqb_tells)
 
 turned : (a c x y : ℕ) → IsOther a c x y → IsOther c a y x
 turned a c x y e = grind (arith, nat_tests)
@@ -124,41 +106,33 @@ turned a c x y e = grind (arith, nat_tests)
 module _ (b : Boot) (w : WorldState) (pt : Point) (l : Placed) (h : History) (a c : ℕ) (v : WorldState) (q : Point) (g : History) (e : Moves b w pt l h a c v q g) (s : StandsWith b w pt l h) (apart : a ≢ c) where
   there_is : PairStands b (told_on pt e.acting e.groups e.topic e.pair e.inbox) l v g a c
   there_is = holds_stands b (told_on pt e.acting e.groups e.topic e.pair e.inbox) l v g a c e.there e.there_wire e.there_pair
-      (record {
-        sender = ap (λ (n : NodeState). n.senders c) (e.nodes a apart) ∙ e.there_sender;
-        receiver = ap (λ (n : NodeState). n.receivers a) e.node ∙ e.there_receiver;
-        given = e.given a c ∙ e.there_given;
-        out = e.there_out;
-        back = e.there_back;
-        on_wire = e.there_sent;
-        on_pair = e.there_said;
-      })
+      (search (
+        ap (λ (n : NodeState). n.senders c) (e.nodes a apart) ∙ e.there_sender,
+        ap (λ (n : NodeState). n.receivers a) e.node ∙ e.there_receiver,
+        e.given a c ∙ e.there_given,
+      ))
       e.there_stands
 
   back_is : PairStands b (told_on pt e.acting e.groups e.topic e.pair e.inbox) l v g c a
   back_is = holds_stands b (told_on pt e.acting e.groups e.topic e.pair e.inbox) l v g c a e.back e.back_wire e.back_pair
-      (record {
-        sender = ap (λ (n : NodeState). n.senders a) e.node ∙ e.back_sender;
-        receiver = ap (λ (n : NodeState). n.receivers c) (e.nodes a apart) ∙ e.back_receiver;
-        given = e.given c a ∙ e.back_given;
-        out = e.back_out;
-        back = e.back_back;
-        on_wire = e.back_sent;
-        on_pair = e.back_said;
-      })
+      (search (
+        ap (λ (n : NodeState). n.senders a) e.node ∙ e.back_sender,
+        ap (λ (n : NodeState). n.receivers c) (e.nodes a apart) ∙ e.back_receiver,
+        e.given c a ∙ e.back_given,
+      ))
       e.back_stands
 
   elsewhere : (x y : ℕ) → IsOther a c x y → IsOther c a x y → PairStands b pt l w h x y → PairStands b (told_on pt e.acting e.groups e.topic e.pair e.inbox) l v g x y
   elsewhere x y there back k = holds_stands b (told_on pt e.acting e.groups e.topic e.pair e.inbox) l v g x y (ends_of w h x y) (w.wires x y) (pt.view.pair x y)
-      (record {
-        sender = other_sender w v a c x y e.messages e.senders e.receivers e.node e.nodes e.other_senders back;
-        receiver = other_receiver w v a c x y e.messages e.senders e.receivers e.node e.nodes e.other_receivers there;
-        given = e.given x y;
-        out = e.packets x y there back;
-        back = e.packets y x (turned c a x y back) (turned a c x y there);
-        on_wire = e.wires x y there back;
-        on_pair = e.pairs x y there back;
-      })
+      (search (
+        other_sender w v a c x y e.messages e.senders e.receivers e.node e.nodes e.other_senders back,
+        other_receiver w v a c x y e.messages e.senders e.receivers e.node e.nodes e.other_receivers there,
+        e.given x y,
+        e.packets x y there back,
+        e.packets y x (turned c a x y back) (turned a c x y there),
+        e.wires x y there back,
+        e.pairs x y there back,
+      ))
       (pair_is b pt l w h x y k)
 
   pair_on : (x y : ℕ) → PairStands b pt l w h x y → PairStands b (told_on pt e.acting e.groups e.topic e.pair e.inbox) l v g x y
@@ -205,24 +179,15 @@ module _ (b : Boot) (w : WorldState) (pt : Point) (l : Placed) (h : History) (a 
 
   -- the machines know what they knew
   records_at : (m : ℕ) → (v.nodes m).kernel.records ≡ (w.nodes m).kernel.records
-  records_at m = elim (eqb_tells m c) [
-    | inl f ↦ subst (λ (i : ℕ). (v.nodes i).kernel.records ≡ (w.nodes i).kernel.records) (sym f.1) (ap (λ (n : NodeState). n.kernel.records) e.node)
-    | inr f ↦ ap (λ (n : NodeState). n.kernel.records) (e.nodes m (let t : (m == c) ≡ false = f.0 in grind (arith, nat_tests)))
-  ]
+  records_at m = grind (arith, nat_tests, eqb_tells)
 
   tokens_on : TokensStand (told_on pt e.acting e.groups e.topic e.pair e.inbox).view l (λ m. (v.nodes m).kernel.records)
   tokens_on p i t z told between about least =
       let (y, there) = stood i z least in
       let k = s.tokens p i t y told between about there in
       let d : ℕ = destination_of i t in
-      record {
-        process = k.process;
-        there = k.there;
-        message = k.message;
-        is = k.is;
-        sender = k.sender;
-        carries = subst (λ (f : Pid → Option machine.Known). Carries p k.process (pt.view.asked p) (incoming_of (f p)) k.message.what) (sym (records_at d)) k.carries;
-      }
+      search
+      (subst (λ (f : Pid → Option machine.Known). Carries p k.process (pt.view.asked p) (incoming_of (f p)) k.message.what) (sym (records_at d)) k.carries)
 
   pub moves_stand : StandsWith b v q l g
   moves_stand = subst (λ (z : Point). StandsWith b v z l g) (sym e.point) (record {

@@ -1,5 +1,5 @@
 -- What stands after an event of a delivery stood before: a message that is taken comes from its stream into the inbox.
-use Rattle.dm_mirror.proofs.Names.{◌≡◌, ℕ, zero, suc, ◌+◌, ◌≤◌, ◌==◌, ◌&&◌, Bool, List, [], ◌∷◌, ◌++◌, refl, ap, ◌∙◌, sym, subst, inl, inr, arith, drop, if◌then◌else◌, slice_get, Some, cases_Bool, MsgId, id_eq, id_eq-is, id_eq-same}
+use Rattle.dm_mirror.proofs.Names.{◌≡◌, ℕ, zero, suc, ◌+◌, ◌≤◌, ◌==◌, ◌&&◌, Bool, List, [], ◌∷◌, ◌++◌, refl, ap, ◌∙◌, sym, subst, inl, inr, arith, drop, if◌then◌else◌, slice_get, Some, cases_Bool, MsgId, id_eq, id_eq-is, id_eq-same, nat_tests}
 use Rattle.dm_mirror.proofs.Names.{at_pair, Spot, Inbox, Untaken, standing, times, untaken, Pair, View, oldest, times-append, two_of}
 
 -- a message stands somewhere
@@ -23,19 +23,13 @@ drop_fewer i (j ∷ js) (suc m) zero le = absurd (omega (arith, le))
 drop_fewer i (j ∷ js) (suc m) (suc n) le = drop_fewer i js m n (omega (arith, le))
 
 pub untaken_stood : (i : MsgId) (p q : Pair) → q.ids ≡ p.ids → p.taken ≤ q.taken → 1 ≤ times i (untaken q) → 1 ≤ times i (untaken p)
-untaken_stood i p q ids more least =
-    let fewer = drop_fewer i p.ids p.taken q.taken more in
-    let same : times i (drop q.taken q.ids) ≡ times i (drop q.taken p.ids) = ap (λ (js : List MsgId). times i (drop q.taken js)) ids in
-    omega (arith, fewer, same, least)
+untaken_stood i p q ids more least = grind (arith, nat_tests, drop_fewer)
 
 -- the message that is next stands untaken
 get_times : (i : MsgId) (ids : List MsgId) (n : ℕ) → slice_get ids n ≡ Some i → 1 ≤ times i (drop n ids)
 get_times i [] zero e = cc
 get_times i [] (suc n) e = cc
-get_times i (j ∷ js) zero e =
-    let f : j ≡ i = cc in
-    let g : times i (i ∷ js) ≡ 1 + times i js = ap (λ (c : Bool). (if c then 1 else 0) + times i js) (id_eq-same i) in
-    subst (λ (k : MsgId). 1 ≤ times i (k ∷ js)) (sym f) (omega (arith, g))
+get_times i (j ∷ js) zero e = grind (arith, nat_tests, id_eq-same)
 get_times i (j ∷ js) (suc n) e = get_times i js n e
 
 pub came_one : (v : View) (a c : ℕ) (j i : MsgId) → oldest (v.pair a c) ≡ Some j → 1 ≤ times i (v.inbox c ++ j ∷ []) → Stood v i
@@ -50,11 +44,4 @@ came_one v a c j i first least = elim (cases_Bool (id_eq i j)) [
 ]
 
 pub took_set : (f : ℕ → ℕ → Pair) (a c : ℕ) (p : Pair) → (f a c).taken ≤ p.taken → (m n : ℕ) → (f m n).taken ≤ (at_pair f a c p m n).taken
-took_set f a c p e m n = elim (cases_Bool ((a == m) && (c == n))) [
-  | inl same ↦
-      let two = two_of a c m n same in
-      let here : (at_pair f a c p m n).taken ≡ p.taken = ap (λ (t : Bool). (if t then p else f m n).taken) same in
-      let was : (f a c).taken ≡ (f m n).taken = ap (λ (i : ℕ). (f i c).taken) two.0 ∙ ap (λ (i : ℕ). (f m i).taken) two.1 in
-      omega (arith, here, was, e)
-  | inr other ↦ let off : (at_pair f a c p m n).taken ≡ (f m n).taken = ap (λ (t : Bool). (if t then p else f m n).taken) other in omega (arith, off)
-]
+took_set f a c p e m n = grind (arith, nat_tests, two_of)

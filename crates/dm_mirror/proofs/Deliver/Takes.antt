@@ -47,16 +47,10 @@ module _ (b : Boot) (l : Placed) (a c : ℕ) (apart : a ≢ c) where
   -- the number that is next is kept where a message is
   has_next : (w : WorldState) (pt : Point) (h : History) (s : StandsWith b w pt l h) (a_in : a < pt.kernel.machines) (c_in : c < pt.kernel.machines) (ks : List ℕ) (m : ℕ) → m ≡ ((w.nodes c).receivers a).count → has m ks ≡ has m (pt.view.pair a c).kept
       → has m ks ≡ is_some (next ((w.nodes c).receivers a))
-  has_next w pt h s a_in c_in ks m e same =
-      same
-      ∙ sym ((there_pair b w pt l h a c s a_in c_in apart).kept m)
-      ∙ ap (λ (i : ℕ). is_some (kept_under ((w.nodes c).receivers a) i)) e
-      ∙ ap (λ (o : Option Message). is_some o) (sym (next_is ((w.nodes c).receivers a)))
+  has_next w pt h s a_in c_in ks m e same = grind (arith, nat_tests, is_some, next_is)
 
   pub kept_after : (f : ℕ → ℕ → Pair) (m : ℕ) (ks : List ℕ) → ((i : ℕ) → m ≤ i → has i ks ≡ has i (f a c).kept) → (i : ℕ) → m + 1 ≤ i → has i ks ≡ has i (off m (f a c).kept)
-  kept_after f m ks same i le =
-      let z : (i == m) ≡ false = grind (arith, nat_tests) in
-      same i (omega arith) ∙ sym (has_off i m (f a c).kept ∙ ap (λ (t : Bool). not t && has i (f a c).kept) z)
+  kept_after f m ks same i le = grind (arith, nat_tests, has_off)
 
   -- so many messages that are kept are taken, from any world that stands
   abbrev pub TakesFollow : ℕ → Type 0

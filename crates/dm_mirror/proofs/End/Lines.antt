@@ -1,5 +1,5 @@
 -- What is said of a process that is alive: its registers, memory and links, as the plain process and the addresses say.
-use Rattle.dm_mirror.proofs.Names.{◌≡◌, ℕ, suc, ◌+◌, List, [], ◌∷◌, ◌++◌, map, length, ◌/◌, refl, ap, ◌∙◌, sym, arith, option_map, Option, None, Some, Pid, Link, place_of, Place, plain_link, link_at, Process, Status, plain_process}
+use Rattle.dm_mirror.proofs.Names.{◌≡◌, ℕ, suc, ◌+◌, List, [], ◌∷◌, ◌++◌, map, length, ◌/◌, refl, ap, ◌∙◌, sym, arith, option_map, Option, None, Some, Pid, Link, place_of, Place, plain_link, link_at, Process, Status, plain_process, nat_tests}
 use Rattle.dm_mirror.proofs.Names.{plain_status, EndLine, Doing, Standing, Addresses, Slot, memory_lines}
 use Rattle.dm_rule.specs.Ends as rule
 use Rattle.dm_world.specs.Ends as world
@@ -23,7 +23,4 @@ doing_same _ = refl
 
 pub alive_same : (a : Addresses) (m : ℕ) (p : Pid) (s : Standing) (x : Process) → ((k : ℕ) (w : Link) → link_at x.table k ≡ Some w → a (Slot p k) ≡ place_of w.addr)
     → world.alive_lines m p s x ≡ rule.alive_lines a p (plain_process x) (Some (record { at = m; standing = s }))
-alive_same a m p s x leads =
-    ap (λ (d : Doing). EndLine.Process p m s d x.stopped x.sent ∷ world.state_lines p x) (doing_same x.status)
-    ∙ ap (λ (ls : List EndLine). EndLine.Process p m s (rule.doing_of (plain_status x.status)) x.stopped x.sent ∷ (EndLine.Registers p x.regs.r x.regs.pc ∷ memory_lines p x.memory (length x.memory / 256) ++ ls))
-    (links_same a p 0 x.table (λ j w e. ap (λ (n : ℕ). a (Slot p n)) (let f : 0 + j ≡ j = omega arith in f) ∙ leads j w e))
+alive_same a m p s x leads = grind (arith, nat_tests, doing_same, links_same)

@@ -12,20 +12,10 @@ use Rattle.dm_mirror.proofs.End.Lines.{alive_same}
 use Rattle.dm_mirror.proofs.End.Lists.{first_at, first_none, names_are}
 use Rattle.dm_mirror.proofs.End.Records.{HasEnded, IsAt, IsComing, away_awaited, away_awaits, carried_own, come_all, has_ended, held_said, is_at, is_coming, restart_wants, silent_has, silent_lines, silent_queue}
 use Rattle.dm_mirror.proofs.End.Where.{ComesTo, HasIt, OverAt, away_silent, is_silent, where_is}
+pub use Rattle.dm_mirror.proofs.Handle.Makes.{child_off as no_server}
 
 some_same : {X : Type 0} (x y : X) → Some x ≡ Some y → x ≡ y
 some_same x y e = cc
-
--- a process with a number from the first on is no server
-neither : (c d e : Bool) → d ≡ false → e ≡ false → ((c && d) || (c && e)) ≡ false
-neither true d e f g = ap (λ (x : Bool). x || e) f ∙ g
-neither false d e f g = refl
-
-pub no_server : (home n : ℕ) → is_server (pid_of home (first_number + n)) ≡ false
-no_server home n =
-    let one : ((first_number + n) == 1) ≡ false = grind (arith, nat_tests) in
-    let two : ((first_number + n) == 2) ≡ false = grind (arith, nat_tests) in
-    neither (home == 0) ((first_number + n) == 1) ((first_number + n) == 2) one two
 
 -- a process that is no server, where the world stands for the point
 pub record IsOfHome (b : Boot) (w : WorldState) (pt : Point) (l : Placed) (h : History) (p : Pid) : Type 0 where
@@ -143,11 +133,7 @@ over_queue b w pt l h p a g =
 
 -- a process that comes: nobody has it
 none_has : (pt : Point) (p : Pid) (a : ComesTo pt.view p) (m : ℕ) → is_silent (pt.view.known m p) ≡ true
-none_has pt p a m = by (m == a.to) refl
-  where
-    by : (c : Bool) → (m == a.to) ≡ c → is_silent (pt.view.known m p) ≡ true
-    by true e = let same : a.to ≡ m = grind (arith, nat_tests) in ap (λ (k : ℕ). is_silent (pt.view.known k p)) (sym same) ∙ ap is_silent a.known
-    by false e = away_silent (pt.view.known m p) (a.others m (let apart : m ≢ a.to = grind (arith, nat_tests) in apart))
+none_has pt p a m = grind (arith, nat_tests, away_silent)
 
 to_machine : (b : Boot) (w : WorldState) (pt : Point) (l : Placed) (h : History) (p : Pid) (a : ComesTo pt.view p) → IsOfHome b w pt l h p → IsComing l p (pt.view.held a.to p) ((w.nodes a.to).kernel.records p)
 to_machine b w pt l h p a g =

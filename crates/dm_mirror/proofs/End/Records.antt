@@ -1,5 +1,5 @@
 -- What a machine has of a process at the end, by what the lines say that it knows.
-use Rattle.dm_mirror.proofs.Names.{◌≡◌, ℕ, true, List, [], refl, ap, ◌∙◌, sym, subst, Option, None, Some, Pid, Message, MsgId, What, MessageKind, Record, EndLine, kind_of, plain_what, Process, Arrival, restarted, coming, Wanted, Nothing}
+use Rattle.dm_mirror.proofs.Names.{◌≡◌, ℕ, true, List, [], refl, ap, ◌∙◌, sym, subst, Option, None, Some, Pid, Message, MsgId, What, MessageKind, Record, EndLine, kind_of, plain_what, Process, Arrival, restarted, coming, Wanted, Nothing, arith, nat_tests}
 use Rattle.dm_mirror.proofs.Names.{by_pieces, Why, Standing, list_line, is_away, Point, Known, Unknown, Here, Frozen, Incoming, Forward, Ended, Placed, alive_lines, awaited_lines, come_whole, held_for, names_of, record_lines, record_queue}
 use Rattle.dm_mirror.proofs.Names.{has_nothing_held, AreMessages, ComesStand, KnownStands, Carries, Wants}
 use Rattle.dm_migrate.specs.Way.{moved}
@@ -8,6 +8,7 @@ use Rattle.dm_rule.specs.Ends as rule
 use Rattle.dm_kernel.specs.State as machine
 use Rattle.dm_mirror.proofs.End.Lists.{names_are}
 use Rattle.dm_mirror.proofs.End.Where.{is_silent}
+pub use Rattle.dm_mirror.proofs.Row.Tokens.{carries_plain as carried_own}
 
 -- a machine that says nothing
 pub silent_has : (k : Known) → is_silent k ≡ true → rule.has k ≡ None
@@ -133,22 +134,9 @@ pub restart_wants : (p : Pid) (x : Process) (n : ℕ) (o : Option Arrival) (w : 
 restart_wants p x n o (What.Restart pid) e h = h.1
 restart_wants p x n o _ e h = cc
 
-pub carried_own : (p : Pid) (x : Process) (n : ℕ) (o : Option Arrival) (w : What) → Carries p x n o w → plain_what w ≡ None
-carried_own p x n o (What.Ask pid blocks moves size asker) h = refl
-carried_own p x n o (What.Refuse pid slots blocks) h = refl
-carried_own p x n o (What.PullState pid chunk) h = refl
-carried_own p x n o (What.State pid chunk last bytes) h = refl
-carried_own p x n o (What.PullBlock pid block) h = refl
-carried_own p x n o (What.Memory pid block bytes) h = refl
-carried_own p x n o (What.AllTaken pid) h = refl
-carried_own p x n o (What.Restart pid) h = refl
-carried_own p x n o _ h = absurd h
-
 -- all its pieces give the process
 pub come_all : (l : Placed) (p : Pid) (held : List MsgId) (a : Arrival) (c : ComesStand l p held a) → a.wanted ≡ Nothing → come_whole a a.wanted ≡ Some (moved c.process)
-come_all l p held a c wanted =
-    ap (come_whole a) wanted
-    ∙ (ap restarted (c.pieces ∙ ap (λ (w : Wanted). coming c.process None a.held w) wanted) ∙ (by_pieces (record c.process { queue = [] }) None a.held c.whole).whole)
+come_all l p held a c wanted = grind (arith, nat_tests)
 
 -- the messages that are held
 pub held_said : (pt : Point) (l : Placed) (p : Pid) (q held : List MsgId) (k : Known) (r : Option machine.Known) → ((i : MsgId) (m : Message) → l.bag i ≡ Some m → m.id ≡ i) → (has_nothing_held k ≡ true → held ≡ []) → KnownStands pt l p q held k r → names_of (held_for r) ≡ held

@@ -69,9 +69,7 @@ home_untaken pt a h = drop_all (pt.view.pair a a).taken (pt.view.pair a a).ids (
 -- the line of a pair; a machine's pair with itself has none
 stream_by : (pt : Point) (w : WorldState) (a c : ℕ) (b : Bool) → (a == c) ≡ b → HomeStands (pt.view.pair a a) → (a ≢ c → world.names_of (world.untaken w a c) ≡ spots.untaken (pt.view.pair a c))
     → (if b then [] else list_line (EndLine.Stream a c) (world.names_of (world.untaken w a c))) ≡ list_line (EndLine.Stream a c) (spots.untaken (pt.view.pair a c))
-stream_by pt w a c true e home apart =
-    let same : a ≡ c = grind (arith, nat_tests) in
-    sym (ap (list_line (EndLine.Stream a c)) (ap (λ (n : ℕ). spots.untaken (pt.view.pair a n)) (sym same) ∙ home_untaken pt a home))
+stream_by pt w a c true e home apart = grind (arith, nat_tests, home_untaken)
 stream_by pt w a c false e home apart = ap (list_line (EndLine.Stream a c)) (apart (let f : a ≢ c = grind (arith, nat_tests) in f))
 
 pub stream_said : (b : Boot) (pt : Point) (l : Placed) (w : WorldState) (h : History) (a c : ℕ) → HomeStands (pt.view.pair a a) → (a ≢ c → PairStands b pt l w h a c) → world.stream_line w a c ≡ list_line (EndLine.Stream a c) (spots.untaken (pt.view.pair a c))

@@ -72,7 +72,7 @@ restart_comes : (s : ℕ) (x : Known) → comes MessageKind.Restart s x ≡ true
 restart_comes s (Incoming from) e = (from, refl)
 restart_comes s _ e = cc
 
-off : (a m : ℕ) → m ≢ a → (a == m) ≡ false
+pub off : (a m : ℕ) → m ≢ a → (a == m) ≡ false
 off a m apart = grind (arith, nat_tests)
 
 -- by the phase

@@ -8,7 +8,6 @@ use Rattle.dm_kernel.specs.State as machine
 use Rattle.dm_kernel.specs.State.{with_sent}
 use Rattle.dm_rule.specs.Parts as rule
 use Rattle.dm_mirror.proofs.Follow.Forwards.{next_free, next_untold}
-use Rattle.dm_mirror.proofs.Follow.Frames.{known_on}
 use Rattle.dm_mirror.proofs.Follow.Rows.{carries_on}
 use Rattle.dm_mirror.proofs.Turning.{Elsewhere, MayOwn, Nothing, Own, Turns}
 
@@ -39,15 +38,8 @@ tokens_asked : (b : Boot) (pt : Point) (l : Placed) (records : AllRecords) (k : 
 tokens_asked b pt l records k c p to q i t z told between about least =
     let one = c.tokens q i t z told between about (stood pt p to i z least) in
     let n = destination_of i t in
-    record {
-      process = one.process;
-      there = one.there;
-      message = one.message;
-      is = one.is;
-      sender = one.sender;
-      carries = carries_on q one.process (pt.view.asked q) (incoming_of (records n q)) (incoming_of (at_machine records 0 k.records n q)) one.message.what
-          (λ u w. subst (λ (f : Pid → Option machine.Known). Wants (incoming_of (f q)) u) (sym (same_records records k n (0 == n) c.mine refl)) w) one.carries;
-    }
+    search
+    (carries_on q one.process (pt.view.asked q) (incoming_of (records n q)) (incoming_of (at_machine records 0 k.records n q)) one.message.what (λ u w. subst (λ (f : Pid → Option machine.Known). Wants (incoming_of (f q)) u) (sym (same_records records k n (0 == n) c.mine refl)) w) one.carries)
 
 own_asked : (b : Boot) (pt : Point) (l : Placed) (records : AllRecords) (k : KernelState) (c : Asks b pt l records k) (p : Pid) (to : ℕ) → AllOwnStand (asked_point pt p to).view l
 own_asked b pt l records k c p to i x there plain = let o = c.own i x there plain in record { told = o.told; mine = o.mine; sender = o.sender }
@@ -55,41 +47,13 @@ own_asked b pt l records k c p to i x there plain = let o = c.own i x there plai
 kernel_asked : (b : Boot) (pt : Point) (l : Placed) (records : AllRecords) (k : KernelState) (c : Asks b pt l records k) (p : Pid) (to : ℕ) → KernelStands b (asked_point pt p to) l 0 k
 kernel_asked b pt l records k c p to =
     let h = c.stands in
-    record {
-      here = h.here;
-      known = λ q server. known_on pt (asked_point pt p to) l l q (pt.view.queue 0 q) (pt.view.held 0 q) (pt.view.known 0 q) (k.records q) refl refl (λ j least. refl) (λ j least. refl) (h.known q server);
-      no_server = h.no_server;
-      ring = h.ring;
-      inbox = h.inbox;
-      made = h.made;
-      room = h.room;
-      servers = h.servers;
-    }
+    search h.known
 
 sent_asked : (b : Boot) (pt : Point) (l : Placed) (k : KernelState) → KernelStands b pt l 0 k → KernelStands b pt l 0 (with_sent k)
 sent_asked b pt l k h = record { here = h.here; known = h.known; no_server = h.no_server; ring = h.ring; inbox = h.inbox; made = h.made; room = h.room; servers = h.servers }
 
 elsewhere_asked : (pt : Point) (l : Placed) (p : Pid) (to : ℕ) → Elsewhere 0 (asked_point pt p to) l (asked_point pt p to) l
-elsewhere_asked pt l p to = record {
-  acting = refl;
-  groups = refl;
-  pair = λ a d. refl;
-  inbox = λ n off. refl;
-  ring = λ n off. refl;
-  known = λ n q off. refl;
-  queue = λ n q off. refl;
-  held = λ n q off. refl;
-  count = λ n. refl;
-  told = refl;
-  machines = refl;
-  made = λ n off. refl;
-  process = λ n q off has. refl;
-  ended = λ n q off e. refl;
-  life = λ n q off has. refl;
-  bag = λ i s is least. refl;
-  board = λ off. refl;
-  manager = λ off. refl;
-}
+elsewhere_asked pt l p to = search
 
 -- a line that changes nothing says why there is no message
 pub asked_line : (b : Boot) (pt : Point) (l : Placed) (records : AllRecords) (k : KernelState) (c : Asks b pt l records k) (p : Pid) (to : ℕ) (said : Line) → asks_move k p to ≡ Some (record { state = k; parts = Part.Says said ∷ [] }) → migrates pt p ≡ rule.Says said ∷ []

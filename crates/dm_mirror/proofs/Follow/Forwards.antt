@@ -1,8 +1,8 @@
 -- A message for a process that has gone on follows it, and its sender may be told.
-use Rattle.dm_mirror.proofs.Names.{◌≡◌, ◌≢◌, ℕ, ◌+◌, ◌≤◌, Bool, true, false, List, [], ◌∷◌, map, refl, ap, ◌∙◌, sym, subst, is_some, arith, if◌then◌else◌, Option, None, Some, false≢true, Pid, pid_of, place_of, update_of, Message, MsgId}
-use Rattle.dm_mirror.proofs.Names.{What, Record, Line, MessageKind, id_eq, id_of, kind_of, plain_kind, PlainMessage, PlainWhat, plain_message, plain_what, with_what, incoming_of, sent_on, Boot, manager, OneKernel, bind, forwards_and}
+use Rattle.dm_mirror.proofs.Names.{◌≡◌, ℕ, ◌+◌, ◌≤◌, Bool, true, false, List, [], ◌∷◌, map, refl, ap, ◌∙◌, sym, subst, is_some, arith, if◌then◌else◌, Option, None, Some, false≢true, Pid, pid_of, place_of, update_of, Message, MsgId, nat_tests}
+use Rattle.dm_mirror.proofs.Names.{What, Record, Line, MessageKind, id_eq, id_of, kind_of, plain_kind, PlainMessage, PlainWhat, plain_message, plain_what, with_what, incoming_of, sent_on, Boot, manager, bind, forwards_and}
 use Rattle.dm_mirror.proofs.Names.{KernelState, id_eq-same, id_eq-swap, Addresses, Receiver, Sender, is_told_back, unmoved, forwards_on, process_told, Point, moved, at_machine, Spot, Queue, Held, StandsOnce, standing, About, Known, Forward}
-use Rattle.dm_mirror.proofs.Names.{Told, forward_about, forwarded_for, handled, own_id, receiver_of, stands_right, WhatFits, is_fixed, own_sort, Run, Placed, Mirrors, free_off, plain_sent_on, forwarded_mirrors, moves_forwarded, update_gets}
+use Rattle.dm_mirror.proofs.Names.{Told, forward_about, forwarded_for, handled, own_id, receiver_of, stands_right, is_fixed, Run, Placed, Mirrors, free_off, plain_sent_on, forwarded_mirrors, moves_forwarded, update_gets}
 use Rattle.dm_mirror.proofs.Names.{parts, mirrors_view, AllOwnStand, OwnStands, KnownStands, AllRecords, Wants}
 use Rattle.dm_kernel.specs.declared.part.Part.{Part}
 use Rattle.dm_kernel.specs.State as machine
@@ -11,7 +11,7 @@ use Rattle.dm_rule.specs.Parts as rule
 use Rattle.dm_rule.specs.Rule.{process_handles}
 use Rattle.dm_places.specs.PlacedStep.{with_message}
 use Rattle.dm_mirror.proofs.Follow.Frames.{Fronts, apart_at, held_apart, known_on, queue_apart}
-use Rattle.dm_mirror.proofs.Follow.Fronts.{IsProcess, front_still, is_process_of, plain_kinds, plain_there}
+use Rattle.dm_mirror.proofs.Follow.Fronts.{IsProcess, front_still, is_process_of, plain_kinds}
 use Rattle.dm_mirror.proofs.Follow.Receivers.{machine_process, rule_process}
 use Rattle.dm_mirror.proofs.Follow.Rows.{handled_point, handled_view, turns_follow}
 use Rattle.dm_mirror.proofs.Turning.{AllMayPut, MayOwn, MayPut, On, Own, Route, TurnsAt, begun, owns, part_of, rule_part_of}
@@ -34,9 +34,7 @@ own_back _ e back = cc
 
 -- the name of the kernel's next message is free
 once_told : (i : MsgId) (f : Spot → ℕ) (o : Option Told) → StandsOnce f → ((z : Spot) → 1 ≤ f z → is_some o ≡ true) → o ≡ None → ⊥
-once_told i f o once told none =
-    let (spot, one, others) = once in
-    false≢true (sym (ap is_some none) ∙ told spot (omega (arith, one)))
+once_told i f o once told none = grind (arith, nat_tests, is_some)
 
 pub next_untold : (b : Boot) (m : ℕ) (pt : Point) → Run b pt → pt.view.told (id_of (pid_of m 0) (pt.view.count m)) ≡ None
 next_untold b m pt run = run.based.phased.state.numbered m (pt.view.count m) (omega arith)
@@ -78,11 +76,7 @@ sender_is : (b : Boot) (m : ℕ) (pt : Point) (l : Placed) (records : AllRecords
 sender_is b m pt l records k y c none back = sym ((c.own y.id y c.there (ap (with_what y) none)).sender (own_back y.what none back))
 
 none_of : (y : Message) → plain_message y ≡ None → plain_what y.what ≡ None
-none_of y e = none_by y (plain_what y.what) e
-  where
-    none_by : (y : Message) (o : Option PlainWhat) → with_what y o ≡ None → o ≡ None
-    none_by y None e = refl
-    none_by y (Some w) e = cc
+none_of y e = grind (arith, nat_tests)
 
 -- what goes on, and what tells its sender
 abbrev routes_of : Message → MsgId → ℕ → ℕ → ℕ → Bool → List Route
@@ -99,9 +93,7 @@ machine_forwards s y at moves false = refl
 
 rule_forwards : (a : Addresses) (y : Message) (k : MessageKind) (sender : Pid) (id : MsgId) (here at moves : ℕ) (back : Bool) → is_told_back k ≡ back → (back ≡ true → sender ≡ y.sender.pid) → a (Sender y.id) ≡ place_of y.sender
     → forwards_on a y.id k sender at ≡ rule.Says (Line.Forwarded y.id at) ∷ map rule_part_of (routes_of y id here at moves back)
-rule_forwards a y k sender id here at moves true is who place =
-    ap (λ (t : Bool). rule.Says (Line.Forwarded y.id at) ∷ rule.Again y.id at ∷ (if t then rule.Owns MessageKind.Update sender (a (Sender y.id)).at ∷ [] else [])) is
-    ∙ (λ i. rule.Says (Line.Forwarded y.id at) ∷ rule.Again y.id at ∷ rule.Owns MessageKind.Update (who refl i) (place i).at ∷ [])
+rule_forwards a y k sender id here at moves true is who place = grind (arith, nat_tests)
 rule_forwards a y k sender id here at moves false is who place =
     ap (λ (t : Bool). rule.Says (Line.Forwarded y.id at) ∷ rule.Again y.id at ∷ (if t then rule.Owns MessageKind.Update sender (a (Sender y.id)).at ∷ [] else [])) is
 
@@ -167,9 +159,7 @@ inbox_is k rest true = refl
 inbox_is k rest false = refl
 
 gone_on : (l : Placed) (y z : Message) (at moves : ℕ) → (with_message l y.id (Some (sent_on at moves y))).bag y.id ≡ Some z → sent_on at moves y ≡ z
-gone_on l y z at moves e =
-    let f : Some (sent_on at moves y) ≡ Some z = sym (ap (λ (t : Bool). if t then Some (sent_on at moves y) else l.bag y.id) (id_eq-same y.id)) ∙ e in
-    cc
+gone_on l y z at moves e = grind (arith, nat_tests, id_eq-same)
 
 own_most : (y : Message) (id : MsgId) (here at moves : ℕ) (back : Bool) → owns (routes_of y id here at moves back) ≤ 1
 own_most y id here at moves true = omega arith

@@ -9,36 +9,9 @@ pub use Rattle.dm_rule.proofs.Lines.{eq_self}
 pub use Rattle.dm_rule.proofs.Lines.{at_machine_at as machine_self}
 pub use Rattle.dm_rulelaws.proofs.Goes.Turns.{times_more}
 pub use Rattle.dm_rulelaws.proofs.Goes.Always.{queue_apart}
-
-pub map_same : (f g : MsgId → Option Message) (ids : List MsgId) → ((j : MsgId) → 1 ≤ times j ids → g j ≡ f j) → map g ids ≡ map f ids
-map_same f g [] same = refl
-map_same f g (j ∷ js) same =
-    let first : g j ≡ f j = same j (times_self j js) in
-    let rest : map g js ≡ map f js = map_same f g js (λ n least. same n (let more = times_more n j js in omega (arith, least, more))) in
-    λ i. first i ∷ rest i
-
--- what is known of a process that stays
-pub known_on : (pt next : Point) (l placed : Placed) (p : Pid) (queue held : List MsgId) (k : Known) (r : Option machine.Known) → placed.processes p ≡ l.processes p → next.kernel.processes p ≡ pt.kernel.processes p
-    → ((j : MsgId) → 1 ≤ times j queue → placed.bag j ≡ l.bag j) → ((j : MsgId) → 1 ≤ times j held → placed.bag j ≡ l.bag j) → KnownStands pt l p queue held k r → KnownStands next placed p queue held k r
-known_on pt next l placed p queue held Unknown None same life bag back h = tt
-known_on pt next l placed p queue held Here (Some (Record.Here x)) same life bag back h = ((h.0.0, same ∙ h.0.1), map_same l.bag placed.bag queue bag ∙ h.1)
-known_on pt next l placed p queue held (Frozen to) (Some (Record.Frozen d)) same life bag back h = record {
-  to = h.to;
-  asker = h.asker;
-  here = ((h.here.0.0, same ∙ h.here.0.1), map_same l.bag placed.bag queue bag ∙ h.here.1);
-  held = map_same l.bag placed.bag held back ∙ h.held;
-  whole = h.whole;
-}
-known_on pt next l placed p queue held (Incoming from) (Some (Record.Incoming a)) same life bag back h = record {
-  process = h.process;
-  there = same ∙ h.there;
-  whole = h.whole;
-  pieces = h.pieces;
-  held = map_same l.bag placed.bag held back ∙ h.held;
-}
-known_on pt next l placed p queue held (Forward at moves) (Some (Record.Forward to count)) same life bag back h = h
-known_on pt next l placed p queue held Ended (Some (Record.Ended y)) same life bag back h = ap kernel.ended life ∙ h
-known_on pt next l placed p queue held k r same life bag back h = absurd h
+pub use Rattle.dm_mirror.proofs.Kernel.Sets.{known_at as known_on, map_same}
+pub use Rattle.dm_mirror.proofs.End.Where.{off as eq_off}
+use Rattle.dm_mirror.proofs.Handle.Taking.{not_it}
 
 -- a message that stands somewhere stands there once, and nowhere else
 outside_once : (c : Bool) (f : Spot → ℕ) (x : Spot) → StandsOutside c f → 1 ≤ f x → StandsOnce f
@@ -83,12 +56,6 @@ pub record Fronts (b : Boot) (m : ℕ) (pt : Point) (l : Placed) (records : AllR
 pub at_front : (b : Boot) (m : ℕ) (pt : Point) (l : Placed) (records : AllRecords) (k : KernelState) (y : Message) (c : Fronts b m pt l records k y) → 1 ≤ standing pt.view y.id (Inbox m)
 at_front b m pt l records k y c = subst (λ (z : List MsgId). 1 ≤ times y.id z) (sym c.box) (times_self y.id c.ids)
 
-not_it : (i j : MsgId) (f : MsgId → ℕ) → f i ≡ 0 → 1 ≤ f j → id_eq i j ≡ false
-not_it i j f none least = elim (cases_Bool (id_eq i j)) [
-  | inl same ↦ absurd (let e : f i ≡ f j = ap f (id_eq-is i j same) in omega (arith, none, least, e))
-  | inr off ↦ off
-]
-
 pub apart_at : (b : Boot) (m : ℕ) (pt : Point) (l : Placed) (records : AllRecords) (k : KernelState) (y : Message) (c : Fronts b m pt l records k y) (s : Spot) (j : MsgId) → s ≢ Inbox m → 1 ≤ standing pt.view j s → id_eq y.id j ≡ false
 apart_at b m pt l records k y c s j off least =
     not_it y.id j (λ (i : MsgId). standing pt.view i s) ((stands_once b pt y.id (Inbox m) c.run (at_front b m pt l records k y c)).1 s off) least
@@ -112,13 +79,6 @@ held_apart m n p e = false≢true (ap is_inbox e)
 -- the inbox behind its front
 pub front_gone : (i : MsgId) (is xs : List MsgId) → xs ≡ i ∷ is → without_front i xs ≡ is
 front_gone i is xs e = ap (without_front i) e ∙ ap (λ (c : Bool). if c then is else i ∷ is) (id_eq-same i)
-
--- what machine m has, at m and elsewhere
-pub eq_off : (m n : ℕ) → n ≢ m → (m == n) ≡ false
-eq_off m n apart = elim (cases_Bool (m == n)) [
-  | inl same ↦ absurd (apart (let e : n ≡ m = grind (arith, nat_tests) in e))
-  | inr off ↦ off
-]
 
 pub machine_off : {X : Type 0} (f : ℕ → X) (m n : ℕ) (x : X) → n ≢ m → at_machine f m x n ≡ f n
 machine_off f m n x apart = ap (λ (c : Bool). if c then x else f n) (eq_off m n apart)

@@ -96,12 +96,7 @@ was_told b m pt l y (Some x) run mirrors own there least e =
     let bag : pt.kernel.bag y.id ≡ Some x = sym (mirrors.plain.bag y.id) ∙ ap (λ (z : Option Message). bind z plain_message) there ∙ e in
     let right = run.based.phased.sane.tells in
     let p = parts y x e in
-    record {
-      told = t;
-      is = is;
-      kind = right.kind y.id x t bag is ∙ plain_kinds y.what x.what p.what;
-      receiver = right.receiver y.id x t bag is ∙ sym p.to;
-    }
+    search (right.kind y.id x t bag is ∙ plain_kinds y.what x.what p.what, right.receiver y.id x t bag is ∙ sym p.to)
 
 -- whatever is at the front
 pub record Fronted (b : Boot) (m : ℕ) (pt : Point) (l : Placed) (records : AllRecords) (k : KernelState) : Type 0 where

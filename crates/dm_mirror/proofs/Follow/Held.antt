@@ -34,14 +34,7 @@ times_other i j [] off = ap (λ (c : Bool). (if c then 1 else 0) + 0) off
 times_other i j (n ∷ is) off = ap (λ (k : ℕ). (if id_eq i n then 1 else 0) + k) (times_other i j is off)
 
 grown : (f : ℕ → Pid → List MsgId) (m : ℕ) (p : Pid) (n : ℕ) (q : Pid) (i j : MsgId) → id_eq i j ≡ false → times i (at_record f m p (f m p ++ j ∷ []) n q) ≡ times i (f n q)
-grown f m p n q i j off = elim (cases_Bool ((m == n) && pid_eq p q)) [
-  | inl is ↦
-      let same : (m == n) ≡ true = grind (arith, nat_tests) in
-      let who : pid_eq p q ≡ true = grind (arith, nat_tests) in
-      let at : m ≡ n = grind (arith, nat_tests) in
-      ap (λ (c : Bool). times i (if c then f m p ++ j ∷ [] else f n q)) is ∙ times_other i j (f m p) off ∙ (λ e. times i (f (at e) (pid_eq-is p q who e)))
-  | inr apart ↦ ap (λ (c : Bool). times i (if c then f m p ++ j ∷ [] else f n q)) apart
-]
+grown f m p n q i j off = grind (arith, nat_tests, times_other, pid_eq-is)
 
 record_off : {X : Type 0} (f : ℕ → Pid → X) (m n : ℕ) (p q : Pid) (x : X) → n ≢ m → at_record f m p x n q ≡ f n q
 record_off f m n p q x apart = ap (λ (c : Bool). if c && pid_eq p q then x else f n q) (eq_off m n apart)

@@ -1,5 +1,5 @@
 -- A message of a kernel that changes no process of its machine: what it leads to.
-use Rattle.dm_mirror.proofs.Names.{◌≡◌, ◌≢◌, ℕ, ◌+◌, ◌==◌, false, List, [], ◌∷◌, refl, ap, ◌∙◌, sym, subst, arith, Option, None, Some, Addr, Pid, Message, MsgId, What, Record, MessageKind, kind_of, PlainMessage, plain_message, plain_what}
+use Rattle.dm_mirror.proofs.Names.{◌≡◌, ◌≢◌, ℕ, ◌+◌, ◌==◌, false, List, [], ◌∷◌, refl, ap, ◌∙◌, sym, subst, arith, Option, None, Some, Addr, Pid, Message, MsgId, What, Record, MessageKind, kind_of, PlainMessage, plain_message, plain_what, nat_tests}
 use Rattle.dm_mirror.proofs.Names.{with_what, Boot, Why, Life, Managing, Board, Servers, handles, KernelState, Line, Addresses, ended_told, Point, after_line, moved, comes_to, Known, Ended, is_fixed, Placed, Mirrors, mirrors_view}
 use Rattle.dm_mirror.proofs.Names.{updated_ended_mirrors, about_of, told_of, KnownStands, servers_at, AllRecords, no_process}
 use Rattle.dm_kernel.specs.declared.part.Part.{Part}
@@ -81,9 +81,7 @@ turns_quiet b m pt l records k y c h =
 
 -- a kernel's own message was told as what it is
 pub own_told_of : (b : Boot) (m : ℕ) (pt : Point) (l : Placed) (records : AllRecords) (k : KernelState) (y : Message) (c : Fronts b m pt l records k y) → plain_what y.what ≡ None → c.told ≡ told_of y
-own_told_of b m pt l records k y c none =
-    let f : Some c.told ≡ Some (told_of y) = sym c.told_is ∙ (c.own y.id y c.there (ap (with_what y) none)).told in
-    cc
+own_told_of b m pt l records k y c none = grind (arith, nat_tests)
 
 -- a message of the bag would have a plain meaning
 pub no_plain : (y : Message) (x : PlainMessage) → plain_what y.what ≡ None → plain_message y ≡ Some x → ⊥

@@ -1,5 +1,5 @@
 -- What a machine and the rule do with a message for a process, by what they know of it.
-use Rattle.dm_mirror.proofs.Names.{◌≡◌, ℕ, ◌==◌, Bool, false, List, refl, ap, ◌∙◌, sym, subst, if◌then◌else◌, Option, None, Some, Pid, pid_eq, MsgId, Message, PlainMessage, plain_message, with_record, Boot, switchboard, manager, handles}
+use Rattle.dm_mirror.proofs.Names.{◌≡◌, ℕ, ◌==◌, Bool, false, List, refl, ap, ◌∙◌, sym, subst, if◌then◌else◌, Option, None, Some, Pid, pid_eq, MsgId, Message, PlainMessage, plain_message, with_record, Boot, switchboard, manager, handles, arith, nat_tests}
 use Rattle.dm_mirror.proofs.Names.{KernelState, Turned, pid_eq-same, process_told, Point, comes_to, hears, Known, Told, Placed, parts, AllRecords}
 use Rattle.dm_kernel.specs.Handle as machine_handle
 use Rattle.dm_kernel.specs.State as machine
@@ -29,9 +29,7 @@ own_process b pt m id t k o is e h =
 -- a message of the bag, or a kernel's own
 pub rule_process : (b : Boot) (m : ℕ) (pt : Point) (l : Placed) (records : AllRecords) (k : KernelState) (y : Message) (c : Fronts b m pt l records k y) (w : Known) (o : Option (List rule.Part)) (z : Option PlainMessage) → IsProcess y.to.pid → pt.view.known m y.to.pid ≡ w → plain_message y ≡ z
     → ((x : PlainMessage) → z ≡ Some x → process_handles pt m y.id x w ≡ o) → (z ≡ None → process_told pt m y.id c.told w ≡ o) → comes_to b pt m y.id (pt.kernel.bag y.id) ≡ o
-rule_process b m pt l records k y c w o None is e plain bag own =
-    ap (comes_to b pt m y.id) (plain_there b m pt l records k y c ∙ plain) ∙ ap (hears b pt m y.id) c.told_is
-    ∙ own_process b pt m y.id c.told w o (subst IsProcess (sym c.receiver) is) (ap (pt.view.known m) c.receiver ∙ e) (own refl)
+rule_process b m pt l records k y c w o None is e plain bag own = grind (arith, nat_tests, plain_there, own_process)
 rule_process b m pt l records k y c w o (Some x) is e plain bag own =
     let to : y.to.pid ≡ x.to = (parts y x plain).to in
     ap (comes_to b pt m y.id) (plain_there b m pt l records k y c ∙ plain) ∙ bag_process b pt m y.id x w o (subst IsProcess to is) (ap (pt.view.known m) (sym to) ∙ e) (bag x refl)

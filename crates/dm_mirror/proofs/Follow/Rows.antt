@@ -73,7 +73,7 @@ pub record Follows (b : Boot) (m : ℕ) (pt : Point) (l : Placed) (records : All
   pub still : is_between (kind_of y.what) ≡ false
   pub may : AllMayPut (handled_point pt m y.id held topic addresses) placed (at_machine records m state.records) routes
 
-append_none : {X : Type 0} (xs : List X) → xs ++ [] ≡ xs
+pub append_none : {X : Type 0} (xs : List X) → xs ++ [] ≡ xs
 append_none [] = refl
 append_none (x ∷ xs) = ap (λ (ys : List _). x ∷ ys) (append_none xs)
 
@@ -92,12 +92,7 @@ token_apart b m pt l records k y c i t still told between = elim (cases_Bool (id
 
 -- where another message stands behind it stood before
 inbox_from : (m n : ℕ) (pt : Point) (y i : MsgId) (ids : List MsgId) (e : Bool) → (m == n) ≡ e → pt.view.inbox m ≡ y ∷ ids → 1 ≤ times i (if e then without_front y (pt.view.inbox m) else pt.view.inbox n) → 1 ≤ times i (pt.view.inbox n)
-inbox_from m n pt y i ids true is box least =
-    let same : m ≡ n = grind (arith, nat_tests) in
-    let gone : 1 ≤ times i ids = subst (λ (z : List MsgId). 1 ≤ times i z) (front_gone y ids (pt.view.inbox m) box) least in
-    let more = times_more i y ids in
-    let all : 1 ≤ times i (y ∷ ids) = omega (arith, gone, more) in
-    subst (λ (z : ℕ). 1 ≤ times i (pt.view.inbox z)) same (subst (λ (z : List MsgId). 1 ≤ times i z) (sym box) all)
+inbox_from m n pt y i ids true is box least = grind (arith, nat_tests, front_gone, times_more)
 inbox_from m n pt y i ids false is box least = least
 
 stood : (b : Boot) (m : ℕ) (pt : Point) (l : Placed) (records : AllRecords) (k : KernelState) (y : Message) (c : Fronts b m pt l records k y) (h : Follows b m pt l records k y c) (i : MsgId) (z : Spot) → id_eq y.id i ≡ false
@@ -137,15 +132,11 @@ tokens_follow b m pt l records k y c h p i t z told between about least =
     let off = token_apart b m pt l records k y c i t h.still told between in
     let before = stood b m pt l records k y c h i z off least in
     let one = c.tokens p i t z told between about before in
-    record {
-      process = one.process;
-      there = process_stays b m pt l records k y c h p i t z told between about before ∙ one.there;
-      message = one.message;
-      is = h.bag i off ∙ one.is;
-      sender = one.sender;
-      carries = carries_on p one.process (pt.view.asked p) (incoming_of (records (destination_of i t) p)) (incoming_of (at_machine records m h.state.records (destination_of i t) p)) one.message.what
-          (λ u w. all_wants b m pt l records k y c h p (destination_of i t) u (m == destination_of i t) refl w) one.carries;
-    }
+    search (
+      process_stays b m pt l records k y c h p i t z told between about before ∙ one.there,
+      h.bag i off ∙ one.is,
+      carries_on p one.process (pt.view.asked p) (incoming_of (records (destination_of i t) p)) (incoming_of (at_machine records m h.state.records (destination_of i t) p)) one.message.what (λ u w. all_wants b m pt l records k y c h p (destination_of i t) u (m == destination_of i t) refl w) one.carries,
+    )
 
 own_follows : (b : Boot) (m : ℕ) (pt : Point) (l : Placed) (records : AllRecords) (k : KernelState) (y : Message) (c : Fronts b m pt l records k y) (h : Follows b m pt l records k y c) → AllOwnStand (handled_view pt m y.id h.held h.topic) h.placed
 own_follows b m pt l records k y c h i x there plain = elim (cases_Bool (id_eq y.id i)) [
@@ -190,46 +181,33 @@ kernel_follows : (b : Boot) (m : ℕ) (pt : Point) (l : Placed) (records : AllRe
     → KernelStands b (handled_point pt m y.id h.held h.topic h.addresses) h.placed m h.state
 kernel_follows b m pt l records k y c h =
     let stands = c.stands in
-    record {
-      here = h.here ∙ stands.here;
-      known = λ q server. known_follows b m pt l records k y c h q server;
-      no_server = λ q server. servers_follow b m pt l records k y c h q server;
-      ring = h.ring ∙ stands.ring;
-      inbox = ap (map h.placed.bag) (machine_self pt.view.inbox m (without_front y.id (pt.view.inbox m)) ∙ front_gone y.id c.ids (pt.view.inbox m) c.box)
-          ∙ map_same l.bag h.placed.bag c.ids (λ j least. h.bag j (apart_behind b m pt l records k y c j least)) ∙ c.others ∙ ap (map Some) (sym h.inbox);
-      made = h.made ∙ stands.made;
-      room = subst (λ (t : Taken). RoomStands t (room_of (slice_get b.machines m)) (taken_at pt m pt.kernel.machines)) (sym h.room) stands.room;
-      servers = h.servers;
-    }
+    search (
+      h.here ∙ stands.here,
+      known_follows b m pt l records k y c h,
+      servers_follow b m pt l records k y c h,
+      h.ring ∙ stands.ring,
+      ap (map h.placed.bag) (machine_self pt.view.inbox m (without_front y.id (pt.view.inbox m)) ∙ front_gone y.id c.ids (pt.view.inbox m) c.box) ∙ map_same l.bag h.placed.bag c.ids (λ j least. h.bag j (apart_behind b m pt l records k y c j least)) ∙ c.others ∙ ap (map Some) (sym h.inbox),
+      h.made ∙ stands.made,
+      subst (λ (t : Taken). RoomStands t (room_of (slice_get b.machines m)) (taken_at pt m pt.kernel.machines)) (sym h.room) stands.room,
+    )
 
 elsewhere_follows : (b : Boot) (m : ℕ) (pt : Point) (l : Placed) (records : AllRecords) (k : KernelState) (y : Message) (c : Fronts b m pt l records k y) (h : Follows b m pt l records k y c)
     → Elsewhere m (begun pt m) l (handled_point pt m y.id h.held h.topic h.addresses) h.placed
-elsewhere_follows b m pt l records k y c h = record {
-  acting = refl;
-  groups = refl;
-  pair = λ a d. refl;
-  inbox = λ n off. machine_off pt.view.inbox m n (without_front y.id (pt.view.inbox m)) off;
-  ring = λ n off. refl;
-  known = λ n p off. refl;
-  queue = λ n p off. refl;
-  held = λ n p off. h.held_off n p off;
-  count = λ n. refl;
-  told = refl;
-  machines = refl;
-  made = λ n off. refl;
-  process = λ n p off has. elim (cases_Bool (pid_eq h.process p)) [
-    | inl same ↦
-        let e : h.process ≡ p = pid_eq-is h.process p same in
-        subst (λ (q : Pid). h.placed.processes q ≡ l.processes q) e (h.elsewhere n off (ap (λ (q : Pid). has_process (pt.view.known n q)) e ∙ has))
-    | inr apart ↦ h.processes p apart
-  ];
-  ended = λ n p off e. refl;
-  life = λ n p off e. refl;
-  bag = λ i s is least. kept_at b m pt l records k y c h s i (elsewhere_apart m s is) (standing_begun s i least);
-  board = h.board;
-  manager = h.manager;
-}
+elsewhere_follows b m pt l records k y c h = search (
+  machine_off,
+  h.held_off,
+  others,
+  λ (i : MsgId) (s : Spot) (is : is_elsewhere m s ≡ true) (least : 1 ≤ standing (begun pt m).view i s). kept_at b m pt l records k y c h s i (elsewhere_apart m s is) (standing_begun s i least),
+)
   where
+    others : (n : ℕ) (p : Pid) → n ≢ m → has_process (pt.view.known n p) ≡ true → h.placed.processes p ≡ l.processes p
+    others n p off has = elim (cases_Bool (pid_eq h.process p)) [
+      | inl same ↦
+          let e : h.process ≡ p = pid_eq-is h.process p same in
+          subst (λ (q : Pid). h.placed.processes q ≡ l.processes q) e (h.elsewhere n off (ap (λ (q : Pid). has_process (pt.view.known n q)) e ∙ has))
+      | inr apart ↦ h.processes p apart
+    ]
+
     standing_begun : (s : Spot) (i : MsgId) → 1 ≤ standing (begun pt m).view i s → 1 ≤ standing pt.view i s
     standing_begun (Queue n p) i least = least
     standing_begun _ i least = least

@@ -1,5 +1,5 @@
 -- An update makes the links of a process or of a server follow another process.
-use Rattle.dm_mirror.proofs.Names.{◌≡◌, ◌≢◌, ℕ, ◌+◌, ◌≤◌, ◌==◌, Bool, true, false, List, [], ◌∷◌, refl, ap, ◌∙◌, sym, subst, is_some, nat_le, arith, if◌then◌else◌, count_by, option_map, Option, None, Some, false≢true, Addr, Pid, pid_eq}
+use Rattle.dm_mirror.proofs.Names.{◌≡◌, ◌≢◌, ℕ, ◌+◌, ◌≤◌, ◌==◌, Bool, true, false, List, [], ◌∷◌, refl, ap, ◌∙◌, sym, subst, is_some, nat_le, arith, if◌then◌else◌, count_by, option_map, Option, None, Some, false≢true, Addr, Pid, pid_eq, nat_tests}
 use Rattle.dm_mirror.proofs.Names.{slot_is_behind, applied, Message, MsgId, What, Record, Line, kind_of, plain_message, plain_what, with_what, Process, incoming_of, named_is_behind, pending_is_behind, Boot, switchboard, manager, Life}
 use Rattle.dm_mirror.proofs.Names.{plain_process, Servers, board_follows, manager_follows, handles, KernelState, with_here, pid_eq-same, place_told, behind_count, here_told, process_told, server_told, updates, Phase, Rests, is_away}
 use Rattle.dm_mirror.proofs.Names.{is_between, is_here, knows, token_in, Point, moved, comes_to, hears, kernel_hears, Inbox, Spot, standing, Known, Unknown, Here, Of, Told, rests_here, is_fixed, Run, Placed, Mirrors, mirrors_view}
@@ -20,19 +20,13 @@ use Rattle.dm_mirror.proofs.Follow.Quiet.{no_plain, own_told_of, turns_quiet}
 use Rattle.dm_mirror.proofs.Follow.Receivers.{machine_process, rule_process, set_other, set_self}
 use Rattle.dm_mirror.proofs.Follow.Rows.{handled_point, turns_follow}
 use Rattle.dm_mirror.proofs.Turning.{TurnsAt, begun, has_process}
-
--- a process that is here is nowhere else, and nothing of it is under way
-away_not : (k : Known) → is_away k ≡ true → has_process k ≡ true → ⊥
-away_not Unknown e h = cc
-away_not _ e h = cc
+use Rattle.dm_mirror.proofs.Kernel.Sets.{away_process as away_not}
 
 rests_away : (m n : ℕ) (k : Known) → n ≢ m → knows (Rests m) n k ≡ true → is_away k ≡ true
 rests_away m n k apart e = sym (ap (λ (c : Bool). if c then is_here k else is_away k) (eq_off m n apart)) ∙ e
 
 rests_at : (b : Boot) (m : ℕ) (pt : Point) (p : Pid) (run : Run b pt) → pt.view.known m p ≡ Here → run.based.phased.phases.of p ≡ Rests m
-rests_at b m pt p run here =
-    let h = run.based.phased.phases in
-    rests_here (h.of p) m (sym (ap (knows (h.of p) m) here) ∙ (h.each p).known m)
+rests_at b m pt p run here = grind (arith, nat_tests, rests_here)
 
 nowhere_else : (b : Boot) (m n : ℕ) (pt : Point) (p : Pid) → Run b pt → pt.view.known m p ≡ Here → n ≢ m → has_process (pt.view.known n p) ≡ true → ⊥
 nowhere_else b m n pt p run here apart has =
@@ -131,11 +125,7 @@ updated_here_turn b m pt l records k y c about fixed knows e =
 
 -- the servers are no processes, and on machine 0
 none_by : (b : Boot) (pt : Point) (l : Placed) (p : Pid) (o : Option Life) → Run b pt → Mirrors pt.kernel pt.view pt.addresses l → nat_le 3 p.num ≡ false → pt.kernel.processes p ≡ o → l.processes p ≡ None
-none_by b pt l p None run mirrors few is = none_there (l.processes p) (sym (mirrors.plain.processes p) ∙ ap kernel.alive is)
-  where
-    none_there : (o : Option Process) → option_map plain_process o ≡ None → o ≡ None
-    none_there None e = refl
-    none_there (Some x) e = cc
+none_by b pt l p None run mirrors few is = grind (arith, nat_tests, option_map)
 none_by b pt l p (Some x) run mirrors few is = absurd (false≢true (sym few ∙ run.based.phased.sane.sound.made.least p (ap is_some is)))
 
 at_home : (b : Boot) (m : ℕ) (pt : Point) (l : Placed) (records : AllRecords) (k : KernelState) (y : Message) (c : Fronts b m pt l records k y) → is_fixed y.to.pid ≡ true → y.to.pid.home ≡ 0 → m ≡ 0
@@ -146,9 +136,7 @@ first_servers l m e = ap (servers_at l) e
 
 -- the rule at a server
 server_board : (b : Boot) (pt : Point) (m : ℕ) (id : MsgId) (t : Told) (o : Option (List rule.Part)) → t.receiver ≡ switchboard → server_told pt id t t.kind ≡ o → hears b pt m id (Some t) ≡ o
-server_board b pt m id t o e h =
-    let p = t.receiver in
-    ap (λ (q : Pid). if q.num == 0 then kernel_hears b pt m id t.kind t.about else if pid_eq q switchboard then server_told pt id t t.kind else if pid_eq q manager then server_told pt id t t.kind else process_told pt m id t (pt.view.known m q)) e ∙ h
+server_board b pt m id t o e h = grind (arith, nat_tests)
 
 server_manager : (b : Boot) (pt : Point) (m : ℕ) (id : MsgId) (t : Told) (o : Option (List rule.Part)) → t.receiver ≡ manager → server_told pt id t t.kind ≡ o → hears b pt m id (Some t) ≡ o
 server_manager b pt m id t o e h =
@@ -156,14 +144,10 @@ server_manager b pt m id t o e h =
 
 -- the machine at a server
 machine_board : (b : Boot) (s : KernelState) (y : Message) (v : Servers) (about : Addr) → y.to.pid ≡ switchboard → s.servers ≡ Some v → y.what ≡ What.Update about → handles b s y ≡ board_follows s y v about
-machine_board b s y v about to there e =
-    ap (λ (q : Pid). if q.num == 0 then machine_handle.kernel_handles b s y y.what else if pid_eq q switchboard then machine_handle.board_handles s y s.servers else if pid_eq q manager then machine_handle.manager_handles s y s.servers else machine_handle.process_handles s y (s.records q)) to
-    ∙ ap (machine_handle.board_handles s y) there ∙ ap (λ (w : What). machine_handle.board_took s y v (board_.takes v.board w)) e ∙ ap (machine_handle.told_board s y v) e
+machine_board b s y v about to there e = grind (arith, nat_tests)
 
 machine_manager : (b : Boot) (s : KernelState) (y : Message) (v : Servers) (about : Addr) → y.to.pid ≡ manager → s.servers ≡ Some v → y.what ≡ What.Update about → handles b s y ≡ manager_follows s y v about
-machine_manager b s y v about to there e =
-    ap (λ (q : Pid). if q.num == 0 then machine_handle.kernel_handles b s y y.what else if pid_eq q switchboard then machine_handle.board_handles s y s.servers else if pid_eq q manager then machine_handle.manager_handles s y s.servers else machine_handle.process_handles s y (s.records q)) to
-    ∙ ap (machine_handle.manager_handles s y) there ∙ ap (λ (w : What). machine_handle.manager_took s y v (manage.takes v.manager y.id.n w)) e ∙ ap (machine_handle.told_manager s y v) e
+machine_manager b s y v about to there e = grind (arith, nat_tests)
 
 -- the switchboard's links follow
 pub updated_board_turn : (b : Boot) (m : ℕ) (pt : Point) (l : Placed) (records : AllRecords) (k : KernelState) (y : Message) (c : Fronts b m pt l records k y) (about : Addr) → y.to.pid ≡ switchboard → y.what ≡ What.Update about → TurnsAt b m pt l records k

@@ -1,5 +1,5 @@
 -- A kernel makes a process.
-use Rattle.dm_mirror.proofs.Names.{◌≡◌, ◌≢◌, ℕ, ◌+◌, ◌/◌, ◌≤◌, ◌==◌, ◌&&◌, Bool, true, false, List, [], ◌∷◌, ◌++◌, length, map, refl, ap, ◌∙◌, sym, subst, is_some, arith, if◌then◌else◌, slice_get, Option, None, Some, false≢true, Pid}
+use Rattle.dm_mirror.proofs.Names.{◌≡◌, ◌≢◌, ℕ, ◌+◌, ◌/◌, ◌≤◌, ◌==◌, ◌&&◌, Bool, true, false, List, [], ◌∷◌, ◌++◌, length, map, refl, ap, ◌∙◌, sym, subst, is_some, arith, if◌then◌else◌, slice_get, Option, None, Some, false≢true, Pid, nat_tests}
 use Rattle.dm_mirror.proofs.Names.{pid_of, pid_eq, PlainLink, MsgId, Message, What, Record, Label, Line, PlainMessage, PlainWhat, plain_message, Process, begun_process, answer, Boot, BootImage, Format, first_number, image_is_valid}
 use Rattle.dm_mirror.proofs.Names.{slots_of, Alive, OneKernel, PlainProcess, bind, when, answer_id, answer_to, without_message, memory_of, slots_with, pid_eq-same, Part, Routes, Point, Room, and, blocks_of, taken_at, taken_by, takes_room}
 use Rattle.dm_mirror.proofs.Names.{at_record, without_front, Spot, Queue, Held, Inbox, standing, Known, after_label, is_kernels, bag_none, bag_created, has_no_queue, fresh_child, begun, Placed, plainly, create_what, child_of, with_child}
@@ -17,7 +17,7 @@ use Rattle.dm_mirror.proofs.Handle.Makes.{no_room_row, valid_at, free_of, room_s
 use Rattle.dm_mirror.proofs.Handle.Rows.{IsLeft, Elsewhere, Over, Moves, unknown_left, after_one, elsewhere_apart, front_gone, kept_at, kept_behind, mirrors_one, own_back, own_kept, seen_point, standing_begun}
 use Rattle.dm_mirror.proofs.Handle.Taking.{Taking, outcome_is, sane_of, sent_other, sent_there, turn_is, held_apart, queue_apart}
 use Rattle.dm_mirror.proofs.Rooms.{taken_made}
-use Rattle.dm_mirror.proofs.Turning.{Row}
+use Rattle.dm_mirror.proofs.Turning.{Row, has_process, is_elsewhere}
 
 -- it is made
 abbrev made_point : Point → ℕ → MsgId → Pid → OneKernel → Point
@@ -32,9 +32,7 @@ made_known b m pt l k y w c next on p held x r none is empty there known here =
     ((x.queue, there), ap (map on.bag) waits ∙ ap (map Some) (sym empty)))
 
 made_taken : (m : ℕ) (next : Point) (p : Pid) (g : BootImage) (x : PlainProcess) → next.view.known m p ≡ Known.Here → kernel.alive (next.kernel.processes p) ≡ Some x → x.memory ≡ memory_of g → image_is_valid g ≡ true → taken_by next m p ≡ record { slots = 1; blocks = g.blocks }
-made_taken m next p g x here alive memory valid =
-    ap (λ (z : Known). record { slots = takes_room z; blocks = if takes_room z == 0 then 0 else blocks_of (kernel.alive (next.kernel.processes p)) }) here
-    ∙ ap (λ (n : ℕ). record { slots = 1; blocks = n }) (ap blocks_of alive ∙ ap (λ (bytes : List ℕ). length bytes / 256) memory ∙ blocks_are (length (memory_of g)) g.blocks (memory_length g valid))
+made_taken m next p g x here alive memory valid = grind (arith, nat_tests, blocks_are, memory_length)
 
 pub created_row : (b : Boot) (m : ℕ) (pt : Point) (l : Placed) (k : KernelState) (y : Message) (image : ℕ) (ls : List PlainLink) (g : BootImage) → Taking b m pt l k y (PlainWhat.Create image ls) → (y.to.pid.num == 0) ≡ true → slice_get b.images image ≡ Some g
     → rule.has_room (rule.free_room b pt m) g.blocks ≡ true → image_is_valid g ≡ true → Row b m pt l k
@@ -137,26 +135,14 @@ created_row b m pt l k y image ls g c num found some valid =
             taken_slots = ap (λ (n : ℕ). n + 1) c.stands.room.taken_slots ∙ ap (λ (r : Room). r.slots) (sym all);
             taken_blocks = ap (λ (n : ℕ). n + g.blocks) c.stands.room.taken_blocks ∙ ap (λ (r : Room). r.blocks) (sym all);
           }) c.stands.servers;
-      elsewhere = record {
-        acting = refl;
-        groups = refl;
-        pair = λ f d. refl;
-        inbox = λ n o. machine_off pt.view.inbox m n (without_front y.id (pt.view.inbox m)) o;
-        ring = λ n o. machine_off pt.view.ring m n (pt.view.ring m ++ child ∷ []) o;
-        known = λ n q o. record_off pt.view.known m n child q Known.Here o;
-        queue = λ n q o. refl;
-        held = λ n q o. refl;
-        count = λ n. refl;
-        told = refl;
-        machines = refl;
-        made = made_off;
-        process = λ n q o has. others_placed q (left q (Elsewhere n o has));
-        ended = λ n q o over. others_live q (left q (Over n o over));
-        life = λ n q o has. others_live q (left q (Elsewhere n o has));
-        bag = λ i q is least. kept q i (elsewhere_apart m q is) (subst (λ (n : ℕ). 1 ≤ n) (standing_begun pt m i q) least);
-        board = λ o. refl;
-        manager = λ o. refl;
-      };
+      elsewhere = search (
+        machine_off,
+        record_off,
+        λ (n : ℕ) (q : Pid) (o : n ≢ m) (has : has_process (pt.view.known n q) ≡ true). others_placed q (left q (Elsewhere n o has)),
+        λ (n : ℕ) (q : Pid) (o : n ≢ m) (over : pt.view.known n q ≡ Known.Ended). others_live q (left q (Over n o over)),
+        λ (n : ℕ) (q : Pid) (o : n ≢ m) (has : has_process (pt.view.known n q) ≡ true). others_live q (left q (Elsewhere n o has)),
+        λ (i : MsgId) (q : Spot) (is : is_elsewhere m q ≡ true) (least : 1 ≤ standing (begun pt m).view i q). kept q i (elsewhere_apart m q is) (subst (λ (n : ℕ). 1 ≤ n) (standing_begun pt m i q) least),
+      );
       sent = (a_there, refl);
       still = refl;
       count = refl;

@@ -1,5 +1,5 @@
 -- The queue of a process that has ended is dropped, message by message.
-use Rattle.dm_mirror.proofs.Names.{◌≡◌, ℕ, ◌≤◌, ◌==◌, ◌&&◌, Bool, true, false, List, [], ◌∷◌, ◌++◌, map, refl, ap, ◌∙◌, sym, subst, inl, inr, arith, if◌then◌else◌, Option, None, Some, cases_Bool, Pid, pid_eq, MsgId, Message, id_eq, Label}
+use Rattle.dm_mirror.proofs.Names.{◌≡◌, ℕ, ◌≤◌, ◌==◌, ◌&&◌, Bool, true, false, List, [], ◌∷◌, ◌++◌, map, refl, ap, ◌∙◌, sym, subst, inl, inr, arith, if◌then◌else◌, Option, None, Some, cases_Bool, Pid, pid_eq, MsgId, Message, id_eq, Label, nat_tests}
 use Rattle.dm_mirror.proofs.Names.{Why, OneKernel, bind, without_message, id_eq-is, id_eq-same, pid_eq-same, out_off, Line, Point, after, moved, without_front, times, View, handled, Droppable, droppable_on, dropped_is, Placed, Mirrors}
 use Rattle.dm_mirror.proofs.Names.{mirrors_view, placed_follows, AreMessages, user_dropped, machine_same}
 use Rattle.dm_kernel.specs.declared.part.Part.{Part}
@@ -46,10 +46,7 @@ pub record Drops (pt : Point) (l : Placed) (p : Pid) (ids : List MsgId) : Type 0
 
 -- a message that isn't there
 pub times_off : (j i : MsgId) (is : List MsgId) → times j (i ∷ is) ≡ 0 → (id_eq i j ≡ false) × (times j is ≡ 0)
-times_off j i is none = elim (cases_Bool (id_eq i j)) [
-  | inl same ↦ absurd (let e : i ≡ j = id_eq-is i j same in let one : 1 ≤ times j (i ∷ is) = subst (λ (z : MsgId). 1 ≤ times z (i ∷ is)) e (times_self i is) in omega (arith, none, one))
-  | inr off ↦ (off, let more = times_more j i is in omega (arith, none, more))
-]
+times_off j i is none = grind (arith, nat_tests, id_eq-is, times_self, times_more)
 
 -- the view after one
 abbrev dropped_view : View → MsgId → Pid → View
@@ -59,9 +56,7 @@ abbrev dropped_point : Point → MsgId → Pid → Point
 dropped_point pt j p = record { kernel = without_message pt.kernel j; view = dropped_view pt.view j p; addresses = pt.addresses }
 
 one_after : (pt : Point) (j : MsgId) (p : Pid) (rest : List Line) → kernel.step pt.kernel (Label.Dropped j) ≡ Some (without_message pt.kernel j) → view.receiver_of (pt.view.told j) ≡ Some p → after pt (drop_line j ∷ rest) ≡ after (dropped_point pt j p) rest
-one_after pt j p rest step told =
-    ap (λ (o : Option OneKernel). bind (bind o (λ (s : OneKernel). Some (moved pt (drop_line j) s))) (λ (n : Point). after n rest)) step
-    ∙ ap (λ (o : Option Pid). after (record { kernel = without_message pt.kernel j; view = view.dropped_for (handled pt.view j) j o; addresses = pt.addresses }) rest) told
+one_after pt j p rest step told = grind (arith, nat_tests)
 
 one_mirrors : (pt : Point) (l : Placed) (j : MsgId) (p : Pid) → kernel.step pt.kernel (Label.Dropped j) ≡ Some (without_message pt.kernel j) → Mirrors pt.kernel pt.view pt.addresses l
     → Mirrors (without_message pt.kernel j) (dropped_view pt.view j p) pt.addresses (placed.without_message l j)
@@ -72,31 +67,7 @@ one_mirrors pt l j p step h =
 
 pub all_dropped : (ids : List MsgId) (pt : Point) (l : Placed) (p : Pid) (y : Why) → pt.view.queue pt.view.acting p ≡ ids → pt.kernel.processes p ≡ Some (Ended y) → Droppable pt.kernel p ids
     → ((j : MsgId) → 1 ≤ times j ids → view.receiver_of (pt.view.told j) ≡ Some p) → ((j : MsgId) → 1 ≤ times j ids → times j (pt.view.inbox pt.view.acting) ≡ 0) → Mirrors pt.kernel pt.view pt.addresses l → Drops pt l p ids
-all_dropped [] pt l p y front ended drops told inbox h = record {
-  next = pt;
-  on = l;
-  after = refl;
-  mirrors = h;
-  acting = refl;
-  groups = refl;
-  pair = λ a c. refl;
-  inbox = λ n. refl;
-  ring = λ n. refl;
-  known = λ n q. refl;
-  held = λ n q. refl;
-  count = λ n. refl;
-  told = refl;
-  empty = front;
-  queue = λ n q off. refl;
-  machines = refl;
-  made = λ n. refl;
-  lives = λ q. refl;
-  processes = λ q. refl;
-  bag = λ j none. refl;
-  back = λ j x there. there;
-  board = refl;
-  manager = refl;
-}
+all_dropped [] pt l p y front ended drops told inbox h = search
 all_dropped (j ∷ js) pt l p y front ended drops told inbox h =
     let s = pt.kernel in
     let v = pt.view in

@@ -8,13 +8,8 @@ pub use Rattle.dm_rulelaws.proofs.Goes.Turns.{times_self}
 pub use Rattle.dm_rule.proofs.Lines.{eq_self}
 pub use Rattle.dm_rule.proofs.Lines.{at_machine_at as machine_self}
 pub use Rattle.dm_rulelaws.proofs.Goes.Turns.{times_more}
-
-pub map_same : (f g : MsgId → Option Message) (ids : List MsgId) → ((j : MsgId) → 1 ≤ times j ids → g j ≡ f j) → map g ids ≡ map f ids
-map_same f g [] same = refl
-map_same f g (j ∷ js) same =
-    let first : g j ≡ f j = same j (times_self j js) in
-    let rest : map g js ≡ map f js = map_same f g js (λ n least. same n (let more = times_more n j js in omega (arith, least, more))) in
-    λ i. first i ∷ rest i
+pub use Rattle.dm_mirror.proofs.Kernel.Sets.{known_at as known_on, map_same}
+pub use Rattle.dm_mirror.proofs.End.Where.{off as eq_off}
 
 -- the message at the front
 pub record FrontOf (bag : MsgId → Option Message) (i : MsgId) (is : List MsgId) (ms : List Message) : Type 0 where
@@ -27,39 +22,6 @@ pub record FrontOf (bag : MsgId → Option Message) (i : MsgId) (is : List MsgId
 pub front_of : (bag : MsgId → Option Message) (i : MsgId) (is : List MsgId) (ms : List Message) → AreMessages bag (i ∷ is) ms → FrontOf bag i is ms
 front_of bag i is [] e = cc
 front_of bag i is (y ∷ rest) e = record { message = y; rest = rest; is_front = refl; there = cc; others = cc }
-
--- what is known of a process that stays
-here_on : (l placed : Placed) (p : Pid) (queue : List MsgId) (x : Process) → placed.processes p ≡ l.processes p → ((j : MsgId) → 1 ≤ times j queue → placed.bag j ≡ l.bag j) → HereStands l p queue x → HereStands placed p queue x
-here_on l placed p queue x same bag h = ((h.0.0, same ∙ h.0.1), map_same l.bag placed.bag queue bag ∙ h.1)
-
-leaves_on : (l placed : Placed) (p : Pid) (queue held : List MsgId) (to : ℕ) (d : Departure) → placed.processes p ≡ l.processes p → ((j : MsgId) → 1 ≤ times j queue → placed.bag j ≡ l.bag j) → ((j : MsgId) → 1 ≤ times j held → placed.bag j ≡ l.bag j)
-    → LeavesStand l p queue held to d → LeavesStand placed p queue held to d
-leaves_on l placed p queue held to d same bag holds h = record {
-  to = h.to;
-  asker = h.asker;
-  here = here_on l placed p queue d.process same bag h.here;
-  held = map_same l.bag placed.bag held holds ∙ h.held;
-  whole = h.whole;
-}
-
-comes_on : (l placed : Placed) (p : Pid) (held : List MsgId) (a : Arrival) → placed.processes p ≡ l.processes p → ((j : MsgId) → 1 ≤ times j held → placed.bag j ≡ l.bag j) → ComesStand l p held a → ComesStand placed p held a
-comes_on l placed p held a same holds h = record {
-  process = h.process;
-  there = same ∙ h.there;
-  whole = h.whole;
-  pieces = h.pieces;
-  held = map_same l.bag placed.bag held holds ∙ h.held;
-}
-
-pub known_on : (pt next : Point) (l placed : Placed) (p : Pid) (queue held : List MsgId) (k : Known) (r : Option machine.Known) → placed.processes p ≡ l.processes p → next.kernel.processes p ≡ pt.kernel.processes p
-    → ((j : MsgId) → 1 ≤ times j queue → placed.bag j ≡ l.bag j) → ((j : MsgId) → 1 ≤ times j held → placed.bag j ≡ l.bag j) → KnownStands pt l p queue held k r → KnownStands next placed p queue held k r
-known_on pt next l placed p queue held Unknown None same life bag holds h = tt
-known_on pt next l placed p queue held Here (Some (Record.Here x)) same life bag holds h = here_on l placed p queue x same bag h
-known_on pt next l placed p queue held (Frozen to) (Some (Record.Frozen d)) same life bag holds h = leaves_on l placed p queue held to d same bag holds h
-known_on pt next l placed p queue held (Incoming from) (Some (Record.Incoming a)) same life bag holds h = comes_on l placed p held a same holds h
-known_on pt next l placed p queue held (Forward at moves) (Some (Record.Forward to count)) same life bag holds h = h
-known_on pt next l placed p queue held Ended (Some (Record.Ended y)) same life bag holds h = ap kernel.ended life ∙ h
-known_on pt next l placed p queue held k r same life bag holds h = absurd h
 
 -- another kernel of machine m for another point, where only process p may have changed
 pub record Sets (pt next : Point) (l placed : Placed) (m : ℕ) (k s : KernelState) (p : Pid) : Type 0 where
@@ -90,32 +52,11 @@ known_sets b pt next l placed m k s p q server w h = elim (cases_Bool (pid_eq p 
 ]
 
 servers_set : (b : Boot) (pt next : Point) (l placed : Placed) (m : ℕ) (k s : KernelState) (p q : Pid) → is_server q ≡ true → Sets pt next l placed m k s p → KernelStands b pt l m k → s.records q ≡ None
-servers_set b pt next l placed m k s p q server w h = elim (cases_Bool (pid_eq p q)) [
-  | inl same ↦
-      let e : p ≡ q = pid_eq-is p q same in
-      ap s.records (sym e) ∙ w.keeps (ap is_server e ∙ server) ∙ ap k.records e ∙ h.no_server q server
-  | inr apart ↦ w.records q apart ∙ h.no_server q server
-]
+servers_set b pt next l placed m k s p q server w h = grind (arith, nat_tests, pid_eq-is)
 
 pub stands_set : (b : Boot) (pt next : Point) (l placed : Placed) (m : ℕ) (k s : KernelState) (p : Pid) → Sets pt next l placed m k s p → KernelStands b pt l m k → s.ring ≡ next.view.ring m → AreMessages placed.bag (next.view.inbox m) s.inbox
     → s.made ≡ next.kernel.made m → RoomStands s.room (room_of (slice_get b.machines m)) (taken_at next m next.kernel.machines) → s.servers ≡ servers_at placed m → KernelStands b next placed m s
-stands_set b pt next l placed m k s p w h ring inbox made room servers = record {
-  here = w.here ∙ h.here;
-  known = λ q server. known_sets b pt next l placed m k s p q server w h;
-  no_server = λ q server. servers_set b pt next l placed m k s p q server w h;
-  ring = ring;
-  inbox = inbox;
-  made = made;
-  room = room;
-  servers = servers;
-}
-
--- what machine m has, at m and elsewhere
-pub eq_off : (m n : ℕ) → n ≢ m → (m == n) ≡ false
-eq_off m n apart = elim (cases_Bool (m == n)) [
-  | inl same ↦ absurd (apart (let e : n ≡ m = grind (arith, nat_tests) in e))
-  | inr off ↦ off
-]
+stands_set b pt next l placed m k s p w h ring inbox made room servers = search (w.here ∙ h.here, known_sets, servers_set)
 
 pub machine_off : {X : Type 0} (f : ℕ → X) (m n : ℕ) (x : X) → n ≢ m → at_machine f m x n ≡ f n
 machine_off f m n x apart = ap (λ (c : Bool). if c then x else f n) (eq_off m n apart)
@@ -130,7 +71,4 @@ pub record_others : {X : Type 0} (f : ℕ → Pid → X) (m : ℕ) (p q : Pid) (
 record_others f m p q x apart = ap (λ (c : Bool). if c && pid_eq p q then x else f m q) (eq_self m) ∙ ap (λ (c : Bool). if c then x else f m q) apart
 
 pub pid_apart : (p q : Pid) → q ≢ p → pid_eq p q ≡ false
-pid_apart p q apart = elim (cases_Bool (pid_eq p q)) [
-  | inl same ↦ absurd (apart (sym (pid_eq-is p q same)))
-  | inr off ↦ off
-]
+pid_apart p q apart = grind (arith, nat_tests, pid_eq-is)

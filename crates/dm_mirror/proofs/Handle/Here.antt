@@ -1,5 +1,5 @@
 -- A message that is served by the kernel of its receiver, a process that is here and goes on.
-use Rattle.dm_mirror.proofs.Names.{◌≡◌, ℕ, ◌/◌, Bool, true, List, ◌∷◌, length, map, refl, ap, ◌∙◌, sym, subst, is_some, if◌then◌else◌, Option, None, Some, false≢true, Pid, MsgId, Message, plain_kind, PlainMessage, PlainWhat, plain_message}
+use Rattle.dm_mirror.proofs.Names.{◌≡◌, ℕ, ◌/◌, Bool, true, List, ◌∷◌, length, map, refl, ap, ◌∙◌, sym, subst, is_some, if◌then◌else◌, Option, None, Some, false≢true, Pid, MsgId, Message, plain_kind, PlainMessage, PlainWhat, plain_message, arith, nat_tests}
 use Rattle.dm_mirror.proofs.Names.{Record, Label, Process, Boot, Alive, Life, OneKernel, bind, plain_process, PlainProcess, pid_eq-same, Part, Point, blocks_of, Known, View, handled, agrees, alive_of, begun, served_is, Placed, of_map}
 use Rattle.dm_mirror.proofs.Names.{with_queue, plainly, handles, here_handles, process_handles, KernelState, Turned, turned, with_here, AreMessages, KnownStands}
 use Rattle.dm_onekernel.specs.Kernel as kernels
@@ -47,37 +47,21 @@ is_here b m pt l k y w c h known =
     let f = here_record pt l p (pt.view.queue m p) (pt.view.held m p) (k.records p) (subst (λ (n : Known). KnownStands pt l p (pt.view.queue m p) (pt.view.held m p) n (k.records p)) known (c.stands.known p server)) in
     let (g, found, same) = of_map plain_process (l.processes p) z (sym (ap kernel.alive life) ∙ c.mirrors.plain.processes p) in
     let e : g ≡ with_queue f.x f.q = let d : Some g ≡ Some (with_queue f.x f.q) = sym found ∙ f.placed in cc in
-    record {
-      process = h;
-      x = f.x;
-      queue = f.q;
-      there = f.there;
-      placed = f.placed;
-      waits = f.waits;
-      life = life ∙ ap (λ (n : PlainProcess). Some (Alive n)) (sym same ∙ ap plain_process e);
-      known = known;
-      pid = (c.mirrors.places.process p (with_queue f.x f.q) f.placed).pid;
-    }
+    search (life ∙ ap (λ (n : PlainProcess). Some (Alive n)) (sym same ∙ ap plain_process e), (c.mirrors.places.process p (with_queue f.x f.q) f.placed).pid)
 
 -- the rows' parts
 pub here_turn : (b : Boot) (m : ℕ) (pt : Point) (l : Placed) (k : KernelState) (y : Message) (w : PlainWhat) (c : Taking b m pt l k y w) (h : IsHere b m pt l k y.to.pid) (o : Option Turned) → here_handles (record k { inbox = c.rest }) y h.x y.what ≡ o → handles b (record k { inbox = c.rest }) y ≡ o
 here_turn b m pt l k y w c h o e = to_process b (record k { inbox = c.rest }) y h.process ∙ ap (process_handles (record k { inbox = c.rest }) y) h.there ∙ e
 
 pub here_outcome : (b : Boot) (m : ℕ) (pt : Point) (l : Placed) (k : KernelState) (y : Message) (w : PlainWhat) (h : IsHere b m pt l k y.to.pid) (o : Option (List Part)) → rule.here_handles pt m y.id (plainly y w) (plain_process h.x) w ≡ o → rule.handles b pt m y.id (plainly y w) ≡ o
-here_outcome b m pt l k y w h o e =
-    rule_to_process b pt m y.id (plainly y w) h.process ∙ ap (rule.process_handles pt m y.id (plainly y w)) h.known
-    ∙ ap (λ (z : Option Life). bind (kernel.alive z) (λ (v : PlainProcess). rule.here_handles pt m y.id (plainly y w) v w)) h.life ∙ e
+here_outcome b m pt l k y w h o e = grind (arith, nat_tests, rule_to_process)
 
 -- the kernel's step for a served message
 pub served_step : (s : OneKernel) (i : MsgId) (x : PlainMessage) (z : PlainProcess) (t : OneKernel) → s.bag i ≡ Some x → s.processes x.to ≡ Some (Alive z) → service.serves s i x z x.what ≡ Some t → kernel.step s (Label.Served i) ≡ Some t
-served_step s i x z t there alive e =
-    ap (λ (o : Option PlainMessage). bind o (λ (v : PlainMessage). bind (kernel.alive (s.processes v.to)) (λ (p : PlainProcess). service.serves s i v p v.what))) there
-    ∙ ap (λ (o : Option Life). bind (kernel.alive o) (λ (p : PlainProcess). service.serves s i x p x.what)) alive ∙ e
+served_step s i x z t there alive e = grind (arith, nat_tests)
 
 pub served_placed : (pt : Point) (l on : Placed) (m : ℕ) (y : Message) (x : Process) → l.bag y.id ≡ Some y → l.processes y.to.pid ≡ Some x → placed.serves m (placed.without_message l y.id) y x y.what ≡ Some on → placed.placed_step m pt.kernel.format pt.kernel.images l (Label.Served y.id) ≡ Some on
-served_placed pt l on m y x there stands e =
-    ap (λ (o : Option Message). bind o (λ (v : Message). bind (l.processes v.to.pid) (λ (p : Process). placed.serves m (placed.without_message l y.id) v p v.what))) there
-    ∙ ap (λ (o : Option Process). bind o (λ (p : Process). placed.serves m (placed.without_message l y.id) y p y.what)) stands ∙ e
+served_placed pt l on m y x there stands e = grind (arith, nat_tests)
 
 -- the process goes on as z, and as pz without places; what is sent is o, and q without places
 pub record Served (b : Boot) (m : ℕ) (pt : Point) (l : Placed) (k : KernelState) (y : Message) (w : PlainWhat) (c : Taking b m pt l k y w) (h : IsHere b m pt l k y.to.pid) : Type 0 where

@@ -1,5 +1,5 @@
 -- A process that is here is killed: it ends, and its queue is dropped.
-use Rattle.dm_mirror.proofs.Names.{◌≡◌, ◌≢◌, ℕ, ◌+◌, ◌/◌, ◌≤◌, ◌<◌, ◌==◌, ◌&&◌, Bool, true, false, not, List, [], ◌∷◌, ◌++◌, length, map, refl, ap, ◌∙◌, sym, subst, is_some, arith, if◌then◌else◌, slice_get, Option, None, Some, false≢true}
+use Rattle.dm_mirror.proofs.Names.{◌≡◌, ◌≢◌, ℕ, ◌+◌, ◌/◌, ◌≤◌, ◌<◌, ◌==◌, ◌&&◌, Bool, true, false, not, List, [], ◌∷◌, ◌++◌, length, map, refl, ap, ◌∙◌, sym, subst, is_some, arith, if◌then◌else◌, slice_get, Option, None, Some, false≢true, nat_tests}
 use Rattle.dm_mirror.proofs.Names.{Pid, pid_eq, MsgId, Message, plain_message, Record, Label, Line, Process, Taken, with_released, Boot, Why, Alive, Life, OneKernel, with_process, bind, plain_process, without_message, pid_eq-same, out_off}
 use Rattle.dm_mirror.proofs.Names.{Point, after, moved, Room, blocks_of, taken_at, taken_by, takes_room, without, without_front, Spot, Queue, Held, Inbox, times, standing, StandsAsBag, Known, View, after_label, handled, stands_right}
 use Rattle.dm_mirror.proofs.Names.{StandsAsBag-elsewhere, begun, served_is, droppable_on, Run, Placed, Mirrors, with_queue, plainly, kill_what, room_of, here_handles, KernelState, turned, without_process, KnownStands, RoomStands}
@@ -22,6 +22,7 @@ use Rattle.dm_mirror.proofs.Handle.Rows.{IsLeft, Elsewhere, Over, Moves, here_le
 use Rattle.dm_mirror.proofs.Handle.Taking.{Taking, apart_at, outcome_is, sane_of, turn_is, held_apart, held_no_queue, queue_apart, waits}
 use Rattle.dm_mirror.proofs.Rooms.{taken_changed}
 use Rattle.dm_mirror.proofs.Turning.{is_elsewhere, Row}
+use Rattle.dm_mirror.proofs.Leave.Goes.{other_queue}
 
 -- where the kill leads, before its queue is dropped
 abbrev ended_view : Point → ℕ → MsgId → Pid → View
@@ -52,15 +53,6 @@ own_unqueued b pt m p l j x run mirrors none there =
     let is : Some q.x ≡ None = sym q.there ∙ sym (mirrors.plain.bag j) ∙ ap (λ (o : Option Message). bind o plain_message) there ∙ none in
     cc)
 
-abbrev spot_process : Spot → Pid → Pid
-spot_process (Queue m p) q = p
-spot_process _ q = q
-
-other_queue : (m : ℕ) (p q : Pid) → pid_eq p q ≡ false → Queue m q ≢ Queue m p
-other_queue m p q off e =
-    let f : q ≡ p = ap (λ (s : Spot). spot_process s q) e in
-    false≢true (sym off ∙ ap (pid_eq p) f ∙ pid_eq-same p)
-
 elsewhere_queue : (m : ℕ) (p : Pid) (s : Spot) → is_elsewhere m s ≡ true → s ≢ Queue m p
 elsewhere_queue m p s is e = false≢true (sym (ap not (eq_self m)) ∙ ap (is_elsewhere m) (sym e) ∙ is)
 
@@ -73,9 +65,7 @@ ended_taken : (m : ℕ) (next : Point) (p : Pid) → next.view.known m p ≡ vie
 ended_taken m next p gone = ap (λ (z : Known). record { slots = takes_room z; blocks = if takes_room z == 0 then 0 else blocks_of (kernel.alive (next.kernel.processes p)) }) gone
 
 here_taken : (m : ℕ) (pt : Point) (p : Pid) (x : Process) → pt.view.known m p ≡ view.Here → pt.kernel.processes p ≡ Some (Alive (plain_process x)) → taken_by pt m p ≡ record { slots = 1; blocks = length x.memory / 256 }
-here_taken m pt p x here life =
-    ap (λ (z : Known). record { slots = takes_room z; blocks = if takes_room z == 0 then 0 else blocks_of (kernel.alive (pt.kernel.processes p)) }) here
-    ∙ ap (λ (o : Option Life). record { slots = 1; blocks = blocks_of (kernel.alive o) }) life
+here_taken m pt p x here life = grind (arith, nat_tests)
 
 released : (t given : Taken) (o n : Room) (blocks : ℕ) → RoomStands t given o → (n.slots + 1 ≡ o.slots + 0) → (n.blocks + blocks ≡ o.blocks + 0) → RoomStands (with_released t blocks) given n
 released t given o n blocks h slots pieces =

@@ -38,13 +38,11 @@ goes_lands : (here : ℕ) (p : Pid) (x y : Process) (o : Option Landing) (r : Re
     → pieces.goes_on p (plain_process y) r.dir r.owner.pid r.base r.own r.left (piece_of r.left) ≡ c → Lands p x o c
 goes_lands here p x y o r c e pid queue memory f =
     let g = goes_same here y r in
-    record {
-      d = landing.goes_on here y r;
-      lands = e;
-      plain = goes_on_plainly here y r ∙ ap (λ (q : Pid). Some (pieces.goes_on q (plain_process y) r.dir r.owner.pid r.base r.own r.left (piece_of r.left))) pid ∙ ap Some f;
-      queue = g.queue ∙ queue;
-      memory = ap length g.memory ∙ memory;
-    }
+    search (
+      goes_on_plainly here y r ∙ ap (λ (q : Pid). Some (pieces.goes_on q (plain_process y) r.dir r.owner.pid r.base r.own r.left (piece_of r.left))) pid ∙ ap Some f,
+      g.queue ∙ queue,
+      ap length g.memory ∙ memory,
+    )
 
 -- the test of a landing holds
 some_is : (b : Bool) (x y : pieces.Landed) → (if b then Some x else None) ≡ Some y → (b ≡ true) × (x ≡ y)
@@ -52,12 +50,7 @@ some_is true x y e = (refl, let f : x ≡ y = cc in f)
 some_is false x y e = cc
 
 piece_within : (left own size n : ℕ) → ((n == piece_of left) && nat_le (own + left) size) ≡ true → own + n ≤ size
-piece_within left own size n e =
-    let k = both (n == piece_of left) (nat_le (own + left) size) e in
-    let f : piece_of left ≤ left = grind (arith, nat_tests) in
-    let g : n ≡ piece_of left = let z = k.0 in grind (arith, nat_tests) in
-    let h : own + left ≤ size = let z = k.1 in grind (arith, nat_tests) in
-    omega (arith, f, g, h)
+piece_within left own size n e = grind (arith, nat_tests, both, nat_le)
 
 lands_what_of : (here : ℕ) (p : Pid) (x : Process) (dir : Direction) (owner : Addr) (base own left : ℕ) (w : What) (u : PlainWhat) (c : pieces.Landed) → plain_what w ≡ Some u → x.pid ≡ p
     → pieces.lands_what p (plain_process x) dir owner.pid base own left u ≡ Some c → Lands p x (landing.lands_what here x (record { dir = dir; owner = owner; base = base; own = own; left = left }) dir w) c

@@ -40,9 +40,7 @@ create_turn b k0 y image links g c num is found room =
 
 pub create_outcome : (b : Boot) (m : ℕ) (pt : Point) (i : MsgId) (x : PlainMessage) (image : ℕ) (ls : List PlainLink) (g : BootImage) (c : Bool) → (x.to.num == 0) ≡ true → x.what ≡ PlainWhat.Create image ls → slice_get b.images image ≡ Some g → rule.has_room (rule.free_room b pt m) g.blocks ≡ c
     → rule.handles b pt m i x ≡ Some ((if c then rule.says (Label.Created i (pid_of m (first_number + pt.kernel.made m))) else rule.says (Label.NoSpace i (rule.free_room b pt m).slots (rule.free_room b pt m).blocks)) ∷ Routes (answer_id i) ∷ [])
-create_outcome b m pt i x image ls g c num is found room =
-    rule_to_kernel b pt m i x num ∙ ap (rule.kernel_handles b pt m i) is ∙ ap (rule.creates pt m i (rule.free_room b pt m)) found
-    ∙ ap (λ (d : Bool). Some ((if d then rule.says (Label.Created i (pid_of m (first_number + pt.kernel.made m))) else rule.says (Label.NoSpace i (rule.free_room b pt m).slots (rule.free_room b pt m).blocks)) ∷ Routes (answer_id i) ∷ [])) room
+create_outcome b m pt i x image ls g c num is found room = grind (arith, nat_tests, rule_to_kernel)
 
 -- there is no room for it
 pub no_room_row : (b : Boot) (m : ℕ) (pt : Point) (l : Placed) (k : KernelState) (y : Message) (image : ℕ) (ls : List PlainLink) (g : BootImage) → Taking b m pt l k y (PlainWhat.Create image ls) → (y.to.pid.num == 0) ≡ true → slice_get b.images image ≡ Some g
@@ -102,10 +100,7 @@ no_room_row b m pt l k y image ls g c num found none =
 
 -- a process that is made is no server
 pub child_off : (m n : ℕ) → is_server (pid_of m (first_number + n)) ≡ false
-child_off m n =
-    let e : pid_eq (pid_of m (first_number + n)) switchboard ≡ false = grind (arith, nat_tests) in
-    let d : pid_eq (pid_of m (first_number + n)) manager ≡ false = grind (arith, nat_tests) in
-    ap (λ (c : Bool). c || pid_eq (pid_of m (first_number + n)) manager) e ∙ d
+child_off m n = grind (arith, nat_tests)
 
 pub valid_at : (images : List BootImage) (n : ℕ) (g : BootImage) → slice_get images n ≡ Some g → images_are_valid images ≡ true → image_is_valid g ≡ true
 valid_at [] n g e h = cc

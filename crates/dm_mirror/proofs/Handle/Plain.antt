@@ -1,5 +1,5 @@
 -- What the servers send has a plain meaning.
-use Rattle.dm_mirror.proofs.Names.{◌≡◌, ℕ, ◌+◌, ◌*◌, ◌==◌, ◌&&◌, Bool, true, false, List, [], ◌∷◌, refl, ap, ◌∙◌, sym, is_some, nat_lt, if◌then◌else◌, Option, None, Some, Addr, Link, MsgId, Message, What, PlainWhat, plain_message}
+use Rattle.dm_mirror.proofs.Names.{◌≡◌, ℕ, ◌+◌, ◌*◌, ◌==◌, ◌&&◌, Bool, true, false, List, [], ◌∷◌, refl, ap, ◌∙◌, sym, is_some, nat_lt, if◌then◌else◌, Option, None, Some, Addr, Link, MsgId, Message, What, PlainWhat, plain_message, arith, nat_tests}
 use Rattle.dm_mirror.proofs.Names.{plain_what, with_what, bind, Board, answer_over, message_to, kernel_of, Managing, Routes, parts}
 use Rattle.dm_switchboard.specs.Taking as board
 use Rattle.dm_procman.specs.Taking as manage
@@ -56,13 +56,7 @@ control_plain g child (Some w) ls h = plain_one (message_to g.sent child w) (pla
     plain_with a (Some u) e = refl
 
 control_of_plain : (operation : ℕ) (w : What) → manage.control_of operation ≡ Some w → is_some (plain_what w) ≡ true
-control_of_plain operation w e = by (operation == 2) (operation == 3) (operation == 4) e
-  where
-    by : (c d f : Bool) → (if c then Some What.Stop else if d then Some What.Resume else if f then Some What.Kill else None) ≡ Some w → is_some (plain_what w) ≡ true
-    by true d f e = let g : What.Stop ≡ w = cc in ap (λ (u : What). is_some (plain_what u)) (sym g)
-    by false true f e = let g : What.Resume ≡ w = cc in ap (λ (u : What). is_some (plain_what u)) (sym g)
-    by false false true e = let g : What.Kill ≡ w = cc in ap (λ (u : What). is_some (plain_what u)) (sym g)
-    by false false false e = cc
+control_of_plain operation w e = grind (arith, nat_tests, is_some)
 
 controls_plain : (g : Managing) (o : Option Addr) (body : List ℕ) (ls : List Link) → IsPlain (manage.controls g o body ls).message
 controls_plain g (Some child) (operation ∷ []) ls = control_plain g child (manage.control_of operation) ls (control_of_plain operation)

@@ -11,17 +11,7 @@ use Rattle.dm_mirror.proofs.Handle.Rows.{Moves, here_left, front_gone}
 use Rattle.dm_mirror.proofs.Handle.Taking.{Taking, outcome_is, turn_is}
 use Rattle.dm_mirror.proofs.Rooms.{taken_same}
 use Rattle.dm_mirror.proofs.Turning.{Row}
-
--- one more message
-pub last_message : (bag : MsgId → Option Message) (ids : List MsgId) (ms : List Message) (i : MsgId) (y : Message) → AreMessages bag ids ms → bag i ≡ Some y → AreMessages bag (ids ++ i ∷ []) (ms ++ y ∷ [])
-last_message bag [] [] i y h e = ap (λ (o : Option Message). o ∷ []) e
-last_message bag (j ∷ js) (z ∷ zs) i y h e =
-    let first : bag j ≡ Some z = cc in
-    let rest : map bag js ≡ map Some zs = cc in
-    let more = last_message bag js zs i y rest e in
-    λ n. first n ∷ more n
-last_message bag [] (z ∷ zs) i y h e = cc
-last_message bag (j ∷ js) [] i y h e = cc
+pub use Rattle.dm_mirror.proofs.Deliver.Moves.{messages_push as last_message}
 
 -- the view's queue
 pub told_is : (b : Boot) (m : ℕ) (pt : Point) (l : Placed) (k : KernelState) (y : Message) (w : said.PlainWhat) (c : Taking b m pt l k y w) → view.receiver_of (pt.view.told y.id) ≡ Some y.to.pid
@@ -74,26 +64,7 @@ user_row b m pt l k y code channel bytes ls c h =
             taken_slots = c.stands.room.taken_slots ∙ ap (λ (r : Room). r.slots) (sym taken);
             taken_blocks = c.stands.room.taken_blocks ∙ ap (λ (r : Room). r.blocks) (sym taken);
           }) c.stands.servers;
-      elsewhere = record {
-        acting = refl;
-        groups = refl;
-        pair = λ a d. refl;
-        inbox = λ n off. machine_off pt.view.inbox m n (without_front i (pt.view.inbox m)) off;
-        ring = λ n off. refl;
-        known = λ n q off. refl;
-        queue = λ n q off. record_off pt.view.queue m n p q xs off;
-        held = λ n q off. refl;
-        count = λ n. refl;
-        told = refl;
-        machines = refl;
-        made = λ n off. refl;
-        process = λ n q off has. refl;
-        ended = λ n q off over. refl;
-        life = λ n q off has. refl;
-        bag = λ j s off least. refl;
-        board = λ off. refl;
-        manager = λ off. refl;
-      };
+      elsewhere = search (machine_off, pt.view.inbox, record_off);
       sent = tt;
       still = refl;
       count = refl;

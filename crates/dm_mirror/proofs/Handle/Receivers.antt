@@ -22,21 +22,13 @@ to_kernel b s y num =
     ap (λ (c : Bool). if c then kernel_handles b s y y.what else if pid_eq y.to.pid switchboard then board_handles s y s.servers else if pid_eq y.to.pid manager then manager_handles s y s.servers else process_handles s y (s.records y.to.pid)) num
 
 pub to_board : (b : Boot) (s : KernelState) (y : Message) → (y.to.pid.num == 0) ≡ false → pid_eq y.to.pid switchboard ≡ true → handles b s y ≡ board_handles s y s.servers
-to_board b s y num one =
-    ap (λ (c : Bool). if c then kernel_handles b s y y.what else if pid_eq y.to.pid switchboard then board_handles s y s.servers else if pid_eq y.to.pid manager then manager_handles s y s.servers else process_handles s y (s.records y.to.pid)) num
-    ∙ ap (λ (c : Bool). if c then board_handles s y s.servers else if pid_eq y.to.pid manager then manager_handles s y s.servers else process_handles s y (s.records y.to.pid)) one
+to_board b s y num one = grind (arith, nat_tests)
 
 pub to_manager : (b : Boot) (s : KernelState) (y : Message) → (y.to.pid.num == 0) ≡ false → pid_eq y.to.pid switchboard ≡ false → pid_eq y.to.pid manager ≡ true → handles b s y ≡ manager_handles s y s.servers
-to_manager b s y num one two =
-    ap (λ (c : Bool). if c then kernel_handles b s y y.what else if pid_eq y.to.pid switchboard then board_handles s y s.servers else if pid_eq y.to.pid manager then manager_handles s y s.servers else process_handles s y (s.records y.to.pid)) num
-    ∙ ap (λ (c : Bool). if c then board_handles s y s.servers else if pid_eq y.to.pid manager then manager_handles s y s.servers else process_handles s y (s.records y.to.pid)) one
-    ∙ ap (λ (c : Bool). if c then manager_handles s y s.servers else process_handles s y (s.records y.to.pid)) two
+to_manager b s y num one two = search
 
 pub to_process : (b : Boot) (s : KernelState) (y : Message) → IsProcess y.to.pid → handles b s y ≡ process_handles s y (s.records y.to.pid)
-to_process b s y h =
-    ap (λ (c : Bool). if c then kernel_handles b s y y.what else if pid_eq y.to.pid switchboard then board_handles s y s.servers else if pid_eq y.to.pid manager then manager_handles s y s.servers else process_handles s y (s.records y.to.pid)) h.number
-    ∙ ap (λ (c : Bool). if c then board_handles s y s.servers else if pid_eq y.to.pid manager then manager_handles s y s.servers else process_handles s y (s.records y.to.pid)) h.no_board
-    ∙ ap (λ (c : Bool). if c then manager_handles s y s.servers else process_handles s y (s.records y.to.pid)) h.no_manager
+to_process b s y h = search
 
 -- the rule's
 abbrev rule_board : Point → MsgId → PlainMessage → Option (List Part)
@@ -50,19 +42,11 @@ rule_to_kernel b pt m i x num =
     ap (λ (c : Bool). if c then rule.kernel_handles b pt m i x.what else if pid_eq x.to switchboard then rule_board pt i x else if pid_eq x.to manager then rule_manager pt i x else rule.process_handles pt m i x (pt.view.known m x.to)) num
 
 pub rule_to_board : (b : Boot) (pt : Point) (m : ℕ) (i : MsgId) (x : PlainMessage) → (x.to.num == 0) ≡ false → pid_eq x.to switchboard ≡ true → rule.handles b pt m i x ≡ rule.board_took i (board.takes pt.kernel.switchboard x x.what)
-rule_to_board b pt m i x num one =
-    ap (λ (c : Bool). if c then rule.kernel_handles b pt m i x.what else if pid_eq x.to switchboard then rule_board pt i x else if pid_eq x.to manager then rule_manager pt i x else rule.process_handles pt m i x (pt.view.known m x.to)) num
-    ∙ ap (λ (c : Bool). if c then rule_board pt i x else if pid_eq x.to manager then rule_manager pt i x else rule.process_handles pt m i x (pt.view.known m x.to)) one
+rule_to_board b pt m i x num one = grind (arith, nat_tests)
 
 pub rule_to_manager : (b : Boot) (pt : Point) (m : ℕ) (i : MsgId) (x : PlainMessage) → (x.to.num == 0) ≡ false → pid_eq x.to switchboard ≡ false → pid_eq x.to manager ≡ true
     → rule.handles b pt m i x ≡ rule.manager_took i (manage.takes pt.kernel.manager pt.kernel.machines (length pt.kernel.images) x x.what)
-rule_to_manager b pt m i x num one two =
-    ap (λ (c : Bool). if c then rule.kernel_handles b pt m i x.what else if pid_eq x.to switchboard then rule_board pt i x else if pid_eq x.to manager then rule_manager pt i x else rule.process_handles pt m i x (pt.view.known m x.to)) num
-    ∙ ap (λ (c : Bool). if c then rule_board pt i x else if pid_eq x.to manager then rule_manager pt i x else rule.process_handles pt m i x (pt.view.known m x.to)) one
-    ∙ ap (λ (c : Bool). if c then rule_manager pt i x else rule.process_handles pt m i x (pt.view.known m x.to)) two
+rule_to_manager b pt m i x num one two = search
 
 pub rule_to_process : (b : Boot) (pt : Point) (m : ℕ) (i : MsgId) (x : PlainMessage) → IsProcess x.to → rule.handles b pt m i x ≡ rule.process_handles pt m i x (pt.view.known m x.to)
-rule_to_process b pt m i x h =
-    ap (λ (c : Bool). if c then rule.kernel_handles b pt m i x.what else if pid_eq x.to switchboard then rule_board pt i x else if pid_eq x.to manager then rule_manager pt i x else rule.process_handles pt m i x (pt.view.known m x.to)) h.number
-    ∙ ap (λ (c : Bool). if c then rule_board pt i x else if pid_eq x.to manager then rule_manager pt i x else rule.process_handles pt m i x (pt.view.known m x.to)) h.no_board
-    ∙ ap (λ (c : Bool). if c then rule_manager pt i x else rule.process_handles pt m i x (pt.view.known m x.to)) h.no_manager
+rule_to_process b pt m i x h = search

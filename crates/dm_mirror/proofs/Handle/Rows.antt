@@ -1,5 +1,5 @@
 -- A row of a turn that says one label, by which one process may go on, and sends at most one message.
-use Rattle.dm_mirror.proofs.Names.{◌≡◌, ◌≢◌, ℕ, ◌≤◌, ◌==◌, Bool, true, false, not, List, [], ◌∷◌, map, refl, ap, ◌∙◌, sym, subst, inl, inr, is_some, arith, if◌then◌else◌, Option, None, Some, cases_Bool, false≢true, Pid, pid_eq, MsgId}
+use Rattle.dm_mirror.proofs.Names.{◌≡◌, ◌≢◌, ℕ, ◌≤◌, ◌==◌, Bool, true, false, not, List, [], ◌∷◌, map, refl, ap, ◌∙◌, sym, subst, inl, inr, is_some, arith, if◌then◌else◌, Option, None, Some, cases_Bool, false≢true, Pid, pid_eq, MsgId, nat_tests}
 use Rattle.dm_mirror.proofs.Names.{Message, id_eq, PlainWhat, plain_message, Boot, Label, Life, OneKernel, bind, id_eq-is, pid_eq-is, Line, addresses_after, Point, after, moved, Taken, Room, blocks_of, taken_by, takes_room, without_front}
 use Rattle.dm_mirror.proofs.Names.{Spot, Queue, Held, Inbox, times, standing, View, Known, Unknown, Here, Frozen, Incoming, Ended, after_label, handled, is_kernels, Phase, Rests, is_away, is_here, knows, rests_here, InPhases, is_server}
 use Rattle.dm_mirror.proofs.Names.{begun, StepNeeds, Placed, Mirrors, placed_step, mirrors_view, moves_label, plainly, placed_follows, handles, KernelState, id_eq-same, KnownStands, servers_at}
@@ -11,6 +11,7 @@ use Rattle.dm_mirror.proofs.Handle.Frames.{times_more, map_same, stands_set, eq_
 use Rattle.dm_mirror.proofs.Handle.Taking.{Taking, turn_is, outcome_is, plainly_says, sane_of, apart_at, apart_behind, fresh_at, sent_other, bag_kept, queue_apart, held_apart, sent_there}
 use Rattle.dm_mirror.proofs.Rooms.{taken_same}
 use Rattle.dm_mirror.proofs.Turning.{is_elsewhere, has_process, is_moving, routed, rule_routed, IsSent, Row}
+use Rattle.dm_mirror.proofs.Kernel.Sets.{away_process as has_none}
 
 -- where the head of the turn, a label and another view lead
 abbrev pub seen_point : Point → ℕ → Label → OneKernel → View → Point
@@ -48,12 +49,6 @@ pub data IsLeft (m : ℕ) (pt : Point) (q : Pid) : Type 0 where
   Over : (n : ℕ) → (apart : n ≢ m) → (ended : pt.view.known n q ≡ Ended) → IsLeft m pt q
   Moves : (moving : is_moving (pt.view.known m q) ≡ true) → IsLeft m pt q
 
-has_none : (k : Known) → is_away k ≡ true → has_process k ≡ true → ⊥
-has_none Here away has = false≢true away
-has_none (Frozen to) away has = false≢true away
-has_none (Incoming from) away has = false≢true away
-has_none _ away has = false≢true has
-
 -- a process that is here is known nowhere else
 away_elsewhere : (pt : Point) (m n : ℕ) (p : Pid) → InPhases pt.view → pt.view.known m p ≡ Here → n ≢ m → is_away (pt.view.known n p) ≡ true
 away_elsewhere pt m n p h here apart =
@@ -69,10 +64,7 @@ here_not pt m p h here (Over n apart ended) = false≢true (sym (ap is_away ende
 here_not pt m p h here (Moves moving) = false≢true (sym (ap is_moving here) ∙ moving)
 
 other_than : (p q : Pid) → (p ≡ q → ⊥) → pid_eq p q ≡ false
-other_than p q off = elim (cases_Bool (pid_eq p q)) [
-  | inl same ↦ absurd (off (pid_eq-is p q same))
-  | inr apart ↦ apart
-]
+other_than p q off = grind (arith, nat_tests, pid_eq-is)
 
 -- so it is none of these
 pub here_left : (pt : Point) (m : ℕ) (p q : Pid) → InPhases pt.view → pt.view.known m p ≡ Here → IsLeft m pt q → pid_eq p q ≡ false
@@ -237,26 +229,14 @@ turns_row b m pt l k y w c h =
             taken_slots = ap (λ (t : Taken). t.taken_slots) h.room ∙ stands.room.taken_slots ∙ ap (λ (r : Room). r.slots) (sym taken);
             taken_blocks = ap (λ (t : Taken). t.taken_blocks) h.room ∙ stands.room.taken_blocks ∙ ap (λ (r : Room). r.blocks) (sym taken);
           }) h.servers;
-      elsewhere = record {
-        acting = refl;
-        groups = refl;
-        pair = λ a d. refl;
-        inbox = λ n off. machine_off pt.view.inbox m n (without_front y.id (pt.view.inbox m)) off;
-        ring = λ n off. refl;
-        known = λ n p off. refl;
-        queue = λ n p off. refl;
-        held = λ n p off. refl;
-        count = λ n. refl;
-        told = refl;
-        machines = h.machines;
-        made = λ n off. h.made n;
-        process = λ n q off has. (h.left q (Elsewhere n off has)).0;
-        ended = λ n q off over. (h.left q (Over n off over)).1;
-        life = λ n q off has. (h.left q (Elsewhere n off has)).1;
-        bag = λ i s is least. kept s i (elsewhere_apart m s is) (subst (λ (n : ℕ). 1 ≤ n) (standing_begun pt m i s) least);
-        board = h.board;
-        manager = h.manager;
-      };
+      elsewhere = search (
+        machine_off,
+        h.made,
+        λ (n : ℕ) (q : Pid) (off : n ≢ m) (has : has_process (pt.view.known n q) ≡ true). (h.left q (Elsewhere n off has)).0,
+        λ (n : ℕ) (q : Pid) (off : n ≢ m) (has : has_process (pt.view.known n q) ≡ true). (h.left q (Elsewhere n off has)).1,
+        λ (n : ℕ) (q : Pid) (off : n ≢ m) (over : pt.view.known n q ≡ Ended). (h.left q (Over n off over)).1,
+        λ (i : MsgId) (s : Spot) (is : is_elsewhere m s ≡ true) (least : 1 ≤ standing (begun pt m).view i s). kept s i (elsewhere_apart m s is) (subst (λ (n : ℕ). 1 ≤ n) (standing_begun pt m i s) least),
+      );
       sent = sent;
       still = refl;
       count = h.sent;

@@ -1,5 +1,5 @@
 -- A turn that handles the message at the inbox's front: what holds of it, and how a row of it comes to the end.
-use Rattle.dm_mirror.proofs.Names.{◌≡◌, ◌≢◌, ℕ, ◌+◌, ◌≤◌, ◌<◌, Bool, true, false, List, ◌∷◌, refl, ap, ◌∙◌, sym, subst, inl, inr, is_some, arith, if◌then◌else◌, Option, None, Some, cases_Bool, false≢true, Pid, MsgId, Message, id_eq}
+use Rattle.dm_mirror.proofs.Names.{◌≡◌, ◌≢◌, ℕ, ◌+◌, ◌≤◌, ◌<◌, Bool, true, false, List, ◌∷◌, refl, ap, ◌∙◌, sym, subst, inl, inr, is_some, arith, if◌then◌else◌, Option, None, Some, cases_Bool, false≢true, Pid, MsgId, Message, id_eq, nat_tests}
 use Rattle.dm_mirror.proofs.Names.{PlainMessage, PlainWhat, plain_message, plain_what, with_what, Boot, IsValid, Label, OneKernel, bind, Step, entry, reception, after_step, id_eq-is, id_eq-same, Point, outcome, Spot, Queue, Held, Inbox}
 use Rattle.dm_mirror.proofs.Names.{times, standing, StandsAsBag, StandsNowhere, StandsOutside, StandsRight, is_kernels, stands_right, kernels_fresh, not_kernels, Sane, StandsAsBag-elsewhere, StandsAsBag-one, front, OwnTold, IsQueued, Run}
 use Rattle.dm_mirror.proofs.Names.{Front, Placed, Mirrors, MirrorsKernel, parts, there_of, plainly, plainly_is, handles, KernelState, Turned, turn, turns, MadeStands, AllOwnStand, AreMessages, KernelStands}
@@ -10,6 +10,7 @@ use Rattle.dm_rule.proofs.States.{not_true}
 use Rattle.dm_places.specs.PlacedStep.{with_sent, without_message}
 use Rattle.dm_mirror.proofs.Handle.Frames.{times_self, front_of}
 pub use Rattle.dm_rulelaws.proofs.Goes.Always.{queue_apart}
+pub use Rattle.dm_mirror.proofs.Putting.{some_plain as some_of}
 
 -- machine m handles message y, which says w without places
 pub record Taking (b : Boot) (m : ℕ) (pt : Point) (l : Placed) (k : KernelState) (y : Message) (w : PlainWhat) : Type 0 where
@@ -58,29 +59,11 @@ took b m pt l k i is x valid below run told made mirrors h own box there =
     let same : z ≡ y = let g : Some z ≡ Some y = sym found ∙ f.there in cc in
     let plain : plain_message y ≡ Some x = ap plain_message (sym same) ∙ says in
     let box_ : pt.view.inbox m ≡ y.id ∷ is = box ∙ ap (λ (j : MsgId). j ∷ is) (sym name) in
-    record {
-      message = y;
-      id = name;
-      plain = plain;
-      taking = record {
-        valid = valid;
-        below = below;
-        run = run;
-        told = told;
-        made = made;
-        mirrors = mirrors;
-        stands = h;
-        own = own;
-        says = (parts y x plain).what;
-        there = ap l.bag name ∙ f.there;
-        ids = is;
-        box = box_;
-        rest = f.rest;
-        inbox = f.is_front;
-        others = f.others;
-        front = front b m pt y.id is (plainly y x.what) box_ (ap pt.kernel.bag name ∙ there ∙ ap Some (plainly_is y x plain)) run;
-      };
-    }
+    search (
+      (parts y x plain).what,
+      ap l.bag name ∙ f.there,
+      front b m pt y.id is (plainly y x.what) box_ (ap pt.kernel.bag name ∙ there ∙ ap Some (plainly_is y x plain)) run,
+    )
 
 -- its plain meaning
 pub plainly_says : (b : Boot) (m : ℕ) (pt : Point) (l : Placed) (k : KernelState) (y : Message) (w : PlainWhat) → Taking b m pt l k y w → plain_message y ≡ Some (plainly y w)
@@ -122,11 +105,8 @@ once b m pt l k y w c = subst (λ (z : List MsgId). 1 ≤ times y.id z) (sym c.b
 kept_of : (b : Boot) (m : ℕ) (pt : Point) (l : Placed) (k : KernelState) (y : Message) (w : PlainWhat) (c : Taking b m pt l k y w) → StandsAsBag (Some (plainly y w)) (standing pt.view y.id)
 kept_of b m pt l k y w c = stands_right pt y.id c.run.based.phased.state (Some (plainly y w)) c.front.there
 
-not_it : (i j : MsgId) (f : MsgId → ℕ) → f i ≡ 0 → 1 ≤ f j → id_eq i j ≡ false
-not_it i j f none least = elim (cases_Bool (id_eq i j)) [
-  | inl same ↦ absurd (let e : f i ≡ f j = ap f (id_eq-is i j same) in omega (arith, none, least, e))
-  | inr off ↦ off
-]
+pub not_it : (i j : MsgId) (f : MsgId → ℕ) → f i ≡ 0 → 1 ≤ f j → id_eq i j ≡ false
+not_it i j f none least = grind (arith, nat_tests, id_eq-is)
 
 pub apart_at : (b : Boot) (m : ℕ) (pt : Point) (l : Placed) (k : KernelState) (y : Message) (w : PlainWhat) (c : Taking b m pt l k y w) (s : Spot) (j : MsgId) → s ≢ Inbox m → 1 ≤ standing pt.view j s → id_eq y.id j ≡ false
 apart_at b m pt l k y w c s j off least =
@@ -144,11 +124,6 @@ pub fresh_at : (b : Boot) (pt : Point) (s : Spot) (i j : MsgId) → Run b pt →
 fresh_at b pt s i j h none other least =
     let k : StandsNowhere (standing pt.view i) = subst (λ (c : Bool). StandsOutside c (standing pt.view i)) other (stands_right pt i h.based.phased.state None none) in
     not_it i j (λ (n : MsgId). standing pt.view n s) (k s) least
-
--- what is there
-pub some_of : (o : Option PlainMessage) → is_some o ≡ true → (q : PlainMessage) × (o ≡ Some q)
-some_of None e = cc
-some_of (Some q) e = (q, refl)
 
 -- what a step sends is no kernel's own
 pub sent_other : (pt : Point) (e : Label) (next : OneKernel) (placed : Placed) (a : Message) → kernel.step pt.kernel e ≡ Some next → MirrorsKernel next placed → placed.bag a.id ≡ Some a → is_some (plain_message a) ≡ true → Sane pt → is_kernels a.id ≡ false

@@ -65,37 +65,16 @@ abbrev pub with_queue_ids : View → Pid → List MsgId → View
 with_queue_ids v p ids = record v { queue = at_record v.queue v.acting p ids }
 
 pub view_queue : (m : ℕ) (t : Spot → Bool) (p : Pid) (v : View) (ids : List MsgId) → v.acting ≡ m → ((n : ℕ) (q : Pid) → t (Queue n q) ≡ false → ((m == n) && pid_eq p q) ≡ false) → ViewLeaves m t p v (with_queue_ids v p ids)
-view_queue m t p v ids at covers = record {
-  acting = refl;
-  groups = refl;
-  pair = λ a c. refl;
-  lists = lists_same t v (with_queue_ids v p ids) (λ n q off. record_off v.queue v.acting m n p q ids at (covers n q off)) (λ n q. refl) (λ n off. refl) (λ a c. refl);
-  ring = λ n apart. refl;
-  known = λ n q off. refl;
-  held = λ n q. refl;
-  count = λ n. refl;
-  told = refl;
-}
+view_queue m t p v ids at covers = search
+    (lists_same t v (with_queue_ids v p ids) (λ n q off. record_off v.queue v.acting m n p q ids at (covers n q off)) (λ n q. refl) (λ n off. refl) (λ a c. refl))
 
 -- it isn't this one
 same_there : (f : ℕ → List MsgId) (a n : ℕ) (x : List MsgId) → x ≡ f a → at_machine f a x n ≡ f n
-same_there f a n x e = elim (cases_Bool (a == n)) [
-  | inl same ↦ on_if (a == n) x (f n) same ∙ e ∙ ap f (let k : a ≡ n = grind (arith, nat_tests) in k)
-  | inr apart ↦ off_if (a == n) x (f n) apart
-]
+same_there f a n x e = grind (arith, nat_tests, on_if, off_if)
 
 pub view_not_handled : (m : ℕ) (t : Spot → Bool) (p : Pid) (v : View) (id : MsgId) → without_front id (v.inbox v.acting) ≡ v.inbox v.acting → ViewLeaves m t p v (handled v id)
-view_not_handled m t p v id e = record {
-  acting = refl;
-  groups = refl;
-  pair = λ a c. refl;
-  lists = lists_same t v (handled v id) (λ n q off. refl) (λ n q. refl) (λ n off. same_there v.inbox v.acting n (without_front id (v.inbox v.acting)) e) (λ a c. refl);
-  ring = λ n apart. refl;
-  known = λ n q off. refl;
-  held = λ n q. refl;
-  count = λ n. refl;
-  told = refl;
-}
+view_not_handled m t p v id e = search
+    (lists_same t v (handled v id) (λ n q off. refl) (λ n q. refl) (λ n off. same_there v.inbox v.acting n (without_front id (v.inbox v.acting)) e) (λ a c. refl))
 
 -- the kernel without machines: a process is set, a message goes, or one comes
 pub kernel_same : (p : Pid) (s : OneKernel) → KernelLeaves p s s

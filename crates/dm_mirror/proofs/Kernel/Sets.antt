@@ -13,6 +13,7 @@ pub use Rattle.dm_rule.proofs.Lines.{eq_self}
 pub use Rattle.dm_rule.proofs.Trails.Spares.{not_is}
 pub use Rattle.dm_rulelaws.proofs.Goes.Turns.{times_more}
 pub use Rattle.dm_rule.proofs.Phases.Pieces.{and_false as right_off}
+pub use Rattle.dm_mirror.proofs.End.Where.{off as eq_apart}
 
 -- small tests
 pub off_if : {A : Type 0} (c : Bool) (x y : A) → c ≡ false → (if c then x else y) ≡ y
@@ -23,12 +24,6 @@ on_if c x y e = ap (λ (b : Bool). if b then x else y) e
 
 pub left_off : (a b : Bool) → a ≡ false → (a && b) ≡ false
 left_off a b e = ap (λ (c : Bool). c && b) e
-
-pub eq_apart : (m n : ℕ) → n ≢ m → (m == n) ≡ false
-eq_apart m n h = elim (cases_Bool (m == n)) [
-  | inl same ↦ absurd (h (let e : n ≡ m = grind (arith, nat_tests) in e))
-  | inr off ↦ off
-]
 
 -- the queue of process p on machine m
 abbrev pub is_queue_of : ℕ → Pid → Spot → Bool
@@ -105,11 +100,11 @@ placed_leaves_from m t p v w l n g h = record {
 }
 
 pub leaves_on : (m : ℕ) (t : Spot → Bool) (p : Pid) (a b c : Point) (k l n : Placed) → Leaves m t p a k b l → Leaves m t p b l c n → Leaves m t p a k c n
-leaves_on m t p a b c k l n g h = record {
-  view = view_leaves_on m t p a.view b.view c.view g.view h.view;
-  kernel = kernel_leaves_on p a.kernel b.kernel c.kernel g.kernel h.kernel;
-  placed_ = placed_leaves_on t p a.view k l n g.placed_ (placed_leaves_from m t p a.view b.view l n g.view h.placed_);
-}
+leaves_on m t p a b c k l n g h = search (
+  view_leaves_on m t p a.view b.view c.view g.view h.view,
+  kernel_leaves_on p a.kernel b.kernel c.kernel g.kernel h.kernel,
+  placed_leaves_on t p a.view k l n g.placed_ (placed_leaves_from m t p a.view b.view l n g.view h.placed_),
+)
 
 -- the other machines and the pairs stay
 not_here : (m n : ℕ) → n ≢ m → not (n == m) ≡ true
@@ -119,7 +114,7 @@ not_here m n h = ap not (eq_apart n m (λ e. h (sym e)))
 abbrev pub IsAway : View → ℕ → Pid → Type 0
 IsAway v m p = (n : ℕ) → n ≢ m → is_away (v.known n p) ≡ true
 
-away_process : (k : Known) → is_away k ≡ true → has_process k ≡ true → ⊥
+pub away_process : (k : Known) → is_away k ≡ true → has_process k ≡ true → ⊥
 away_process Unknown a e = false≢true e
 away_process (Forward at moves) a e = false≢true e
 away_process _ a e = false≢true a
@@ -161,7 +156,7 @@ queue_not_elsewhere m p _ e = refl
 pub queue_of_others : (m : ℕ) (p q : Pid) → pid_eq p q ≡ false → is_queue_of m p (Queue m q) ≡ false
 queue_of_others m p q off = right_off (m == m) (pid_eq p q) off
 
-map_same : (f g : MsgId → Option Message) (ids : List MsgId) → ((i : MsgId) → 1 ≤ times i ids → g i ≡ f i) → map g ids ≡ map f ids
+pub map_same : (f g : MsgId → Option Message) (ids : List MsgId) → ((i : MsgId) → 1 ≤ times i ids → g i ≡ f i) → map g ids ≡ map f ids
 map_same f g [] h = refl
 map_same f g (i ∷ is) h =
     let first = h i (times_self i is) in
@@ -176,20 +171,10 @@ pub known_at : (pt next : Point) (l placed : Placed) (q : Pid) (ids held_ : List
     → ((i : MsgId) → 1 ≤ times i ids → placed.bag i ≡ l.bag i) → ((i : MsgId) → 1 ≤ times i held_ → placed.bag i ≡ l.bag i) → KnownStands pt l q ids held_ w r → KnownStands next placed q ids held_ w r
 known_at pt next l placed q ids held_ Unknown None p e b c h = tt
 known_at pt next l placed q ids held_ Here (Some (Record.Here x)) p e b c h = ((h.0.0, p ∙ h.0.1), messages_on l.bag placed.bag ids x.queue b h.1)
-known_at pt next l placed q ids held_ (Frozen to) (Some (Record.Frozen d)) p e b c h = record {
-  to = h.to;
-  asker = h.asker;
-  here = ((h.here.0.0, p ∙ h.here.0.1), messages_on l.bag placed.bag ids d.process.queue b h.here.1);
-  held = messages_on l.bag placed.bag held_ d.held c h.held;
-  whole = h.whole;
-}
-known_at pt next l placed q ids held_ (Incoming from) (Some (Record.Incoming a)) p e b c h = record {
-  process = h.process;
-  there = p ∙ h.there;
-  whole = h.whole;
-  pieces = h.pieces;
-  held = messages_on l.bag placed.bag held_ a.held c h.held;
-}
+known_at pt next l placed q ids held_ (Frozen to) (Some (Record.Frozen d)) p e b c h = search
+    (p ∙ h.here.0.1, messages_on l.bag placed.bag ids d.process.queue b h.here.1, messages_on l.bag placed.bag held_ d.held c h.held)
+known_at pt next l placed q ids held_ (Incoming from) (Some (Record.Incoming a)) p e b c h = search
+    (p ∙ h.there, messages_on l.bag placed.bag held_ a.held c h.held)
 known_at pt next l placed q ids held_ (Forward at moves) (Some (Record.Forward to count)) p e b c h = h
 known_at pt next l placed q ids held_ Ended (Some (Record.Ended y)) p e b c h = ap kernel.ended e ∙ h
 known_at pt next l placed q ids held_ w r p e b c h = absurd h
@@ -202,10 +187,7 @@ pub record Stays (k n : KernelState) (p : Pid) : Type 0 where
   pub servers : n.servers ≡ k.servers
 
 server_apart : (p q : Pid) → is_server p ≡ false → is_server q ≡ true → pid_eq p q ≡ false
-server_apart p q off on = elim (cases_Bool (pid_eq p q)) [
-  | inl same ↦ absurd (false≢true (sym off ∙ ap is_server (pid_eq-is p q same) ∙ on))
-  | inr apart ↦ apart
-]
+server_apart p q off on = grind (arith, nat_tests, pid_eq-is)
 
 -- process p of the machine is set: where what is known of p, the ring, the inbox and the room stand, the kernel stands
 pub set_stands : (b : Boot) (m : ℕ) (t : Spot → Bool) (p : Pid) (pt next : Point) (l placed : Placed) (k n : KernelState) → Leaves m t p pt l next placed → Stays k n p → ((q : Pid) → pid_eq p q ≡ false → t (Queue m q) ≡ false) → ((q : Pid) → t (Held m q) ≡ false) → is_server p ≡ false

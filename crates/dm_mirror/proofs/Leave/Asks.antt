@@ -1,5 +1,5 @@
 -- A process is told to move: to where it is, or it is frozen, and the other machine is asked.
-use Rattle.dm_mirror.proofs.Names.{◌≡◌, ◌≢◌, ℕ, ◌+◌, ◌≤◌, ◌==◌, ◌&&◌, Bool, true, false, not, List, [], ◌∷◌, map, refl, ap, ◌∙◌, sym, subst, inl, inr, arith, if◌then◌else◌, None, Some, cases_Bool, eqb_tells, Pid, pid_eq, kernel_at, Message}
+use Rattle.dm_mirror.proofs.Names.{◌≡◌, ◌≢◌, ℕ, ◌+◌, ◌≤◌, ◌==◌, ◌&&◌, Bool, true, false, not, List, [], ◌∷◌, map, refl, ap, ◌∙◌, sym, subst, inl, inr, arith, if◌then◌else◌, None, Some, cases_Bool, eqb_tells, Pid, pid_eq, kernel_at, Message, nat_tests}
 use Rattle.dm_mirror.proofs.Names.{MsgId, What, MessageKind, Record, Line, Stage, Process, CanMove, ask_of, frozen, Taken, Boot, manager, switchboard, FreezesReceiverWhole, KnownIsWhole, freezes, with_frozen, KernelState, own, turned}
 use Rattle.dm_mirror.proofs.Names.{id_eq-same, pid_eq-is, pid_eq-same, to_kernel, Point, moved, Room, blocks_of, taken_by, takes_room, at_machine, at_record, without, without_front, times, Here, Frozen, Known, Of, front_told, own_id}
 use Rattle.dm_mirror.proofs.Names.{target_of, without_first, is_server, has_nothing_held, is_fixed, Placed, mirrors_view, told_of, KnownStands, LeavesStand, RoomStands, AllRecords, eq_not, or-right}
@@ -9,7 +9,7 @@ use Rattle.dm_kernel.specs.State.{with_sent}
 use Rattle.dm_rule.specs.Parts as rule
 use Rattle.dm_mirror.proofs.Handle.Frames.{eq_self, machine_self, machine_off, record_self, record_off, record_others}
 use Rattle.dm_mirror.proofs.Rooms.{taken_same}
-use Rattle.dm_mirror.proofs.Leave.Frames.{here_is, known_stays, own_stays, stands_one, tokens_one}
+use Rattle.dm_mirror.proofs.Leave.Frames.{here_is, own_stays, stands_one, tokens_one}
 use Rattle.dm_mirror.proofs.Leave.Fronts.{FrontGone, Hearing, none_rests, outcome_hears, stood, turn_hears}
 use Rattle.dm_mirror.proofs.Leave.Owns.{absent_next, may_between, own_is, process_hears, records_as, three_off, to_process, untold_next}
 use Rattle.dm_mirror.proofs.Turning.{Nothing, Own, TurnsAt, begun}
@@ -65,37 +65,9 @@ here_already b m pt l records k y machine h at_m is =
       after = refl;
       placed = l;
       mirrors = mirrors_view pt.kernel pt.view next.view pt.addresses l refl h.mirrors;
-      kernel = record {
-        here = h.stands.here;
-        known = λ q off. known_stays pt next l l q (pt.view.queue m q) (pt.view.held m q) (pt.view.known m q) (k.records q) refl refl (λ j least. refl) (λ j least. refl) (h.stands.known q off);
-        no_server = h.stands.no_server;
-        ring = h.stands.ring;
-        inbox = ap (map l.bag) box ∙ h.others;
-        made = h.stands.made;
-        room = room_stays k.room _ _ _ taken h.stands.room;
-        servers = h.stands.servers;
-      };
+      kernel = search (h.stands.known, ap (map l.bag) box ∙ h.others, room_stays k.room _ _ _ taken h.stands.room);
       sent = λ e. e ∙ (let f : (n : ℕ) → n ≡ n + 0 = λ n. omega arith in f (pt.view.count m));
-      elsewhere = record {
-        acting = refl;
-        groups = refl;
-        pair = λ a c. refl;
-        inbox = λ n off. machine_off pt.view.inbox m n (without_front y.id (pt.view.inbox m)) off;
-        ring = λ n off. refl;
-        known = λ n q off. refl;
-        queue = λ n q off. refl;
-        held = λ n q off. refl;
-        count = λ n. refl;
-        told = refl;
-        machines = refl;
-        made = λ n off. refl;
-        process = λ n q off has. refl;
-        ended = λ n q off over. refl;
-        life = λ n q off has. refl;
-        bag = λ i spot away least. refl;
-        board = λ off. refl;
-        manager = λ off. refl;
-      };
+      elsewhere = search;
       may = tt;
       late_may = tt;
       single = omega arith;
@@ -114,15 +86,10 @@ here_already b m pt l records k y machine h at_m is =
 
 -- what it takes of the room stays, where what is known of it takes the same
 room_at : (f : ℕ → Pid → Known) (m : ℕ) (p q : Pid) (n : Known) → takes_room n ≡ takes_room (f m p) → takes_room (at_record f m p n m q) ≡ takes_room (f m q)
-room_at f m p q n same = elim (cases_Bool (pid_eq p q)) [
-  | inl is ↦ subst (λ (z : Pid). takes_room (at_record f m p n m z) ≡ takes_room (f m z)) (pid_eq-is p q is) (ap takes_room (record_self f m p n (pid_eq-same p)) ∙ same)
-  | inr off ↦ ap takes_room (record_others f m p q n off)
-]
+room_at f m p q n same = grind (arith, nat_tests, pid_eq-is, record_self, pid_eq-same, record_others)
 
 pub taken_at_record : (pt next : Point) (m : ℕ) (p q : Pid) (n : Known) → next.kernel.processes ≡ pt.kernel.processes → next.view.known m q ≡ at_record pt.view.known m p n m q → takes_room n ≡ takes_room (pt.view.known m p) → taken_by next m q ≡ taken_by pt m q
-taken_at_record pt next m p q n lives known same =
-    let room : takes_room (next.view.known m q) ≡ takes_room (pt.view.known m q) = ap takes_room known ∙ room_at pt.view.known m p q n same in
-    λ i. record { slots = room i; blocks = if room i == 0 then 0 else blocks_of (kernel.alive (lives i q)) }
+taken_at_record pt next m p q n lives known same = grind (arith, nat_tests, room_at)
 
 -- to another machine
 asks_other : (b : Boot) (m : ℕ) (pt : Point) (l : Placed) (records : AllRecords) (k : KernelState) (y : Message) (machine : ℕ) → Hearing b m pt l records k (record y { what = What.Migrate machine }) → pt.view.known m y.to.pid ≡ Here → m ≢ machine
@@ -155,13 +122,7 @@ asks_other b m pt l records k y machine h at_m apart whole =
     let none_held : v.held m p ≡ [] = h.run.based.lists.held m p (ap has_nothing_held at_m) in
     let frozen_known : next.view.known m p ≡ Frozen machine = record_self v.known m p (Frozen to) (pid_eq-same p) ∙ ap Frozen to_is in
     let frozen_record : state.records p ≡ Some (Record.Frozen (frozen x machine None)) = ap (λ (c : Bool). if c then Some (Record.Frozen (frozen x machine None)) else k.records p) (pid_eq-same p) in
-    let leaves : LeavesStand l p (v.queue m p) (v.held m p) machine (frozen x machine None) = record {
-      to = refl;
-      asker = refl;
-      here = here.stands;
-      held = ap (map l.bag) none_held;
-      whole = whole x here.is;
-    } in
+    let leaves : LeavesStand l p (v.queue m p) (v.held m p) machine (frozen x machine None) = search (ap (map l.bag) none_held, whole x here.is) in
     let mine : KnownStands next l p (v.queue m p) (v.held m p) (next.view.known m p) (state.records p) =
     subst (KnownStands next l p (v.queue m p) (v.held m p) (next.view.known m p)) (sym frozen_record)
     (subst (λ (n : Known). KnownStands next l p (v.queue m p) (v.held m p) n (Some (Record.Frozen (frozen x machine None)))) (sym frozen_known) leaves) in
@@ -203,44 +164,10 @@ asks_other b m pt l records k y machine h at_m apart whole =
           (room_stays k.room _ _ _ taken h.stands.room)
           h.stands.servers;
       sent = λ e. ap (λ (n : ℕ). n + 1) e;
-      elsewhere = record {
-        acting = refl;
-        groups = refl;
-        pair = λ a c. refl;
-        inbox = λ n off. machine_off v.inbox m n (without_first (v.inbox m)) off;
-        ring = λ n off. machine_off v.ring m n (without p (v.ring m)) off;
-        known = λ n q off. record_off v.known m n p q (Frozen to) off;
-        queue = λ n q off. refl;
-        held = λ n q off. refl;
-        count = λ n. refl;
-        told = refl;
-        machines = refl;
-        made = λ n off. refl;
-        process = λ n q off has. refl;
-        ended = λ n q off over. refl;
-        life = λ n q off has. refl;
-        bag = λ i spot away least. refl;
-        board = λ off. refl;
-        manager = λ off. refl;
-      };
+      elsewhere = search (machine_off, v.inbox, v.ring, record_off, Frozen);
       may = (
-        may_between next l after_records m machine p ask (record {
-          acting = refl;
-          id = id_is;
-          plain = refl;
-          encloses = refl;
-          gives = refl;
-          to = refl;
-          sender = ap kernel_at h.stands.here;
-          bag = ap l.bag id_is ∙ absent_next b pt l m h.run h.mirrors h.own;
-          untold = ap v.told id_is ∙ untold_next b pt m h.run;
-          from = h.stands.here;
-          about = ap Of x_is;
-          topic = refl;
-          process = placed_x;
-          there = here.stands.0.1;
-          carries = refl;
-        }),
+        may_between next l after_records m machine p ask (search
+            (ap kernel_at h.stands.here, ap l.bag id_is ∙ absent_next b pt l m h.run h.mirrors h.own, ap v.told id_is ∙ untold_next b pt m h.run, ap Of x_is)),
         tt,
       );
       late_may = tt;

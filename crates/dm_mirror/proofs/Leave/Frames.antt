@@ -1,33 +1,11 @@
 -- What is known of processes where at most one of them changes, and what the messages of migrations under way still carry.
-use Rattle.dm_mirror.proofs.Names.{◌≡◌, ℕ, ◌≤◌, true, false, List, refl, ap, ◌∙◌, sym, subst, inl, inr, slice_get, Option, None, Some, cases_Bool, Pid, pid_eq, MsgId, Process, Record, incoming_of, Departure, Boot, room_of, KernelState}
+use Rattle.dm_mirror.proofs.Names.{◌≡◌, ℕ, ◌≤◌, true, false, List, refl, ap, ◌∙◌, sym, subst, inl, inr, slice_get, Option, None, Some, cases_Bool, Pid, pid_eq, MsgId, Process, Record, incoming_of, Departure, Boot, room_of, KernelState, arith, nat_tests}
 use Rattle.dm_mirror.proofs.Names.{pid_eq-is, is_between, Point, taken_at, Spot, times, standing, Known, Unknown, Here, Frozen, Incoming, Forward, Ended, Of, Told, View, is_server, Placed, AllOwnStand, AreMessages, HereStands, KnownStands}
 use Rattle.dm_mirror.proofs.Names.{KernelStands, LeavesStand, RoomStands, servers_at, AllRecords, Carries, TokensStand, destination_of}
 use Rattle.dm_onekernel.specs.Step as kernel
 use Rattle.dm_kernel.specs.State as machine
 use Rattle.dm_mirror.proofs.Handle.Frames.{map_same}
-
--- what is known of a process that stays as it is
-pub known_stays : (pt next : Point) (l placed : Placed) (p : Pid) (queue held : List MsgId) (k : Known) (r : Option machine.Known) → placed.processes p ≡ l.processes p → next.kernel.processes p ≡ pt.kernel.processes p
-    → ((j : MsgId) → 1 ≤ times j queue → placed.bag j ≡ l.bag j) → ((j : MsgId) → 1 ≤ times j held → placed.bag j ≡ l.bag j) → KnownStands pt l p queue held k r → KnownStands next placed p queue held k r
-known_stays pt next l placed p queue held Unknown None same life waits kept h = tt
-known_stays pt next l placed p queue held Here (Some (Record.Here x)) same life waits kept h = ((h.0.0, same ∙ h.0.1), map_same l.bag placed.bag queue waits ∙ h.1)
-known_stays pt next l placed p queue held (Frozen to) (Some (Record.Frozen d)) same life waits kept h = record {
-  to = h.to;
-  asker = h.asker;
-  here = ((h.here.0.0, same ∙ h.here.0.1), map_same l.bag placed.bag queue waits ∙ h.here.1);
-  held = map_same l.bag placed.bag held kept ∙ h.held;
-  whole = h.whole;
-}
-known_stays pt next l placed p queue held (Incoming from) (Some (Record.Incoming a)) same life waits kept h = record {
-  process = h.process;
-  there = same ∙ h.there;
-  whole = h.whole;
-  pieces = h.pieces;
-  held = map_same l.bag placed.bag held kept ∙ h.held;
-}
-known_stays pt next l placed p queue held (Forward at moves) (Some (Record.Forward to count)) same life waits kept h = h
-known_stays pt next l placed p queue held Ended (Some (Record.Ended y)) same life waits kept h = ap kernel.ended life ∙ h
-known_stays pt next l placed p queue held k r same life waits kept h = absurd h
+pub use Rattle.dm_mirror.proofs.Kernel.Sets.{known_at as known_stays}
 
 -- a process that is here, and one that leaves
 pub record IsHere (l : Placed) (p : Pid) (queue : List MsgId) (r : Option machine.Known) : Type 0 where
@@ -76,23 +54,11 @@ known_one b pt next l placed m k s p q server w h = elim (cases_Bool (pid_eq p q
 ]
 
 servers_one : (b : Boot) (pt next : Point) (l placed : Placed) (m : ℕ) (k s : KernelState) (p q : Pid) → is_server q ≡ true → SetsOne pt next l placed m k s p → KernelStands b pt l m k → s.records q ≡ None
-servers_one b pt next l placed m k s p q server w h = elim (cases_Bool (pid_eq p q)) [
-  | inl same ↦ absurd (let e : false ≡ true = sym w.server ∙ ap is_server (pid_eq-is p q same) ∙ server in cc)
-  | inr apart ↦ w.records q apart ∙ h.no_server q server
-]
+servers_one b pt next l placed m k s p q server w h = grind (arith, nat_tests, pid_eq-is)
 
 pub stands_one : (b : Boot) (pt next : Point) (l placed : Placed) (m : ℕ) (k s : KernelState) (p : Pid) → SetsOne pt next l placed m k s p → KernelStands b pt l m k → s.ring ≡ next.view.ring m → AreMessages placed.bag (next.view.inbox m) s.inbox
     → s.made ≡ next.kernel.made m → RoomStands s.room (room_of (slice_get b.machines m)) (taken_at next m next.kernel.machines) → s.servers ≡ servers_at placed m → KernelStands b next placed m s
-stands_one b pt next l placed m k s p w h ring inbox made room servers = record {
-  here = w.here ∙ h.here;
-  known = λ q server. known_one b pt next l placed m k s p q server w h;
-  no_server = λ q server. servers_one b pt next l placed m k s p q server w h;
-  ring = ring;
-  inbox = inbox;
-  made = made;
-  room = room;
-  servers = servers;
-}
+stands_one b pt next l placed m k s p w h ring inbox made room servers = search (w.here ∙ h.here, known_one, servers_one)
 
 -- the messages of the migrations of other processes carry what they carried, where none of this process's stands anywhere
 pub record TokensOne (v w : View) (l placed : Placed) (before after : AllRecords) (p : Pid) : Type 0 where
@@ -112,15 +78,11 @@ tokens_one v w l placed before after p c h q i t z told between about st =
           let g = c.came i t z was between st in
           let x = h q i t g.0.0 was between about g.0.1 in
           let d = destination_of i t in
-          record {
-            process = x.process;
-            there = c.processes q apart ∙ x.there;
-            message = x.message;
-            is = g.1 ∙ x.is;
-            sender = x.sender;
-            carries = subst (λ (n : ℕ). Carries q x.process n (incoming_of (after d q)) x.message.what) (sym (c.asked q apart))
-                (subst (λ (r : Option machine.Known). Carries q x.process (v.asked q) (incoming_of r) x.message.what) (sym (c.records d q apart)) x.carries);
-          }
+          search (
+            c.processes q apart ∙ x.there,
+            g.1 ∙ x.is,
+            subst (λ (n : ℕ). Carries q x.process n (incoming_of (after d q)) x.message.what) (sym (c.asked q apart)) (subst (λ (r : Option machine.Known). Carries q x.process (v.asked q) (incoming_of r) x.message.what) (sym (c.records d q apart)) x.carries),
+          )
     ]
 
 -- what was told stays

@@ -44,30 +44,13 @@ heard b m pt l records k i is run sorts mirrors stands own tokens here sent box 
     let name : y.id ≡ i = (mirrors.places.message i y f.there).id in
     let plain : plain_message y ≡ None = ap (λ (o : Option Message). bind o plain_message) (sym f.there) ∙ mirrors.plain.bag i ∙ none in
     let g = own i y f.there plain in
-    record {
-      message = y;
-      name = name;
-      plain = plain;
-      hearing = record {
-        run = run;
-        sorts = sorts;
-        mirrors = mirrors;
-        stands = stands;
-        own = own;
-        tokens = tokens;
-        records_here = here;
-        sent = sent;
-        there = ap l.bag name ∙ f.there;
-        told = ap pt.view.told name ∙ g.told;
-        mine = ap is_kernels name ∙ g.mine;
-        none = ap pt.kernel.bag name ∙ none;
-        ids = is;
-        box = box ∙ ap (λ (j : MsgId). j ∷ is) (sym name);
-        rest = f.rest;
-        inbox = f.is_front;
-        others = f.others;
-      };
-    }
+    search (
+      ap l.bag name ∙ f.there,
+      ap pt.view.told name ∙ g.told,
+      ap is_kernels name ∙ g.mine,
+      ap pt.kernel.bag name ∙ none,
+      box ∙ ap (λ (j : MsgId). j ∷ is) (sym name),
+    )
 
 -- the machine's turn, and the rule's
 pub turn_hears : (b : Boot) (m : ℕ) (pt : Point) (l : Placed) (records : AllRecords) (k : KernelState) (y : Message) (h : Hearing b m pt l records k y) (o : Option Turned) → handles b (record k { inbox = h.rest }) y ≡ o → turn b k ≡ o

@@ -1,9 +1,8 @@
 -- A process has gone: the messages for it go on, and the other machine may restart it.
-use Rattle.dm_mirror.proofs.Names.{◌≡◌, ◌≢◌, ℕ, ◌+◌, ◌/◌, ◌≤◌, ◌==◌, Bool, true, false, not, List, [], ◌∷◌, ◌++◌, length, map, is_some, refl, ap, ◌∙◌, sym, subst, inl, arith, if◌then◌else◌, option_map, Option, None, Some, false≢true, Pid}
+use Rattle.dm_mirror.proofs.Names.{◌≡◌, ◌≢◌, ℕ, ◌+◌, ◌/◌, ◌≤◌, ◌==◌, Bool, true, false, not, List, [], ◌∷◌, ◌++◌, length, map, is_some, refl, ap, ◌∙◌, sym, subst, inl, arith, if◌then◌else◌, option_map, Option, Some, false≢true, Pid, nat_tests}
 use Rattle.dm_mirror.proofs.Names.{pid_eq, kernel_at, Message, MsgId, What, MessageKind, Record, Wanted, Line, Stage, Process, Taken, with_released, frozen_of, incoming_of, all_sent_on, Boot, Alive, Life, bind, plain_process, PlainProcess}
 use Rattle.dm_mirror.proofs.Names.{without_leaving, KernelState, own, turned, pid_eq-same, sends_on, to_kernel, Point, moved, Room, blocks_of, taken_at, taken_by, takes_room, at_machine, Spot, Held, Inbox, Queue, standing, times, Forward}
 use Rattle.dm_mirror.proofs.Names.{Frozen, Known, gone_to, own_id, without_first, MirrorsPoint, sent_all, Placed, sent_on_mirrors, mirrors_view, MadeStands, told_of, AreMessages, KnownStands, RoomStands, AllRecords, Wants}
-use Rattle.dm_onekernel.specs.Kernel.{Ended}
 use Rattle.dm_onekernel.specs.Step as kernel
 use Rattle.dm_kernel.specs.declared.part.Part.{Part}
 use Rattle.dm_kernel.specs.Departing.{leaves}
@@ -28,9 +27,7 @@ gone_taken : (m : ℕ) (end : Point) (p : Pid) (to moves : ℕ) → end.view.kno
 gone_taken m end p to moves known = ap (λ (n : Known). record { slots = takes_room n; blocks = if takes_room n == 0 then 0 else blocks_of (kernel.alive (end.kernel.processes p)) }) known
 
 frozen_taken : (m : ℕ) (pt : Point) (p : Pid) (to : ℕ) (x : PlainProcess) → pt.view.known m p ≡ Frozen to → kernel.alive (pt.kernel.processes p) ≡ Some x → taken_by pt m p ≡ record { slots = 1; blocks = length x.memory / 256 }
-frozen_taken m pt p to x known life =
-    ap (λ (n : Known). record { slots = takes_room n; blocks = if takes_room n == 0 then 0 else blocks_of (kernel.alive (pt.kernel.processes p)) }) known
-    ∙ ap (λ (o : Option PlainProcess). record { slots = 1; blocks = blocks_of o }) life
+frozen_taken m pt p to x known life = grind (arith, nat_tests)
 
 room_released : (t given : Taken) (o n : Room) (blocks : ℕ) → RoomStands t given o → n.slots + 1 ≡ o.slots + 0 → n.blocks + blocks ≡ o.blocks + 0 → RoomStands (with_released t blocks) given n
 room_released t given o n blocks h slots pieces =
@@ -38,7 +35,7 @@ room_released t given o n blocks h slots pieces =
     let c = h.taken_blocks in
     record { slots = h.slots; blocks = h.blocks; taken_slots = omega (arith, a, slots); taken_blocks = omega (arith, c, pieces) }
 
-life_some : (o : Option Life) (x : PlainProcess) → kernel.alive o ≡ Some x → is_some o ≡ true
+pub life_some : (o : Option Life) (x : PlainProcess) → kernel.alive o ≡ Some x → is_some o ≡ true
 life_some (Some (Alive y)) x e = refl
 life_some _ x e = cc
 
@@ -54,7 +51,7 @@ pid_in (Queue m p) q = p
 pid_in (Held m p) q = p
 pid_in _ q = q
 
-other_queue : (m : ℕ) (p q : Pid) → pid_eq p q ≡ false → Queue m q ≢ Queue m p
+pub other_queue : (m : ℕ) (p q : Pid) → pid_eq p q ≡ false → Queue m q ≢ Queue m p
 other_queue m p q off e = false≢true (sym off ∙ ap (pid_eq p) (ap (λ (z : Spot). pid_in z p) e) ∙ pid_eq-same p)
 
 other_held : (m : ℕ) (p q : Pid) → pid_eq p q ≡ false → Held m q ≢ Held m p
@@ -178,50 +175,20 @@ goes b m pt l records k y p h made =
           (room_released k.room _ before now (length x.memory / 256) h.stands.room slots blocks)
           h.stands.servers;
       sent = λ e. omega (arith, e, owned);
-      elsewhere = record {
-        acting = refl;
-        groups = refl;
-        pair = λ a e. refl;
-        inbox = λ r off. machine_off v.inbox m r (without_first (v.inbox m)) off;
-        ring = λ r off. refl;
-        known = λ r q off. record_off v.known m r p q forward off;
-        queue = λ r q off. record_off v.queue m r p q [] off;
-        held = λ r q off. record_off v.held m r p q [] off;
-        count = λ r. refl;
-        told = refl;
-        machines = refl;
-        made = λ r off. refl;
-        process = λ r q off has. refl;
-        ended = λ r q off over. refl;
-        life = λ r q off has. refl;
-        bag = λ i spot away least. stays spot i (elsewhere_queue m p spot away) (elsewhere_held m p spot away) (subst (λ (r : ℕ). 1 ≤ r) (begun_standing pt m i spot) least);
-        board = λ off. refl;
-        manager = λ off. refl;
-      };
+      elsewhere = search (
+        record_off,
+        λ (i : MsgId) (spot : Spot) (away : is_elsewhere m spot ≡ true) (least : 1 ≤ standing (begun pt m).view i spot).
+            stays spot i (elsewhere_queue m p spot away) (elsewhere_held m p spot away) (subst (λ (r : ℕ). 1 ≤ r) (begun_standing pt m i spot) least),
+      );
       may = all_may end placed after_records to moves l.bag ids ms (λ i a least e. on_may b pt end m p l after_records to moves i a h.run h.mirrors h.own refl least e) lists;
       single = omega (arith, owned);
       topic = refl;
-      late_may = may_between end placed after_records m to p restart (record {
-        acting = refl;
-        id = id_is;
-        plain = refl;
-        encloses = refl;
-        gives = refl;
-        to = refl;
-        sender = ap kernel_at h.stands.here;
-        bag = bag_absent l to moves ids restart.id (ap l.bag id_is ∙ absent_next b pt l m h.run h.mirrors h.own);
-        untold = ap v.told id_is ∙ untold_next b pt m h.run;
-        from = h.stands.here;
-        about = refl;
-        topic = refl;
-        process = c.process;
-        there = c.there;
-        carries = (
-          refl,
-          subst (λ (r : Option machine.Known). Wants (incoming_of r) Wanted.Nothing) (sym (ap (λ (f : Pid → Option machine.Known). f p) (machine_off records m to state.records apart)))
-              (subst (λ (r : ℕ). Wants (incoming_of (records r p)) Wanted.Nothing) from_is c.carries.1),
-        );
-      });
+      late_may = may_between end placed after_records m to p restart (search (
+        ap kernel_at h.stands.here,
+        bag_absent l to moves ids restart.id (ap l.bag id_is ∙ absent_next b pt l m h.run h.mirrors h.own),
+        ap v.told id_is ∙ untold_next b pt m h.run,
+        subst (λ (r : Option machine.Known). Wants (incoming_of r) Wanted.Nothing) (sym (ap (λ (f : Pid → Option machine.Known). f p) (machine_off records m to state.records apart))) (subst (λ (r : ℕ). Wants (incoming_of (records r p)) Wanted.Nothing) from_is c.carries.1),
+      ));
       own = own_on v end.view l to moves ids refl h.own;
       tokens = tokens_one v end.view l placed records after_records p
           (record {

@@ -1,5 +1,5 @@
 -- The messages that follow a process: the queue, then what was held.
-use Rattle.dm_mirror.proofs.Names.{◌≡◌, ◌≢◌, ℕ, ◌+◌, ◌≤◌, ◌||◌, Bool, true, false, List, [], ◌∷◌, ◌++◌, length, map, refl, ap, ◌∙◌, sym, subst, inl, inr, arith, if◌then◌else◌, option_map, Option, None, Some, cases_Bool, false≢true, Pid}
+use Rattle.dm_mirror.proofs.Names.{◌≡◌, ◌≢◌, ℕ, ◌+◌, ◌≤◌, ◌||◌, Bool, true, false, List, [], ◌∷◌, ◌++◌, length, map, refl, ap, ◌∙◌, sym, subst, inl, inr, arith, if◌then◌else◌, option_map, Option, None, Some, cases_Bool, false≢true, Pid, nat_tests}
 use Rattle.dm_mirror.proofs.Names.{Message, MsgId, What, id_eq, IsKindOfPlain, kind_of, PlainMessage, PlainWhat, plain_message, plain_what, with_what, sent_on, Boot, bind, id_eq-swap, sends_on, is_between, Point, Spot, Held, Queue}
 use Rattle.dm_mirror.proofs.Names.{standing, times, Told, View, letters, held_plain, queued_plain, StandsAsBag-elsewhere, Run, Placed, Mirrors, is_among, sent_all, among_times, parts, AllOwnStand, told_of, AreMessages, AllRecords}
 use Rattle.dm_mirror.proofs.Names.{told_there, more_front}
@@ -24,11 +24,7 @@ pub bag_on : (l : Placed) (at moves : ℕ) (ids : List MsgId) (i : MsgId) (x : M
 bag_on l at moves ids i x least is = ap (λ (c : Bool). if c then option_map (sent_on at moves) (l.bag i) else l.bag i) (among_times i ids least) ∙ ap (option_map (sent_on at moves)) is
 
 pub bag_absent : (l : Placed) (at moves : ℕ) (ids : List MsgId) (i : MsgId) → l.bag i ≡ None → (sent_all l at moves ids).bag i ≡ None
-bag_absent l at moves ids i none = absent_if (is_among i ids)
-  where
-    absent_if : (c : Bool) → (if c then option_map (sent_on at moves) (l.bag i) else l.bag i) ≡ None
-    absent_if true = ap (option_map (sent_on at moves)) none
-    absent_if false = none
+bag_absent l at moves ids i none = grind (arith, nat_tests, option_map)
 
 pub bag_off : (b : Boot) (pt : Point) (m : ℕ) (p : Pid) (l : Placed) (at moves : ℕ) (z : Spot) (j : MsgId) → Run b pt → z ≢ Queue m p → z ≢ Held m p → 1 ≤ standing pt.view j z → (sent_all l at moves (pt.view.queue m p ++ pt.view.held m p)).bag j ≡ l.bag j
 bag_off b pt m p l at moves z j run queue held least =

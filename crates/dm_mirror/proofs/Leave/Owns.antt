@@ -1,5 +1,5 @@
 -- The next message of a machine's kernel, where it goes to another kernel and is about a process that leaves.
-use Rattle.dm_mirror.proofs.Names.{◌≡◌, ℕ, ◌≤◌, ◌==◌, ◌||◌, Bool, true, false, List, [], ◌∷◌, refl, ap, ◌∙◌, sym, subst, inl, inr, arith, if◌then◌else◌, Option, None, Some, false≢true, eqb_tells, Addr, Pid, pid_of, pid_eq, place_of}
+use Rattle.dm_mirror.proofs.Names.{◌≡◌, ℕ, ◌≤◌, ◌==◌, ◌||◌, Bool, true, false, List, [], ◌∷◌, refl, ap, ◌∙◌, sym, subst, inl, inr, arith, if◌then◌else◌, Option, None, Some, false≢true, eqb_tells, Addr, Pid, pid_of, pid_eq, place_of, nat_tests}
 use Rattle.dm_mirror.proofs.Names.{kernel_at, Message, MsgId, id_of, What, MessageKind, Arrival, kind_of, PlainMessage, plain_message, Process, incoming_of, Boot, switchboard, manager, bind, board_handles, handles, kernel_handles}
 use Rattle.dm_mirror.proofs.Names.{manager_handles, process_handles, KernelState, id_eq-same, Gets, Receiver, Sender, gets, given, own_gives, unmoved, process_told, server_told, Point, hears, kernel_hears, at_machine, Known, Of, Told}
 use Rattle.dm_mirror.proofs.Names.{own_id, is_kernels, not_kernels, is_fixed, Run, Placed, Mirrors, enclosed, AllOwnStand, about_of, told_of, AllRecords, Carries, destination_of, about_same}
@@ -7,15 +7,13 @@ use Rattle.dm_kernel.specs.State as machine
 use Rattle.dm_mirror.proofs.Handle.Frames.{machine_self, machine_off}
 use Rattle.dm_mirror.proofs.Leave.Fronts.{Hearing}
 use Rattle.dm_mirror.proofs.Turning.{IsCarried, MayOwn}
+pub use Rattle.dm_mirror.proofs.Handle.Receivers.{to_kernel}
 
 -- what a kernel has not counted was not told, and isn't in the bag
 absent_by : (b : Boot) (pt : Point) (l : Placed) (i : MsgId) (o : Option Message) (p : Option PlainMessage) → Run b pt → Mirrors pt.kernel pt.view pt.addresses l → AllOwnStand pt.view l → is_kernels i ≡ true → pt.view.told i ≡ None → l.bag i ≡ o → bind o plain_message ≡ p → o ≡ None
 absent_by b pt l i None p run mirrors own mine untold is plain = refl
 absent_by b pt l i (Some x) None run mirrors own mine untold is plain = absurd (let e : Some (told_of x) ≡ None = sym (own i x is plain).told ∙ untold in cc)
-absent_by b pt l i (Some x) (Some w) run mirrors own mine untold is plain =
-    let s = run.based.phased.state in
-    let there : pt.kernel.bag i ≡ Some w = sym (mirrors.plain.bag i) ∙ ap (λ (z : Option Message). bind z plain_message) is ∙ plain in
-    absurd (false≢true (sym (not_kernels s.r s.e pt.kernel i w there s.sound) ∙ mine))
+absent_by b pt l i (Some x) (Some w) run mirrors own mine untold is plain = grind (arith, nat_tests, not_kernels)
 
 pub untold_next : (b : Boot) (pt : Point) (m : ℕ) → Run b pt → pt.view.told (id_of (pid_of m 0) (pt.view.count m)) ≡ None
 untold_next b pt m run = run.based.phased.state.numbered m (pt.view.count m) (let same : (n : ℕ) → n ≤ n = λ n. omega arith in same (pt.view.count m))
@@ -90,37 +88,14 @@ three_off false true c e = cc
 three_off true b c e = cc
 
 pub to_process : (b : Boot) (s : KernelState) (y : Message) (r : Option machine.Known) → is_fixed y.to.pid ≡ false → s.records y.to.pid ≡ r → handles b s y ≡ process_handles s y r
-to_process b s y r loose is =
-    let p = y.to.pid in
-    let (num, board, manage) = three_off (p.num == 0) (pid_eq p switchboard) (pid_eq p manager) loose in
-    ap (λ (c : Bool). if c then kernel_handles b s y y.what else if pid_eq p switchboard then board_handles s y s.servers else if pid_eq p manager then manager_handles s y s.servers else process_handles s y (s.records p)) num
-    ∙ ap (λ (c : Bool). if c then board_handles s y s.servers else if pid_eq p manager then manager_handles s y s.servers else process_handles s y (s.records p)) board
-    ∙ ap (λ (c : Bool). if c then manager_handles s y s.servers else process_handles s y (s.records p)) manage
-    ∙ ap (process_handles s y) is
+to_process b s y r loose is = grind (arith, nat_tests, three_off)
 
 pub process_hears : (b : Boot) (pt : Point) (m : ℕ) (i : MsgId) (t : Told) (n : Known) → is_fixed t.receiver ≡ false → pt.view.known m t.receiver ≡ n → hears b pt m i (Some t) ≡ process_told pt m i t n
-process_hears b pt m i t n loose is =
-    let p = t.receiver in
-    let (num, board, manage) = three_off (p.num == 0) (pid_eq p switchboard) (pid_eq p manager) loose in
-    ap (λ (c : Bool). if c then kernel_hears b pt m i t.kind t.about else if pid_eq p switchboard then server_told pt i t t.kind else if pid_eq p manager then server_told pt i t t.kind else process_told pt m i t (pt.view.known m p)) num
-    ∙ ap (λ (c : Bool). if c then server_told pt i t t.kind else if pid_eq p manager then server_told pt i t t.kind else process_told pt m i t (pt.view.known m p)) board
-    ∙ ap (λ (c : Bool). if c then server_told pt i t t.kind else process_told pt m i t (pt.view.known m p)) manage
-    ∙ ap (process_told pt m i t) is
-
-pub to_kernel : (b : Boot) (s : KernelState) (y : Message) → (y.to.pid.num == 0) ≡ true → handles b s y ≡ kernel_handles b s y y.what
-to_kernel b s y num =
-    let p = y.to.pid in
-    ap (λ (c : Bool). if c then kernel_handles b s y y.what else if pid_eq p switchboard then board_handles s y s.servers else if pid_eq p manager then manager_handles s y s.servers else process_handles s y (s.records p)) num
+process_hears b pt m i t n loose is = grind (arith, nat_tests, three_off)
 
 pub to_kernel_hears : (b : Boot) (pt : Point) (m : ℕ) (i : MsgId) (t : Told) → (t.receiver.num == 0) ≡ true → hears b pt m i (Some t) ≡ kernel_hears b pt m i t.kind t.about
-to_kernel_hears b pt m i t num =
-    let p = t.receiver in
-    ap (λ (c : Bool). if c then kernel_hears b pt m i t.kind t.about else if pid_eq p switchboard then server_told pt i t t.kind else if pid_eq p manager then server_told pt i t t.kind else process_told pt m i t (pt.view.known m p)) num
+to_kernel_hears b pt m i t num = grind (arith, nat_tests)
 
 -- the records of all machines, where those of machine m are these
 pub records_as : (records : AllRecords) (m n : ℕ) (f g : Pid → Option machine.Known) (q : Pid) → records m ≡ f → g q ≡ f q → at_machine records m g n q ≡ records n q
-records_as records m n f g q is same = elim (eqb_tells n m) [
-  | inl e ↦
-      subst (λ (z : ℕ). at_machine records m g z q ≡ records z q) (sym e.1) (ap (λ (r : Pid → Option machine.Known). r q) (machine_self records m g) ∙ same ∙ ap (λ (r : Pid → Option machine.Known). r q) (sym is))
-  | inr e ↦ ap (λ (r : Pid → Option machine.Known). r q) (machine_off records m n g e.1)
-]
+records_as records m n f g q is same = grind (arith, nat_tests, eqb_tells, machine_self, machine_off)

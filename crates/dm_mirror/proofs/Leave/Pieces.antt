@@ -1,7 +1,7 @@
 -- A piece of a process that leaves goes to the machine that asks for it.
-use Rattle.dm_mirror.proofs.Names.{◌≡◌, ℕ, ◌+◌, ◌/◌, ◌≤◌, ◌==◌, Bool, true, false, List, [], ◌∷◌, length, map, refl, ap, ◌∙◌, sym, subst, inl, inr, arith, if◌then◌else◌, option_map, Option, None, Some, cases_Bool, Addr, Pid, pid_of}
+use Rattle.dm_mirror.proofs.Names.{◌≡◌, ℕ, ◌+◌, ◌/◌, ◌≤◌, ◌==◌, Bool, true, false, List, [], ◌∷◌, length, map, refl, ap, ◌∙◌, sym, subst, inl, inr, arith, if◌then◌else◌, option_map, Option, None, Some, cases_Bool, Addr, Pid, pid_of, nat_tests}
 use Rattle.dm_mirror.proofs.Names.{kernel_at, Message, MsgId, What, Line, MessageKind, kind_of, plain_what, with_what, Process, frozen_of, incoming_of, Departure, block_of, chunk_of, state_of, Boot, OneKernel, bind, plain_process}
-use Rattle.dm_mirror.proofs.Names.{PlainProcess, gives_piece, kernel_handles, KernelState, own, Addresses, Receiver, Sender, gets, own_gives, unmoved, kernel_told, to_kernel, is_between, is_of_source, Point, fits, free_room, kernel_hears}
+use Rattle.dm_mirror.proofs.Names.{PlainProcess, gives_piece, kernel_handles, KernelState, own, Addresses, Receiver, Sender, gets, own_gives, unmoved, kernel_told, is_between, is_of_source, Point, fits, free_room, kernel_hears}
 use Rattle.dm_mirror.proofs.Names.{at_machine, without_front, Inbox, standing, times, Frozen, Here, Known, Of, Told, Unknown, View, after_proto, handled, own_id, is_server, Run, Placed, enclosed, mirrors_view, about_of, told_of}
 use Rattle.dm_mirror.proofs.Names.{KnownStands, AllRecords, Carries, destination_of}
 use Rattle.dm_onekernel.specs.Step as kernel
@@ -12,7 +12,7 @@ use Rattle.dm_rule.specs.Parts as rule
 use Rattle.dm_rule.specs.View as view
 use Rattle.dm_mirror.proofs.Handle.Frames.{machine_self, machine_off}
 use Rattle.dm_mirror.proofs.Rooms.{taken_same}
-use Rattle.dm_mirror.proofs.Leave.Frames.{IsLeaving, known_stays, leaving_is, own_stays, tokens_one}
+use Rattle.dm_mirror.proofs.Leave.Frames.{IsLeaving, leaving_is, own_stays, tokens_one}
 use Rattle.dm_mirror.proofs.Leave.Fronts.{FrontGone, Hearing, Leaving, front_nowhere, leaving, outcome_hears, stands_first, stood, turn_hears}
 use Rattle.dm_mirror.proofs.Leave.Owns.{absent_next, may_between, own_is, records_as, to_kernel_hears, untold_next}
 use Rattle.dm_mirror.proofs.Leave.Owns as owns
@@ -25,10 +25,7 @@ frozen_server true to e = cc
 frozen_server false to e = cc
 
 pub leaves_no_server : (b : Boot) (pt : Point) (m to : ℕ) (p : Pid) → Run b pt → pt.view.known m p ≡ Frozen to → is_server p ≡ false
-leaves_no_server b pt m to p run known = elim (cases_Bool (is_server p)) [
-  | inl server ↦ absurd (frozen_server (m == 0) to (sym known ∙ run.based.known.server m p server))
-  | inr off ↦ off
-]
+leaves_no_server b pt m to p run known = grind (arith, nat_tests, frozen_server)
 
 -- the record of a process that leaves
 pub departing : (b : Boot) (m : ℕ) (pt : Point) (l : Placed) (records : AllRecords) (k : KernelState) (y : Message) (p : Pid) → Hearing b m pt l records k y → (g : Leaving m pt y p) → IsLeaving l p (pt.view.queue m p) (pt.view.held m p) g.to (k.records p)
@@ -53,12 +50,10 @@ pub carried : (b : Boot) (m : ℕ) (pt : Point) (l : Placed) (records : AllRecor
 carried b m pt l records k y p h between about =
     let t = h.tokens p y.id (told_of y) (Inbox m) h.told between about (stands_first b m pt l records k y h) in
     let same : t.message ≡ y = message_same t.message y (sym t.is ∙ h.there) in
-    record {
-      process = t.process;
-      there = t.there;
-      sender = ap (λ (x : Message). x.sender) (sym same) ∙ t.sender;
-      carries = subst (λ (x : Message). Carries p t.process (pt.view.asked p) (incoming_of (records (destination_of y.id (told_of y)) p)) x.what) same t.carries;
-    }
+    search (
+      ap (λ (x : Message). x.sender) (sym same) ∙ t.sender,
+      subst (λ (x : Message). Carries p t.process (pt.view.asked p) (incoming_of (records (destination_of y.id (told_of y)) p)) x.what) same t.carries,
+    )
 
 pub kernel_number : (m : ℕ) (p : Pid) → p ≡ pid_of m 0 → (p.num == 0) ≡ true
 kernel_number m p e = ap (λ (q : Pid). q.num == 0) e
@@ -109,56 +104,18 @@ gives b m pt l records k y p w h g piece c turn hears proto x there carries =
           ∙ ap (λ (u : View). Some (record { kernel = pt.kernel; view = u; addresses = pt.addresses })) proto;
       placed = l;
       mirrors = mirrors_view pt.kernel v next.view pt.addresses l refl h.mirrors;
-      kernel = record {
-        here = h.stands.here;
-        known = λ q off. known_stays pt next l l q (v.queue m q) (v.held m q) (v.known m q) (k.records q) refl refl (λ j least. refl) (λ j least. refl) (h.stands.known q off);
-        no_server = h.stands.no_server;
-        ring = h.stands.ring;
-        inbox = ap (map l.bag) box ∙ h.others;
-        made = h.stands.made;
-        room = room_stays k.room _ _ _ taken h.stands.room;
-        servers = h.stands.servers;
-      };
+      kernel = search (h.stands.known, ap (map l.bag) box ∙ h.others, room_stays k.room _ _ _ taken h.stands.room);
       sent = λ e. ap (λ (n : ℕ). n + 1) e;
-      elsewhere = record {
-        acting = refl;
-        groups = refl;
-        pair = λ a d. refl;
-        inbox = λ n off. machine_off v.inbox m n (without_front y.id (v.inbox m)) off;
-        ring = λ n off. refl;
-        known = λ n q off. refl;
-        queue = λ n q off. refl;
-        held = λ n q off. refl;
-        count = λ n. refl;
-        told = refl;
-        machines = refl;
-        made = λ n off. refl;
-        process = λ n q off has. refl;
-        ended = λ n q off over. refl;
-        life = λ n q off has. refl;
-        bag = λ i spot away least. refl;
-        board = λ off. refl;
-        manager = λ off. refl;
-      };
+      elsewhere = search;
       may = (
-        may_between next l after_records m y.id.from.home p message (record {
-          acting = refl;
-          id = id_is;
-          plain = ap (with_what message) piece.plain;
-          encloses = piece.encloses;
-          gives = piece.gives next.kernel next.view next.addresses message.id message.to.pid;
-          to = c.sender;
-          sender = ap kernel_at h.stands.here;
-          bag = ap l.bag id_is ∙ absent_next b pt l m h.run h.mirrors h.own;
-          untold = ap v.told id_is ∙ untold_next b pt m h.run;
-          from = h.stands.here;
-          about = piece.about;
-          topic = refl;
-          process = x;
-          there = there;
-          carries = subst (λ (n : ℕ). Carries p x (v.asked p) (incoming_of (after_records n p)) w) (sym to_is)
-              (subst (λ (r : Option machine.Known). Carries p x (v.asked p) (incoming_of r) w) (sym same_there) carries);
-        }),
+        may_between next l after_records m y.id.from.home p message (search (
+          ap (with_what message) piece.plain,
+          piece.gives next.kernel next.view next.addresses message.id message.to.pid,
+          ap kernel_at h.stands.here,
+          ap l.bag id_is ∙ absent_next b pt l m h.run h.mirrors h.own,
+          ap v.told id_is ∙ untold_next b pt m h.run,
+          subst (λ (n : ℕ). Carries p x (v.asked p) (incoming_of (after_records n p)) w) (sym to_is) (subst (λ (r : Option machine.Known). Carries p x (v.asked p) (incoming_of r) w) (sym same_there) carries),
+        )),
         tt,
       );
       late_may = tt;

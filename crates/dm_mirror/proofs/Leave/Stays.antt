@@ -25,18 +25,11 @@ messages_append bag (i ∷ is) js (m ∷ ms) ns e f =
 
 -- a list that is emptied has nothing
 pub less_at : (f : ℕ → Pid → List MsgId) (m n : ℕ) (p q : Pid) (j : MsgId) → 1 ≤ times j (at_record f m p [] n q) → 1 ≤ times j (f n q)
-less_at f m n p q j least = less_if ((m == n) && pid_eq p q) least
-  where
-    less_if : (c : Bool) → 1 ≤ times j (if c then [] else f n q) → 1 ≤ times j (f n q)
-    less_if true e = absurd (omega (arith, e))
-    less_if false e = e
+less_at f m n p q j least = grind (arith, nat_tests)
 
 -- what stands in two lists stands in one of them
 pub in_one : (j : MsgId) (is js : List MsgId) → 1 ≤ times j (is ++ js) → (1 ≤ times j js) ⊎ (1 ≤ times j is)
-in_one j is js least = elim (cases_Bool (nat_le 1 (times j js))) [
-  | inl more ↦ inl (grind (arith, nat_tests))
-  | inr none ↦ inr (let e = times-append j is js in grind (arith, nat_tests))
-]
+in_one j is js least = grind (arith, nat_tests, nat_le, times-append)
 
 refuses : (b : Boot) (m : ℕ) (pt : Point) (l : Placed) (records : AllRecords) (k : KernelState) (y : Message) (p : Pid) (slots blocks : ℕ) → Hearing b m pt l records k (record y { what = What.Refuse p slots blocks }) → TurnsAt b m pt l records k
 refuses b m pt l records k y p slots blocks h =
@@ -104,26 +97,7 @@ refuses b m pt l records k y p slots blocks h =
           (room_stays k.room _ _ _ taken h.stands.room)
           h.stands.servers;
       sent = λ e. e ∙ (let f : (n : ℕ) → n ≡ n + 0 = λ n. omega arith in f (v.count m));
-      elsewhere = record {
-        acting = refl;
-        groups = refl;
-        pair = λ a c. refl;
-        inbox = box_off;
-        ring = λ n off. machine_off v.ring m n (v.ring m ++ p ∷ []) off;
-        known = λ n q off. record_off v.known m n p q Here off;
-        queue = λ n q off. refl;
-        held = λ n q off. record_off v.held m n p q [] off;
-        count = λ n. refl;
-        told = refl;
-        machines = refl;
-        made = λ n off. refl;
-        process = λ n q off has. refl;
-        ended = λ n q off over. refl;
-        life = λ n q off has. refl;
-        bag = λ i spot away least. refl;
-        board = λ off. refl;
-        manager = λ off. refl;
-      };
+      elsewhere = search (machine_off, v.ring, record_off);
       may = tt;
       late_may = tt;
       single = omega arith;

@@ -22,9 +22,7 @@ pub record FrontSo (pt : Point) (m : ℕ) (i : MsgId) (x : Message) (p : PlainMe
 
 with_what_is : (x : Message) (o : Option PlainWhat) (p : PlainMessage) → with_what x o ≡ Some p → (x.to.pid ≡ p.to) × (o ≡ Some p.what)
 with_what_is x None p e = cc
-with_what_is x (Some w) p e =
-    let f : record { id = x.id; to = x.to.pid; sender = x.sender.pid; what = w } ≡ p = cc in
-    (ap (λ (v : PlainMessage). v.to) f, ap (λ (v : PlainMessage). Some v.what) f)
+with_what_is x (Some w) p e = grind (arith, nat_tests)
 
 pub front_so : (b : Boot) (pt : Point) (l : Placed) (m : ℕ) (i : MsgId) (is : List MsgId) (x : Message) (p : PlainMessage) → Run b pt → Mirrors pt.kernel pt.view pt.addresses l → pt.view.inbox m ≡ i ∷ is → l.bag i ≡ Some x → plain_message x ≡ Some p → FrontSo pt m i x p
 front_so b pt l m i is x p run mirrors box there plainly =
@@ -47,11 +45,7 @@ pub low : (s : OneKernel) (p : Pid) → MadeStands s → is_some (s.processes p)
 low s p made there = made.first p there
 
 server_number : (p : Pid) → is_server p ≡ true → 1 ≤ p.num
-server_number p e = by (pid_eq p switchboard) refl e
-  where
-    by : (c : Bool) → pid_eq p switchboard ≡ c → (c || pid_eq p manager) ≡ true → 1 ≤ p.num
-    by true f g = grind (arith, nat_tests)
-    by false f g = grind (arith, nat_tests)
+server_number p e = grind (arith, nat_tests)
 
 abbrev is_create : PlainWhat → Bool
 is_create (PlainWhat.Create image links) = true

@@ -97,9 +97,9 @@ pub may_act : (b : Boot) (pt : Point) (l : Placed) (m : â„•) (k : KernelState) â
 may_act b pt l m k made counts mirrors h lawful p x is =
     let server = not_server_by b pt l m k p (Record.Here x) (is_server p) refl h is in
     let so = here_so b pt l m k p x mirrors h server is in
-    record {
-      pid = (mirrors.places.process p (record x { queue = so.queue }) so.there).pid;
-      lawful = of_known k p (Some (Record.Here x)) lawful is;
-      sent = counts.sent p (plain_process x) so.life;
-      room = has_taken b pt l m k p x made h (ap takes_room so.known) so.life;
-    }
+    search (
+      (mirrors.places.process p (record x { queue = so.queue }) so.there).pid,
+      of_known k p (Some (Record.Here x)) lawful is,
+      counts.sent p (plain_process x) so.life,
+      has_taken b pt l m k p x made h (ap takes_room so.known) so.life,
+    )

@@ -23,14 +23,7 @@ pub own_front : (b : Boot) (pt : Point) (l : Placed) (m : ℕ) (i : MsgId) (is :
 own_front b pt l m i is x run own stand box there plain =
     let s = stand i x there plain in
     let first = stands_first pt.view m i is box in
-    record {
-      there = there;
-      told = s.told;
-      sort = own.own i (told_of x) s.told s.mine;
-      first = first;
-      home = λ fixed. run.found.fixed i (Inbox m) (told_of x) first s.told fixed;
-      known = λ loose. run.found.process i (Inbox m) (told_of x) first s.told loose;
-    }
+    search (own.own i (told_of x) s.told s.mine, run.found.fixed i (Inbox m) (told_of x) first s.told, run.found.process i (Inbox m) (told_of x) first s.told)
 
 -- at a process that is here
 no_kernel : (c : Bool) → c ≡ false → (c && true) ≡ true → ⊥

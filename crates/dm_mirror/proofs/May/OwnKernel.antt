@@ -3,7 +3,7 @@
 use Rattle.dm_mirror.proofs.Names.{◌≡◌, ℕ, ◌*◌, ◌/◌, ◌≤◌, ◌==◌, ◌&&◌, not, Bool, true, false, List, length, refl, ap, ◌∙◌, sym, subst, arith, if◌then◌else◌, length-map, Option, None, Some, false≢true, All-nil, Pid, Message, MsgId, What}
 use Rattle.dm_mirror.proofs.Names.{MessageKind, Record, kind_of, IsLawfulMessage, Process, IsLawfulProcess, frozen_of, incoming_of, Wanted, IsAskOfProcess, Arrival, CanMove, Departure, ask_of, HasBlock, HasChunk, state_of, Boot, Phase}
 use Rattle.dm_mirror.proofs.Names.{Moves, comes, is_apart, is_away, is_between, is_early, is_of_source, is_restart, knows, leaves, receiver_in, sender_in, told_between, Point, Inbox, standing, View, Known, Unknown, Here, Frozen, Incoming}
-use Rattle.dm_mirror.proofs.Names.{Forward, Ended, Of, Told, token_at, token_is, is_server, Run, Placed, IsSuch, KernelState, about_of, AreMessages, ComesStand, KernelStands, KnownStands, LeavesStand, Carries, TokensStand, Wants}
+use Rattle.dm_mirror.proofs.Names.{Forward, Of, Told, token_at, token_is, is_server, Run, Placed, IsSuch, KernelState, about_of, AreMessages, ComesStand, KernelStands, KnownStands, LeavesStand, Carries, TokensStand, Wants}
 use Rattle.dm_mirror.proofs.Names.{destination_of, eq_self, apart_is, inbox_is, about_same}
 use Rattle.dm_migrate.specs.Way.{moved}
 use Rattle.dm_kernel.specs.State as machine
@@ -39,13 +39,11 @@ is_moved b pt m i t p run told between about first =
     let same : q ≡ p = about_same q p (sym of_q ∙ about) in
     let known : (n : ℕ) → knows (Moves k s d (Some i)) n (v.known n q) ≡ true = λ n. sym (ap (λ f. knows f n (v.known n q)) phase) ∙ (h.each q).known n in
     let apart : (is_between k && not (s == d)) ≡ true = apart_of v q k s d i (h.of q) phase (h.each q).apart in
-    let is : IsMoved pt m q k = record {
-      s = s;
-      d = d;
-      source = source_knows k s d (v.known s q) (known s);
-      destination = destination_knows k s d (v.known d q) (apart_is (is_between k) s d apart) (known d);
-      here = inbox_is m (sender_in k s d) (receiver_in k s d) (token.ways (Inbox m) first);
-    } in
+    let is : IsMoved pt m q k = search (
+      source_knows k s d (v.known s q) (known s),
+      destination_knows k s d (v.known d q) (apart_is (is_between k) s d apart) (known d),
+      inbox_is m (sender_in k s d) (receiver_in k s d) (token.ways (Inbox m) first),
+    ) in
     subst (λ (j : MessageKind). IsMoved pt m p j) kind_is (subst (λ (r : Pid). IsMoved pt m r k) same is)
   where
     apart_of : (v : View) (q : Pid) (k : MessageKind) (s d : ℕ) (i : MsgId) (f : Phase) → f ≡ Moves k s d (Some i) → is_apart f ≡ true → (is_between k && not (s == d)) ≡ true
@@ -120,12 +118,10 @@ token_of b pt l ks m i x w p e run tokens f between about =
     let t = tokens p i (own_told x w) (Inbox m) told between about f.first in
     let same : t.message ≡ x = (let g : Some t.message ≡ Some x = sym t.is ∙ f.there in cc) in
     let what_is : t.message.what ≡ w = ap (λ (v : Message). v.what) same ∙ e in
-    record {
-      process = t.process;
-      there = t.there;
-      carries = subst (Carries p t.process (pt.view.asked p) (incoming_of ((ks (destination_of i (own_told x w))).records p))) what_is t.carries;
-      moved = is_moved b pt m i (own_told x w) p run told between about f.first;
-    }
+    search (
+      subst (Carries p t.process (pt.view.asked p) (incoming_of ((ks (destination_of i (own_told x w))).records p))) what_is t.carries,
+      is_moved b pt m i (own_told x w) p run told between about f.first,
+    )
 
 -- what a process of the kernel with places is
 pub same_process : (o : Option Process) (x y : Process) → o ≡ Some x → o ≡ Some y → x ≡ y

@@ -77,8 +77,10 @@ pub may_turn : (b : Boot) (pt : Point) (l : Placed) (ks : ℕ → KernelState) (
 may_turn b pt l ks m small h lawful =
     let stands = h.nodes m h.within in
     let here = stands.here in
-    record {
-      here = omega (arith, here, small);
-      processes = may_act b pt l m (ks m) h.made h.counts h.mirrors stands lawful;
-      front = front_may b pt l ks m (pt.view.inbox m) (ks m).inbox h refl stands.inbox lawful.inbox;
-    }
+    search (
+      arith,
+      here,
+      small,
+      may_act b pt l m (ks m) h.made h.counts h.mirrors stands lawful,
+      front_may b pt l ks m (pt.view.inbox m) (ks m).inbox h refl stands.inbox lawful.inbox,
+    )

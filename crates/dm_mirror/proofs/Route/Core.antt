@@ -67,39 +67,20 @@ module _ (b : Boot) (pt : Point) (l u : Placed) (a : Addresses) (e : MoreBag l u
   servers_more m = λ i. if m == 0 then Some (record { board = e.board i; manager = e.manager i }) else None
 
   kernel_more : (m : ℕ) (k : KernelState) → KernelStands b pt l m k → KernelStands b next u m k
-  kernel_more m k h = record {
-    here = h.here;
-    known = λ p server. known_more p (pt.view.queue m p) (pt.view.held m p) (pt.view.known m p) (k.records p) (h.known p server);
-    no_server = h.no_server;
-    ring = h.ring;
-    inbox = messages_more l.bag u.bag e.bag (pt.view.inbox m) k.inbox h.inbox;
-    made = h.made;
-    room = subst (RoomStands k.room (room_of (slice_get b.machines m))) (sym (taken_same m pt.kernel.machines)) h.room;
-    servers = h.servers ∙ sym (servers_more m);
-  }
+  kernel_more m k h = search (
+    known_more,
+    h.known,
+    messages_more l.bag u.bag e.bag (pt.view.inbox m) k.inbox h.inbox,
+    subst (RoomStands k.room (room_of (slice_get b.machines m))) (sym (taken_same m pt.kernel.machines)) h.room,
+    h.servers ∙ sym (servers_more m),
+  )
 
   node_more : (m : ℕ) (n : NodeState) → NodeStands b pt l m n → NodeStands b next u m n
   node_more m n h = record { kernel = kernel_more m n.kernel h.kernel; lawful = h.lawful; machines = h.machines; numbers = h.numbers; home = h.home }
 
   pair_more : (w : WorldState) (h : History) (c d : ℕ) → PairStands b pt l w h c d → PairStands b next u w h c d
-  pair_more w h c d s = record {
-    stream = s.stream;
-    ids = s.ids;
-    untaken = messages_more l.bag u.bag e.bag (drop (pt.view.pair c d).taken (pt.view.pair c d).ids) (drop (pt.view.pair c d).taken (h.given c d)) s.untaken;
-    taken = s.taken;
-    gone = s.gone;
-    acked = s.acked;
-    numbers = s.numbers;
-    kept = s.kept;
-    packets = s.packets;
-    bytes = s.bytes;
-    lawful = s.lawful;
-  }
+  pair_more w h c d s = search
+      (messages_more l.bag u.bag e.bag (drop (pt.view.pair c d).taken (pt.view.pair c d).ids) (drop (pt.view.pair c d).taken (h.given c d)) s.untaken)
 
   pub core_more : (w : WorldState) (h : History) → CoreStands b w pt l h → CoreStands b w next u h
-  core_more w h s = record {
-    groups = s.groups;
-    nodes = λ m small. node_more m (w.nodes m) (s.nodes m small);
-    pairs = λ c d small less apart. pair_more w h c d (s.pairs c d small less apart);
-    counts = s.counts;
-  }
+  core_more w h s = search (node_more, s.nodes, pair_more, s.pairs)

@@ -3,7 +3,7 @@
 use Rattle.dm_mirror.proofs.Names.{◌≡◌, ℕ, Bool, true, false, refl, sym, length, Some, Pid, Message, MsgId, MessageKind, Line, Load, Stage, kind_of, OneKernel, Addresses, first_gives, given, own_gives, Point, moved, at_id, About, Of, View}
 use Rattle.dm_mirror.proofs.Names.{after_put, first_told, Sort, sort_of, own_given}
 use Rattle.dm_rule.specs.Parts as rule
-use Rattle.dm_mirror.proofs.Turning.{Route, First, On, Own, Late, Nothing, Leaves, LateTopic, late_point, rule_part_of}
+use Rattle.dm_mirror.proofs.Turning.{Route, First, Late, Nothing, Leaves, LateTopic, late_point, rule_part_of}
 use Rattle.dm_mirror.proofs.Putting.{lines_put, put_end, put_point}
 
 -- the parts have the same lines

@@ -157,16 +157,7 @@ module _ (b : Boot) (w : WorldState) (q : Point) (l : Placed) (h : History) (m :
       subst (λ (k : ℕ). k < Q.kernel.machines) (pair_place m x.to.at home) (subst (λ (s : OneKernel). machine_of z < s.machines) kernel small)
 
   ready : Ready b w Q l h m r
-  ready = record {
-    stands = g.stands;
-    here = subst (λ (s : OneKernel). m < s.machines) (sym (late_kernel q late)) g.here;
-    there = there;
-    acting = acting;
-    lawful = g.lawful.0;
-    may = may;
-    sane = g.sane;
-    fits = late_fits q late g.fits;
-  }
+  ready = search (subst (λ (s : OneKernel). m < s.machines) (sym (late_kernel q late)) g.here, there, acting, may, late_fits q late g.fits)
 
   -- it goes: the others from there
   module _ (on : RouteOn b w Q l m r) where
@@ -242,17 +233,10 @@ module _ (b : Boot) (w : WorldState) (q : Point) (l : Placed) (h : History) (m :
         }
 
     wears_on : RoutesWorn b world after_one m rs late n.rest → RoutesWorn b w q m (r ∷ rs) late v
-    wears_on k = record {
-      from = k.from;
-      to = k.to;
-      worn = acts_route (w.nodes m) r (map part_of rs ++ late_parts late) (Goes on.acted) on.goes
-          ∙ ap (λ (d : NodeState). behind on.acted.outs (acts d (map part_of rs ++ late_parts late))) (sym node_is)
-          ∙ ap (behind on.acted.outs) k.worn;
-      first =
-          ap (worn_in b.numbers q.view) (sym whole_lines)
-          ∙ worn_past b.numbers q m x.to.at x on.home on.out n.rest.lines (ap (λ (f : ℕ → ℕ → Pair). nat_le b.numbers (length (f m x.to.at).ids)) (sym (late_pair q late)) ∙ on.room)
-          ∙ k.first;
-    }
+    wears_on k = search (
+      acts_route (w.nodes m) r (map part_of rs ++ late_parts late) (Goes on.acted) on.goes ∙ ap (λ (d : NodeState). behind on.acted.outs (acts d (map part_of rs ++ late_parts late))) (sym node_is) ∙ ap (behind on.acted.outs) k.worn,
+      ap (worn_in b.numbers q.view) (sym whole_lines) ∙ worn_past b.numbers q m x.to.at x on.home on.out n.rest.lines (ap (λ (f : ℕ → ℕ → Pair). nat_le b.numbers (length (f m x.to.at).ids)) (sym (late_pair q late)) ∙ on.room) ∙ k.first,
+    )
 
     rest_goes : RoutesGo b world after_one m rs late n.rest → RoutesGo b w q m (r ∷ rs) late v
     rest_goes k = elim k as (λ z. RoutesGo b w q m (r ∷ rs) late v) [
@@ -264,15 +248,10 @@ module _ (b : Boot) (w : WorldState) (q : Point) (l : Placed) (h : History) (m :
   wears : RouteWorn b w Q m r → RoutesWorn b w q m (r ∷ rs) late v
   wears k =
       let full : b.numbers ≤ length (q.view.pair m x.to.at).ids = subst (λ (f : ℕ → ℕ → Pair). b.numbers ≤ length (f m x.to.at).ids) (late_pair q late) k.full in
-      record {
-        from = k.from;
-        to = k.to;
-        worn = acts_route (w.nodes m) r (map part_of rs ++ late_parts late) (Worn k.from k.to) k.worn;
-        first =
-            ap (worn_in b.numbers q.view) (sym (ap (λ (z : Spelled). z.lines) n.whole) ∙ ap (λ (ls : List Line). ls ++ n.rest.lines) (sym (lines_are k.home k.out k.part)))
-            ∙ worn_first b.numbers q m x.to.at x k.home k.out n.rest.lines full
-            ∙ (λ i. Some (record { from = sym k.from_is i; to = sym k.to_is i }));
-      }
+      search (
+        acts_route (w.nodes m) r (map part_of rs ++ late_parts late) (Worn k.from k.to) k.worn,
+        ap (worn_in b.numbers q.view) (sym (ap (λ (z : Spelled). z.lines) n.whole) ∙ ap (λ (ls : List Line). ls ++ n.rest.lines) (sym (lines_are k.home k.out k.part))) ∙ worn_first b.numbers q m x.to.at x k.home k.out n.rest.lines full ∙ (λ i. Some (record { from = sym k.from_is i; to = sym k.to_is i })),
+      )
 
   one_goes : ((on : RouteOn b w Q l m r) → RoutesGo b (with_acted w m on.acted) (put_end q m x.to.at x on.home on.out) m rs late n.rest) → RoutesGo b w q m (r ∷ rs) late v
   one_goes go = elim (route_goes b w Q l h m r ready) as (λ z. RoutesGo b w q m (r ∷ rs) late v) [
@@ -343,12 +322,7 @@ module _ (b : Boot) (w : WorldState) (q : Point) (l : Placed) (h : History) (m :
   }
 
   last_worn : RoutesWorn b w left m (Own y ∷ []) Nothing leave.rest → RoutesWorn b w q m [] (Leaves p y) v
-  last_worn k = record {
-    from = k.from;
-    to = k.to;
-    worn = ap (behind (Out.Says said ∷ [])) k.worn;
-    first = ap (worn_in b.numbers q.view) (sym whole_is) ∙ k.first;
-  }
+  last_worn k = search (ap (behind (Out.Says said ∷ [])) k.worn, ap (worn_in b.numbers q.view) (sym whole_is) ∙ k.first)
 
   last_goes : RoutesGo b w q m [] (Leaves p y) v
   last_goes = elim (still_go b w left l h m records (Own y ∷ []) leave.rest own_going) as (λ z. RoutesGo b w q m [] (Leaves p y) v) [

@@ -1,5 +1,5 @@
 -- What may be put still may behind the put of another message.
-use Rattle.dm_mirror.proofs.Names.{◌≡◌, ℕ, ◌+◌, ◌≤◌, Bool, true, false, refl, ap, ◌∙◌, sym, subst, inl, inr, arith, if◌then◌else◌, List, [], ◌∷◌, Option, None, Some, cases_Bool, false≢true, Pid, pid_of, Message, MsgId, id_eq, id_of}
+use Rattle.dm_mirror.proofs.Names.{◌≡◌, ℕ, ◌+◌, ◌≤◌, Bool, true, false, refl, ap, ◌∙◌, sym, subst, inl, inr, arith, if◌then◌else◌, List, [], ◌∷◌, Option, None, Some, cases_Bool, false≢true, Pid, pid_of, Message, MsgId, id_eq, id_of, nat_tests}
 use Rattle.dm_mirror.proofs.Names.{kind_of, id_eq-is, Gets, Receiver, Sender, first_gives, given, own_gives, Point, at_machine, Told, is_kernels, is_own, own_id, not_kernels, put_told_off, Sane, Placed, Mirrors, AllRecords, not_first}
 use Rattle.dm_mirror.proofs.Turning.{Route, First, On, Own, MayOwn, MayPut, AllMayPut, Late, Nothing, Leaves, LateMay, late_owns, message_of, owns}
 use Rattle.dm_mirror.proofs.Turning as turning
@@ -28,9 +28,7 @@ kernels_not_own i None e = e
 kernels_not_own i (Some t) e = refl
 
 pub first_not_own : (pt : Point) (l : Placed) (records : AllRecords) (x : Message) → Sane pt → Mirrors pt.kernel pt.view pt.addresses l → MayPut pt l records (First x) → is_own x.id (pt.view.told x.id) ≡ false
-first_not_own pt l records x sane mirrors may =
-    let p : IsPlain (pt.kernel.bag x.id) x = plain_of pt l x mirrors may.0 may.1 in
-    kernels_not_own x.id (pt.view.told x.id) (not_kernels sane.r sane.e pt.kernel x.id p.m p.there sane.sound)
+first_not_own pt l records x sane mirrors may = grind (arith, nat_tests, plain_of, kernels_not_own, not_kernels)
 
 pub on_not_own : (pt : Point) (l : Placed) (records : AllRecords) (x : Message) → MayPut pt l records (On x) → is_own x.id (pt.view.told x.id) ≡ false
 on_not_own pt l records x may = not_first x.id (pt.view.told x.id) may.1.0 may.1.1
@@ -66,25 +64,18 @@ none_some : (o : Option Message) (y : Message) → o ≡ None → o ≡ Some y �
 none_some o y e f = cc
 
 apart_bag : (l : Placed) (x y : Message) → l.bag x.id ≡ Some x → l.bag y.id ≡ None → id_eq x.id y.id ≡ false
-apart_bag l x y there none = elim (cases_Bool (id_eq x.id y.id)) [
-  | inl same ↦ absurd (false≢true (none_some (l.bag y.id) x none (ap l.bag (sym (id_eq-is x.id y.id same)) ∙ there)))
-  | inr apart ↦ apart
-]
+apart_bag l x y there none = grind (arith, nat_tests, none_some, id_eq-is)
 
 -- a put of a message that isn't the kernel's own keeps it
 keeps_own : (pt : Point) (l : Placed) (m c : ℕ) (x y : Message) (home out : Bool) → is_own x.id (pt.view.told x.id) ≡ false → first_gives (pt.view.told x.id) (own_gives pt.kernel pt.view pt.addresses x.id x.to.pid (kind_of x.what)) ≡ [] → id_eq x.id y.id ≡ false
     → Keeps pt (put_end pt m c x home out) y.id
 keeps_own pt l m c x y home out other gives apart =
     let s = same_end pt m c x home out in
-    record {
-      kernel = s.kernel;
-      addresses = s.addresses ∙ ap (λ (g : List Gets). given pt.addresses g) gives;
-      acting = s.acting;
-      own = (λ i. id_of (pid_of (s.acting i) 0) (s.count i (s.acting i))) ∙ ap (λ (t : Bool). id_of (pid_of pt.view.acting 0) ((if t then at_machine pt.view.count x.id.from.home (pt.view.count x.id.from.home + 1) else pt.view.count) pt.view.acting)) other;
-      told = ap (λ (f : MsgId → Option Told). f y.id) s.told ∙ put_told_off pt.view m c x.id y.id (kind_of x.what) x.to.pid apart;
-      topic = s.topic;
-      asked = s.asked;
-    }
+    search (
+      s.addresses ∙ ap (λ (g : List Gets). given pt.addresses g) gives,
+      (λ i. id_of (pid_of (s.acting i) 0) (s.count i (s.acting i))) ∙ ap (λ (t : Bool). id_of (pid_of pt.view.acting 0) ((if t then at_machine pt.view.count x.id.from.home (pt.view.count x.id.from.home + 1) else pt.view.count) pt.view.acting)) other,
+      ap (λ (f : MsgId → Option Told). f y.id) s.told ∙ put_told_off pt.view m c x.id y.id (kind_of x.what) x.to.pid apart,
+    )
 
 -- what holds of an own message behind another one that is put
 pub own_on : (pt : Point) (l : Placed) (records : AllRecords) (m : ℕ) (r : Route) (y : Message) (home out : Bool) → Sane pt → Mirrors pt.kernel pt.view pt.addresses l → turning.is_own r ≡ 0 → MayPut pt l records r → MayOwn pt l records y

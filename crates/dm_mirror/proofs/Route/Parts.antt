@@ -1,5 +1,5 @@
 -- The parts of a group that route messages, one after the other: what stands somewhere stays there, and what is counted.
-use Rattle.dm_mirror.proofs.Names.{◌≡◌, ℕ, ◌+◌, ◌≤◌, ◌==◌, Bool, true, false, List, [], ◌∷◌, ◌++◌, length, map, refl, ap, ◌∙◌, sym, subst, arith, if◌then◌else◌, Option, None, Some, Pid, MsgId, MessageKind, kind_of, plain_kind, PlainMessage}
+use Rattle.dm_mirror.proofs.Names.{◌≡◌, ℕ, ◌+◌, ◌≤◌, ◌==◌, Bool, true, false, List, [], ◌∷◌, ◌++◌, length, map, refl, ap, ◌∙◌, sym, subst, arith, if◌then◌else◌, Option, None, Some, Pid, MsgId, MessageKind, kind_of, plain_kind, PlainMessage, nat_tests}
 use Rattle.dm_mirror.proofs.Names.{bind, bind-is, Line, Load, Stage, Receiver, Spelled, goes_out, puts, spelled, Point, after, moved, at_machine, Spot, Queue, standing, Told, View, is_own, own_id, fits_packet, fits_put, PairsFit, Sane}
 use Rattle.dm_mirror.proofs.Names.{Placed, Mirrors, AllRecords}
 use Rattle.dm_rule.specs.Parts as rule
@@ -129,23 +129,13 @@ pub count_here : (pt : Point) (l : Placed) (records : AllRecords) (m : ℕ) (r :
 count_here pt l records m (First x) home out sane mirrors acting self may =
     ap (λ (f : ℕ → ℕ). f m) (same_end pt m x.to.at x home out).count
     ∙ ap (λ (t : Bool). (if t then at_machine pt.view.count x.id.from.home (pt.view.count x.id.from.home + 1) else pt.view.count) m) (first_not_own pt l records x sane mirrors may) ∙ omega arith
-count_here pt l records m (On x) home out sane mirrors acting self may =
-    ap (λ (f : ℕ → ℕ). f m) (same_end pt m x.to.at x home out).count
-    ∙ ap (λ (t : Bool). (if t then at_machine pt.view.count x.id.from.home (pt.view.count x.id.from.home + 1) else pt.view.count) m) (on_not_own pt l records x may) ∙ omega arith
-count_here pt l records m (Own x) home out sane mirrors acting self may =
-    ap (λ (f : ℕ → ℕ). f m) (same_end pt m x.to.at x home out).count
-    ∙ own_counted x.id (pt.view.told x.id) pt.view.count m m (untold_own x.id (pt.view.told x.id) pt.view may.untold may.id) (ap (λ (i : MsgId). i.from.home) may.id ∙ acting)
-    ∙ set_here pt.view.count m (pt.view.count m + 1) m self
+count_here pt l records m (On x) home out sane mirrors acting self may = grind (arith, nat_tests, same_end, on_not_own)
+count_here pt l records m (Own x) home out sane mirrors acting self may = grind (arith, nat_tests, same_end, own_counted, untold_own, set_here)
 
 pub count_off : (pt : Point) (l : Placed) (records : AllRecords) (m n : ℕ) (r : Route) (home out : Bool) → Sane pt → Mirrors pt.kernel pt.view pt.addresses l → pt.view.acting ≡ m → (m == n) ≡ false → MayPut pt l records r
     → (put_end pt m (message_of r).to.at (message_of r) home out).view.count n ≡ pt.view.count n
 count_off pt l records m n (First x) home out sane mirrors acting off may =
     ap (λ (f : ℕ → ℕ). f n) (same_end pt m x.to.at x home out).count
     ∙ ap (λ (t : Bool). (if t then at_machine pt.view.count x.id.from.home (pt.view.count x.id.from.home + 1) else pt.view.count) n) (first_not_own pt l records x sane mirrors may)
-count_off pt l records m n (On x) home out sane mirrors acting off may =
-    ap (λ (f : ℕ → ℕ). f n) (same_end pt m x.to.at x home out).count
-    ∙ ap (λ (t : Bool). (if t then at_machine pt.view.count x.id.from.home (pt.view.count x.id.from.home + 1) else pt.view.count) n) (on_not_own pt l records x may)
-count_off pt l records m n (Own x) home out sane mirrors acting off may =
-    ap (λ (f : ℕ → ℕ). f n) (same_end pt m x.to.at x home out).count
-    ∙ own_counted x.id (pt.view.told x.id) pt.view.count m n (untold_own x.id (pt.view.told x.id) pt.view may.untold may.id) (ap (λ (i : MsgId). i.from.home) may.id ∙ acting)
-    ∙ set_off pt.view.count m (pt.view.count m + 1) n off
+count_off pt l records m n (On x) home out sane mirrors acting off may = grind (arith, nat_tests, same_end, on_not_own)
+count_off pt l records m n (Own x) home out sane mirrors acting off may = grind (arith, nat_tests, same_end, own_counted, untold_own, set_off)

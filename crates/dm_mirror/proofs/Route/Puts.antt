@@ -1,5 +1,5 @@
 -- Behind the put of a message that is routed: what the kernel with places mirrors, and what the kernels' own messages carry.
-use Rattle.dm_mirror.proofs.Names.{◌≡◌, ℕ, ◌≤◌, Bool, true, false, [], refl, ap, ◌∙◌, sym, subst, inl, inr, arith, if◌then◌else◌, Option, None, Some, cases_Bool, false≢true, Pid, Message, MsgId, MessageKind, id_eq, kind_of, plain_kind}
+use Rattle.dm_mirror.proofs.Names.{◌≡◌, ℕ, ◌≤◌, Bool, true, false, [], refl, ap, ◌∙◌, sym, subst, inl, inr, arith, if◌then◌else◌, Option, None, Some, cases_Bool, false≢true, Pid, Message, MsgId, MessageKind, id_eq, kind_of, plain_kind, nat_tests}
 use Rattle.dm_mirror.proofs.Names.{plain_message, incoming_of, Boot, bind, id_eq-is, id_eq-same, first_gives, own_gives, is_between, Point, Spot, standing, Of, Told, View, after_put, first_told, is_kernels, own_id, put_at, put_spots}
 use Rattle.dm_mirror.proofs.Names.{PairsFit, put_told_off, Sane, plain_not, Placed, Mirrors, KeepsPlaces, lines_keep, routed_keeps, told_keeps, own_put_mirrors, WorldState, AllOwnStand, OwnStands, told_of, History, StandsWith, AllRecords}
 use Rattle.dm_mirror.proofs.Names.{Carries, TokenStands, TokensStand, destination_of, first_none}
@@ -26,10 +26,7 @@ none_some : (o : Option Message) (y : Message) → o ≡ None → o ≡ Some y �
 none_some o y e f = cc
 
 bag_kept : (l : Placed) (x : Message) → l.bag x.id ≡ None → (i : MsgId) (y : Message) → l.bag i ≡ Some y → (with_message l x.id (Some x)).bag i ≡ Some y
-bag_kept l x none i y e = elim (cases_Bool (id_eq x.id i)) [
-  | inl same ↦ absurd (false≢true (none_some (l.bag i) y (ap l.bag (sym (id_eq-is x.id i same)) ∙ none) e))
-  | inr apart ↦ bag_off l x i apart ∙ e
-]
+bag_kept l x none i y e = grind (arith, nat_tests, none_some, id_eq-is, bag_off)
 
 pub route_more : (pt : Point) (l : Placed) (records : AllRecords) (r : Route) → MayPut pt l records r → MoreBag l (after_route l r)
 route_more pt l records (Own x) may = record { bag = bag_kept l x may.bag; processes = λ p. refl; board = refl; manager = refl }
@@ -57,10 +54,7 @@ route_mirrors pt l records m (Own x) may h =
 
 -- what is told of the next own message is what it is
 pub own_told : (pt : Point) (l : Placed) (records : AllRecords) (m : ℕ) (x : Message) → MayOwn pt l records x → (after_put pt.view m x.to.at x.id (kind_of x.what) x.to.pid).told x.id ≡ Some (told_of x)
-own_told pt l records m x may =
-    put_at pt.view m x.to.at x.id (kind_of x.what) x.to.pid
-    ∙ first_none (pt.view.told x.id) (record { kind = kind_of x.what; receiver = x.to.pid; about = pt.view.topic }) may.untold
-    ∙ (λ i. Some (record { kind = kind_of x.what; receiver = x.to.pid; about = may.about i }))
+own_told pt l records m x may = grind (arith, nat_tests, put_at, first_none)
 
 own_mine : (pt : Point) (x : Message) → x.id ≡ own_id pt.view → is_kernels x.id ≡ true
 own_mine pt x e = ap is_kernels e
@@ -89,14 +83,11 @@ route_own pt l records m (Own x) may h i y there plain = elim (cases_Bool (id_eq
 pub token_kept : (v u : View) (l k : Placed) (r s : AllRecords) (p : Pid) (i : MsgId) (t : Told) → MoreBag l k → u.asked p ≡ v.asked p → ((d : ℕ) → s d ≡ r d) → TokenStands v l r p i t → TokenStands u k s p i t
 token_kept v u l k r s p i t more asked records h =
     let d : ℕ = destination_of i t in
-    record {
-      process = h.process;
-      there = more.processes p ∙ h.there;
-      message = h.message;
-      is = more.bag i h.message h.is;
-      sender = h.sender;
-      carries = subst (λ (n : ℕ). Carries p h.process n (incoming_of (s d p)) h.message.what) (sym asked) (subst (λ (f : Pid → Option machine.Known). Carries p h.process (v.asked p) (incoming_of (f p)) h.message.what) (sym (records d)) h.carries);
-    }
+    search (
+      more.processes p ∙ h.there,
+      more.bag i h.message h.is,
+      subst (λ (n : ℕ). Carries p h.process n (incoming_of (s d p)) h.message.what) (sym asked) (subst (λ (f : Pid → Option machine.Known). Carries p h.process (v.asked p) (incoming_of (f p)) h.message.what) (sym (records d)) h.carries),
+    )
 
 first_kind : (o : Option Told) (u t : Told) → Some (first_told o u) ≡ Some t → is_between u.kind ≡ false → ((s : Told) → o ≡ Some s → is_between s.kind ≡ false) → is_between t.kind ≡ false
 first_kind None u t e new old = let f : u ≡ t = cc in subst (λ (z : Told). is_between z.kind ≡ false) f new
@@ -146,24 +137,16 @@ route_tokens pt l r s m (Own x) may records sane fits mirrors h =
     let is : told_of x ≡ t = some_same (told_of x) t ((after_put pt.view m x.to.at x.id (kind_of x.what) x.to.pid).told x.id) (own_told pt l r m x may) told in
     let c : IsCarried l (pt.view.asked p) r p x = may.carried (ap (λ (z : Told). is_between z.kind) is ∙ between) p (ap (λ (z : Told). z.about) is ∙ about) in
     subst (λ (z : Told). TokenStands (after_put pt.view m x.to.at x.id (kind_of x.what) x.to.pid) (with_message l x.id (Some x)) s p x.id z) is
-    (record {
-      process = c.process;
-      there = c.there;
-      message = x;
-      is = bag_here l x;
-      sender = c.sender;
-      carries = subst (λ (f : Pid → Option machine.Known). Carries p c.process (pt.view.asked p) (incoming_of (f p)) x.what) (sym (records (destination_of x.id (told_of x)))) c.carries;
-    }))
+    (search (
+      bag_here l x,
+      subst (λ (f : Pid → Option machine.Known). Carries p c.process (pt.view.asked p) (incoming_of (f p)) x.what) (sym (records (destination_of x.id (told_of x)))) c.carries,
+    )))
 
 -- the world stands for the point behind the put
 pub stands_routed : (b : Boot) (pt : Point) (l : Placed) (r : AllRecords) (m : ℕ) (route : Route) (w : WorldState) (h : History) → MayPut pt l r route → ((d : ℕ) → (w.nodes d).kernel.records ≡ r d) → Sane pt → PairsFit pt.view → Mirrors pt.kernel pt.view pt.addresses l
     → AllOwnStand pt.view l → TokensStand pt.view l r → CoreStands b w (put_point pt m (message_of route).to.at (message_of route)) (after_route l route) h → StandsWith b w (put_point pt m (message_of route).to.at (message_of route)) (after_route l route) h
-stands_routed b pt l r m route w h may records sane fits mirrors own tokens core = record {
-  mirrors = route_mirrors pt l r m route may mirrors;
-  groups = core.groups;
-  nodes = core.nodes;
-  pairs = core.pairs;
-  counts = core.counts;
-  own = route_own pt l r m route may own;
-  tokens = route_tokens pt l r (λ d. (w.nodes d).kernel.records) m route may records sane fits mirrors tokens;
-}
+stands_routed b pt l r m route w h may records sane fits mirrors own tokens core = search (
+  route_mirrors pt l r m route may mirrors,
+  route_own pt l r m route may own,
+  route_tokens pt l r (λ d. (w.nodes d).kernel.records) m route may records sane fits mirrors tokens,
+)

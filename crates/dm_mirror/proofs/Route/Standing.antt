@@ -1,5 +1,5 @@
 -- What stands somewhere stands there behind messages that are put.
-use Rattle.dm_mirror.proofs.Names.{◌≡◌, ℕ, zero, suc, ◌+◌, ◌≤◌, ◌==◌, ◌&&◌, Bool, true, false, List, [], ◌∷◌, ◌++◌, length, refl, ap, sym, subst, arith, if◌then◌else◌, drop, eqb-true, drop-append-le, Pid, Message, MsgId, MessageKind}
+use Rattle.dm_mirror.proofs.Names.{◌≡◌, ℕ, zero, suc, ◌+◌, ◌≤◌, ◌==◌, ◌&&◌, Bool, true, false, List, [], ◌∷◌, ◌++◌, length, refl, ap, sym, subst, arith, if◌then◌else◌, drop, eqb-true, drop-append-le, Pid, Message, MsgId, MessageKind, nat_tests}
 use Rattle.dm_mirror.proofs.Names.{kind_of, Load, Point, Spot, Inbox, Untaken, standing, times, untaken, Pair, View, after_packet, after_put, routed_on, fits_packet, fits_put, two_of, put_spot, put_there, times-append, PairsFit, home_full}
 use Rattle.dm_mirror.proofs.Puts.{put_standing}
 use Rattle.dm_mirror.proofs.Putting.{put_end}
@@ -9,10 +9,7 @@ more_times j xs ys h = let a = times-append j xs ys in omega (arith, a, h)
 
 box_grows : (f : ℕ → List MsgId) (b n : ℕ) (i j : MsgId) (s t : Bool) → (b == n) ≡ t → 1 ≤ times j (f n) → 1 ≤ times j ((if s then (λ (d : ℕ). if b == d then f b ++ i ∷ [] else f d) else f) n)
 box_grows f b n i j false t e h = h
-box_grows f b n i j true true e h =
-    let same : times j (f b) ≡ times j (f n) = ap (λ (d : ℕ). times j (f d)) (eqb-true b n e) in
-    let least : 1 ≤ times j (f b) = omega (arith, same, h) in
-    subst (λ (c : Bool). 1 ≤ times j (if c then f b ++ i ∷ [] else f n)) (sym e) (more_times j (f b) (i ∷ []) least)
+box_grows f b n i j true true e h = grind (arith, nat_tests, eqb-true, more_times)
 box_grows f b n i j true false e h = subst (λ (c : Bool). 1 ≤ times j (if c then f b ++ i ∷ [] else f n)) (sym e) h
 
 all_gone : (i j : MsgId) (xs : List MsgId) (n : ℕ) → n ≡ length xs → 1 ≤ times j (drop n xs) → ⊥
@@ -23,15 +20,10 @@ all_gone i j (x ∷ xs) (suc n) e h = all_gone i j xs n (omega (arith, e)) h
 
 pair_grows : (a b : ℕ) (p : Pair) (i j : MsgId) (c : Bool) → (a == b) ≡ c → p.taken ≤ length p.ids → (c ≡ true → p.taken ≡ length p.ids) → 1 ≤ times j (untaken p) → 1 ≤ times j (untaken (routed_on a b p i))
 pair_grows a b p i j true e few full h = absurd (all_gone i j p.ids p.taken (full refl) h)
-pair_grows a b p i j false e few full h =
-    subst (λ (c : Bool). 1 ≤ times j (drop (if c then p.taken + 1 else p.taken) (p.ids ++ i ∷ []))) (sym e)
-    (subst (λ (xs : List MsgId). 1 ≤ times j xs) (sym (drop-append-le p.taken p.ids (i ∷ []) few)) (more_times j (drop p.taken p.ids) (i ∷ []) h))
+pair_grows a b p i j false e few full h = grind (arith, nat_tests, drop-append-le, more_times)
 
 pair_if : (f : ℕ → ℕ → Pair) (a b c d : ℕ) (i j : MsgId) (t : Bool) → ((a == c) && (b == d)) ≡ t → (f a b).taken ≤ length (f a b).ids → ((a == b) ≡ true → (f a b).taken ≡ length (f a b).ids) → 1 ≤ times j (untaken (f c d)) → 1 ≤ times j (untaken (if t then routed_on a b (f a b) i else f c d))
-pair_if f a b c d i j true e few full h =
-    let k = two_of a b c d e in
-    let same : times j (untaken (f a b)) ≡ times j (untaken (f c d)) = (λ i. times j (untaken (f (k.0 i) (k.1 i)))) in
-    pair_grows a b (f a b) i j (a == b) refl few full (omega (arith, same, h))
+pair_if f a b c d i j true e few full h = grind (arith, nat_tests, two_of, pair_grows)
 pair_if f a b c d i j false e few full h = h
 
 pub put_grows : (v : View) (a b : ℕ) (i j : MsgId) (k : MessageKind) (q : Pid) → PairsFit v → (z : Spot) → 1 ≤ standing v j z → 1 ≤ standing (after_put v a b i k q) j z

@@ -1,10 +1,8 @@
 -- What a machine does with a kernel's own message says no label first, and so a row that says only labels, queued messages or
 -- that the machine idles is about a message of the bag, or about none: each of its lines has what it needs.
-use Rattle.dm_mirror.proofs.Names.{◌≡◌, ℕ, ◌/◌, ◌==◌, ◌&&◌, Bool, true, false, not, List, [], ◌∷◌, ◌++◌, map, length, refl, subst, ⊤, if◌then◌else◌, Option, None, Some, false≢true, Pid, pid_eq, Message, MsgId, PlainMessage, MessageKind}
-use Rattle.dm_mirror.proofs.Names.{Step, Boot, switchboard, manager, bind, PlainProcess, Line, Part, Says, Point, Known, Unknown, Here, Frozen, Ended, About, Of, Told, target_of, letter_of, Phased, told_some, Begins, Walks, WalksOf}
+use Rattle.dm_mirror.proofs.Names.{◌≡◌, ℕ, ◌&&◌, Bool, true, false, not, List, [], ◌∷◌, ◌++◌, map, refl, subst, ⊤, Option, None, Some, false≢true, Message, MsgId, PlainMessage}
+use Rattle.dm_mirror.proofs.Names.{Step, Boot, Line, Part, Says, Point, Told, letter_of, Phased, told_some, Begins, Walks, WalksOf}
 use Rattle.dm_mirror.proofs.Names.{resting, round_walks, handles_walks, by_hears}
-use Rattle.dm_onekernel.specs.Step as kernel
-use Rattle.dm_rule.specs.Migrating as migrating
 use Rattle.dm_rule.specs.Rule as rule
 use Rattle.dm_rulelaws.specs.KnownStands.{KnownStands}
 use Rattle.dm_rulelaws.proofs.Based.Groups.{begins}

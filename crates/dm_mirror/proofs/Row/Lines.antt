@@ -1,7 +1,7 @@
 -- Behind the lines of a still row as many pieces were asked for as before, and a kernel's own message that stands somewhere stood there before.
-use Rattle.dm_mirror.proofs.Names.{◌≡◌, ℕ, ◌≤◌, ◌==◌, ◌&&◌, Bool, true, false, List, [], ◌∷◌, ◌++◌, map, refl, ap, ◌∙◌, sym, subst, inl, inr, arith, if◌then◌else◌, Option, None, Some, cases_Bool, false≢true, Pid, pid_eq, MsgId, id_eq}
+use Rattle.dm_mirror.proofs.Names.{◌≡◌, ℕ, ◌≤◌, ◌==◌, ◌&&◌, Bool, true, false, List, [], ◌∷◌, ◌++◌, map, refl, ap, ◌∙◌, sym, subst, inl, inr, arith, if◌then◌else◌, Option, None, Some, cases_Bool, false≢true, Pid, pid_eq, MsgId, id_eq, nat_tests}
 use Rattle.dm_mirror.proofs.Names.{MessageKind, Label, OneKernel, bind, id_eq-is, pid_eq-is, bind-is, Line, Part, Says, Point, after, after_line, kernel_after, label_of, moved, at_machine, at_record, without_front, without_id, Spot, Queue}
-use Rattle.dm_mirror.proofs.Names.{Held, Inbox, Untaken, times, standing, View, Told, after_label, view_after, handled, queued_for, dropped_for, receiver_of, is_kernels, eq_is, queued_spots, Needs, Walks}
+use Rattle.dm_mirror.proofs.Names.{Inbox, times, standing, View, Told, after_label, view_after, handled, queued_for, dropped_for, receiver_of, is_kernels, eq_is, queued_spots, Needs, Walks}
 use Rattle.dm_rule.specs.View as view
 use Rattle.dm_rule.proofs.Lines.{parts}
 use Rattle.dm_mirror.proofs.Turning.{is_still, are_still}
@@ -20,19 +20,10 @@ id_fewer i j [] = omega arith
 id_fewer i j (x ∷ xs) = fewer_if j x xs (without_id i xs) (id_eq i x) (id_fewer i j xs)
 
 machine_fewer : (f : ℕ → List MsgId) (m : ℕ) (x : List MsgId) (j : MsgId) → times j x ≤ times j (f m) → (n : ℕ) → times j (at_machine f m x n) ≤ times j (f n)
-machine_fewer f m x j h n = elim (cases_Bool (m == n)) [
-  | inl same ↦ subst (λ (c : Bool). times j (if c then x else f n) ≤ times j (f n)) (sym same) (subst (λ (k : ℕ). times j x ≤ times j (f k)) (eq_is m n same) h)
-  | inr apart ↦ subst (λ (c : Bool). times j (if c then x else f n) ≤ times j (f n)) (sym apart) (omega arith)
-]
+machine_fewer f m x j h n = grind (arith, nat_tests, eq_is)
 
 record_fewer : (f : ℕ → Pid → List MsgId) (m : ℕ) (p : Pid) (x : List MsgId) (j : MsgId) → times j x ≤ times j (f m p) → (n : ℕ) (q : Pid) → times j (at_record f m p x n q) ≤ times j (f n q)
-record_fewer f m p x j h n q = elim (cases_Bool ((m == n) && pid_eq p q)) [
-  | inl same ↦
-      let both = parts (m == n) (pid_eq p q) same in
-      subst (λ (c : Bool). times j (if c then x else f n q) ≤ times j (f n q)) (sym same)
-      (subst (λ (r : Pid). times j x ≤ times j (f n r)) (pid_eq-is p q both.1) (subst (λ (k : ℕ). times j x ≤ times j (f k p)) (eq_is m n both.0) h))
-  | inr apart ↦ subst (λ (c : Bool). times j (if c then x else f n q) ≤ times j (f n q)) (sym apart) (omega arith)
-]
+record_fewer f m p x j h n q = grind (arith, nat_tests, parts, pid_eq-is, eq_is)
 
 -- no message stands more often
 abbrev Fewer : View → View → Type 0
@@ -120,10 +111,7 @@ still_on u v w g h = record { asked = h.asked ∙ g.asked; stood = λ i z mine l
 
 -- what is queued is no kernel's own
 apart_own : (id i : MsgId) → is_kernels id ≡ false → is_kernels i ≡ true → id_eq id i ≡ false
-apart_own id i off on = elim (cases_Bool (id_eq id i)) [
-  | inl same ↦ absurd (false≢true (sym off ∙ ap is_kernels (id_eq-is id i same) ∙ on))
-  | inr apart ↦ apart
-]
+apart_own id i off on = grind (arith, nat_tests, id_eq-is)
 
 queued_keeps : (pt : Point) (id : MsgId) (o : Option Told) → pt.view.told id ≡ o → Needs pt (Line.Queued id) → StillKeeps (handled pt.view id) (queued_for (handled pt.view id) id (receiver_of o))
 queued_keeps pt id None e need = fewer_keeps (handled pt.view id) (handled pt.view id) refl (same_fewer (handled pt.view id))

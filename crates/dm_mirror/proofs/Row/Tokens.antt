@@ -9,7 +9,7 @@ use Rattle.dm_mirror.proofs.Kernel.Sets.{eq_self, not_is, off_if, on_if}
 use Rattle.dm_mirror.proofs.Row.Lines.{StillKeeps}
 
 -- what a message of a migration carries has no plain meaning
-carries_plain : (p : Pid) (x : Process) (n : ℕ) (a : Option Arrival) (w : What) → Carries p x n a w → plain_what w ≡ None
+pub carries_plain : (p : Pid) (x : Process) (n : ℕ) (a : Option Arrival) (w : What) → Carries p x n a w → plain_what w ≡ None
 carries_plain p x n a (What.Ask pid blocks moves size asker) h = refl
 carries_plain p x n a (What.Refuse pid slots blocks) h = refl
 carries_plain p x n a (What.PullState pid chunk) h = refl
@@ -119,15 +119,11 @@ token_keeps pt l records next placed after p i t g own h told s =
     let same : is_early (kind_of x.what) ≡ false → incoming_of (records (destination_of i t) p) ≡ incoming_of (after (destination_of i t) p) =
     λ late. (let at = h.comes_ (ap (λ (u : Told). is_early u.kind) is ∙ late) in
     ap (λ (r : Option machine.Known). incoming_of r) (g.records_ (destination_of i t) p (subst (λ (n : ℕ). is_moving (pt.view.known n p) ≡ true) at h.moving))) in
-    record {
-      process = s.process;
-      there = g.process h.at p h.moving ∙ s.there;
-      message = x;
-      is = g.own i x none s.is;
-      sender = s.sender;
-      carries = subst (λ (n : ℕ). Carries p s.process n (incoming_of (after (destination_of i t) p)) x.what) (ap (λ (f : Pid → ℕ). f p) (sym g.lines.asked))
-          (carries_on p s.process (pt.view.asked p) (incoming_of (records (destination_of i t) p)) (incoming_of (after (destination_of i t) p)) x.what same s.carries);
-    }
+    search (
+      g.process h.at p h.moving ∙ s.there,
+      g.own i x none s.is,
+      subst (λ (n : ℕ). Carries p s.process n (incoming_of (after (destination_of i t) p)) x.what) (ap (λ (f : Pid → ℕ). f p) (sym g.lines.asked)) (carries_on p s.process (pt.view.asked p) (incoming_of (records (destination_of i t) p)) (incoming_of (after (destination_of i t) p)) x.what same s.carries),
+    )
 
 -- a message of the protocol is a kernel's own
 abbrev pub TokensAreOwn : View → Type 0

@@ -12,6 +12,7 @@ use Rattle.dm_mirror.proofs.Kernel.Sets.{ViewLeaves, Leaves, leaves_on, is_queue
 use Rattle.dm_mirror.proofs.Kernel.Labels.{view_same, view_serving, kernel_sets, placed_sets, machine_on, label_mirrors, after_label}
 use Rattle.dm_mirror.proofs.Serving.{Served, Acts, moved_round, served_goes}
 pub use Rattle.dm_rulelaws.proofs.Goes.Serves.{ran_steps}
+use Rattle.dm_rulelaws.proofs.Goes.Serves.{running_of}
 
 -- behind the plain instructions: the process is y, and at the ring's back
 abbrev pub ran_kernel : Point → Pid → Process → OneKernel
@@ -34,10 +35,6 @@ pub record Ran (m : ℕ) (pt : Point) (l : Placed) (p : Pid) (x : Process) (queu
   pub memory : length y.memory ≡ length x.memory
   pub same_queue : y.queue ≡ x.queue
 
-running_of : (s : OneKernel) (p : Pid) (x : PlainProcess) → s.processes p ≡ Some (Alive x) → x.stopped ≡ false → x.status ≡ Ready → kernel.running s p ≡ Some x
-running_of s p x is going ready =
-    ap (λ (o : Option Life). bind (kernel.alive o) (λ (v : PlainProcess). kernel.if_ready v v.status)) is ∙ ap (kernel.if_ready x) ready ∙ ap (λ (c : Bool). if c then None else Some x) going
-
 pub ran_of : (b : Boot) (m : ℕ) (pt : Point) (l : Placed) (k : KernelState) (p : Pid) (x : Process) (c : ℕ) (n : Machine) (s : Served b m pt l k p x) → x.status ≡ Status.Ready → kernel.plain_steps c (kernel.machine_of (plain_process x)) ≡ Some n → length n.bytes ≡ length x.memory
     → Ran m pt l p x s.at.queue c (serve.with_machine x n)
 ran_of b m pt l k p x c n s ready steps memory =
@@ -50,17 +47,16 @@ ran_of b m pt l k p x c n s ready steps memory =
     ∙ ap (λ (o : Option Machine). bind o (λ (z : Machine). Some (kernel.goes_on pt.kernel p (kernel.with_machine (plain_process x) z)))) steps
     in
     let ready_x : placed.if_ready x x.status ≡ Some x = ap (placed.if_ready x) ready ∙ ap (λ (d : Bool). if d then None else Some x) s.going in
-    record {
-      step = step;
-      mirrors = label_mirrors pt l (ran_placed l p y queue) m (Label.Ran p c) t s.mirrors s.acting tt step (ran_matches l p c x queue n s.at.there ready_x steps);
-      leaves = record { view = view_serving m (is_queue_of m p) p pt.view s.acting; kernel = kernel_sets p pt.kernel (Alive (plain_process y)); placed_ = placed_sets (is_queue_of m p) p pt.view l (Some (with_queue y queue)) };
-      ready = ap (placed.if_ready y) ready ∙ ap (λ (d : Bool). if d then None else Some y) s.going;
-      running = running_of t p (plain_process y) (set_at pt.kernel p (Alive (plain_process y))) s.going plain;
-      there = on_if (pid_eq p p) (Some (with_queue y queue)) (l.processes p) (pid_eq-same p);
-      ring = machine_on pt.view.ring pt.view.acting m (moved_back p (pt.view.ring pt.view.acting)) s.acting ∙ ap (λ (a : ℕ). moved_back p (pt.view.ring a)) s.acting;
-      memory = memory;
-      same_queue = refl;
-    }
+    search (
+      label_mirrors pt l (ran_placed l p y queue) m (Label.Ran p c) t s.mirrors s.acting tt step (ran_matches l p c x queue n s.at.there ready_x steps),
+      view_serving m (is_queue_of m p) p pt.view s.acting,
+      kernel_sets p pt.kernel (Alive (plain_process y)),
+      placed_sets (is_queue_of m p) p pt.view l (Some (with_queue y queue)),
+      ap (placed.if_ready y) ready ∙ ap (λ (d : Bool). if d then None else Some y) s.going,
+      running_of t p (plain_process y) (set_at pt.kernel p (Alive (plain_process y))) s.going plain,
+      on_if (pid_eq p p) (Some (with_queue y queue)) (l.processes p) (pid_eq-same p),
+      machine_on pt.view.ring pt.view.acting m (moved_back p (pt.view.ring pt.view.acting)) s.acting ∙ ap (λ (a : ℕ). moved_back p (pt.view.ring a)) s.acting,
+    )
 
 -- the quantum is used up
 pub whole_acts : (b : Boot) (m : ℕ) (pt : Point) (l : Placed) (k : KernelState) (p : Pid) (x y : Process) (c : ℕ) (s : Served b m pt l k p x) → Ran m pt l p x s.at.queue c y

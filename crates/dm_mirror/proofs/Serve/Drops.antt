@@ -98,16 +98,12 @@ drops_stand m t p y (i ∷ is) pt l covers boxes mirrors at ended drop alone tol
     (droppable_on s u p is (λ j least. out_off s i j (apart j least (id_eq i j) refl)) drop.2)
     (λ j least k spot off there. alone j (later j least) k spot off (subst (λ (n : ℕ). 1 ≤ n) (ap (times k) (view_.lists spot off)) there))
     (λ j least. ap receiver_of (keeps.told j) ∙ told j (later j least)) in
-    record {
-      next = rest.next;
-      after = after_label pt (Label.Dropped i) u (drop_lines is) rest.next step rest.after;
-      placed = rest.placed;
-      mirrors = rest.mirrors;
-      leaves = leaves_on m t p pt mid rest.next l lm rest.placed leaves rest.leaves;
-      process = rest.process;
-      ring = rest.ring ∙ keeps.ring m;
-      known = rest.known ∙ keeps.known m p;
-    }
+    search (
+      after_label pt (Label.Dropped i) u (drop_lines is) rest.next step rest.after,
+      leaves_on m t p pt mid rest.next l lm rest.placed leaves rest.leaves,
+      rest.ring ∙ keeps.ring m,
+      rest.known ∙ keeps.known m p,
+    )
   where
     apart : (j : MsgId) → 1 ≤ times j is → (c : Bool) → id_eq i j ≡ c → id_eq i j ≡ false
     apart j least false e = e

@@ -33,9 +33,7 @@ user_is mask w e = cc
 -- a message that stood once has left the list
 gone_if : (i j : MsgId) (js : List MsgId) (c : Bool) → id_eq i j ≡ c → times i (j ∷ js) ≤ 1 → (times i js ≤ 1 → times i (without_id i js) ≡ 0) → times i (if c then js else j ∷ without_id i js) ≡ 0
 gone_if i j js true e few rest = let f : times i (j ∷ js) ≡ 1 + times i js = ap (λ (c : Bool). (if c then 1 else 0) + times i js) e in omega (arith, few, f)
-gone_if i j js false e few rest =
-    let f : times i (j ∷ js) ≡ 0 + times i js = ap (λ (c : Bool). (if c then 1 else 0) + times i js) e in
-    ap (λ (c : Bool). (if c then 1 else 0) + times i (without_id i js)) e ∙ (let g : times i (without_id i js) ≡ 0 = rest (omega (arith, few, f)) in let k : 0 + times i (without_id i js) ≡ 0 = omega (arith, g) in k)
+gone_if i j js false e few rest = grind (arith, nat_tests)
 
 gone_from : (i : MsgId) (ids : List MsgId) → times i ids ≤ 1 → times i (without_id i ids) ≡ 0
 gone_from i [] few = refl

@@ -1,5 +1,5 @@
 -- The machine and the rule serve the same process: its messages, which process can be served, and how far it comes.
-use Rattle.dm_mirror.proofs.Names.{◌≡◌, ℕ, zero, suc, ◌+◌, ◌<◌, ◌≤◌, ◌&&◌, not, Bool, true, false, List, [], ◌∷◌, map, refl, ap, ◌∙◌, sym, subst, inl, inr, arith, is_some, if◌then◌else◌, option_map, Option, None, Some, cases_Bool}
+use Rattle.dm_mirror.proofs.Names.{◌≡◌, ℕ, zero, suc, ◌+◌, ◌<◌, ◌≤◌, ◌&&◌, not, Bool, true, false, List, [], ◌∷◌, map, refl, ap, ◌∙◌, sym, subst, inl, inr, arith, is_some, if◌then◌else◌, option_map, Option, None, Some, cases_Bool, nat_tests}
 use Rattle.dm_mirror.proofs.Names.{false≢true, Pid, Message, MsgId, What, Record, Halt, id_eq, plain_message, plain_what, with_what, Regs, Fault, Row, instruction, first_on, is_on, what_is_on, without_first_on, status_is_runnable, Process}
 use Rattle.dm_mirror.proofs.Names.{Status, Boot, bind, Life, Alive, OneKernel, plain_process, plain_status, PlainProcess, Machine, pid_eq-same, id_eq-is, id_eq-same, Point, without_id, times, is_server, rings, Placed, MirrorsKernel}
 use Rattle.dm_mirror.proofs.Names.{with_queue, KernelState, AreMessages, KnownStands, KernelStands}
@@ -52,12 +52,11 @@ pub record Found (l : Placed) (mask : ℕ) (ids : List MsgId) (ms : List Message
 found_here : (l : Placed) (mask : ℕ) (i : MsgId) (is : List MsgId) (n : Message) (ns : List Message) → is_on mask n ≡ true → n.id ≡ i → l.bag i ≡ Some n → AreMessages l.bag is ns → Found l mask (i ∷ is) (n ∷ ns) n
 found_here l mask i is n ns on name there are =
     let same : id_eq n.id i ≡ true = ap (λ (j : MsgId). id_eq j i) name ∙ id_eq-same i in
-    record {
-      there = ap l.bag name ∙ there;
-      on = on;
-      stands = subst (λ (j : MsgId). 1 ≤ times j (i ∷ is)) (sym name) (times_self i is);
-      rest = ap (λ (c : Bool). map l.bag (if c then is else i ∷ without_id n.id is)) same ∙ are ∙ sym (ap (λ (c : Bool). map Some (if c then ns else n ∷ without_first_on mask ns)) on);
-    }
+    search (
+      ap l.bag name ∙ there,
+      subst (λ (j : MsgId). 1 ≤ times j (i ∷ is)) (sym name) (times_self i is),
+      ap (λ (c : Bool). map l.bag (if c then is else i ∷ without_id n.id is)) same ∙ are ∙ sym (ap (λ (c : Bool). map Some (if c then ns else n ∷ without_first_on mask ns)) on),
+    )
 
 found_later : (l : Placed) (mask : ℕ) (i : MsgId) (is : List MsgId) (n m : Message) (ns : List Message) → is_on mask n ≡ false → l.bag i ≡ Some n → Found l mask is ns m → Found l mask (i ∷ is) (n ∷ ns) m
 found_later l mask i is n m ns off there f = record {
@@ -122,9 +121,7 @@ status_same s l ids ms _ h names are = refl
 
 go_same : (b : Boot) (pt : Point) (l : Placed) (m : ℕ) (k : KernelState) (p : Pid) (z : PlainProcess) → MirrorsKernel pt.kernel l → Names l → pt.kernel.processes p ≡ Some (Alive z) → IsHere pt l m k p z
     → rule.can_go pt.kernel (pt.view.queue m p) (kernel.alive (pt.kernel.processes p)) ≡ turn.known_is_runnable (k.records p)
-go_same b pt l m k p z h names alive at =
-    ap (λ (o : Option Life). rule.can_go pt.kernel (pt.view.queue m p) (kernel.alive o)) alive ∙ ap (λ (y : PlainProcess). rule.can_go pt.kernel (pt.view.queue m p) (Some y)) at.plain
-    ∙ ap (λ (c : Bool). not at.x.stopped && c) (status_same pt.kernel l (pt.view.queue m p) at.x.queue at.x.status h names at.messages) ∙ sym (ap turn.known_is_runnable at.record_is)
+go_same b pt l m k p z h names alive at = grind (arith, nat_tests, status_same)
 
 -- the first process of the ring that can be served
 if_same : (c d : Bool) (p : Pid) (o u : Option Pid) → c ≡ d → o ≡ u → (if c then Some p else o) ≡ (if d then Some p else u)

@@ -17,6 +17,7 @@ use Rattle.dm_mirror.proofs.Kernel.Goes.{ends_stands}
 use Rattle.dm_mirror.proofs.Serve.Drops.{drop_lines, drops_stand, drops_still, rule_drops, machine_drops}
 use Rattle.dm_mirror.proofs.Serving.{Served, Acts, moved_round, served_goes, is_for, queue_alone}
 use Rattle.dm_mirror.proofs.Serve.Calls.{Ran, ran_kernel, ran_point, ran_placed}
+pub use Rattle.dm_mirror.proofs.Follow.Rows.{append_none as nothing_more}
 
 -- a message that is sent is new, and no kernel's own
 record IsFresh (s : OneKernel) (i : MsgId) : Type 0 where
@@ -97,11 +98,6 @@ sends_acts b m pt l k p x y z c n w u s r says next with_ queue_is memory =
       count = refl;
       records = λ q off. off_if (pid_eq p q) (Some (Record.Here z)) (k.records q) off;
     }
-
--- it ends, and its queue goes
-pub nothing_more : {X : Type 0} (xs : List X) → xs ++ [] ≡ xs
-nothing_more [] = refl
-nothing_more (x ∷ xs) = ap (λ (ys : List _). x ∷ ys) (nothing_more xs)
 
 pub ends_acts : (b : Boot) (m : ℕ) (pt : Point) (l : Placed) (k : KernelState) (p : Pid) (x y z : Process) (c : ℕ) (because : Why) (s : Served b m pt l k p x) → Ran m pt l p x s.at.queue c y
     → kernel.step (ran_kernel pt p y) (Label.End p because) ≡ Some (with_process (ran_kernel pt p y) p (Ended because)) → placed.acts m (ran_placed l p y s.at.queue) p ≡ Some (placed.with_process (ran_placed l p y s.at.queue) p None)

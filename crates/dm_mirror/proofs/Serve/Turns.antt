@@ -1,5 +1,5 @@
 -- A turn with an empty inbox: the machine idles, or serves the first process of its ring that can be served.
-use Rattle.dm_mirror.proofs.Names.{◌≡◌, ℕ, ◌+◌, ◌≤◌, ◌&&◌, not, Bool, true, false, List, [], ◌∷◌, map, refl, ap, ◌∙◌, sym, subst, arith, is_some, ◌≢◌, inl, inr, if◌then◌else◌, option_map, slice_get, Option, None, Some, cases_Bool}
+use Rattle.dm_mirror.proofs.Names.{◌≡◌, ℕ, ◌+◌, ◌≤◌, ◌&&◌, not, Bool, true, false, List, [], ◌∷◌, map, refl, ap, ◌∙◌, sym, subst, arith, is_some, ◌≢◌, inl, inr, if◌then◌else◌, option_map, slice_get, Option, None, Some, cases_Bool, nat_tests}
 use Rattle.dm_mirror.proofs.Names.{false≢true, Pid, pid_eq, pid_of, Message, MsgId, IsLawfulProcess, first_on, status_is_runnable, Process, Status, Line, Record, Boot, bind, Life, Alive, plain_process, plain_status, PlainProcess, pid_eq-is}
 use Rattle.dm_mirror.proofs.Names.{pid_eq-same, Point, View, Phase, Rests, knows, is_here, is_away, stands_right, letter_of, InPhases, rests_here, rings, both, Run, queue_drops, Placed, Mirrors, mirrors_view, room_of, IsLawfulState}
 use Rattle.dm_mirror.proofs.Names.{KernelState, turned, of_known, AllOwnStand, MadeStands, AreMessages, KernelStands, RoomStands}
@@ -12,7 +12,7 @@ use Rattle.dm_kernel.specs.Serve as serve
 use Rattle.dm_kernel.specs.Turn as turn
 use Rattle.dm_mirror.proofs.Turning.{Elsewhere, Row, begun, is_moving}
 use Rattle.dm_mirror.proofs.Rooms.{taken_same}
-use Rattle.dm_mirror.proofs.Kernel.Sets.{IsAway, eq_apart, is_queue_of, elsewhere_of, queue_not_elsewhere, known_at, not_is}
+use Rattle.dm_mirror.proofs.Kernel.Sets.{IsAway, eq_apart, is_queue_of, elsewhere_of, queue_not_elsewhere, not_is}
 use Rattle.dm_mirror.proofs.Kernel.Labels.{view_same, kernel_same, placed_same}
 use Rattle.dm_mirror.proofs.Serve.Runs.{here_of, in_ring, first_runs, first_same}
 use Rattle.dm_mirror.proofs.Serving.{Served, Acts, acts_as, moved_round}
@@ -21,16 +21,8 @@ use Rattle.dm_mirror.proofs.Serve.Receives.{receives_acts}
 
 -- behind the head of the turn
 pub begun_stands : (b : Boot) (pt : Point) (l : Placed) (m : ℕ) (k : KernelState) → KernelStands b pt l m k → KernelStands b (begun pt m) l m k
-begun_stands b pt l m k h = record {
-  here = h.here;
-  known = λ p off. known_at pt (begun pt m) l l p (pt.view.queue m p) (pt.view.held m p) (pt.view.known m p) (k.records p) refl refl (λ i least. refl) (λ i least. refl) (h.known p off);
-  no_server = h.no_server;
-  ring = h.ring;
-  inbox = h.inbox;
-  made = h.made;
-  room = subst (RoomStands k.room (room_of (slice_get b.machines m))) (sym (taken_same pt (begun pt m) m refl (λ n. refl) (λ p. refl))) h.room;
-  servers = h.servers;
-}
+begun_stands b pt l m k h = search
+    (h.known, subst (RoomStands k.room (room_of (slice_get b.machines m))) (sym (taken_same pt (begun pt m) m refl (λ n. refl) (λ p. refl))) h.room)
 
 pub begun_mirrors : (pt : Point) (l : Placed) (m : ℕ) → Mirrors pt.kernel pt.view pt.addresses l → Mirrors (begun pt m).kernel (begun pt m).view (begun pt m).addresses l
 begun_mirrors pt l m h = mirrors_view pt.kernel pt.view (begun pt m).view pt.addresses l refl h
@@ -90,16 +82,7 @@ chosen b m pt l k p h first =
     record {
       x = at.x;
       served = record {
-        at = record {
-          away = away_elsewhere pt.view m p h.run.based.phased.phases r.here;
-          server = r.server;
-          alive = r.alive ∙ ap (λ (z : PlainProcess). Some (Alive z)) at.plain;
-          record_is = at.record_is;
-          known = at.known;
-          queue = at.queue;
-          there = at.there;
-          messages = at.messages;
-        };
+        at = search (away_elsewhere pt.view m p h.run.based.phased.phases r.here, r.alive ∙ ap (λ (z : PlainProcess). Some (Alive z)) at.plain);
         acting = refl;
         mirrors = begun_mirrors pt l m h.mirrors;
         stands = begun_stands b pt l m k h.stands;
@@ -170,35 +153,13 @@ idle_round : (b : Boot) (m : ℕ) (pt : Point) (l : Placed) (k : KernelState) �
 idle_round b m pt l k h = record {
   p = pid_of m 0;
   acts = idle_acts b m pt l k (pid_of m 0) h.mirrors h.stands;
-  elsewhere = record {
-    acting = refl;
-    groups = refl;
-    pair = λ a c. refl;
-    inbox = λ n apart. refl;
-    ring = λ n apart. refl;
-    known = λ n q apart. refl;
-    queue = λ n q apart. refl;
-    held = λ n q apart. refl;
-    count = λ n. refl;
-    told = refl;
-    machines = refl;
-    made = λ n apart. refl;
-    process = λ n q apart has. refl;
-    ended = λ n q apart is. refl;
-    life = λ n q apart has. refl;
-    bag = λ i s away least. refl;
-    board = λ apart. refl;
-    manager = λ apart. refl;
-  };
+  elsewhere = search;
   moving = λ q is. (refl, refl);
 }
 
 -- a process that is here doesn't move
 here_apart : (v : View) (m : ℕ) (p q : Pid) → v.known m p ≡ view.Here → is_moving (v.known m q) ≡ true → pid_eq p q ≡ false
-here_apart v m p q here is = elim (cases_Bool (pid_eq p q)) [
-  | inl same ↦ absurd (false≢true (sym (ap is_moving here) ∙ ap (λ (z : Pid). is_moving (v.known m z)) (pid_eq-is p q same) ∙ is))
-  | inr apart ↦ apart
-]
+here_apart v m p q here is = grind (arith, nat_tests, pid_eq-is)
 
 round_of : (b : Boot) (m : ℕ) (pt : Point) (l : Placed) (k : KernelState) (o : Option Pid) → turn.first_runnable k.records k.ring ≡ o → Ready b m pt l k → Round b m pt l k o
 round_of b m pt l k None first h = idle_round b m pt l k h
@@ -225,22 +186,4 @@ serve_row b m pt l k h box =
     let r = round_of b m pt l k o refl h in
     let a = r.acts in
     let empty : k.inbox ≡ [] = no_messages l.bag k.inbox (subst (λ (ids : List MsgId). AreMessages l.bag ids k.inbox) box h.stands.inbox) in
-    record {
-      state = a.state;
-      says = a.says;
-      route = a.route;
-      turn = ap (turn.turns b k) empty ∙ a.turn;
-      outcome = ap (rule.turns b pt m) box ∙ ap (rule.goes_round b pt m) first ∙ a.outcome;
-      next = a.next;
-      after = a.after;
-      placed = a.placed;
-      mirrors = a.mirrors;
-      kernel = a.kernel;
-      elsewhere = r.elsewhere;
-      sent = a.sent;
-      still = a.still;
-      count = a.count;
-      moving = r.moving;
-      own = a.leaves.placed_.own;
-      own_back = a.leaves.placed_.own_back;
-    }
+    search (ap (turn.turns b k) empty ∙ a.turn, ap (rule.turns b pt m) box ∙ ap (rule.goes_round b pt m) first ∙ a.outcome)

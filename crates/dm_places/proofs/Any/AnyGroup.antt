@@ -41,9 +41,7 @@ not_made None none = refl
 not_made (Some life) none = absurd (none refl)
 
 next_unmade : (s : OneKernel) (m : ℕ) → SoundAt s → s.processes (pid_of m (first_number + s.made m)) ≡ None
-next_unmade s m h =
-    let p = pid_of m (first_number + s.made m) in
-    not_made (s.processes p) (λ there. let f : nat_lt (3 + s.made m) (3 + s.made m) ≡ true = h.sound.made.most p there in let g : (3 + s.made m) < (3 + s.made m) = grind (arith, nat_tests) in omega (arith, g))
+next_unmade s m h = grind (arith, nat_tests, not_made, nat_lt)
 
 creates_if : (pt : Point) (v : View) (m : ℕ) (id : MsgId) (r : rule.Room) (c : Bool) → v.moves ≡ pt.view.moves → SoundAt pt.kernel → GroupNeeds pt
     → PartsNeed pt.kernel v ((if c then rule.says (Label.Created id (pid_of m (first_number + pt.kernel.made m))) else rule.says (Label.NoSpace id r.slots r.blocks)) ∷ Routes (pieces.answer_id id) ∷ [])

@@ -1,5 +1,5 @@
 -- Behind any line there is a kernel with places, where there was one before.
-use Rattle.dm_places.proofs.Names.{◌≡◌, ◌+◌, ◌++◌, Bool, false, List, [], ◌∷◌, refl, ap, ◌∙◌, sym, subst, inl, inr, if◌then◌else◌, option_map, Option, None, Some, cases_Bool, Pid, Place, pid_eq, applied, MsgId, Process, sent_on, manager}
+use Rattle.dm_places.proofs.Names.{◌≡◌, ◌+◌, ◌++◌, Bool, false, List, [], ◌∷◌, refl, ap, ◌∙◌, sym, subst, inl, inr, if◌then◌else◌, option_map, Option, None, Some, cases_Bool, Pid, Place, pid_eq, applied, MsgId, Process, sent_on, manager, arith, nat_tests}
 use Rattle.dm_places.proofs.Names.{switchboard, OneKernel, plain_process, pid_eq-is, Line, Stage, Told, View, handled, own_id, receiver_of, view_after, Addresses, Receiver, all_follow, forwards, gets, given, is_told_back, place_known}
 use Rattle.dm_places.proofs.Names.{place_told, tells_back, updated, updated_to, Point, after_line, moved, Placed, Mirrors, with_message, with_process, KeepsPlaces, LineNeeds, MirrorsPoint, ServersApart}
 use Rattle.dm_migrate.specs.Way as way
@@ -76,10 +76,7 @@ update_follows s v a l (Some t) apart h = about_follows s v a l t.receiver (plac
 
 -- a process has come, or has ended on the way
 absent_comes : (v : View) (p q : Pid) (l : Placed) (x : Process) → l.processes p ≡ None → l.processes q ≡ Some x → (if pid_eq p q then v.moves p + 1 else v.moves q) ≡ v.moves q
-absent_comes v p q l x none there = elim (cases_Bool (pid_eq p q)) [
-  | inl same ↦ absurd (let f : None ≡ Some x = sym none ∙ ap l.processes (pid_eq-is p q same) ∙ there in cc)
-  | inr apart ↦ ap (λ (c : Bool). if c then v.moves p + 1 else v.moves q) apart
-]
+absent_comes v p q l x none there = grind (arith, nat_tests, pid_eq-is)
 
 comes : (pt : Point) (l : Placed) (p : Pid) (o : Option Process) → l.processes p ≡ o → MirrorsPoint pt l → Stands (moved pt (Line.Migration Stage.Restarted p) pt.kernel)
 comes pt l p (Some x) there h = record { l = with_process l p (Some (way.moved x)); mirrors = restarted_mirrors pt l p x h there }

@@ -1,25 +1,15 @@
 -- What a message that changes its places keeps, and one whose addresses nobody reads.
-use Rattle.dm_places.proofs.Names.{◌≡◌, ℕ, Bool, false, [], ◌∷◌, refl, ap, ◌∙◌, sym, subst, inl, inr, if◌then◌else◌, option_map, Option, None, Some, cases_Bool, Pid, Place, MsgId, Message, id_eq, PlainWhat, plain_message, plain_what}
+use Rattle.dm_places.proofs.Names.{◌≡◌, ℕ, Bool, false, [], ◌∷◌, refl, ap, ◌∙◌, sym, subst, inl, inr, if◌then◌else◌, option_map, Option, None, Some, cases_Bool, Pid, Place, MsgId, Message, id_eq, PlainWhat, plain_message, plain_what, arith, nat_tests}
 use Rattle.dm_places.proofs.Names.{with_what, sent_on, OneKernel, bind, id_eq-is, id_eq-same, View, Addresses, Receiver, gets, given, SameMessage, SameProcess, SameServers, two, two_off, two_process, Placed, Mirrors, MirrorsKernel}
 use Rattle.dm_places.proofs.Names.{MirrorsMessage, MirrorsPlaces, with_message}
 use Rattle.dm_places.proofs.Keeps.{message_same, process_same}
 
 -- a message that means the same
 bag_again : (s : OneKernel) (l : Placed) (id : MsgId) (m : Option Message) (i : MsgId) → bind m plain_message ≡ s.bag id → MirrorsKernel s l → bind ((with_message l id m).bag i) plain_message ≡ s.bag i
-bag_again s l id m i e h = elim (cases_Bool (id_eq id i)) [
-  | inl same ↦ ap (λ (c : Bool). bind (if c then m else l.bag i) plain_message) same ∙ e ∙ ap s.bag (id_eq-is id i same)
-  | inr apart ↦ ap (λ (c : Bool). bind (if c then m else l.bag i) plain_message) apart ∙ h.bag i
-]
+bag_again s l id m i e h = grind (arith, nat_tests, id_eq-is)
 
 pub kernel_again : (s : OneKernel) (l : Placed) (id : MsgId) (m : Option Message) → bind m plain_message ≡ s.bag id → MirrorsKernel s l → MirrorsKernel s (with_message l id m)
-kernel_again s l id m e h = record {
-  processes = h.processes;
-  bag = λ i. bag_again s l id m i e h;
-  board = h.board;
-  manager = h.manager;
-  machines = h.machines;
-  images = h.images;
-}
+kernel_again s l id m e h = search bag_again
 
 -- the other messages keep their addresses
 again_places : (a b : Addresses) (l : Placed) (id : MsgId) (m : Option Message) → ((i : MsgId) (x : Message) → l.bag i ≡ Some x → MirrorsMessage a i x) → ((i : MsgId) (x : Message) → l.bag i ≡ Some x → id_eq id i ≡ false → SameMessage a b i)
@@ -59,12 +49,7 @@ sent_on_one s v a l id x at moves there h =
     let place : Place = record { at = at; moves = moves } in
     let b = given a (gets (Receiver id) place ∷ []) in
     let hm = h.places.message id x there in
-    let on : MirrorsMessage b id (sent_on at moves x) = record {
-      id = hm.id;
-      receiver = ap (λ (c : Bool). if c then place else a (Receiver id)) (id_eq-same id);
-      sender = hm.sender;
-      enclosed = hm.enclosed;
-    } in
+    let on : MirrorsMessage b id (sent_on at moves x) = search (ap (λ (c : Bool). if c then place else a (Receiver id)) (id_eq-same id)) in
     record {
       plain = kernel_again s l id (Some (sent_on at moves x)) (plain_sent_on at moves x ∙ sym (ap (λ (o : Option Message). bind o plain_message) there) ∙ h.plain.bag id) h.plain;
       places = places_message v a b l id (Some (sent_on at moves x)) h.places (λ q. record { slot = λ k. refl; owner = refl })
@@ -87,10 +72,7 @@ sent_on_any s v a l id None place none h =
 
 -- the addresses of a message that isn't there
 pub free_off : (l : Placed) (i j : MsgId) (m : Message) → l.bag i ≡ None → l.bag j ≡ Some m → id_eq i j ≡ false
-free_off l i j m none there = elim (cases_Bool (id_eq i j)) [
-  | inl same ↦ absurd (let f : None ≡ Some m = sym none ∙ ap l.bag (id_eq-is i j same) ∙ there in cc)
-  | inr apart ↦ apart
-]
+free_off l i j m none there = grind (arith, nat_tests, id_eq-is)
 
 pub free_mirrors : (s : OneKernel) (v : View) (a : Addresses) (l : Placed) (i : MsgId) (to from : Place) → l.bag i ≡ None → Mirrors s v a l → Mirrors s v (given a (two i to from)) l
 free_mirrors s v a l i to from none h =

@@ -1,5 +1,5 @@
 -- Messages that follow a process to another machine, and the process that has come there.
-use Rattle.dm_places.proofs.Names.{◌≡◌, ℕ, ◌+◌, ◌≤◌, ◌||◌, Bool, true, false, List, [], ◌∷◌, ◌++◌, refl, ap, ◌∙◌, sym, subst, inl, inr, arith, if◌then◌else◌, option_map, Option, None, Some, cases_Bool, Pid, Place, pid_eq, place_of, MsgId}
+use Rattle.dm_places.proofs.Names.{◌≡◌, ℕ, ◌+◌, ◌≤◌, ◌||◌, Bool, true, false, List, [], ◌∷◌, ◌++◌, refl, ap, ◌∙◌, sym, subst, inl, inr, arith, if◌then◌else◌, option_map, Option, None, Some, cases_Bool, Pid, Place, pid_eq, place_of, MsgId, nat_tests}
 use Rattle.dm_places.proofs.Names.{Message, id_eq, Process, sent_on, OneKernel, plain_process, id_eq-is, id_eq-same, id_eq-swap, pid_eq-is, pid_eq-same, Line, Stage, at_pid, times, Forward, Frozen, Known, Told, View, forwarded_for, handled}
 use Rattle.dm_places.proofs.Names.{own_id, receiver_of, view_after, Addresses, Gets, Receiver, Sender, all_follow, forwards, gets, given, is_told_back, place_known, tells_back, unmoved, Point, moved, Placed, Mirrors, MirrorsKernel}
 use Rattle.dm_places.proofs.Names.{MirrorsProcess, with_message, with_process, MirrorsPoint, is_among, sent_all, or_first}
@@ -38,19 +38,7 @@ forwarded_mirrors pt l id x t m at moves h there told knows none =
 pub update_gets : (pt : Point) (l : Placed) (id : MsgId) (x : Message) (t : Told) (m at moves : ℕ) → MirrorsPoint pt l → l.bag id ≡ Some x → pt.view.told id ≡ Some t → pt.view.known pt.view.acting t.receiver ≡ Forward at moves
     → l.bag (own_id pt.view) ≡ None → is_told_back t.kind ≡ true
     → ((moved pt (Line.Forwarded id m) pt.kernel).addresses (Receiver (own_id pt.view)) ≡ place_of x.sender) × ((moved pt (Line.Forwarded id m) pt.kernel).addresses (Sender (own_id pt.view)) ≡ unmoved pt.view.acting)
-update_gets pt l id x t m at moves h there told knows none back =
-    let v = pt.view in
-    let a = pt.addresses in
-    let own = own_id v in
-    let place : Place = record { at = at; moves = moves } in
-    let gives = forwards_is v a id t at moves told knows ∙ ap (λ (b : Bool). gets (Receiver id) place ∷ tells_back v a id b) back in
-    let apart : id_eq id own ≡ false = id_eq-swap id own ∙ free_off l own id x none there in (
-      ap (λ (g : List Gets). given a g (Receiver own)) gives
-          ∙ ap (λ (c : Bool). if c then place else if id_eq own own then a (Sender id) else a (Receiver own)) apart
-          ∙ ap (λ (c : Bool). if c then a (Sender id) else a (Receiver own)) (id_eq-same own)
-          ∙ (h.places.message id x there).sender,
-      ap (λ (g : List Gets). given a g (Sender own)) gives ∙ ap (λ (c : Bool). if c then unmoved v.acting else a (Sender own)) (id_eq-same own),
-    )
+update_gets pt l id x t m at moves h there told knows none back = grind (arith, nat_tests, forwards_is, id_eq-swap, free_off, id_eq-same)
 
 -- sent on: all of these messages
 onward : Place → List MsgId → List Gets
@@ -65,15 +53,7 @@ all_onward v a p to (i ∷ is) knows =
     λ c. gets (Receiver i) (place_known (knows c) (v.moves p) (a (Receiver i))) ∷ rest c
 
 more_bag : (l : Placed) (at moves : ℕ) (i : MsgId) (is : List MsgId) (j : MsgId) → (with_message (sent_all l at moves is) i (option_map (sent_on at moves) (l.bag i))).bag j ≡ (sent_all l at moves (i ∷ is)).bag j
-more_bag l at moves i is j = elim (cases_Bool (id_eq i j)) [
-  | inl same ↦
-      ap (λ (c : Bool). if c then option_map (sent_on at moves) (l.bag i) else (sent_all l at moves is).bag j) same
-      ∙ ap (λ (k : MsgId). option_map (sent_on at moves) (l.bag k)) (id_eq-is i j same)
-      ∙ sym (ap (λ (c : Bool). if c || is_among j is then option_map (sent_on at moves) (l.bag j) else l.bag j) same)
-  | inr apart ↦
-      ap (λ (c : Bool). if c then option_map (sent_on at moves) (l.bag i) else (sent_all l at moves is).bag j) apart
-      ∙ sym (ap (λ (c : Bool). if c || is_among j is then option_map (sent_on at moves) (l.bag j) else l.bag j) apart)
-]
+more_bag l at moves i is j = grind (arith, nat_tests, option_map, id_eq-is)
 
 one_more : (l : Placed) (at moves : ℕ) (i : MsgId) (is : List MsgId) → with_message (sent_all l at moves is) i (option_map (sent_on at moves) (l.bag i)) ≡ sent_all l at moves (i ∷ is)
 one_more l at moves i is = λ c. record l { bag = λ j. more_bag l at moves i is j c }
@@ -118,23 +98,11 @@ among_times i (j ∷ js) e = elim (cases_Bool (id_eq j i)) [
 
 -- restarted: the process has moved once more
 alive_again : (s : OneKernel) (l : Placed) (p : Pid) (x y : Process) (q : Pid) → l.processes p ≡ Some x → plain_process y ≡ plain_process x → MirrorsKernel s l → kernel.alive (s.processes q) ≡ option_map plain_process ((with_process l p (Some y)).processes q)
-alive_again s l p x y q there same h = elim (cases_Bool (pid_eq p q)) [
-  | inl is ↦
-      ap (λ (r : Pid). kernel.alive (s.processes r)) (sym (pid_eq-is p q is)) ∙ h.processes p ∙ ap (option_map plain_process) there ∙ ap Some (sym same)
-      ∙ sym (ap (λ (c : Bool). option_map plain_process (if c then Some y else l.processes q)) is)
-  | inr apart ↦ h.processes q ∙ sym (ap (λ (c : Bool). option_map plain_process (if c then Some y else l.processes q)) apart)
-]
+alive_again s l p x y q there same h = grind (arith, nat_tests, pid_eq-is, option_map)
 
 -- a process that means the same
 pub kernel_process_again : (s : OneKernel) (l : Placed) (p : Pid) (x y : Process) → l.processes p ≡ Some x → plain_process y ≡ plain_process x → MirrorsKernel s l → MirrorsKernel s (with_process l p (Some y))
-kernel_process_again s l p x y there same h = record {
-  processes = λ q. alive_again s l p x y q there same h;
-  bag = h.bag;
-  board = h.board;
-  manager = h.manager;
-  machines = h.machines;
-  images = h.images;
-}
+kernel_process_again s l p x y there same h = search alive_again
 
 moved_places : (v w : View) (a : Addresses) (l : Placed) (p : Pid) (x : Process) (q : Pid) (z : Process) → w.moves ≡ at_pid v.moves p (v.moves p + 1) → l.processes p ≡ Some x → ((r : Pid) (y : Process) → l.processes r ≡ Some y → MirrorsProcess v a r y)
     → (with_process l p (Some (way.moved x))).processes q ≡ Some z → MirrorsProcess w a q z
@@ -143,21 +111,12 @@ moved_places v w a l p x q z counts there h e = elim (cases_Bool (pid_eq p q)) [
       let k = h p x there in
       let f : Some (way.moved x) ≡ Some z = sym (ap (λ (c : Bool). if c then Some (way.moved x) else l.processes q) is) ∙ e in
       let g : way.moved x ≡ z = cc in
-      let m : MirrorsProcess w a p (way.moved x) = record {
-        pid = k.pid;
-        moves = ap (λ (n : ℕ). n + 1) k.moves ∙ sym (ap (λ (c : Bool). if c then v.moves p + 1 else v.moves p) (pid_eq-same p)) ∙ ap (λ (n : Pid → ℕ). n p) (sym counts);
-        slots = k.slots;
-        owner = k.owner;
-      } in
+      let m : MirrorsProcess w a p (way.moved x) = search
+      (ap (λ (n : ℕ). n + 1) k.moves ∙ sym (ap (λ (c : Bool). if c then v.moves p + 1 else v.moves p) (pid_eq-same p)) ∙ ap (λ (n : Pid → ℕ). n p) (sym counts)) in
       subst (MirrorsProcess w a q) g (subst (λ (r : Pid). MirrorsProcess w a r (way.moved x)) (pid_eq-is p q is) m)
   | inr apart ↦
       let k = h q z (sym (ap (λ (c : Bool). if c then Some (way.moved x) else l.processes q) apart) ∙ e) in
-      record {
-        pid = k.pid;
-        moves = k.moves ∙ sym (ap (λ (c : Bool). if c then v.moves p + 1 else v.moves q) apart) ∙ ap (λ (n : Pid → ℕ). n q) (sym counts);
-        slots = k.slots;
-        owner = k.owner;
-      }
+      search (k.moves ∙ sym (ap (λ (c : Bool). if c then v.moves p + 1 else v.moves q) apart) ∙ ap (λ (n : Pid → ℕ). n q) (sym counts))
 ]
 
 pub restarted_mirrors : (pt : Point) (l : Placed) (p : Pid) (x : Process) → MirrorsPoint pt l → l.processes p ≡ Some x → MirrorsPoint (moved pt (Line.Migration Stage.Restarted p) pt.kernel) (with_process l p (Some (way.moved x)))

@@ -1,5 +1,5 @@
 -- The holders of a process or a server that is told where another process is: their addresses follow where they know fewer moves.
-use Rattle.dm_places.proofs.Names.{◌≡◌, ℕ, zero, suc, ◌==◌, ◌&&◌, Bool, true, false, List, [], ◌∷◌, map, refl, ap, ◌∙◌, sym, subst, inl, inr, if◌then◌else◌, nat_lt, option_map, slice_get, Option, None, Some, cases_Bool, slice_get-map, Pid}
+use Rattle.dm_places.proofs.Names.{◌≡◌, ℕ, zero, suc, ◌==◌, ◌&&◌, Bool, true, false, List, [], ◌∷◌, map, refl, ap, ◌∙◌, sym, subst, inl, inr, if◌then◌else◌, nat_lt, option_map, slice_get, Option, None, Some, cases_Bool, slice_get-map, Pid, arith, nat_tests}
 use Rattle.dm_places.proofs.Names.{Addr, Link, Place, pid_eq, place_of, relocated, retargeted, retargeted_link, plain_link, link_at, plain_map_retargeted, applied, status_after, MsgId, Process, Status, Line, manager, switchboard, Manager}
 use Rattle.dm_places.proofs.Names.{NamedLink, OneKernel, Switchboard, plain_process, plain_status, PlainProcess, Moving, Named, plain_named, retargeted_named, Pending, plain_child, plain_pending, retargeted_manager, retargeted_pending}
 use Rattle.dm_places.proofs.Names.{child_numbered, pending_numbered, pid_eq-is, pid_eq-same, pid_eq-swap, About, Told, View, view_after, Addresses, Answer, Child, Holder, Name, Owner, Slot, answer_link, belongs_to, is_pid, leads_to}
@@ -29,17 +29,11 @@ follows_if at moves o true = refl
 follows_if at moves o false = refl
 
 pub led : (s : OneKernel) (a : Addresses) (q r : Pid) (at moves : ℕ) (h : Holder) (o : Addr) → belongs_to q h ≡ true → leads_to s h ≡ Some o.pid → a h ≡ place_of o → told_of s a q r at moves h ≡ place_of (retargeted r at moves o)
-led s a q r at moves h o belongs leads place =
-    let p : Place = record { at = at; moves = moves } in
-    ap (λ (c : Bool). if c then p else a h) (behind_led s a q r moves h o belongs leads place)
-    ∙ ap (λ (w : Place). if places.is_behind r moves o then p else w) place
-    ∙ follows_if at moves o (places.is_behind r moves o)
+led s a q r at moves h o belongs leads place = grind (arith, nat_tests, behind_led, follows_if)
 
 -- the others keep theirs
 pub unled : (s : OneKernel) (a : Addresses) (q r : Pid) (at moves : ℕ) (h : Holder) → belongs_to q h ≡ false → told_of s a q r at moves h ≡ a h
-unled s a q r at moves h off =
-    let p : Place = record { at = at; moves = moves } in
-    ap (λ (c : Bool). if c && (is_pid r (leads_to s h) && nat_lt (a h).moves moves) then p else a h) off
+unled s a q r at moves h off = grind (arith, nat_tests, nat_lt)
 
 others_keep : (s : OneKernel) (a : Addresses) (q r : Pid) (at moves : ℕ) (p : Pid) → pid_eq p q ≡ false → SameProcess a (told_of s a q r at moves) p
 others_keep s a q r at moves p off = record { slot = λ k. unled s a q r at moves (Slot p k) off; owner = unled s a q r at moves (Owner p) off }
@@ -62,9 +56,7 @@ slot_leads s q x k o alive there =
 
 owner_follows : (s : OneKernel) (a : Addresses) (q r : Pid) (at moves : ℕ) (st : Status) (o : Addr) → leads_to s (Owner q) ≡ owner_in (plain_status st) → ((p : Addr) → owner_at st ≡ Some p → a (Owner q) ≡ place_of p)
     → owner_at (status_after r at moves st) ≡ Some o → told_of s a q r at moves (Owner q) ≡ place_of o
-owner_follows s a q r at moves (Status.Moving dir owner base own left pending) o leads h e =
-    let f : retargeted r at moves owner ≡ o = cc in
-    led s a q r at moves (Owner q) owner (pid_eq-same q) leads (h owner refl) ∙ ap place_of f
+owner_follows s a q r at moves (Status.Moving dir owner base own left pending) o leads h e = grind (arith, nat_tests, led, pid_eq-same)
 owner_follows s a q r at moves _ o leads h e = cc
 
 told_process : (s : OneKernel) (v : View) (a : Addresses) (q r : Pid) (at moves : ℕ) (x : Process) → kernel.alive (s.processes q) ≡ Some (plain_process x) → MirrorsProcess v a q x
@@ -89,10 +81,7 @@ plain_status_after r at moves (Status.Moving dir owner base own left pending) =
 plain_status_after r at moves _ = refl
 
 pub plain_applied : (r : Pid) (at moves : ℕ) (x : Process) → plain_process (applied r at moves x) ≡ plain_process x
-plain_applied r at moves x =
-    let links = plain_map_retargeted r at moves x.table in
-    let stands = plain_status_after r at moves x.status in
-    λ i. record { regs = x.regs; memory = x.memory; links = links i; status = stands i; stopped = x.stopped; sent = x.sent }
+plain_applied r at moves x = search (plain_map_retargeted, plain_status_after)
 
 process_places : (s : OneKernel) (v : View) (a : Addresses) (l : Placed) (q r : Pid) (at moves : ℕ) (x : Process) (p : Pid) (z : Process) → Mirrors s v a l → l.processes q ≡ Some x → (with_process l q (Some (applied r at moves x))).processes p ≡ Some z
     → MirrorsProcess v (told_of s a q r at moves) p z
@@ -125,10 +114,7 @@ process_told s v a l q r at moves x no_board no_manager there h =
 
 -- a process that isn't there
 absent : (l : Placed) (q p : Pid) (z : Process) → l.processes q ≡ None → l.processes p ≡ Some z → pid_eq p q ≡ false
-absent l q p z none there = elim (cases_Bool (pid_eq p q)) [
-  | inl same ↦ absurd (let f : None ≡ Some z = sym none ∙ ap l.processes (sym (pid_eq-is p q same)) ∙ there in cc)
-  | inr apart ↦ apart
-]
+absent l q p z none there = grind (arith, nat_tests, pid_eq-is)
 
 pub ended_told : (s : OneKernel) (v : View) (a : Addresses) (l : Placed) (q r : Pid) (at moves : ℕ) → pid_eq q switchboard ≡ false → pid_eq q manager ≡ false → l.processes q ≡ None → Mirrors s v a l → Mirrors s v (told_of s a q r at moves) l
 ended_told s v a l q r at moves no_board no_manager none h =
@@ -146,9 +132,7 @@ ended_told s v a l q r at moves no_board no_manager none h =
 
 -- the switchboard
 pub name_leads : (s : OneKernel) (v : View) (a : Addresses) (l : Placed) (n : ℕ) (k : Named) → Mirrors s v a l → slice_get l.board.names n ≡ Some k → leads_to s (Name n) ≡ Some k.link.addr.pid
-name_leads s v a l n k h there =
-    ap (λ (b : Switchboard). link_to (name_link (slice_get b.names n))) (sym h.plain.board)
-    ∙ ap (λ (o : Option NamedLink). link_to (name_link o)) (slice_get-map plain_named l.board.names n ∙ ap (option_map plain_named) there)
+name_leads s v a l n k h there = grind (arith, nat_tests, slice_get, slice_get-map, option_map)
 
 abbrev pub board_told : Placed → Pid → ℕ → ℕ → Placed
 board_told l r at moves = record l { board = record { names = map (retargeted_named r at moves) l.board.names; sent = l.board.sent } }
@@ -159,14 +143,7 @@ switchboard_told s v a l r at moves none h =
     let q = switchboard in
     let names = board.plain_retargeted r at moves l.board.names in
     record {
-      plain = record {
-        processes = h.plain.processes;
-        bag = h.plain.bag;
-        board = ap (λ (ns : List NamedLink). record { names = ns; sent = l.board.sent }) names ∙ h.plain.board;
-        manager = h.plain.manager;
-        machines = h.plain.machines;
-        images = h.plain.images;
-      };
+      plain = search (ap (λ (ns : List NamedLink). record { names = ns; sent = l.board.sent }) names ∙ h.plain.board);
       places = record {
         process = λ p z e. process_same v a (told_of s a q r at moves) p z (others_keep s a q r at moves p (absent l q p z none e)) (g.process p z e);
         message = λ i m e. message_same a (told_of s a q r at moves) i m (messages_keep s a q r at moves i) (g.message i m e);
@@ -206,9 +183,7 @@ child_follows s v a l r at moves (suc n) c h e =
 
 answer_follows : (s : OneKernel) (v : View) (a : Addresses) (l : Placed) (r : Pid) (at moves n : ℕ) (y : Pending) → Mirrors s v a l → pending_numbered n (map (retargeted_pending r at moves) l.manager.pending) ≡ Some y
     → told_of s a manager r at moves (Answer n) ≡ place_of y.answer.addr
-answer_follows s v a l r at moves n y h e =
-    let (u, there, is) = of_map (retargeted_pending r at moves) (pending_numbered n l.manager.pending) y (sym e ∙ pending_map r at moves n l.manager.pending) in
-    led s a manager r at moves (Answer n) u.answer.addr refl (answer_leads s v a l n u h there) (h.places.answer n u there) ∙ ap (λ (z : Pending). place_of z.answer.addr) is
+answer_follows s v a l r at moves n y h e = grind (arith, nat_tests, of_map, pending_map, led, answer_leads)
 
 abbrev pub manager_told : Placed → Pid → ℕ → ℕ → Placed
 manager_told l r at moves = record l { manager = retargeted_manager r at moves l.manager }
@@ -218,14 +193,7 @@ children_told s v a l r at moves none h =
     let g = h.places in
     let q = manager in
     record {
-      plain = record {
-        processes = h.plain.processes;
-        bag = h.plain.bag;
-        board = h.plain.board;
-        manager = managing.plain_retargeted r at moves l.manager ∙ h.plain.manager;
-        machines = h.plain.machines;
-        images = h.plain.images;
-      };
+      plain = search (managing.plain_retargeted r at moves l.manager ∙ h.plain.manager);
       places = record {
         process = λ p z e. process_same v a (told_of s a q r at moves) p z (others_keep s a q r at moves p (absent l q p z none e)) (g.process p z e);
         message = λ i m e. message_same a (told_of s a q r at moves) i m (messages_keep s a q r at moves i) (g.message i m e);
@@ -237,10 +205,7 @@ children_told s v a l r at moves none h =
 
 -- the line
 updated_is : (s : OneKernel) (v : View) (a : Addresses) (id : MsgId) (t : Told) (q r : Pid) (at moves : ℕ) → v.told id ≡ Some t → t.about ≡ About.Place r at moves → t.receiver ≡ q → updated s v a (v.told id) ≡ told_of s a q r at moves
-updated_is s v a id t q r at moves told about to =
-    let first : updated s v a (v.told id) ≡ (λ (h : Holder). updated_to s a (Some t.receiver) (place_told t.about) h) = λ i h. updated s v a (told i) h in
-    let second : (λ (h : Holder). updated_to s a (Some t.receiver) (place_told t.about) h) ≡ told_of s a q r at moves = λ i h. updated_to s a (Some (to i)) (place_told (about i)) h in
-    first ∙ second
+updated_is s v a id t q r at moves told about to = grind (arith, nat_tests)
 
 line_told : (pt : Point) (l : Placed) (id : MsgId) (n : ℕ) (t : Told) (q r : Pid) (at moves : ℕ) → pt.view.told id ≡ Some t → t.about ≡ About.Place r at moves → t.receiver ≡ q → Mirrors pt.kernel pt.view (told_of pt.kernel pt.addresses q r at moves) l
     → MirrorsPoint (moved pt (Line.Updated id n) pt.kernel) l

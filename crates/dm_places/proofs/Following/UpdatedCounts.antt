@@ -91,13 +91,7 @@ updated_board_count s v a l q r at moves about h is to =
 -- at the manager: its children, and its requests, which have ascending numbers
 own_number : (ps : List Pending) (from to j : ℕ) (y : Pending) → ascends from (map plain_pending ps) to ≡ true → slice_get ps j ≡ Some y → (pending_numbered y.n ps ≡ Some y) × (from ≤ y.n)
 own_number [] from to j y order there = cc
-own_number (p ∷ ps) from to zero y order there =
-    let w = and-both (nat_le from p.n) (ascends (p.n + 1) (map plain_pending ps) to) order in
-    let f : p ≡ y = cc in
-    let least : from ≤ p.n = grind (arith, nat_tests) in
-    let same : (p.n == p.n) ≡ true = grind (arith, nat_tests) in
-    let one : pending_numbered p.n (p ∷ ps) ≡ Some p = ap (λ (b : Bool). if b then Some p else pending_numbered p.n ps) same in
-    subst (λ (z : Pending). (pending_numbered z.n (p ∷ ps) ≡ Some z) × (from ≤ z.n)) f (one, least)
+own_number (p ∷ ps) from to zero y order there = grind (arith, nat_tests, and-both, nat_le)
 own_number (p ∷ ps) from to (suc j) y order there =
     let w = and-both (nat_le from p.n) (ascends (p.n + 1) (map plain_pending ps) to) order in
     let (found, above) = own_number ps (p.n + 1) to j y w.1 there in

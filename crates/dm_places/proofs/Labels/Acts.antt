@@ -141,14 +141,10 @@ acts_of s v a l p n h e =
     let r = runs_of s l p z h.plain runs in
     let x = r.y in
     let (w, acted_is, next) = acts_row v a p x (instruction x.regs x.memory) n refl (ap (λ (u : PlainProcess). kernel.next_row p u (instruction u.regs u.memory)) r.is ∙ row_is) (h.places.process p x r.there) in
-    record {
-      x = x;
-      w = w;
-      acts = ap (λ (o : Option Process). bind o (λ (u : Process). bind (acted v.acting u (instruction u.regs u.memory)) (λ (d : Acted). Some (with_acted l p d)))) r.runs
-          ∙ ap (λ (o : Option Acted). bind o (λ (d : Acted). Some (with_acted l p d))) acted_is;
-      runs = runs ∙ ap Some (sym r.is);
-      next = next;
-    }
+    search (
+      ap (λ (o : Option Process). bind o (λ (u : Process). bind (acted v.acting u (instruction u.regs u.memory)) (λ (d : Acted). Some (with_acted l p d)))) r.runs ∙ ap (λ (o : Option Acted). bind o (λ (d : Acted). Some (with_acted l p d))) acted_is,
+      runs ∙ ap Some (sym r.is),
+    )
 
 -- call
 reply_row : (s t : OneKernel) (v : View) (a : Addresses) (l : Placed) (p : Pid) (n : ℕ) (c : Reply) (next : kernel.Next) → ActsOf s v a l p next → kernel.replies s p n c next ≡ Some t → Mirrors s v a l

@@ -1,6 +1,6 @@
 -- Messages without links that come in another's place, with places: answers, and what kernels say of ended processes and of
 -- want of room.
-use Rattle.dm_places.proofs.Names.{◌≡◌, ℕ, List, [], Bool, refl, ap, ◌∙◌, sym, subst, if◌then◌else◌, slice_get, Option, None, Some, Link, Place, place_of, MsgId, Message, What, Label, PlainMessage, PlainWhat, plain_message, plain_what}
+use Rattle.dm_places.proofs.Names.{◌≡◌, ℕ, List, [], Bool, refl, ap, ◌∙◌, sym, subst, if◌then◌else◌, slice_get, Option, None, Some, Link, Place, place_of, MsgId, Message, What, Label, PlainMessage, PlainWhat, plain_message, plain_what, arith, nat_tests}
 use Rattle.dm_places.proofs.Names.{with_what, bind, OneKernel, answer_id, answer_to, answer, gone_answer, id_eq-same, bind-is, when-is, View, Addresses, answers, given, gives, Receiver, Sender, unmoved, two, two_process, two_servers}
 use Rattle.dm_places.proofs.Names.{two_off, Placed, Mirrors, MirrorsMessage, enclosed, with_sent, without_message}
 use Rattle.dm_onekernel.specs.Kernel as kernels
@@ -26,9 +26,7 @@ two_sends s v a l m k to from says none e f h = record {
 }
 
 pub answer_plainly : (n moves : ℕ) (m : Message) (k : PlainMessage) (w : What) (u : PlainWhat) → plain_message m ≡ Some k → plain_what w ≡ Some u → plain_message (answer n moves m w) ≡ Some (answer_to k u)
-answer_plainly n moves m k w u says e =
-    let g = parts m k says in
-    ap (with_what (answer n moves m w)) e ∙ (λ i. Some (record { id = answer_id (g.id i); to = g.sender i; sender = g.to i; what = u }))
+answer_plainly n moves m k w u says e = grind (arith, nat_tests, parts)
 
 -- an answer goes back to where its request came from
 pub answer_mirrors : (s : OneKernel) (v : View) (a : Addresses) (l : Placed) (id : MsgId) (m : Message) (k : PlainMessage) (w : What) (u : PlainWhat) (moves : ℕ) → MirrorsMessage a id m → plain_message m ≡ Some k → plain_what w ≡ Some u → enclosed w ≡ []

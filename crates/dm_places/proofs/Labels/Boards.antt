@@ -62,10 +62,7 @@ found_at name (k ∷ ks) n w e = elim (cases_Bool (bytes_eq k.name name)) [
 ]
 
 found_one : (a : Addresses) (sent : MsgId) (pl : Place) (l : Link) → pl ≡ place_of l.addr → (n : ℕ) (w : Link) → slice_get (l ∷ []) n ≡ Some w → given a (gets (Enclosed sent 0) pl ∷ []) (Enclosed sent n) ≡ place_of w.addr
-found_one a sent pl l at zero w e =
-    let f : l ≡ w = cc in
-    let same : (id_eq sent sent && (0 == 0)) ≡ true = let g = id_eq-same sent in grind (arith, nat_tests) in
-    ap (λ (c : Bool). if c then pl else a (Enclosed sent 0)) same ∙ at ∙ ap (λ (k : Link). place_of k.addr) f
+found_one a sent pl l at zero w e = grind (arith, nat_tests, id_eq-same)
 found_one a sent pl l at (suc n) w e = absurd (let f : None ≡ Some w = e in cc)
 
 looks_up_kept : (a : Addresses) (id sent : MsgId) (names : List Named) (op : ℕ) (name : List ℕ) (o : Option Link) → board.link_named name names ≡ o → NamesKept a names
@@ -152,12 +149,10 @@ request_mirrors s v a l id body w ws en at h =
         process = λ p x e. process_same v a (given b (two sent to from)) p x (let z = k.process p in record { slot = z.slot; owner = z.owner }) (h.places.process p x e);
         message = came_places a (given b (two sent to from)) l' m g.message
             (λ i e. let z = k.message i e in let y = two_off b sent to from i e in record { receiver = y.receiver ∙ z.receiver; sender = y.sender ∙ z.sender; enclosed = z.enclosed })
-            (record {
-              id = refl;
-              receiver = ap (λ (c : Bool). if c then to else b (Receiver sent)) (id_eq-same sent) ∙ en 0 w refl;
-              sender = ap (λ (c : Bool). if c then from else b (Sender sent)) (id_eq-same sent) ∙ ap unmoved at;
-              enclosed = k.enclosed;
-            });
+            (search (
+              ap (λ (c : Bool). if c then to else b (Receiver sent)) (id_eq-same sent) ∙ en 0 w refl,
+              ap (λ (c : Bool). if c then from else b (Sender sent)) (id_eq-same sent) ∙ ap unmoved at,
+            ));
         name = k.name;
         child = λ j c e. k.child j ∙ h.places.child j c e;
         answer = λ j r e. k.answer j ∙ h.places.answer j r e;
@@ -170,10 +165,7 @@ board_request s v a l id code channel body [] en at h =
     let u = out_mirrors s v a l id h in
     let p = u.plain in
     let g = u.places in
-    record {
-      plain = record { processes = p.processes; bag = p.bag; board = p.board; manager = p.manager; machines = p.machines; images = p.images };
-      places = record { process = g.process; message = g.message; name = g.name; child = g.child; answer = g.answer };
-    }
+    search
 board_request s v a l id code channel body (w ∷ ws) en at h =
     let asked = board.asks l.board.names body ws in
     subst (λ (b : Switchboard). BoardAt s v a l id body w ws b (one.asks b.names body (map plain_link ws))) h.plain.board

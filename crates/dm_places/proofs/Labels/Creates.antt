@@ -51,10 +51,8 @@ begun_mirrors s v a l id m child image links none hm is h =
       owner = λ q e. absurd (let f : None ≡ Some q = e in cc);
     } in
     let k = kernel_process (service.without_message s id) (without_message l id) child (Alive (one.begun s.format image ls)) (Some y) (ap Some (begun_plainly s.format child image links)) (kernel_out s l id h.plain) in
-    record {
-      plain = record { processes = k.processes; bag = k.bag; board = k.board; manager = k.manager; machines = k.machines; images = k.images };
-      places = places_process v a b (without_message l id) child (Some y) (places_out v a l id h.places) o.others (this_process v b child y hy) o.messages o.servers;
-    }
+    search
+    (places_process v a b (without_message l id) child (Some y) (places_out v a l id h.places) o.others (this_process v b child y hy) o.messages o.servers)
 
 created_row : (s t : OneKernel) (v : View) (a : Addresses) (l : Placed) (id : MsgId) (m : Message) (k : PlainMessage) (child : Pid) (image : BootImage) (links : List Link) → service.creates_of s id k child (map plain_link links) image ≡ Some t → v.moves child ≡ 0
     → MirrorsMessage a id m → plain_message m ≡ Some k → enclosed m.what ≡ links → Mirrors s v a l

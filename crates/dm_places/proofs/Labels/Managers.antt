@@ -32,20 +32,14 @@ counted : (s : OneKernel) (v : View) (a : Addresses) (l : Placed) (id : MsgId) �
 counted s v a l id h =
     let u = kernel_out s l id h.plain in
     let g = places_out v a l id h.places in
-    record {
-      plain = record { processes = u.processes; bag = u.bag; board = u.board; manager = refl; machines = u.machines; images = u.images };
-      places = record { process = g.process; message = g.message; name = g.name; child = g.child; answer = g.answer };
-    }
+    search
 
 bad_mirrors : (s : OneKernel) (v : View) (a : Addresses) (l : Placed) (id mid : MsgId) (code : ℕ) (links : List Link) → LinksKept a mid links → v.acting ≡ 0 → Mirrors s v a l
     → TookAt s v a l id mid code (one.bad_request (plain_manager l.manager) (map plain_link links)) (take.bad_request l.manager links)
 bad_mirrors s v a l id mid code [] en at h =
     let u = kernel_out s l id h.plain in
     let g = places_out v a l id h.places in
-    record {
-      plain = record { processes = u.processes; bag = u.bag; board = u.board; manager = refl; machines = u.machines; images = u.images };
-      places = record { process = g.process; message = g.message; name = g.name; child = g.child; answer = g.answer };
-    }
+    search
 bad_mirrors s v a l id mid code (w ∷ ws) en at h =
     let n = l.manager.sent in
     two_sends (record (service.without_message s id) { manager = record (plain_manager l.manager) { sent = n + 1 } }) v a (record (without_message l id) { manager = record l.manager { sent = n + 1 } })
@@ -74,14 +68,8 @@ asks_for_mirrors s v a l id mid code machine image w ws en at order h =
     let o = places_out v a l id h.places in
     let s' = record (service.without_message s id) { manager = k.manager } in
     let l' = record (without_message l id) { manager = t.manager } in
-    let plain : MirrorsKernel s' l' = record {
-      processes = u.processes;
-      bag = u.bag;
-      board = u.board;
-      manager = ap (λ (rs : List kernels.Pending). record (plain_manager g) { pending = rs; sent = n + 1 }) (plain_push g.pending r);
-      machines = u.machines;
-      images = u.images;
-    } in
+    let plain : MirrorsKernel s' l' = search
+    (ap (λ (rs : List kernels.Pending). record (plain_manager g) { pending = rs; sent = n + 1 }) (plain_push g.pending r)) in
     let servers = encloses_servers a sent 0 ps in
     record {
       plain = kernel_sent s' l' q m refl plain;

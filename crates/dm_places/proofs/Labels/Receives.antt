@@ -147,12 +147,10 @@ completes_user v a p id x m k d mask base size code channel bytes ls waits says 
     let plain : plain_completed z.completed z.process ≡ d = cc in
     let u_is : PlainWhat.User code channel w.body.items (map plain_link w.links.items) ≡ k.what = (λ i. PlainWhat.User code channel (w.bytes_are i) (w.links_are i)) ∙ sym what_is in
     let links : EnclosedFrom a id 0 w.links.items = subst (λ (u : What). EnclosedFrom a id 0 (enclosed u)) w.is en in
-    record {
-      e = z;
-      completion = ap (λ (st : Status). completing.completion x 0 st (Some m)) waits ∙ comp;
-      plain = plain;
-      kept = subst (λ (u : PlainWhat). CompletedKept v a p id x u d z.process) u_is (unless_kept v a p id m.id x base code channel w.body.items w.links.items o d h links plain);
-    }
+    search (
+      ap (λ (st : Status). completing.completion x 0 st (Some m)) waits ∙ comp,
+      subst (λ (u : PlainWhat). CompletedKept v a p id x u d z.process) u_is (unless_kept v a p id m.id x base code channel w.body.items w.links.items o d h links plain),
+    )
 
 completes_what_of : (v : View) (a : Addresses) (p : Pid) (id : MsgId) (x : Process) (m : Message) (k : PlainMessage) (d : one.Completed) (mask base size : ℕ) (u : PlainWhat) → x.status ≡ Status.Waiting mask base size
     → plain_message m ≡ Some k → k.what ≡ u → MirrorsProcess v a p x → EnclosedFrom a id 0 (enclosed m.what) → one.completes_what p (plain_process x) k mask base size u ≡ Some d → Completes v a p id x m k.what d
@@ -189,18 +187,10 @@ completing_of s v a l p id d h is =
     let hm = h.places.message id m found in
     let c = completes_with_of v a p id x m k d x.stopped says (h.places.process p x stands) (λ n j u f g. let jn : j ≡ n = omega (arith, g) in ap (λ (i : ℕ). a (Enclosed id i)) jn ∙ hm.enclosed n u f)
     (ap (λ (y : PlainProcess). one.completes_with p y k) x_is ∙ last) in
-    record {
-      x = x;
-      k = k;
-      y = c.e.process;
-      e = c.e;
-      alive = alive ∙ ap Some (sym x_is);
-      there = there;
-      completed = ap (λ (o : Option Process). bind o (λ (y : Process). bind (l.bag id) (λ (n : Message). completion y 0 y.status (Some n)))) stands
-          ∙ ap (λ (o : Option Message). bind o (λ (n : Message). completion x 0 x.status (Some n))) found ∙ c.completion;
-      plain = c.plain;
-      kept = c.kept;
-    }
+    search (
+      alive ∙ ap Some (sym x_is),
+      ap (λ (o : Option Process). bind o (λ (y : Process). bind (l.bag id) (λ (n : Message). completion y 0 y.status (Some n)))) stands ∙ ap (λ (o : Option Message). bind o (λ (n : Message). completion x 0 x.status (Some n))) found ∙ c.completion,
+    )
 
 received_is : (c : Completed) (y : Process) (z : PlainProcess) → plain_completed c y ≡ one.Receives z → plain_process y ≡ z
 received_is (Completed.Received i) y z e = cc

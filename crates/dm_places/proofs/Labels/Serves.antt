@@ -60,12 +60,10 @@ record Lands (v : View) (a : Addresses) (p : Pid) (x : Process) (o : Option Land
 
 goes_lands : (v : View) (a : Addresses) (p : Pid) (x : Process) (o : Option Landing) (y : Process) (r : Rest) (c : pieces.Landed) → o ≡ Some (landing.goes_on v.acting y r) → MirrorsProcess v a p y → a (Owner p) ≡ place_of r.owner
     → pieces.goes_on p (plain_process y) r.dir r.owner.pid r.base r.own r.left (piece_of r.left) ≡ c → Lands v a p x o c
-goes_lands v a p x o y r c e h at f = record {
-  d = landing.goes_on v.acting y r;
-  lands = e;
-  plain = goes_on_plainly v.acting y r ∙ ap (λ (q : Pid). Some (pieces.goes_on q (plain_process y) r.dir r.owner.pid r.base r.own r.left (piece_of r.left))) h.pid ∙ ap Some f;
-  kept = goes_on_kept v a p y r h at;
-}
+goes_lands v a p x o y r c e h at f = search (
+  goes_on_plainly v.acting y r ∙ ap (λ (q : Pid). Some (pieces.goes_on q (plain_process y) r.dir r.owner.pid r.base r.own r.left (piece_of r.left))) h.pid ∙ ap Some f,
+  goes_on_kept v a p y r h at,
+)
 
 ends_lands : (v : View) (a : Addresses) (p : Pid) (x : Process) (o : Option Landing) (c : pieces.Landed) → o ≡ Some (landing.done Reply.Gone x) → MirrorsProcess v a p x → pieces.done Reply.Gone (plain_process x) ≡ c → Lands v a p x o c
 ends_lands v a p x o c e h f = record { d = landing.done Reply.Gone x; lands = e; plain = ends_plainly Reply.Gone x ∙ ap Some f; kept = done_kept v a p x Reply.Gone h }

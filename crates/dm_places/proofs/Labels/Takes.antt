@@ -22,11 +22,7 @@ use Rattle.dm_places.proofs.Whats.{user_what, created_what, no_room_what}
 -- the link of an answer about a child, if it carries one
 enclosed_one : (a : Addresses) (sent : MsgId) (pl : Place) (ls : List Link) → ((k : ℕ) (w : Link) → slice_get ls k ≡ Some w → (k ≡ 0) × (pl ≡ place_of w.addr)) → (k : ℕ) (w : Link) → slice_get ls k ≡ Some w
     → given a (gets (Enclosed sent 0) pl ∷ []) (Enclosed sent k) ≡ place_of w.addr
-enclosed_one a sent pl ls h k w e =
-    let f = h k w e in
-    let zero_is = f.0 in
-    let same : (id_eq sent sent && (0 == k)) ≡ true = let g = id_eq-same sent in grind (arith, nat_tests) in
-    ap (λ (c : Bool). if c then pl else a (Enclosed sent k)) same ∙ f.1
+enclosed_one a sent pl ls h k w e = grind (arith, nat_tests, id_eq-same)
 
 one_link : (place : Place) (w : Link) → place ≡ place_of w.addr → (k : ℕ) (u : Link) → slice_get (w ∷ []) k ≡ Some u → (k ≡ 0) × (place ≡ place_of u.addr)
 one_link place w at zero u e = let f : w ≡ u = cc in (refl, at ∙ ap (λ (z : Link). place_of z.addr) f)
@@ -62,12 +58,11 @@ answers_mirrors s v a c l id n r g k byte ws there at order h one_is plain_is pe
               sender = ap (λ (d : Bool). if d then from else c (Sender i)) e ∙ w.sender;
               enclosed = λ j. ap (λ (d : Bool). if d && (0 == j) then from else c (Enclosed i j)) e ∙ w.enclosed j;
             })
-            (record {
-              id = refl;
-              receiver = ap (λ (d : Bool). if d then to else c (Receiver sent)) (id_eq-same sent) ∙ h.places.answer n r there;
-              sender = ap (λ (d : Bool). if d then from else c (Sender sent)) (id_eq-same sent) ∙ ap unmoved at;
-              enclosed = enclosed_one c sent from ws one_is;
-            });
+            (search (
+              ap (λ (d : Bool). if d then to else c (Receiver sent)) (id_eq-same sent) ∙ h.places.answer n r there,
+              ap (λ (d : Bool). if d then from else c (Sender sent)) (id_eq-same sent) ∙ ap unmoved at,
+              enclosed_one c sent from ws one_is,
+            ));
         name = λ j w e. name j ∙ h.places.name j w e;
         child = child;
         answer = λ j w e. answer j ∙ h.places.answer j w (still_pending l.manager.pending 0 l.manager.sent n j w order (ap (pending_numbered j) (sym pending) ∙ e));
@@ -128,13 +123,8 @@ created_by s v a l id n child (Some r) k is e at order h =
     let u = answers_mirrors s v a c l id n r g after 0 (w ∷ []) is at order h (one_link (unmoved v.acting) w (ap unmoved at)) plain_is refl refl refl
     (λ q. record { slot = λ i. refl; owner = refl }) (λ i. record { receiver = refl; sender = refl; enclosed = λ i. refl }) (λ i. refl) (λ i. refl) children in
     let link_is : one.answers after (plain_link r.answer) 0 (one.control_link (length cs + 1) ∷ []) ≡ k = ap (λ (z : ℕ). one.answers after (plain_link r.answer) 0 (one.control_link (z + 1) ∷ [])) count ∙ f in
-    record {
-      t = t;
-      takes = refl;
-      mirrors = subst (λ (z : one.Took). Mirrors (service.manager_took s id z) v (given a (gets (Child j) pl ∷ manager_answers v a n z.message)) (manager_took (without_message l id) t)) link_is
-          (child_first (service.manager_took s id (one.answers after (plain_link r.answer) 0 (one.control_link (length cs + 1) ∷ []))) v a (manager_took (without_message l id) t) j pl n
-          (one.answers after (plain_link r.answer) 0 (one.control_link (length cs + 1) ∷ [])).message u);
-    }
+    search
+    (subst (λ (z : one.Took). Mirrors (service.manager_took s id z) v (given a (gets (Child j) pl ∷ manager_answers v a n z.message)) (manager_took (without_message l id) t)) link_is (child_first (service.manager_took s id (one.answers after (plain_link r.answer) 0 (one.control_link (length cs + 1) ∷ []))) v a (manager_took (without_message l id) t) j pl n (one.answers after (plain_link r.answer) 0 (one.control_link (length cs + 1) ∷ [])).message u))
 
 -- there was no room for it
 no_room_by : (s : OneKernel) (v : View) (a : Addresses) (l : Placed) (id : MsgId) (n : ℕ) (p : Option Pending) (k : one.Took) → pending_numbered n l.manager.pending ≡ p → one.takes_no_room s.manager n (option_map plain_pending p) ≡ Some k
@@ -151,11 +141,8 @@ no_room_by s v a l id n (Some r) k is e at order h =
     let t = take.answers g r.answer 1 [] in
     let u = answers_mirrors s v a a l id n r g after 1 [] is at order h (λ i x there. absurd (let z : None ≡ Some x = there in cc)) plain_is refl refl refl
     (λ q. record { slot = λ i. refl; owner = refl }) (λ i. record { receiver = refl; sender = refl; enclosed = λ i. refl }) (λ i. refl) (λ i. refl) h.places.child in
-    record {
-      t = t;
-      takes = refl;
-      mirrors = subst (λ (z : one.Took). Mirrors (service.manager_took s id z) v (given a (manager_answers v a n z.message)) (manager_took (without_message l id) t)) f u;
-    }
+    search
+    (subst (λ (z : one.Took). Mirrors (service.manager_took s id z) v (given a (manager_answers v a n z.message)) (manager_took (without_message l id) t)) f u)
 
 abbrev manager_gives : OneKernel → View → Addresses → PlainMessage → PlainWhat → Addresses
 manager_gives s v a k u = given a (manager_takes s v a k u (one.takes s.manager s.machines (length s.images) k u))
