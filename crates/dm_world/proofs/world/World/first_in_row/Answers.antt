@@ -4,11 +4,11 @@ use Rattle.dm_world.proofs.world.World.first_in_row.Goals as goal
 use Rattle.dm_world.proofs.world.World.first_in_row.Goals.{then-from-b+in_default, else-from-b}
 
 -- no packet from the machine waits
-pub returns-then-not-branch-clause-first : goal.returns-then-not-branch-clause-first
-returns-then-not-branch-clause-first c rest =
+pub returns-then-not-is_pending-clause-first : goal.returns-then-not-is_pending-clause-first
+returns-then-not-is_pending-clause-first c rest =
     let w = c.args.self.now in
     let n = length w.boot.machines in
-    row_nothing (state_of w) c.args.from (drop c.args.to (below n)) rest (λ b. first_unseen_is (packets_on w.wires c.args.from b) ∙ c.is_pending.ensures c.if-not-branch.true b)
+    row_nothing (state_of w) c.args.from (drop c.args.to (below n)) rest (λ b. first_unseen_is (packets_on w.wires c.args.from b) ∙ c.is_pending.ensures c.if-not-is_pending.true b)
 
 pub returns-in-Some-clause-first : goal.returns-in-Some-clause-first
 returns-in-Some-clause-first c rest =
