@@ -123,7 +123,11 @@ fn one_group<K: Sink>(
     ensures writes { K.faults out.old ≤ K.faults out.new }
 {
     match world.step(step) {
-        Ok(lines) => offer(lines.as_slice(), page, out),
+        Ok(lines) => {
+            let offered = offer(lines.as_slice(), page, out);
+            world.keep(lines);
+            offered
+        }
         Err(WorldStop::NoMemory(no)) => Err(Stop::NoMemory(no)),
         Err(WorldStop::Worn { from, to }) => Err(Stop::Worn { from, to }),
     }

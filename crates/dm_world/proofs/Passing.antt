@@ -101,5 +101,20 @@ row_some n w a b k rest h apart some =
     ∙ ap (λ o. here_or_later (record { from = a; to = b }) (row_at n a (b + 1) rest) o (next_delivery (undelivered w) (row_at n a (b + 1) rest))) some
     ∙ ap (λ ps. Some (step.Deliver a b k, ps)) (sym (row_pair n a b rest h apart))
 
+-- no pair of a row has such a packet
+pub row_nothing : (w : WorldState) (a : ℕ) (bs : List ℕ) (rest : List Two) → ((b : ℕ) → undelivered w a b ≡ None)
+    → next_delivery (undelivered w) (pairs_with a bs ++ rest) ≡ next_delivery (undelivered w) rest
+row_nothing w a [] rest h = refl
+row_nothing w a (b ∷ bs) rest h =
+    elim (eqb_tells a b) [
+      | inl t ↦
+          ap (λ (c : Bool). next_delivery (undelivered w) ((if c then pairs_with a bs else record { from = a; to = b } ∷ pairs_with a bs) ++ rest)) t.0
+          ∙ row_nothing w a bs rest h
+      | inr t ↦
+          ap (λ (c : Bool). next_delivery (undelivered w) ((if c then pairs_with a bs else record { from = a; to = b } ∷ pairs_with a bs) ++ rest)) t.0
+          ∙ ap (λ o. here_or_later (record { from = a; to = b }) (pairs_with a bs ++ rest) o (next_delivery (undelivered w) (pairs_with a bs ++ rest))) (h b)
+          ∙ row_nothing w a bs rest h
+    ]
+
 pub row_over : (n a b : ℕ) (rest : List Two) → n ≤ b → row_at n a b rest ≡ rest
 row_over n a b rest h = ap (λ xs. pairs_with a xs ++ rest) (past_below n b h)

@@ -228,6 +228,9 @@ impl World {
         ensures first { (rest : List Two) → RowIs (length self.now.boot.machines) (state_of self.now) from to rest result }
         ensures fresh { IfSome result (λ p. IsFresh (length self.now.boot.machines) (state_of self.now) from p.0 p.1) }
     {
+        if !self.wires.is_pending(from) {
+            return None;
+        }
         for b in to..self.machines() {
             if from != b {
                 if let Some(k) = self.wires.unseen(from, b) {

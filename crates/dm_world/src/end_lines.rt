@@ -8,7 +8,7 @@ ghost use Rattle.dm_line.specs.declared.end_line.EndLine.TheVariants as end;
 ghost use Rattle.dm_world.specs.Ends.{MayEnd, SaysSome, awaited_lines, end_lines, first_awaited, first_had, homes_with, names_of, process_lines, queue_of, record_lines, record_queue, stream_line};
 ghost use Rattle.dm_world.specs.Meets.{IsWorld, state_of};
 
-use crate::end_messages::{ids_of, untaken_ids};
+use crate::end_messages::{ids_of, ids_of_inbox, untaken_ids};
 use crate::end_process::{say_alive, say_arriving};
 use crate::end_servers::say_servers;
 use crate::world::World;
@@ -297,7 +297,7 @@ fn say_expected(node: &Node, m: u8, pid: Pid, lines: &mut Vec<EndLine>) -> Resul
 fn say_inbox(node: &Node, machine: u8, lines: &mut Vec<EndLine>) -> Result<(), NoMemory>
     ensures { OnOk result (lines.new.items ≡ lines.old.items ++ list_line (end.Inbox machine) (names_of node.now.kernel.inbox)) }
 {
-    let ids = ids_of(node.alloc(), node.kernel().inbox())?;
+    let ids = ids_of_inbox(node.alloc(), node.kernel().inbox())?;
     if ids.len() > 0 {
         push(lines, EndLine::Inbox { machine, ids })?;
     }

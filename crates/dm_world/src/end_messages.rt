@@ -6,7 +6,7 @@ ghost use Rattle.dm_world.specs.Ends.{names_of};
 
 use dm_link::MACHINES;
 use dm_lists::{Items, Queue};
-use dm_memory::NoMemory;
+use dm_memory::{NoMemory, Parcel};
 use dm_message::{Message, MsgId};
 use dm_node::Node;
 use dm_stream::Sender;
@@ -19,6 +19,17 @@ pub fn ids_of(alloc: Global, queue: &Queue<Message>) -> Result<Items<MsgId>, NoM
     let mut ids = Items::new(alloc);
     for place in 0..queue.len() {
         ids.push(queue.at(place).id)?;
+    }
+    Ok(ids)
+}
+
+/// The names of the messages of an inbox, its front first.
+pub fn ids_of_inbox(alloc: Global, inbox: &Queue<Parcel<Message>>) -> Result<Items<MsgId>, NoMemory>
+    ensures { IfOk result (λ ids. ids ≡ names_of inbox.now) }
+{
+    let mut ids = Items::new(alloc);
+    for place in 0..inbox.len() {
+        ids.push(inbox.at(place).get().id)?;
     }
     Ok(ids)
 }
@@ -50,13 +61,17 @@ pub fn untaken_ids(sender: &Node, receiver: &Node, a: u8, c: u8) -> Result<Items
 }
 
 /// The names of the messages of a stream that aren't acknowledged, from a place on.
-fn ids_from(alloc: Global, stream: &Sender<Message>, first: u32) -> Result<Items<MsgId>, NoMemory>
+fn ids_from(
+    alloc: Global,
+    stream: &Sender<Parcel<Message>>,
+    first: u32,
+) -> Result<Items<MsgId>, NoMemory>
     ensures { IfOk result (λ ids. ids ≡ names_of (drop first stream.now.unacked)) }
 {
     let mut ids = Items::new(alloc);
     for place in first..stream.given() - stream.acknowledged() {
         if let Some(message) = stream.unacked(place as usize) {
-            ids.push(message.id)?;
+            ids.push(message.get().id)?;
         }
     }
     Ok(ids)

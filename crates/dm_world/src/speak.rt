@@ -30,7 +30,7 @@ pub fn speak(
     for out in outs {
         match out {
             Out::Says(line) => push(lines, *line)?,
-            Out::Sends(packet) => push(lines, send(alloc, wires, packet)?)?,
+            Out::Sends(packet) => push(lines, send(alloc, wires, packet.get())?)?,
         }
     }
     Ok(())

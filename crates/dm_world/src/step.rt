@@ -24,10 +24,9 @@ use crate::speak::speak;
 use crate::world::World;
 use dm_line::line::Line;
 use dm_link::{MACHINES, Pid};
-use dm_memory::{NoMemory, list_of, push, with_room};
-use dm_node::{Node, Out, Stop};
+use dm_memory::{NoMemory, list_of, push};
+use dm_node::{Envelope, Node, Out, Stop};
 use dm_onekernel::Boot;
-use dm_packet::{Packet, decode};
 use dm_schedule::Step;
 use dm_wire::Wire;
 use std::alloc::Global;
@@ -122,14 +121,14 @@ impl World {
         ensures meets { StepMeets self.old self.new (directive.Deliver a b k) result }
         ensures stopped { self.new.stopped ≡ self.old.stopped }
     {
-        match read(&self.wires, a, b, k) {
+        match read(self.alloc, &self.wires, a, b, k)? {
             Some(packet) => self.take(a, b, k, packet),
             None => self.find_nothing(a, b, k),
         }
     }
 
     /// The packet with this number arrives.
-    fn take(&mut self, a: u8, b: u8, k: u64, packet: Packet) -> Result<Vec<Line>, Stop>
+    fn take(&mut self, a: u8, b: u8, k: u64, packet: Envelope) -> Result<Vec<Line>, Stop>
         requires world { IsWorld self.old }
         requires may { MayStep self.old.boot (state_of self.old) (directive.Deliver a b k) }
         requires groups { self.old.groups < 2 ^ 127 }
@@ -157,6 +156,13 @@ impl World {
         Ok(lines)
     }
 
+    /// Takes the memory of lines that were printed, for those of the next directive.
+    pub fn keep(&mut self, lines: Vec<Line>)
+        ensures { self.new ≡ record self.old { lines = lines } }
+    {
+        self.lines = lines;
+    }
+
     /// The group of a directive that comes to this: its head first. What it comes to is kept, for its memory.
     fn group(&mut self, step: Step, outs: Vec<Out>) -> Result<Vec<Line>, NoMemory>
         requires outs { All IsSendable outs.items }
@@ -169,7 +175,7 @@ impl World {
         ensures boot { self.new.boot ≡ self.old.boot }
         ensures stopped { self.new.stopped ≡ self.old.stopped }
     {
-        let mut lines = with_room(self.alloc, outs.len() + 1)?;
+        let mut lines = emptied(self.alloc, &mut self.lines);
         push(&mut lines, Line::Head(step))?;
         speak(self.alloc, &mut self.wires, &outs, &mut lines)?;
         self.outs = outs;
@@ -179,12 +185,12 @@ impl World {
 }
 
 /// An empty list, in the memory of the one that was kept.
-fn emptied(alloc: Global, kept: &mut Vec<Out>) -> Vec<Out>
+fn emptied<T: Drop>(alloc: Global, kept: &mut Vec<T>) -> Vec<T>
     ensures { result.items ≡ [] }
 {
-    let mut outs = mem::replace(kept, Vec::new(alloc));
-    outs.clear();
-    outs
+    let mut list = mem::replace(kept, Vec::new(alloc));
+    list.clear();
+    list
 }
 
 /// Machine `m` takes a turn; what it gives, in a list that was empty.
@@ -257,7 +263,7 @@ fn receive(
     nodes: &mut [Node],
     boot: &Boot,
     m: u8,
-    packet: Packet,
+    packet: Envelope,
 ) -> Result<Vec<Out>, NoMemory>
     requires empty { empty.items ≡ [] }
     requires within { m < length nodes.old }
@@ -279,13 +285,13 @@ fn nothing(alloc: Global) -> Result<Vec<Out>, NoMemory>
 }
 
 /// The packet with this number on the wire from `a` to `b`.
-fn read(wires: &Wire, a: u8, b: u8, k: u64) -> Option<Packet>
+fn read(alloc: Global, wires: &Wire, a: u8, b: u8, k: u64) -> Result<Option<Envelope>, NoMemory>
     requires machines { (a < MACHINES) × (b < MACHINES) }
     requires reads { IfSome (bytes_at (packets_on wires.now a b) k) (λ bytes. IsOk (packet_of bytes)) }
-    ensures { option_map packet_of (bytes_at (packets_on wires.now a b) k) ≡ option_map Ok result }
+    ensures { IfOk result (λ found. option_map packet_of (bytes_at (packets_on wires.now a b) k) ≡ option_map Ok found) }
 {
     match wires.packet(a, b, k) {
-        Some(bytes) => Some(decode(bytes).unwrap()),
-        None => None,
+        Some(bytes) => Ok(Some(Envelope::read(alloc, bytes)?)),
+        None => Ok(None),
     }
 }

@@ -7,6 +7,7 @@ ghost use Rattle.dm_node.specs.State.{opened};
 ghost use Rattle.dm_world.specs.Meets.{AreNodes, IsNode, IsWorld, state_of};
 ghost use Rattle.dm_world.specs.World.{first_world};
 
+use dm_line::line::Line;
 use dm_link::MACHINES;
 use dm_memory::{NoMemory, push};
 use dm_node::{Node, Out};
@@ -24,6 +25,8 @@ pub struct World {
     pub(crate) wires: Wire,
     /// What the last machine that acted gave, kept for its memory.
     pub(crate) outs: Vec<Out>,
+    /// Lines that were printed, kept for their memory.
+    pub(crate) lines: Vec<Line>,
     /// How many directives there were.
     pub(crate) groups: u128,
     /// A world that stopped before the end of a directive takes no further one.
@@ -46,6 +49,7 @@ impl World {
             nodes,
             wires: Wire::new(alloc),
             outs: Vec::new(alloc),
+            lines: Vec::new(alloc),
             groups: 0,
             stopped: false,
         })

@@ -26,11 +26,14 @@ loop-out-preserved c =
       | in-Sends+in_ok-send-in-Sends+in_ok-push-in-Sends w ↦
           (let is = at_place outs here.out-index _ (Sends w.in-Sends.packet) c.loop-out-test.true c.out-item.is w.in-Sends.is in
           let next = ap (λ x. x.items) w.lines-is ∙ w.in_ok-push-in-Sends.ensures.items in
+          let line = rw w.get.ensures at w.in_ok-send-in-Sends.ensures.line in
+          let wires = rw w.get.ensures at w.in_ok-send-in-Sends.ensures.wires in
+          let again = rw w.get.ensures at w.in_ok-send-in-Sends.ensures.again in
           record {
             leads =
                 subst (λ x. Leads old all c.match-out.lines.items (spoken (packets_on x) left)) (sym w.wires-is)
                 (leads_packet old here.lines.items c.match-out.lines.items all (packets_on here.wires) (packets_on w.send.new.wires) w.in-Sends.packet w.in_ok-send-in-Sends.field-0
-                left whole is w.in_ok-send-in-Sends.ensures.line next w.in_ok-send-in-Sends.ensures.wires here.invariant.leads);
-            back = back_packet w.in-Sends.packet outs left whole is w.in_ok-send-in-Sends.ensures.again here.invariant.back;
+                left whole is line next wires here.invariant.leads);
+            back = back_packet w.in-Sends.packet outs left whole is again here.invariant.back;
           })
     ]

@@ -1,7 +1,14 @@
-use Rattle.dm_world.proofs.Names.{◌<◌, ◌≤◌, length, sym, ap, ◌∙◌, arith, next_delivery, packets_on, state_of, undelivered}
-use Rattle.dm_world.proofs.Passing.{first_unseen_is, row_none, row_over, row_same, row_some}
+use Rattle.dm_world.proofs.Names.{◌<◌, ◌≤◌, below, drop, length, sym, ap, ◌∙◌, arith, next_delivery, packets_on, state_of, undelivered}
+use Rattle.dm_world.proofs.Passing.{first_unseen_is, row_none, row_nothing, row_over, row_same, row_some}
 use Rattle.dm_world.proofs.world.World.first_in_row.Goals as goal
 use Rattle.dm_world.proofs.world.World.first_in_row.Goals.{then-from-b+in_default, else-from-b}
+
+-- no packet from the machine waits
+pub returns-then-not-is_pending-clause-first : goal.returns-then-not-is_pending-clause-first
+returns-then-not-is_pending-clause-first c rest =
+    let w = c.args.self.now in
+    let n = length w.boot.machines in
+    row_nothing (state_of w) c.args.from (drop c.args.to (below n)) rest (λ b. first_unseen_is (packets_on w.wires c.args.from b) ∙ c.is_pending.ensures c.if-not-is_pending.true b)
 
 pub returns-in-Some-clause-first : goal.returns-in-Some-clause-first
 returns-in-Some-clause-first c rest =
