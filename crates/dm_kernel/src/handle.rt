@@ -84,6 +84,7 @@ impl Kernel {
             What::Written => self.land_piece(&message),
             What::Gone => self.land_piece(&message),
             What::Migrate { machine } => self.migrate(&message, *machine),
+            What::Move { machine } => self.move_asked(&message, *machine),
             What::Update { about } => self.follow(&message, *about),
             // No other kind is sent to a process: what a message must fit says so.
             _ => unreachable!(),
@@ -100,6 +101,7 @@ impl Kernel {
         match &message.what {
             What::Read { .. } => self.answer_gone(message),
             What::Write { .. } => self.answer_gone(message),
+            What::Move { .. } => self.answer_gone(message),
             What::User { .. } => self.drop_message(message),
             What::Stop => self.drop_message(message),
             What::Resume => self.drop_message(message),

@@ -5,8 +5,8 @@ ghost use Rattle.dm_text.specs.Text.{spelled};
 ghost use Rattle.dm_text.specs.Written.{Keeps};
 
 use crate::rows::{
-    put_call, put_created, put_deliver, put_machine, put_message, put_message_room, put_process,
-    put_process_message, put_process_number, put_refuse,
+    put_answered, put_call, put_created, put_deliver, put_machine, put_message, put_message_room,
+    put_process, put_process_message, put_process_number, put_refuse,
 };
 use dm_memory::NoMemory;
 use dm_onekernel::Label;
@@ -49,5 +49,7 @@ pub(crate) fn put_label(into: &mut Vec<u8>, label: Label) -> Result<(), NoMemory
             free_slots,
             free_blocks,
         } => { put_message_room(into, "nospace", id, free_slots, free_blocks) }
+        Label::Asked { id } => put_message(into, "asked", id),
+        Label::Answered { id, outcome } => put_answered(into, id, outcome),
     }
 }

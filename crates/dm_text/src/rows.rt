@@ -4,6 +4,7 @@
 ghost use Rattle.std.specs.Prelude.{◌≡◌, ◌∷◌, ◌++◌, [], OnErr, OnOk, codes};
 ghost use Rattle.std.specs.Fmt.{decimal};
 ghost use Rattle.dm_message.specs.Kinds.{word_of};
+ghost use Rattle.dm_message.specs.Outcomes.{code_of_outcome};
 ghost use Rattle.dm_onekernel.specs.Codes.{reply_code};
 ghost use Rattle.dm_text.specs.declared.word.Word.TheVariants as word_;
 ghost use Rattle.dm_text.specs.Text.{spelled};
@@ -14,7 +15,7 @@ use crate::word::Word::{Byte, Message, Name, Number, Process, Wide};
 use crate::word::{Word, put_line};
 use dm_link::Pid;
 use dm_memory::NoMemory;
-use dm_message::{MessageKind, MsgId};
+use dm_message::{MessageKind, MsgId, Outcome};
 use dm_onekernel::Reply;
 
 /// Writes a line of a machine.
@@ -190,6 +191,14 @@ pub(crate) fn put_created(into: &mut Vec<u8>, id: MsgId, pid: Pid) -> Result<(),
     ensures err { OnErr result (Keeps into.old.items into.new.items) }
 {
     put_line(into, "created", &[Message(id), Process(pid)])
+}
+
+/// Writes the line of a request to move that is answered.
+pub(crate) fn put_answered(into: &mut Vec<u8>, id: MsgId, outcome: Outcome) -> Result<(), NoMemory>
+    ensures ok { OnOk result (into.new.items ≡ into.old.items ++ spelled (codes "answered" ∷ id_word id ∷ decimal (code_of_outcome outcome) ∷ [])) }
+    ensures err { OnErr result (Keeps into.old.items into.new.items) }
+{
+    put_line(into, "answered", &[Message(id), Byte(outcome.code())])
 }
 
 /// Writes the line of a message that is routed.
