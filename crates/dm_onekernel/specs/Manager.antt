@@ -12,7 +12,7 @@ use Rattle.dm_message.specs.Plain.{PlainMessage, PlainWhat}
 use Rattle.dm_message.specs.declared.Outcome.{Outcome}
 use Rattle.dm_message.specs.Outcomes.{code_of_outcome}
 use Rattle.dm_onekernel.specs.declared.request.PendingKind.{PendingKind}
-use Rattle.dm_onekernel.specs.declared.request.PendingKind.TheVariants as request
+use Rattle.dm_onekernel.specs.declared.request.PendingKind.TheVariants as wanted
 use Rattle.dm_onekernel.specs.Boot.{manager}
 use Rattle.dm_onekernel.specs.Kernel.{Manager, Pending}
 use Rattle.dm_onekernel.specs.Switchboard.{goes_over}
@@ -55,7 +55,7 @@ asks g kind to w answer =
 
 -- a process is to be made: the request goes to the kernel of its machine
 abbrev pub asks_for : Manager → ℕ → ℕ → PlainLink → List PlainLink → Took
-asks_for g machine image answer links = asks g request.Create (pid_of machine 0) (what.Create image links) (Some answer)
+asks_for g machine image answer links = asks g wanted.Create (pid_of machine 0) (what.Create image links) (Some answer)
 
 -- over a link with code 0: the bytes 1, machine, image (two bytes), and links, the first for the answer, up to three more
 -- for the child
@@ -81,7 +81,7 @@ controls_child g child (Some w) links = tells g child w
 -- operation 5: the child is to move to a machine that there is; the answer goes over the first link, if there is one
 abbrev pub moves_child : Manager → ℕ → Pid → ℕ → List PlainLink → Took
 moves_child g machines child machine links =
-    if nat_lt machine machines then asks g request.Move child (what.Move machine) (first_link links) else bad_request g links
+    if nat_lt machine machines then asks g wanted.Move child (what.Move machine) (first_link links) else bad_request g links
 
 -- over a link whose code is the number of a child: one byte, or operation 5 and a machine
 abbrev pub controls : Manager → ℕ → Option Pid → List ℕ → List PlainLink → Took

@@ -12,7 +12,7 @@ use Rattle.dm_message.specs.declared.What.TheVariants as what
 use Rattle.dm_message.specs.declared.Outcome.{Outcome}
 use Rattle.dm_message.specs.Outcomes.{code_of_outcome}
 use Rattle.dm_onekernel.specs.declared.request.PendingKind.{PendingKind}
-use Rattle.dm_onekernel.specs.declared.request.PendingKind.TheVariants as request
+use Rattle.dm_onekernel.specs.declared.request.PendingKind.TheVariants as wanted
 use Rattle.dm_procman.specs.declared.pending.Pending.{Pending}
 use Rattle.dm_procman.specs.Managing.{Managing, at_home}
 use Rattle.dm_procman.specs.Making.{answer_over, control_link, message_to}
@@ -54,7 +54,7 @@ asks here g kind to w answer = sends (with_pending g (record { n = g.sent; kind 
 
 -- a process is to be made: the request goes to the kernel of its machine
 abbrev pub asks_for : ℕ → Managing → ℕ → ℕ → Link → List Link → Taken
-asks_for here g machine image answer links = asks here g request.Create (kernel_at machine) (what.Create image (record { items = links })) (Some answer)
+asks_for here g machine image answer links = asks here g wanted.Create (kernel_at machine) (what.Create image (record { items = links })) (Some answer)
 
 -- over a link with code 0: the bytes 1, machine, image (two bytes), and links, the first for the answer, up to three more
 -- for the child
@@ -80,7 +80,7 @@ controls_child here g child (Some w) links = sends g (message_to here g.sent chi
 -- operation 5: the child is to move to a machine that there is; the answer goes over the first link, if there is one
 abbrev pub wants_move : ℕ → Managing → Addr → ℕ → List Link → Taken
 wants_move here g child machine links =
-    if nat_lt machine g.machines then asks here g request.Move child (what.Move machine) (first_link links) else bad_request here g links
+    if nat_lt machine g.machines then asks here g wanted.Move child (what.Move machine) (first_link links) else bad_request here g links
 
 -- over a link whose code is the number of a child: one byte, or operation 5 and a machine
 abbrev pub controls : ℕ → Managing → Option Addr → List ℕ → List Link → Taken
