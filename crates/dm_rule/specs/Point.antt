@@ -56,14 +56,17 @@ abbrev pub machine_in : Option PlainMessage → About
 machine_in None = NothingElse
 machine_in (Some m) = machine_of m.what
 
-abbrev pub aimed : OneKernel → Option Label → View → View
-aimed s (Some (label.Asked id)) v = about v (machine_in (s.bag id))
-aimed s l v = v
+abbrev pub topic_by : OneKernel → About → Option Label → About
+topic_by s topic (Some (label.Asked id)) = machine_in (s.bag id)
+topic_by s topic l = topic
+
+-- the view behind a line: what the line changes, and what the group is about then
+abbrev pub seen : OneKernel → View → Line → View
+seen s v l = about (view_after v l) (topic_by s (view_after v l).topic (label_of l))
 
 -- the point behind a line, where the kernel behind it is known
 abbrev pub moved : Point → Line → OneKernel → Point
-moved pt l s =
-    record { kernel = s; view = aimed pt.kernel (label_of l) (view_after pt.view l); addresses = addresses_after pt.kernel pt.view pt.addresses l }
+moved pt l s = record { kernel = s; view = seen pt.kernel pt.view l; addresses = addresses_after pt.kernel pt.view pt.addresses l }
 
 -- where a run stands after one more line, if the kernel can take its label
 abbrev pub after_line : Point → Line → Option Point
