@@ -85,7 +85,8 @@ IsSaidOf i ends.Ended l = l ≡ line.Label (label.Gone i)
 abbrev pub MovedIsSaid : Type 0
 MovedIsSaid =
     (b : Boot) (es : List Step) (ls : List Line) (pt : Point) (i : MsgId) (m : PlainMessage) (o : Outcome) → IsValid b → LeadsBy b (first_point b) es ls pt
-    → pt.kernel.bag (answer_id i) ≡ Some m → m.what ≡ what.Moved o → (earlier : List Line) × (later : List Line) × (l : Line) × (ls ≡ earlier ++ l ∷ later) × IsSaidOf i o l
+    → i.answer ≡ false → pt.kernel.bag (answer_id i) ≡ Some m → m.what ≡ what.Moved o
+    → (earlier : List Line) × (later : List Line) × (l : Line) × (ls ≡ earlier ++ l ∷ later) × IsSaidOf i o l
 
 -- wherever the rule leads, a process follows a request to move only while it moves
 abbrev pub FollowsWhileMoving : Type 0
