@@ -1,5 +1,7 @@
 """The switchboard and the process manager (docs/SYSTEM.md, "The servers")."""
 
+from typing import NamedTuple
+
 from values import MANAGER, SWITCHBOARD, Address, Link, Message, Name, follow, kernel_of
 
 
@@ -59,6 +61,13 @@ class Switchboard(Server):
         return changed
 
 
+class Pending(NamedTuple):
+    """A request without a taken answer: `create` or `move`, and the link for the answer, or None."""
+
+    kind: str
+    link: Link | None
+
+
 class Manager(Server):
     CREATE, STOP, RESUME, KILL, MOVE = 1, 2, 3, 4, 5
     DONE, NO_ROOM, BAD_REQUEST = range(3)
@@ -69,13 +78,13 @@ class Manager(Server):
         self.machines = len(boot.machines)
         self.images = len(boot.images)
         self.children = [Address(born.pid, born.machine) for born in boot.processes]
-        self.pending = {}  # the names of requests to make a process and to move one, each with the link for its answer, or None
+        self.pending = {}  # by the names of the requests, in the order in which they were sent
 
     def take(self, message, here):
         """Does what a message asks, on the machine where the manager is: what is sent then, if anything."""
         if message.kind == "user":
             return self.asked(here, message.what["code"], message.what["body"], message.what["links"])
-        link = self.pending.pop(message.name._replace(answers=False))
+        link = self.pending.pop(message.name._replace(answers=False)).link
         if message.kind == "moved":
             return self.over(link, here, [message.what["result"]])
         if message.kind == "noroom":
@@ -95,7 +104,7 @@ class Manager(Server):
         if request is None:
             return self.over(answer_link, here, [self.BAD_REQUEST])
         if request.kind in ("create", "move"):
-            self.pending[request.name] = answer_link
+            self.pending[request.name] = Pending(request.kind, answer_link)
         return request
 
     def to_make(self, here, body, links):
@@ -124,8 +133,9 @@ class Manager(Server):
 
     def follow(self, about, at, moves):
         """Children and links for answers: how many changed."""
-        links = [Link(child) for child in self.children] + list(self.pending.values())
+        links = [Link(child) for child in self.children] + [request.link for request in self.pending.values()]
         links, changed = follow(links, about, at, moves)
         self.children = [link.address for link in links[: len(self.children)]]
-        self.pending = dict(zip(self.pending, links[len(self.children) :]))
+        for name, link in zip(self.pending, links[len(self.children) :]):
+            self.pending[name] = self.pending[name]._replace(link=link)
         return changed
