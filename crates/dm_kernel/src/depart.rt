@@ -1,12 +1,12 @@
 //! What a machine's kernel does where a process leaves it.
-ghost use Rattle.std.specs.Prelude.{◌≡◌, ◌≢◌, ◌<◌, ◌+◌, ◌++◌, ◌∷◌, [], IfOk, IfSome, IsSome, OnOk, length, map};
+ghost use Rattle.std.specs.Prelude.{◌≡◌, ◌≢◌, ◌<◌, ◌+◌, ◌++◌, ◌∷◌, [], IfOk, IfSome, IsSome, OnOk, Some, length, map};
 ghost use Rattle.dm_records.specs.Records.{at, frozen_of, here_of};
 ghost use Rattle.dm_link.specs.Places.{kernel_at};
 ghost use Rattle.dm_migrate.specs.Departure.{CanMove, Departure, ask_of};
 ghost use Rattle.dm_migrate.specs.Pieces.{HasBlock, HasChunk, block_of, chunk_of, state_of as state_bytes};
 ghost use Rattle.dm_onekernel.specs.Options.{bind};
 ghost use Rattle.dm_process.specs.declared.process.Process.{Process};
-ghost use Rattle.dm_kernel.specs.Departing.{asked_to_move, freezing, gives_piece, holds_leaving, leaves, migrates, stays, takes_step, tells_asker, with_frozen};
+ghost use Rattle.dm_kernel.specs.Departing.{asked_to_move, gives_piece, holds_leaving, leaves, migrates, stays, takes_step, tells_asker, with_frozen};
 ghost use Rattle.dm_kernel.specs.May.{IsSuch, MayLeave};
 ghost use Rattle.dm_kernel.specs.Meets.{Answers, IsIn, state_of};
 ghost use Rattle.dm_kernel.specs.Served.{CanFreeze, IsHere};
