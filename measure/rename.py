@@ -395,15 +395,19 @@ def as_sorted(before, items):
 class Renamer:
     def __init__(self, top, map_file):
         self.top, self.book = top, Index(top)
-        self.new, self.faults, self.texts, self.known = {}, [], {}, {}
+        self.new, self.faults, self.texts, self.known = {}, {}, {}, {}
         self.read_map(map_file)
         self.olds = {d.name for d in self.new}
         every = [d for m in self.book.modules.values() for d in m.own]
         self.specs = [d for d in every if d.module.part == "specs"]
         self.twins = {d for d in self.specs if d.name in self.olds and d not in self.new}
         count = collections.Counter(self.new.values())
-        self.faults += [f"{n} would be the name of {k} declarations" for n, k in count.items() if k > 1]
-        self.faults += [f"{d.name} is already {d}" for d in every if d.name in count and d not in self.new]
+        for n, k in count.items():
+            if k > 1:
+                self.fault("the map", n, f"would be the name of {k} declarations")
+        for d in every:
+            if d.name in count and d not in self.new:
+                self.fault(str(d), d.name, "is this declaration's name")
 
     def read_map(self, file):
         for line in open(file, encoding="utf-8"):
@@ -411,11 +415,16 @@ class Renamer:
             path, _, old = words[0].rpartition(".") if words else ("", "", "")
             module = self.book.modules.get(path)
             if words and (len(words) != 2 or not module or old not in module.declared):
-                self.faults.append(f"not a declaration and its new name: {line.strip()}")
+                self.fault("the map", line.strip(), "isn't a declaration and its new name")
             elif words and module.declared[old] in self.new:
-                self.faults.append(f"twice in the map: {words[0]}")
+                self.fault("the map", words[0], "stands there twice")
             elif words:
                 self.new[module.declared[old]] = words[1]
+
+    def fault(self, where, name, why, text="", at=0):
+        """Notes why the map can't hold, once for each name of a file; `text` from `at` on shows where."""
+        line = text[text.rfind("\n", 0, at) + 1:].split("\n")[0].strip()[:120]
+        self.faults.setdefault((where, name), f"{where}: {name} {why}" + (f": {line}" if line else ""))
 
     # -- what a module calls things afterwards
 
@@ -426,7 +435,8 @@ class Renamer:
             after.update({local: self.new[d] for local, _, _, d in self.book.imported(m) if d in self.new})
             words = {w.split(".")[0] for w in re.findall(r"[^\s(){}\[\];,]+", text)}
             taken = set(m.names) | set(m.declared) | set(m.modules) | set(m.children)
-            self.faults += [f"{m.file}: {n} is taken" for l, n in after.items() if n != l and n in taken - set(after)]
+            for n in set(after.values()) & (taken - set(after)):
+                self.fault(m.file, n, "is taken")
             self.known[m.path] = {**after, **self.plain_twins(m, after, (taken | set(m.inner) | words) - set(after) | set(after.values()))}
         return self.known[m.path]
 
@@ -492,18 +502,15 @@ class Renamer:
             if not head:
                 continue
             if head in fresh and t.start not in scopes.labels:
-                self.faults.append(f"{m.file}: {head} is taken: {self.line(edits.text, t.start)}")
+                self.fault(m.file, head, "is taken", edits.text, t.start)
             if head in after and not scopes.covers(head, t.start) and not (len(words) > 1 and head in m.modules):
                 if any(a <= t.start < b for a, b in scopes.covered[after[head]]):
-                    self.faults.append(f"{m.file}: {after[head]} is a variable here: {self.line(edits.text, t.start)}")
+                    self.fault(m.file, after[head], "is a variable", edits.text, t.start)
                 edits.put_word(words, 0, t.start, after[head])
             elif len(words) > 1 and (head == "Rattle" or head in m.modules or head in m.children):
                 hit = self.book.part(m, words)
                 if hit and hit[1] in self.new and hit[0] > 0:
                     edits.put_word(words, hit[0], t.start, self.new[hit[1]])
-
-    def line(self, text, at):
-        return text[text.rfind("\n", 0, at) + 1:(text + "\n").find("\n", at)].strip()[:140]
 
     # -- the files
 
@@ -538,7 +545,7 @@ class Renamer:
             self.uses(rust, edits, after, scopes, tokens)
         for name in set(after.values()) - set(after):
             if re.search(rf"(?<![\w-]){re.escape(name)}(?![\w-])", rust.code):
-                self.faults.append(f"{rust.file}: {name} is taken in code")
+                self.fault(rust.file, name, "is taken in code")
         self.texts[rust.file] = edits
 
     def must_fail(self, file):
@@ -605,7 +612,7 @@ class Renamer:
         for file in sorted(glob.glob(f"{self.top}/crates/*/must-fail/*.edit")):
             self.must_fail(file)
         if self.faults:
-            sys.exit("\n".join(self.faults))
+            sys.exit("\n".join(self.faults.values()))
         for file in sorted(glob.glob(f"{self.top}/docs/*.md") + [f"{self.top}/README.md"]):
             self.page(file)
         changed = {file: edits for file, edits in self.texts.items() if edits.found}
