@@ -346,10 +346,10 @@ class RustFile:
 
 
 class Edits:
-    """Replacements in one text."""
+    """Replacements in one text; in a .rt file also what its imported names become, and where its clauses stand."""
 
     def __init__(self, text):
-        self.text, self.found = text, {}
+        self.text, self.found, self.names, self.clauses = text, {}, {}, []
 
     def put(self, start, end, new):
         if self.text[start:end] != new:
@@ -530,6 +530,7 @@ class Renamer:
 
     def rust_file(self, rust):
         edits, after = Edits(rust.text), self.locals_of(rust, rust.code)
+        edits.names = after
         self.imports(rust, edits, after, True)
         for m in RUST.finditer(rust.text):
             words = [rust.crate if m[1] == "crate" else m[1]] + m[2].split("::")
@@ -537,6 +538,7 @@ class Renamer:
             if hit and hit[1] in self.new:
                 edits.put_word(words[1:], hit[0] - 1, m.start(2), self.new[hit[1]], 2)
         for start, end, parameters in rust.clauses():
+            edits.clauses.append((start, end))
             tokens = lex(rust.text, start, end)
             scopes = Scopes(rust.text, set(after) | set(after.values()))
             scopes.terms([t for t in tokens if not t.text.startswith("--")])
@@ -549,17 +551,18 @@ class Renamer:
         self.texts[rust.file] = edits
 
     def must_fail(self, file):
-        """An `old:` line becomes what its text in the source becomes, and the same words of the `new:` line with it."""
-        edits, source, swap = Edits(open(file, encoding="utf-8").read()), None, {}
+        """An `old:` line becomes what its text in the source becomes; where that is of a clause, so do names of the `new:` line."""
+        edits, source, names = Edits(open(file, encoding="utf-8").read()), None, {}
         for m in re.finditer(r"^(file|old|new): ?(.*)$", edits.text, re.M):
             if m[1] == "file":
                 source = self.texts.get(os.path.normpath(os.path.join(os.path.dirname(file), "..", m[2].strip())))
             elif source and m[1] == "old" and m[2] in source.text:
-                at = source.text.index(m[2])
-                swap = {source.text[a:b]: n for (a, b), n in source.found.items() if at <= a and b <= at + len(m[2])}
-                edits.put(m.start(2), m.end(2), source.within(at, at + len(m[2])))
-            elif m[1] == "new" and swap:
-                edits.put(m.start(2), m.end(2), re.sub(r"[\w◌'-]+", lambda w: swap.get(w[0], w[0]), m[2]))
+                start = source.text.index(m[2])
+                end = start + len(m[2])
+                names = source.names if any(a < end and start < b for a, b in source.clauses) else {}
+                edits.put(m.start(2), m.end(2), source.within(start, end))
+            elif m[1] == "new":
+                edits.put(m.start(2), m.end(2), re.sub(r"(?<!\.)[\w◌'-]+", lambda w: names.get(w[0], w[0]), m[2]))
         self.texts[file] = edits
 
     # -- docs
