@@ -352,6 +352,9 @@ class Edits:
         self.text, self.found, self.names, self.clauses = text, {}, {}, []
 
     def put(self, start, end, new):
+        """In place of what was to be put within."""
+        for place in [k for k in self.found if start <= k[0] and k[1] <= end] if "\n" in self.text[start:end] else []:
+            del self.found[place]
         if self.text[start:end] != new:
             self.found[start, end] = new
 
@@ -380,16 +383,29 @@ def item(there, here):
     return there if there.split(".")[-1] == here else f"{there} as {here}"
 
 
+def here(x):
+    """The name that an item of imports has here."""
+    return x.split(" as ")[-1].split(".")[-1]
+
+
+def names_of(items):
+    return [x for x in items if re.match(r"[\w']", here(x))]
+
+
+def is_sorted(items):
+    """The key by which the names of a list of imports stand in order: as they are, or whatever their case; None, if they don't."""
+    names = names_of(items)
+    keys = (lambda x: x, lambda x: (x.lower(), x))
+    return next((key for key in keys if len(names) > 2 and names == sorted(names, key=key)), None)
+
+
 def as_sorted(before, items):
-    """The items with names in order, if the names before were: as they are, or whatever their case. Operators stay."""
-    is_name = lambda x: bool(re.match(r"[\w']", here(x)))
-    here = lambda x: x.split(" as ")[-1].split(".")[-1]
-    names = [x for x in before if is_name(x)]
-    for key in (lambda x: x, lambda x: (x.lower(), x)):
-        if len(names) > 2 and names == sorted(names, key=key):
-            ordered = iter(sorted((x for x in items if is_name(x)), key=lambda x: key(here(x))))
-            return [next(ordered) if is_name(x) else x for x in items]
-    return items
+    """The items with their names in order, if the names before were. Operators stay where they are."""
+    key = is_sorted(before)
+    if not key:
+        return items
+    ordered = iter(sorted(names_of(items), key=lambda x: key(here(x))))
+    return [next(ordered) if re.match(r"[\w']", here(x)) else x for x in items]
 
 
 class Renamer:
@@ -467,31 +483,45 @@ class Renamer:
 
     def imports(self, m, edits, after, is_ghost):
         """Rewrites the imports, and returns where they stand."""
-        lines = [use for use in IMPORT.finditer(edits.text) if bool(use["ghost"]) == is_ghost]
+        lines, runs = [use for use in IMPORT.finditer(edits.text) if bool(use["ghost"]) == is_ghost], []
         for use in lines:
             words = use["path"].split(".")
             hit = self.book.part(m, words)
             if hit and hit[1] in self.new:
                 edits.put_word(words, hit[0], use.start("path"), self.new[hit[1]])
-            before = list(items_of(use["items"] or ""))
-            now = [item(self.there(m, use["path"], source), after.get(local, local)) for source, local in before]
-            if now != [item(*x) for x in before]:
-                self.write_items(edits, use, as_sorted([local for _, local in before], now))
+            before = runs[-1][-1] if runs else None
+            if before and use["items"] and before["items"] and use.start() == before.end() + 1 and use.group("head", "path") == before.group("head", "path"):
+                runs[-1].append(use)
+            else:
+                runs.append([use])
+        for run in runs:
+            rows = [list(items_of(use["items"] or "")) for use in run]
+            now = [[item(self.there(m, use["path"], source), after.get(local, local)) for source, local in row] for use, row in zip(run, rows)]
+            if now != [[item(*x) for x in row] for row in rows]:
+                self.write_items(edits, run, [[local for _, local in row] for row in rows], now)
         return [(use.start(), use.end()) for use in lines]
 
-    def write_items(self, edits, use, items):
+    def write_items(self, edits, run, before, rows):
+        """Lines that import from one module are one list, if that was sorted, or where one of them gets too long."""
+        use = run[0]
         head = f"{use['head']}use {edits.within(use.start('path'), use.end('path'))}"
-        rows = [[]]
-        for x in items:
-            is_long = len(f"{head}.{{{', '.join(rows[-1] + [x])}}}") > WIDTH
-            if rows[-1] and is_long and not use["ghost"] and len(use[0]) <= WIDTH:
-                rows.append([])
-            rows[-1].append(x)
-        text = f"}}\n{head}.{{".join(", ".join(row) for row in rows)
-        if "\n" in use["items"]:
+        width = lambda row: len(f"{head}.{{{', '.join(row)}}}")
+        was, items = sum(before, []), sum(rows, [])
+        rows = [as_sorted(*pair) for pair in zip(before, rows)]
+        breaks = not use["ghost"] and all(len(u[0]) <= WIDTH for u in run)
+        if breaks and (len(run) > 1 and is_sorted(was) or any(width(row) > WIDTH for row in rows)):
+            rows = [[]]
+            for x in as_sorted(was, items):
+                if rows[-1] and width(rows[-1] + [x]) > WIDTH:
+                    rows.append([])
+                rows[-1].append(x)
+            text = f"}}\n{head}.{{".join(", ".join(row) for row in rows)
+            edits.put(use.start("items"), run[-1].end("items"), text)
+            return
+        for use, row in zip(run, rows):
             pad, tail = re.match(r"\s*", use["items"])[0], re.search(r",?\s*$", use["items"])[0]
-            text = pad + ("," + pad).join(items) + tail
-        edits.put(use.start("items"), use.end("items"), text)
+            text = pad + ("," + pad).join(row) + tail if "\n" in use["items"] else ", ".join(row)
+            edits.put(use.start("items"), use.end("items"), text)
 
     def uses(self, m, edits, after, scopes, tokens):
         """Each use of a name in terms, types and `unfolding` lines."""
