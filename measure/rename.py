@@ -633,8 +633,8 @@ class Renamer:
         crates = re.findall(r"\bdm_\w+\b(?!::)", line)
         behind = re.findall(r"\bdm_\w+\b(?!::)", line[place:])[:1]
         every = [d for d in self.specs if d.name == name]
-        ways = [[d for d in every if d.module.path in paths] for paths in (near, files)]
-        ways += [[d for d in every if d.module.crate in names] for names in (behind, crates, [part])]
+        ways = [[d for p in paths for d in every if d.module.path == p] for paths in (near, files)]
+        ways += [[d for c in chosen for d in every if d.module.crate == c] for chosen in (behind, crates, [part])]
         return next(filter(None, ways), [])
 
     def run(self):
